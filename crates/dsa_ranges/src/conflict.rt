@@ -66,8 +66,8 @@ pub fn touched(d: &Descriptor) -> Touched
     }
 }
 
-/// Whether the span meets one of the spans.
-fn meets_some(span: Span, spans: &[Span]) -> bool
+/// Whether some address of the span lies in one of the spans.
+pub fn meets_some(span: Span, spans: &[Span]) -> bool
     ensures { IsTrue result ↔ ((address : ℕ) × InSpan span address × InSome spans.now address) }
 {
     for other in spans {

@@ -1,0 +1,6 @@
+-- A certificate as what it says.
+use Rattle.dsa_cert.specs.declared.certificate.Certificate.{Certificate}
+use Rattle.dsa_cert.specs.Document.{Contents}
+
+abbrev pub contents : Certificate → Contents
+contents c = record { version = c.version; prices = c.prices.items; pairs = c.pairs.items }

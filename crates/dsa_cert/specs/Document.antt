@@ -1,0 +1,54 @@
+-- The document of a certificate, as a JSON value.
+use Rattle.std.specs.Prelude.{◌≡◌, ◌≢◌, ℕ, ◌^◌, ◌<◌, ⊤, List, [], ◌∷◌, All, map, codes, Option, Some, None}
+use Rattle.serde_json.specs.Data.{Data, null}
+use Rattle.dsa_cert.specs.Spelled.{whole, array_of, object_of}
+
+-- what a certificate says: the version of the settings, a price for the first 0, 1, .. pieces, and for each piece
+-- perhaps a pair of pieces
+pub record Contents : Type 0 where
+  pub version : ℕ
+  pub prices : List ℕ
+  pub pairs : List (Option (ℕ × ℕ))
+
+-- the two numbers fit their places
+abbrev pub PairFits : Option (ℕ × ℕ) → Type 0
+PairFits None = ⊤
+PairFits (Some pair) = (pair.0 < 2 ^ 32) × (pair.1 < 2 ^ 32)
+
+-- an array of the two numbers, or null
+abbrev pub pair_value : Option (ℕ × ℕ) → Data
+pair_value None = null
+pair_value (Some pair) = array_of (whole pair.0 ∷ whole pair.1 ∷ [])
+
+abbrev pub pairs_value : List (Option (ℕ × ℕ)) → Data
+pairs_value pairs = array_of (map pair_value pairs)
+
+abbrev pub prices_value : List ℕ → Data
+prices_value prices = array_of (map whole prices)
+
+-- the members of the document
+abbrev pub document_fields : Contents → List (List ℕ × Data)
+document_fields c =
+    (codes "pairs", pairs_value c.pairs) ∷ (codes "prices", prices_value c.prices) ∷ (codes "version", whole c.version) ∷ []
+
+-- the object with exactly these members (this project's choice)
+abbrev pub document : Contents → Data
+document c = object_of (document_fields c)
+
+-- the value is the document of these contents, whose pairs fit their places
+abbrev pub Documents : Data → Contents → Type 0
+Documents value c = (value ≡ document c) × All PairFits c.pairs
+
+-- A reader of prices answers the prices that the value spells, and none where it spells no prices.
+abbrev pub ReadsPrices : Data → Option (List ℕ) → Type 0
+ReadsPrices d None = (prices : List ℕ) → d ≢ prices_value prices
+ReadsPrices d (Some prices) = d ≡ prices_value prices
+
+-- The same for a pair, and for pairs.
+abbrev pub ReadsPair : Data → Option (Option (ℕ × ℕ)) → Type 0
+ReadsPair d None = (pair : Option (ℕ × ℕ)) → PairFits pair → d ≢ pair_value pair
+ReadsPair d (Some pair) = (d ≡ pair_value pair) × PairFits pair
+
+abbrev pub ReadsPairs : Data → Option (List (Option (ℕ × ℕ))) → Type 0
+ReadsPairs d None = (pairs : List (Option (ℕ × ℕ))) → All PairFits pairs → d ≢ pairs_value pairs
+ReadsPairs d (Some pairs) = (d ≡ pairs_value pairs) × All PairFits pairs

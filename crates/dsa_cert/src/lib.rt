@@ -1,0 +1,13 @@
+//! The certificate of a plan, and its document in JSON.
+#![tactic(auto)]
+
+mod certificate;
+mod document;
+mod members;
+
+pub use certificate::{CertFault, Certificate};
+pub use document::{read_json, write_json};
+pub use members::{has_names, number_at, text_at};
+
+#[cfg(test)]
+mod tests;

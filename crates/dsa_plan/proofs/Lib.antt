@@ -1,0 +1,11 @@
+pub mod Chains
+pub mod Fences
+pub mod Groups
+pub mod Plans
+pub mod Costs
+pub mod Judged
+pub mod Pieces
+pub mod Emitted
+pub mod Places
+pub mod Told
+pub mod AtPlaces

@@ -1,0 +1,9 @@
+pub mod Plan
+pub mod Settings
+pub mod Legal
+pub mod LegalFaults
+pub mod Chain
+pub mod Certificate
+pub mod Laws
+pub mod Emission
+pub mod EmissionLaws

@@ -1,0 +1,22 @@
+//! Plans: how a list of pieces is submitted in groups, which plans are legal, and what they cost.
+#![tactic(auto)]
+
+mod emission;
+mod laws;
+mod legal;
+mod place;
+mod plan;
+mod pricing;
+mod settings;
+
+pub use emission::{Emission, emit};
+pub use laws::{
+    Conflicts, chain_is_least_fences, emission_at_places, one_emission, yes_means_least,
+};
+pub use legal::{LegalFault, is_legal};
+pub use plan::{Group, Plan};
+pub use pricing::cost;
+pub use settings::{Settings, SettingsFault};
+
+#[cfg(test)]
+mod tests;

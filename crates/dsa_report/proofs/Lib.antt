@@ -1,0 +1,10 @@
+pub mod Gained
+pub mod Names
+pub mod Objects
+pub mod Arrays
+pub mod Refusals
+pub mod Told
+pub mod Sizes
+pub mod Judging
+pub mod Outcomes
+pub mod Exact

@@ -1,0 +1,63 @@
+-- What is told of a text, from what its parts say.
+use Rattle.std.proofs.Common.{◌≡◌, inl, inr, ℕ, ◌≤◌, List, length, Option, Result, Ok, Err, Some, None, IfSome, length-append, arith, refl, ap, IsUtf8, String, Global, subst}
+use Rattle.std.specs.Io.KnownBytes.{Consumes, IsAtEnd}
+use Rattle.std.proofs.KnownBytes.{Consumes-whole}
+use Rattle.serde_json.specs.Data.{Data}
+use Rattle.serde_json.specs.Read.{read}
+use Rattle.dsa_report.specs.declared.fault.PlanFault.{PlanFault}
+use Rattle.dsa_report.specs.declared.reading.Stop.TheVariants.{Refusal}
+use Rattle.dsa_report.specs.declared.serving.Served.{Served}
+use Rattle.dsa_report.specs.declared.serving.Served.TheVariants.{Answered, Refused, ReadFault, WriteFault}
+use Rattle.dsa_report.specs.Reading.{longest_text, ReadsText}
+use Rattle.dsa_report.specs.declared.job.JudgeJob.{JudgeJob}
+use Rattle.dsa_report.specs.Job.{to_judge}
+use Rattle.dsa_plan.specs.Settings.{Limits}
+use Rattle.dsa_report.specs.Judge.{Judges}
+use Rattle.dsa_report.specs.Read.{IsJudge}
+use Rattle.dsa_report.specs.Answer.{Told, TellsValue, Tells, wants_memory, is_too_long, is_value, Answer}
+use Rattle.dsa_report.specs.Gives.{GivesLine, TellsJudge, outcome_line, outcome_status, AnswersText, WritesPrefix, WritesLine}
+
+-- what is told of the part is told of the whole
+pub GivesLine-weaker : (P Q : Told → Type 0) (r : Result (String Global) PlanFault) → ((told : Told) → P told → Q told) → GivesLine P r → GivesLine Q r
+GivesLine-weaker P Q (Ok line) more (answer, told, is) = (answer, more (Ok answer) told, is)
+GivesLine-weaker P Q (Err fault) more (inl is) = inl is
+GivesLine-weaker P Q (Err fault) more (inr told) = inr (more (Err fault) told)
+
+-- what is told of the value that a text is, is told of the text
+pub Tells-value : (text : List ℕ) (d : Data) → length text ≤ longest_text → IsUtf8 text → read text ≡ Some d → (told : Told) → TellsValue d told → Tells text told
+Tells-value text d short valid is told says = is_value d short valid is says
+
+-- what is told of a job to judge is told of the value that spells it
+pub told_of_judge : (d : Data) (job : JudgeJob) → IsJudge d job → (told : Told) → TellsJudge job told → TellsValue d told
+told_of_judge d job (numbers, text, right) told (outcome, judges, is) =
+    let judges' = subst (λ (s : Limits). Judges job.list.items job.plan s outcome) right.agree judges in
+    inr (to_judge (record { settings = numbers; list = text; plan = job.plan }), right.spelled, right.in_limits, (job.list.items, outcome, right.decoded, judges', is))
+
+-- a line or a refusal that is told answers the text
+pub Answer-given : (text : List ℕ) (outcome : Result (String Global) PlanFault) → GivesLine (Tells text) outcome → Answer text (outcome_line outcome) (outcome_status outcome)
+Answer-given text (Ok line) (answer, says, is) = (Ok answer, says, is, refl)
+Answer-given text (Err fault) (inl is) = (Err fault, wants_memory (ap Err is), refl, refl)
+Answer-given text (Err fault) (inr says) = (Err fault, says, refl, refl)
+
+-- the whole text was read
+pub answer_whole : (old new : Option (List ℕ)) (text shown : List ℕ) (outcome : Result (String Global) PlanFault) → Consumes old new text × IsAtEnd new × (length text ≤ longest_text)
+    → shown ≡ text → GivesLine (Tells shown) outcome → AnswersText old (Some outcome)
+answer_whole old new text shown outcome (taken, end, short) same gives =
+    Consumes-whole old new text (λ t. Answer t (outcome_line outcome) (outcome_status outcome)) taken end (Answer-given text outcome (rw same at gives))
+
+-- the text was found too long, or memory was wanting
+pub answer_refused : (old new : Option (List ℕ)) (fault : PlanFault) → ReadsText old new (Err (Refusal fault)) → AnswersText old (Some (Err fault))
+answer_refused None new fault refused = tt
+answer_refused (Some all) new fault (inl is) = (Err fault, wants_memory (ap Err is), refl, refl)
+answer_refused (Some all) None fault (inr (is, bytes, taken, long)) = absurd taken
+answer_refused (Some all) (Some rest) fault (inr (is, bytes, taken, long)) =
+    (Err fault, is_too_long (omega (arith, ap length taken, length-append bytes rest)) (ap Err is), refl, refl)
+
+-- a prefix of the line was written
+pub written_prefix : (known w0 w1 : Option (List ℕ)) (outcome : Result (String Global) PlanFault) (served : Served) → AnswersText known (Some outcome) → WritesLine w0 w1 outcome served → served ≡ WriteFault
+    → IfSome known (λ text. WritesPrefix text w0 w1)
+written_prefix None w0 w1 outcome served answers written e = tt
+written_prefix (Some text) w0 w1 outcome WriteFault answers (n, part, written) e = (outcome_line outcome, outcome_status outcome, n, answers, part, written)
+written_prefix (Some text) w0 w1 outcome Answered answers written e = cc
+written_prefix (Some text) w0 w1 outcome Refused answers written e = cc
+written_prefix (Some text) w0 w1 outcome ReadFault answers written e = cc

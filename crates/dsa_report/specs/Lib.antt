@@ -1,0 +1,13 @@
+pub mod Fault
+pub mod Reading
+pub mod Spelled
+pub mod Settings
+pub mod Plan
+pub mod Hex
+pub mod Job
+pub mod Read
+pub mod Judge
+pub mod Answer
+pub mod Gives
+pub mod Served
+pub mod Laws

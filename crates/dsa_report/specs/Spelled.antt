@@ -1,0 +1,33 @@
+-- How JSON values spell what a job holds, and what a reader of values answers.
+use Rattle.std.specs.Prelude.{◌≡◌, ◌≢◌, ℕ, List, [], ◌∷◌, Option, Some, None}
+use Rattle.serde_json.specs.Data.{Data, number, unsigned, object, Members, no_members, member}
+use Rattle.serde_json.specs.Find.{get}
+
+-- a whole number
+abbrev pub whole : ℕ → Data
+whole n = number (unsigned n)
+
+-- these members, in this order
+abbrev pub members_of : List (List ℕ × Data) → Members
+members_of [] = no_members
+members_of (field ∷ fields) = member field.0 field.1 (members_of fields)
+
+-- the object with these members, which stand in the order of their names
+abbrev pub object_of : List (List ℕ × Data) → Data
+object_of fields = object (members_of fields)
+
+-- the names of the members, in order
+abbrev pub member_names : Members → List (List ℕ)
+member_names no_members = []
+member_names (member name d ms) = name ∷ member_names ms
+
+-- a reader of values answers what the value spells, or none where it spells nothing;
+-- `shown` is what a contract sees of the answer
+abbrev pub Reads : {X Y : Type 0} → (Y → Data) → (X → Y) → Data → Option X → Type 0
+Reads {X} {Y} spelling shown d None = (y : Y) → d ≢ spelling y
+Reads spelling shown d (Some x) = d ≡ spelling (shown x)
+
+-- the same of what stands at a name of the value
+abbrev pub ReadsAt : {X Y : Type 0} → List ℕ → (Y → Data) → (X → Y) → Data → Option X → Type 0
+ReadsAt {X} {Y} name spelling shown d None = (y : Y) → get name d ≢ Some (spelling y)
+ReadsAt name spelling shown d (Some x) = get name d ≡ Some (spelling (shown x))

@@ -1,0 +1,99 @@
+//! One job: its text is read, and its line is written.
+
+ghost use Rattle.std.specs.Prelude.{◌≡◌, ◌+◌, ◌≤◌, ℕ, List, length, IfSome};
+ghost use Rattle.std.specs.Io.KnownBytes.{Consumes, Keeps};
+ghost use Rattle.dsa_report.specs.Reading.{longest_text};
+ghost use Rattle.dsa_report.specs.Gives.{AnswersText, WritesAnswer, WritesPrefix, WritesLine};
+
+use crate::answers::answer;
+use crate::fault::{PlanFault, refusal_line};
+use crate::reading::{Stop, read_text};
+use crate::writing::write_line;
+use std::alloc::Global;
+use std::io::{Read, Write};
+
+/// What came of a job.
+#[derive(Clone, Copy, Debug, PartialEq, Eq)]
+pub enum Served {
+    /// The line of its answer was written.
+    Answered,
+    /// The line of its refusal was written.
+    Refused,
+    /// Reading failed, and nothing was written.
+    ReadFault,
+    /// Writing failed, and a prefix of the line was written.
+    WriteFault,
+}
+
+impl Served {
+    ghost use Rattle.dsa_report.specs.Served.{served_status};
+
+    /// The status that a program ends with.
+    pub fn status(self) -> u8
+        ensures { result ≡ served_status self }
+    {
+        match self {
+            Served::Answered => 0,
+            Served::Refused => 1,
+            Served::ReadFault | Served::WriteFault => 2,
+        }
+    }
+}
+
+/// Reads one job to its end, and writes its line.
+pub fn serve<H: AllocGlobal, R: Read, W: Write>(rt: &H, reader: &mut R, writer: &mut W) -> Served
+    // One line was written, which answers the reader's text.
+    ensures answered { result ≡ Served.Answered → IfSome (R.remaining reader.old)
+        (λ text. WritesAnswer text 0 (W.contents writer.old) (W.contents writer.new)) }
+    ensures refused { result ≡ Served.Refused → IfSome (R.remaining reader.old)
+        (λ text. WritesAnswer text 1 (W.contents writer.old) (W.contents writer.new)) }
+    // Nothing was written.
+    ensures read_fault { result ≡ Served.ReadFault → Keeps (W.contents writer.old) (W.contents writer.new) }
+    // A prefix of that line was written.
+    ensures write_fault { result ≡ Served.WriteFault → IfSome (R.remaining reader.old)
+        (λ text. WritesPrefix text (W.contents writer.old) (W.contents writer.new)) }
+    // No byte is read past the first one that is too many.
+    ensures bounded { (bytes : List ℕ) × Consumes (R.remaining reader.old) (R.remaining reader.new) bytes
+        × (length bytes ≤ longest_text + 1) }
+{
+    let Some(outcome) = line_for(rt.alloc(), reader) else {
+        return Served::ReadFault;
+    };
+    write_outcome(writer, &outcome)
+}
+
+// The line that answers the text of a reader, or why it is refused; none where reading failed.
+fn line_for<R: Read>(alloc: Global, reader: &mut R) -> Option<Result<String, PlanFault>>
+    ensures line { AnswersText (R.remaining reader.old) result }
+    ensures bounded { (bytes : List ℕ) × Consumes (R.remaining reader.old) (R.remaining reader.new) bytes
+        × (length bytes ≤ longest_text + 1) }
+{
+    match read_text(alloc, reader) {
+        Ok(text) => Some(answer(alloc, &text)),
+        Err(Stop::Refusal(fault)) => Some(Err(fault)),
+        Err(Stop::Fault) => None,
+    }
+}
+
+// Writes the line of an answer or of a refusal.
+fn write_outcome<W: Write>(writer: &mut W, outcome: &Result<String, PlanFault>) -> Served
+    ensures { WritesLine (W.contents writer.old) (W.contents writer.new) outcome.now result }
+{
+    match outcome {
+        Ok(line) => {
+            if write_line(writer, line.as_bytes()) {
+                Served::Answered
+            } else {
+                Served::WriteFault
+            }
+        }
+        Err(fault) => {
+            let line = refusal_line(*fault);
+            if write_line(writer, line.as_str().as_bytes()) {
+                Served::Refused
+            } else {
+                Served::WriteFault
+            }
+        }
+    }
+}

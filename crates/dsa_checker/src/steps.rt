@@ -5,8 +5,7 @@ ghost use Rattle.dsa_plan.specs.Settings.{prices_of};
 ghost use Rattle.dsa_plan.specs.Chain.{GoForward};
 ghost use Rattle.dsa_checker.specs.Steps.{StepsHold, StepsHoldFrom, IsFirstBadEnd, IsFirstBadStep};
 
-use crate::chain::{further, group_price};
-use dsa_plan::Settings;
+use dsa_plan::{Settings, chain_step, group_price};
 
 /// The first end at which the price is too high for that at `start`.
 fn first_bad_end(
@@ -30,7 +29,7 @@ fn first_bad_end(
         if most < u128::from(prices[end]) {
             return Some(end);
         }
-        (piece, fences) = further(pairs, piece, fences, end);
+        (piece, fences) = chain_step(pairs, piece, fences, end);
     }
     None
 }

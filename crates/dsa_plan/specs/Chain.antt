@@ -50,7 +50,7 @@ abbrev pub IsPairOf : (ℕ → ℕ → Type 0) → ℕ → ℕ → Option (ℕ �
 IsPairOf C i end (Some pair) = IsFirstPair C i end pair.0 pair.1
 IsPairOf C i end None = (a b : ℕ) → ConflictsWithin C i end a b → ⊥
 
--- each of the n pieces has its pair, of the pieces that fit one group with it
+-- each of the n pieces has its pair, of the pieces that a group beginning with it can hold
 pub record HasPairs (C : ℕ → ℕ → Type 0) (prices : Prices) (n : ℕ) (pairs : Pairs) : Type 0 where
   pub count : length pairs ≡ n
   pub each :

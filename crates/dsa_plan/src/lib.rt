@@ -1,6 +1,7 @@
 //! Plans: how a list of pieces is submitted in groups, which plans are legal, and what they cost.
 #![tactic(auto)]
 
+mod chain;
 mod emission;
 mod laws;
 mod legal;
@@ -9,6 +10,7 @@ mod plan;
 mod pricing;
 mod settings;
 
+pub use chain::{chain_step, group_price};
 pub use emission::{Emission, emit};
 pub use laws::{
     Conflicts, chain_is_least_fences, emission_at_places, one_emission, yes_means_least,

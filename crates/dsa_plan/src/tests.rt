@@ -168,6 +168,20 @@ fn conflicting() -> [u8; 128] {
     )
 }
 
+/// Four moves: the third reads what the second writes, and the last what the first writes.
+fn crossing() -> [u8; 256] {
+    four(
+        &two(
+            &move_of(0x1000, 0x2000, 0x8000),
+            &move_of(0x3000, 0x4000, 0x8020),
+        ),
+        &two(
+            &move_of(0x4000, 0x5000, 0x8040),
+            &move_of(0x2000, 0x6000, 0x8060),
+        ),
+    )
+}
+
 #[test]
 fn conflicting_moves_need_a_fence(rt: HostRuntime) -> Result<(), Fail> {
     let rows: [(&[&[bool]], Result<u64, LegalFault>); 5] = [
@@ -227,16 +241,7 @@ fn records_conflict_too(rt: HostRuntime) -> Result<(), Fail> {
 
 #[test]
 fn the_least_second_piece_is_told(rt: HostRuntime) -> Result<(), Fail> {
-    let list = four(
-        &two(
-            &move_of(0x1000, 0x2000, 0x8000),
-            &move_of(0x3000, 0x4000, 0x8020),
-        ),
-        &two(
-            &move_of(0x4000, 0x5000, 0x8040),
-            &move_of(0x2000, 0x6000, 0x8060),
-        ),
-    );
+    let list = crossing();
     let rows: [(&[bool], Result<u64, LegalFault>); 3] = [
         (&[false, false, true, false], Ok(17)),
         (
@@ -360,5 +365,22 @@ fn emissions(rt: HostRuntime) -> Result<(), Fail> {
             &[]
         )?
     );
+    Ok(())
+}
+
+#[test]
+fn two_batches_share_the_staging_area(rt: HostRuntime) -> Result<(), Fail> {
+    let portal = two(
+        &bytes_of(1, 0x10000, 0, 2, 0x10100),
+        &bytes_of(1, 0x10080, 0, 2, 0x10120),
+    );
+    let mut staging = [0; 320];
+    staging[..256].copy_from_slice(&crossing());
+    let groups: [&[bool]; 2] = [&[false, false], &[false, false]];
+    assert_eq!(rt;
+        judge(rt.alloc(), &settings()?, &crossing(), &groups)?,
+        Ok(28)
+    );
+    assert!(rt; are_emitted(rt.alloc(), &crossing(), &groups, &portal, &staging)?);
     Ok(())
 }

@@ -10,12 +10,13 @@ use Rattle.dsa_report.specs.declared.fault.PlanFault.TheVariants.{Member, Do, Se
 use Rattle.dsa_report.specs.declared.job.JobName.TheVariants.{Judge}
 use Rattle.dsa_report.specs.declared.settings.Numbers.{Numbers}
 use Rattle.dsa_report.specs.Settings.{settings_value, limits_of, AreSettings}
-use Rattle.dsa_report.specs.Plan.{array_of, group_value, plan_value}
+use Rattle.dsa_cert.specs.Spelled.{array_of}
+use Rattle.dsa_report.specs.Plan.{group_value, plan_value}
 use Rattle.dsa_report.specs.Job.{JudgeText, JobText, to_judge, job_value, numbers_of, texts_of, NamesJob, SomeIsNoHex, Stands}
 use Rattle.dsa_report.specs.Judge.{Judges}
 use Rattle.dsa_report.specs.Answer.{Told, TellsJob, TellsValue, told_of, cost_value, line_of, status_of, wants_memory, is_too_long, is_no_json, is_value}
 use Rattle.dsa_report.specs.Laws.{OneJob, OneCause, NoCauseStands, OneAnswer, OneLine}
-use Rattle.dsa_report.proofs.Arrays.{same_items}
+use Rattle.dsa_cert.proofs.Arrays.{same_items}
 use Rattle.dsa_report.proofs.Outcomes.{one_outcome}
 
 -- lists that are spelled alike are one, where items are

@@ -1,7 +1,4 @@
 pub mod Gained
-pub mod Names
-pub mod Objects
-pub mod Arrays
 pub mod Refusals
 pub mod Told
 pub mod Sizes

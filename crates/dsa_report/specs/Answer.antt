@@ -9,7 +9,7 @@ use Rattle.dsa_report.specs.declared.fault.PlanFault.{PlanFault}
 use Rattle.dsa_report.specs.declared.fault.PlanFault.TheVariants.{Memory, Json, JobTooLong}
 use Rattle.dsa_report.specs.Reading.{longest_text}
 use Rattle.dsa_report.specs.Fault.{refusal_line}
-use Rattle.dsa_report.specs.Spelled.{whole, object_of}
+use Rattle.dsa_cert.specs.Spelled.{whole, object_of}
 use Rattle.dsa_report.specs.Settings.{AreSettings, limits_of}
 use Rattle.dsa_report.specs.Job.{JobText, to_judge, job_value, numbers_of, Stands}
 use Rattle.dsa_report.specs.Judge.{Judges}

@@ -8,7 +8,7 @@ use Rattle.dsa_report.specs.declared.fault.PlanFault.TheVariants.{Member, Do, Se
 use Rattle.dsa_report.specs.declared.job.JobName.{JobName}
 use Rattle.dsa_report.specs.declared.job.JobName.TheVariants.{Judge}
 use Rattle.dsa_report.specs.declared.settings.Numbers.{Numbers}
-use Rattle.dsa_report.specs.Spelled.{object_of}
+use Rattle.dsa_cert.specs.Spelled.{object_of}
 use Rattle.dsa_report.specs.Settings.{settings_value, AreSettings}
 use Rattle.dsa_report.specs.Plan.{plan_value}
 

@@ -1,6 +1,5 @@
 pub mod Fault
 pub mod Reading
-pub mod Spelled
 pub mod Settings
 pub mod Plan
 pub mod Hex

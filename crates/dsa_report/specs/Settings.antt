@@ -5,7 +5,7 @@ use Rattle.dsa_plan.specs.Settings.{Limits, limits, AreInLimits}
 use Rattle.dsa_report.specs.declared.fault.PlanFault.{PlanFault}
 use Rattle.dsa_report.specs.declared.fault.PlanFault.TheVariants.{Settings as Outside}
 use Rattle.dsa_report.specs.declared.settings.Numbers.{Numbers}
-use Rattle.dsa_report.specs.Spelled.{whole, object_of}
+use Rattle.dsa_cert.specs.Spelled.{whole, object_of}
 
 -- the members of the settings, in the order of their names
 abbrev pub settings_fields : Numbers → List (List ℕ × Data)

@@ -2,15 +2,15 @@
 
 ghost use Rattle.std.specs.Prelude.{IfOk, MatchOption};
 ghost use Rattle.serde_json.specs.View.{view};
-ghost use Rattle.dsa_report.specs.Spelled.{Reads};
+ghost use Rattle.dsa_cert.specs.Spelled.{Reads};
 ghost use Rattle.dsa_report.specs.Job.{judge_value, HasName, NamesJob};
 ghost use Rattle.dsa_report.specs.Read.{judge_shown, IsJudge, ReadsFields, ReadsJob};
 
 use crate::bytes::bytes_of;
 use crate::fault::PlanFault;
-use crate::members::{has_names, text_at};
 use crate::plan::plan_at;
 use crate::settings::{Numbers, settings_at, settings_of};
+use dsa_cert::{has_names, text_at};
 use dsa_plan::{Plan, Settings};
 use serde_json::Value;
 use std::alloc::{AllocError, Global};

@@ -8,7 +8,6 @@ mod fault;
 mod job;
 mod judge;
 mod laws;
-mod members;
 mod plan;
 mod reading;
 mod serving;

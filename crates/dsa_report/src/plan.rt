@@ -2,7 +2,7 @@
 
 ghost use Rattle.std.specs.Prelude.{IfOk, codes};
 ghost use Rattle.serde_json.specs.View.{view};
-ghost use Rattle.dsa_report.specs.Spelled.{Reads, ReadsAt};
+ghost use Rattle.dsa_cert.specs.Spelled.{Reads, ReadsAt};
 ghost use Rattle.dsa_report.specs.Plan.{plan_value, group_value};
 
 use dsa_plan::{Group, Plan};

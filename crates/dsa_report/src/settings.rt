@@ -2,11 +2,11 @@
 
 ghost use Rattle.std.specs.Prelude.{codes};
 ghost use Rattle.serde_json.specs.View.{view};
-ghost use Rattle.dsa_report.specs.Spelled.{Reads, ReadsAt};
+ghost use Rattle.dsa_cert.specs.Spelled.{Reads, ReadsAt};
 ghost use Rattle.dsa_report.specs.Settings.{settings_value, ReadsSettings};
 
 use crate::fault::PlanFault;
-use crate::members::{has_names, number_at};
+use dsa_cert::{has_names, number_at};
 use dsa_plan::Settings;
 use serde_json::Value;
 

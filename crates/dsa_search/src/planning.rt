@@ -24,7 +24,7 @@ pub struct Found {
     pub plan: Plan,
     /// The least cost of the first 0, 1, .. pieces.
     pub prices: Vec<u64>,
-    /// For each piece the first of the conflicting pairs that one group with it can hold, if there is one.
+    /// For each piece the first of the conflicting pairs that a group beginning with it can hold, if there is one.
     pub pairs: Vec<Option<(u32, u32)>>,
 }
 

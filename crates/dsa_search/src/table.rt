@@ -1,30 +1,15 @@
 //! The table of least costs.
 
 ghost use Rattle.std.specs.Prelude.{◌≡◌, ℕ, ◌+◌, ◌*◌, ◌<◌, ◌≤◌, length, slice_index, slice_set, IfOk};
-ghost use Rattle.dsa_plan.specs.Plan.{price_of};
 ghost use Rattle.dsa_plan.specs.Settings.{prices_of};
-ghost use Rattle.dsa_plan.specs.Chain.{GoForward, IsLastBelow};
+ghost use Rattle.dsa_plan.specs.Chain.{GoForward};
 ghost use Rattle.dsa_search.specs.Filled.{HasEntries};
 
-use dsa_plan::Settings;
+use dsa_plan::{Settings, chain_step, group_price};
 use std::alloc::{AllocError, Global};
 
 /// The cost of an end that no start has reached yet; each real cost is lower.
 const UNREACHED: u64 = u64::MAX;
-
-/// What one group of this size and with so many fences costs.
-fn group_price(settings: &Settings, size: usize, fences: u64) -> u64
-    requires less { fences < size }
-    requires few { size ≤ 65536 }
-    ensures price { result ≡ price_of (prices_of settings.now) size fences }
-    ensures small { result ≤ 1000000000 * size }
-{
-    if size == 1 {
-        settings.lone()
-    } else {
-        settings.batch() + settings.fence() * fences
-    }
-}
 
 /// Takes the offer of a start where it isn't above the cost of the end.
 fn offer(costs: &mut [u64], starts: &mut [u32], end: usize, cost: u64, start: u32)
@@ -37,22 +22,6 @@ fn offer(costs: &mut [u64], starts: &mut [u32], end: usize, cost: u64, start: u3
         costs[end] = cost;
         starts[end] = start;
     }
-}
-
-/// The last piece of the chain that comes before `end + 1`, and the number of its pairs that end so far, from those
-/// before `end`.
-fn further(pairs: &[Option<(u32, u32)>], piece: usize, fences: u64, end: usize) -> (usize, u64)
-    requires inside { piece < length pairs.now }
-    requires few { fences < 65536 }
-    ensures chain { (start : ℕ) → GoForward pairs.now → IsLastBelow pairs.now start end fences piece → IsLastBelow pairs.now start (end + 1) result.1 result.0 }
-    ensures small { result.1 ≤ fences + 1 }
-{
-    if let Some((_, second)) = pairs[piece] {
-        if second as usize == end {
-            return (end, fences + 1);
-        }
-    }
-    (piece, fences)
 }
 
 /// Offers each end that one group from `start` reaches the cost with that group.
@@ -76,7 +45,7 @@ fn offer_groups(
     for end in start + 1..reach.min(pairs.len()) + 1 {
         let cost = before + group_price(settings, end - start, fences);
         offer(costs, starts, end, cost, start as u32);
-        (piece, fences) = further(pairs, piece, fences, end);
+        (piece, fences) = chain_step(pairs, piece, fences, end);
     }
 }
 

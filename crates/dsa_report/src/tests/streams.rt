@@ -4,7 +4,7 @@ use std::io;
 use std::io::{ErrorKind, Read, Write};
 use std::test::Fail;
 
-// Gives at most some bytes a turn, and fails at one turn.
+// Gives at most some bytes a turn, and fails at one turn, but not again.
 #[derive(Drop)]
 struct Slow<'a> {
     rest: &'a [u8],
@@ -15,6 +15,7 @@ struct Slow<'a> {
 impl Read for Slow<'_> {
     fn read(&mut self, buf: &mut [u8]) -> io::Result<usize> {
         if self.turns_to_fault == Some(0) {
+            self.turns_to_fault = None;
             return Err(io::Error::from(ErrorKind::Interrupted));
         }
         self.turns_to_fault = self.turns_to_fault.map(|n| n.saturating_sub(1));
@@ -23,7 +24,7 @@ impl Read for Slow<'_> {
     }
 }
 
-// Gives so many blanks, at most some a turn.
+// Gives so many blanks, at most some a turn. It fails where more than 65,536 are asked for.
 #[derive(Drop)]
 struct Blanks {
     left: usize,
@@ -32,6 +33,9 @@ struct Blanks {
 
 impl Read for Blanks {
     fn read(&mut self, buf: &mut [u8]) -> io::Result<usize> {
+        if buf.len() > 65_536 {
+            return Err(io::Error::from(ErrorKind::InvalidInput));
+        }
         let count = buf.len().min(self.most).min(self.left);
         for byte in &mut buf[..count] {
             *byte = b' ';
@@ -41,7 +45,7 @@ impl Read for Blanks {
     }
 }
 
-// Takes one byte a turn, and fails once there is no room.
+// Takes one byte a turn, and fails where there is no room, but not again.
 #[derive(Drop)]
 struct Narrow {
     taken: Vec<u8>,
@@ -52,6 +56,7 @@ struct Narrow {
 impl Write for Narrow {
     fn write(&mut self, buf: &[u8]) -> io::Result<usize> {
         if self.room == 0 {
+            self.room = usize::MAX;
             return if self.is_silent {
                 Ok(0)
             } else {

@@ -30,6 +30,6 @@ loop-end-preserved c =
             | inl same ↦ subst (λ (z : ℕ). StepHolds prices pairs c.args.prices.now c.args.start z) (sym same) here
             | inr other ↦ c.loop-end.invariant.held k (omega arith) reach
           ];
-      chain = c.further.ensures.chain c.args.start c.requires.forward c.loop-end.invariant.chain;
-      few = omega (arith, c.further.ensures.small, c.loop-end.invariant.few);
+      chain = c.chain_step.ensures.chain c.args.start c.requires.forward c.loop-end.invariant.chain;
+      few = omega (arith, c.chain_step.ensures.small, c.loop-end.invariant.few);
     }

@@ -2,7 +2,7 @@ use Rattle.std.proofs.Common.{refl, ap, codes}
 use Rattle.serde_json.specs.Find.{get}
 use Rattle.serde_json.specs.View.{view}
 use Rattle.dsa_report.specs.Job.{judge_fields}
-use Rattle.dsa_report.proofs.Objects.{object_spelled}
+use Rattle.dsa_cert.proofs.Objects.{object_spelled}
 use Rattle.dsa_report.proofs.job.judge_members.Goals as goal
 
 pub returns-in_default : goal.returns-in_default

@@ -46,8 +46,8 @@ loop-end-preserved c =
     record {
       offering = offer_more prices pairs c.args.start costs starts c.requires.forward c.requires.few end c.group_price.result chain within small c.group_price.ensures.small c.loop-end.invariant.offering
           c.offer.new.costs c.offer.new.starts cheap dear;
-      chain = c.further.ensures.chain c.args.start c.requires.forward c.loop-end.invariant.chain;
-      few = omega (arith, c.further.ensures.small, c.loop-end.invariant.few);
+      chain = c.chain_step.ensures.chain c.args.start c.requires.forward c.loop-end.invariant.chain;
+      few = omega (arith, c.chain_step.ensures.small, c.loop-end.invariant.few);
       before_is = offer_keeps prices pairs c.args.start costs starts c.requires.forward c.requires.few end c.group_price.result chain within small c.group_price.ensures.small c.loop-end.invariant.offering
           c.offer.new.costs c.offer.new.starts cheap dear ∙ is;
     }

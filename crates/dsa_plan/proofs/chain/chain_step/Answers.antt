@@ -1,7 +1,7 @@
 use Rattle.std.proofs.Common.{ℕ, subst}
 use Rattle.dsa_plan.specs.Chain.{LeadsTo, GoForward, IsLastBelow}
 use Rattle.dsa_plan.proofs.Chains.{LeadsTo-same, LeadsTo-read, LeadsTo-read_none, IsLastBelow-counted, IsLastBelow-passed}
-use Rattle.dsa_search.proofs.table.further.Goals as goal
+use Rattle.dsa_plan.proofs.chain.chain_step.Goals as goal
 
 pub returns-then-second-end-clause-chain : goal.returns-then-second-end-clause-chain
 returns-then-second-end-clause-chain c = λ start forward last.

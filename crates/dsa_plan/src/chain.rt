@@ -1,17 +1,18 @@
-//! Chains of pairs.
+//! One group's price, and the chain of conflicting pairs within it, piece by piece.
 
 ghost use Rattle.std.specs.Prelude.{◌≡◌, ℕ, ◌+◌, ◌*◌, ◌<◌, ◌≤◌, length};
 ghost use Rattle.dsa_plan.specs.Plan.{price_of};
 ghost use Rattle.dsa_plan.specs.Settings.{prices_of};
 ghost use Rattle.dsa_plan.specs.Chain.{GoForward, IsLastBelow};
 
-use dsa_plan::Settings;
+use crate::settings::Settings;
 
 /// What one group of this size and with so many fences costs.
-pub(crate) fn group_price(settings: &Settings, size: usize, fences: u64) -> u64
+pub fn group_price(settings: &Settings, size: usize, fences: u64) -> u64
     requires less { fences < size }
     requires few { size ≤ 65536 }
     ensures price { result ≡ price_of (prices_of settings.now) size fences }
+    ensures small { result ≤ 1000000000 * size }
 {
     if size == 1 {
         settings.lone()
@@ -22,7 +23,7 @@ pub(crate) fn group_price(settings: &Settings, size: usize, fences: u64) -> u64
 
 /// The last piece of the chain that comes before `end + 1`, and the number of its pairs that end so far, from those
 /// before `end`.
-pub(crate) fn further(
+pub fn chain_step(
     pairs: &[Option<(u32, u32)>],
     piece: usize,
     fences: u64,

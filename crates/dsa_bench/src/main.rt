@@ -1,0 +1,28 @@
+//! How fast the crates are. Standard input names the case: `move`, `overlap` (a move to 32 bytes further on) and `fill`
+//! work in an image, beside a plain copy of as many bytes; `apart` and `chained` plan moves that don't conflict, or each
+//! of which reads what the one before wrote. Where it names none nothing is measured or printed.
+#![tactic(auto)]
+
+mod operation;
+mod planning;
+mod working;
+
+use crate::operation::operation;
+use crate::planning::measure_plans;
+use crate::working::measure_image;
+use std::io;
+
+/// The pattern of a fill.
+const PATTERN: u64 = 0x0706_0504_0302_0100;
+
+fn main(rt: HostRuntime) -> io::Result<()> {
+    let name = io::read_to_string(rt.alloc(), rt.reader())?;
+    match name.trim() {
+        "move" => measure_image(&rt, &operation(0x03, 0x7f_ffe0, 0)),
+        "overlap" => measure_image(&rt, &operation(0x03, 0, 0x20)),
+        "fill" => measure_image(&rt, &operation(0x04, PATTERN, 0)),
+        "apart" => measure_plans(&rt, 4096),
+        "chained" => measure_plans(&rt, 64),
+        _ => Ok(()),
+    }
+}

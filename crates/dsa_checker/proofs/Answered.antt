@@ -15,7 +15,7 @@ use Rattle.dsa_plan.proofs.Judged.{legal_no_fault, one_fault}
 use Rattle.dsa_checker.specs.declared.fault.CheckFault.{CheckFault}
 use Rattle.dsa_checker.specs.declared.fault.CheckFault.TheVariants.{Plan as BadPlan, Version, Lengths, Pair, Price, Total}
 use Rattle.dsa_checker.specs.Steps.{PairHolds, PairsHold, IsFirstBadPair, IsReach, StepHolds, StepsHold, IsFirstBadEnd, IsFirstBadStep}
-use Rattle.dsa_checker.specs.Checked.{settings_version, HasLengths, IsReady, IsFirstCheckFault}
+use Rattle.dsa_checker.specs.Checked.{HasLengths, IsReady, IsFirstCheckFault}
 
 -- pairs that hold lead to later pieces
 pub pairs_forward : (C : ℕ → ℕ → Type 0) (n : ℕ) (pairs : Pairs) → length pairs ≡ n → PairsHold C n pairs → GoForward pairs
@@ -24,10 +24,10 @@ pairs_forward C n pairs count hold i b (a, e) =
     let h = hold i inside a b e in
     omega (arith, h.starts, h.ordered)
 
-module _ (C : ℕ → ℕ → Type 0) (prices : Prices) (n : ℕ) (plan : Plan) (c : Contents) where
+module _ (C : ℕ → ℕ → Type 0) (prices : Prices) (version n : ℕ) (plan : Plan) (c : Contents) where
   -- what a yes says
   abbrev pub IsYes : ℕ → Type 0
-  IsYes total = IsLegal C prices n plan × (c.version ≡ settings_version) × IsGood C prices n c.prices c.pairs total × (total ≡ plan_cost prices plan)
+  IsYes total = IsLegal C prices n plan × (c.version ≡ version) × IsGood C prices n c.prices c.pairs total × (total ≡ plan_cost prices plan)
 
   good_step : (total : ℕ) → IsGood C prices n c.prices c.pairs total → (i j : ℕ) → IsReach prices n i j → StepHolds prices c.pairs c.prices i j
   good_step total good i j reach count h =
@@ -41,7 +41,7 @@ module _ (C : ℕ → ℕ → Type 0) (prices : Prices) (n : ℕ) (plan : Plan) 
             rw (price_of-batch prices (j - i) count more) (good.together i j count (omega (arith, reach.nonempty)) reach.fits reach.inside h)
       ]
 
-  pub yes_has_no_fault : (total : ℕ) → IsYes total → (f : CheckFault) → IsFirstCheckFault C prices n plan c f → ⊥
+  pub yes_has_no_fault : (total : ℕ) → IsYes total → (f : CheckFault) → IsFirstCheckFault C prices version n plan c f → ⊥
   yes_has_no_fault total held (BadPlan f) h = legal_no_fault C prices n plan f held.0 h
   yes_has_no_fault total held Version h = h.1 held.1
   yes_has_no_fault total held Lengths h = h.2 (record { prices = held.2.cost_count; pairs = held.2.pair_count })
@@ -51,11 +51,11 @@ module _ (C : ℕ → ℕ → Type 0) (prices : Prices) (n : ℕ) (plan : Plan) 
   yes_has_no_fault total held Total h = h.4 (held.2.last ∙ held.3)
 
   -- where all that is looked at holds, the certificate is good
-  pub all_held_is_yes : (total : ℕ) → IsReady C prices n plan c → PairsHold C n c.pairs → slice_index c.prices 0 ≡ 0 → StepsHold prices n c.pairs c.prices → slice_index c.prices n ≡ total
+  pub all_held_is_yes : (total : ℕ) → IsReady C prices version n plan c → PairsHold C n c.pairs → slice_index c.prices 0 ≡ 0 → StepsHold prices n c.pairs c.prices → slice_index c.prices n ≡ total
       → total ≡ plan_cost prices plan → IsYes total
   all_held_is_yes total ready pairs first steps last is_cost = (
     ready.legal,
-    ready.version,
+    ready.same_version,
     record {
       cost_count = ready.lengths.prices;
       pair_count = ready.lengths.pairs;
@@ -113,7 +113,7 @@ module _ (C : ℕ → ℕ → Type 0) (prices : Prices) (n : ℕ) (plan : Plan) 
   no_price i j (inl p) first steps = p.0 first
   no_price i j (inr p) first steps = p.1.first.bad (steps i j p.1.first.reach)
 
-  pub one_check_fault : (f g : CheckFault) → IsFirstCheckFault C prices n plan c f → IsFirstCheckFault C prices n plan c g → f ≡ g
+  pub one_check_fault : (f g : CheckFault) → IsFirstCheckFault C prices version n plan c f → IsFirstCheckFault C prices version n plan c g → f ≡ g
   one_check_fault (BadPlan f) (BadPlan g) p q = ap BadPlan (one_fault C prices n plan f g p q)
   one_check_fault (BadPlan f) Version p q = absurd (legal_no_fault C prices n plan f q.0 p)
   one_check_fault (BadPlan f) Lengths p q = absurd (legal_no_fault C prices n plan f q.0 p)
@@ -123,9 +123,9 @@ module _ (C : ℕ → ℕ → Type 0) (prices : Prices) (n : ℕ) (plan : Plan) 
   one_check_fault Version (BadPlan g) p q = absurd (legal_no_fault C prices n plan g p.0 q)
   one_check_fault Version Version p q = refl
   one_check_fault Version Lengths p q = absurd (p.1 q.1)
-  one_check_fault Version (Pair i) p q = absurd (p.1 q.0.version)
-  one_check_fault Version (Price i j) p q = absurd (p.1 q.0.version)
-  one_check_fault Version Total p q = absurd (p.1 q.0.version)
+  one_check_fault Version (Pair i) p q = absurd (p.1 q.0.same_version)
+  one_check_fault Version (Price i j) p q = absurd (p.1 q.0.same_version)
+  one_check_fault Version Total p q = absurd (p.1 q.0.same_version)
   one_check_fault Lengths (BadPlan g) p q = absurd (legal_no_fault C prices n plan g p.0 q)
   one_check_fault Lengths Version p q = absurd (q.1 p.1)
   one_check_fault Lengths Lengths p q = refl
@@ -133,19 +133,19 @@ module _ (C : ℕ → ℕ → Type 0) (prices : Prices) (n : ℕ) (plan : Plan) 
   one_check_fault Lengths (Price i j) p q = absurd (p.2 q.0.lengths)
   one_check_fault Lengths Total p q = absurd (p.2 q.0.lengths)
   one_check_fault (Pair i) (BadPlan g) p q = absurd (legal_no_fault C prices n plan g p.0.legal q)
-  one_check_fault (Pair i) Version p q = absurd (q.1 p.0.version)
+  one_check_fault (Pair i) Version p q = absurd (q.1 p.0.same_version)
   one_check_fault (Pair i) Lengths p q = absurd (q.2 p.0.lengths)
   one_check_fault (Pair i) (Pair j) p q = ap Pair (one_pair i j p.1 q.1)
   one_check_fault (Pair i) (Price j k) p q = absurd (p.1.bad (q.1 i p.1.inside))
   one_check_fault (Pair i) Total p q = absurd (p.1.bad (q.1 i p.1.inside))
   one_check_fault (Price i j) (BadPlan g) p q = absurd (legal_no_fault C prices n plan g p.0.legal q)
-  one_check_fault (Price i j) Version p q = absurd (q.1 p.0.version)
+  one_check_fault (Price i j) Version p q = absurd (q.1 p.0.same_version)
   one_check_fault (Price i j) Lengths p q = absurd (q.2 p.0.lengths)
   one_check_fault (Price i j) (Pair k) p q = absurd (q.1.bad (p.1 k q.1.inside))
   one_check_fault (Price i j) (Price k l) p q = let same = one_price i j k l p.2 q.2 in λ z. Price (same.0 z) (same.1 z)
   one_check_fault (Price i j) Total p q = absurd (no_price i j p.2 q.2 q.3)
   one_check_fault Total (BadPlan g) p q = absurd (legal_no_fault C prices n plan g p.0.legal q)
-  one_check_fault Total Version p q = absurd (q.1 p.0.version)
+  one_check_fault Total Version p q = absurd (q.1 p.0.same_version)
   one_check_fault Total Lengths p q = absurd (q.2 p.0.lengths)
   one_check_fault Total (Pair k) p q = absurd (q.1.bad (p.1 k q.1.inside))
   one_check_fault Total (Price k l) p q = absurd (no_price k l q.2 p.2 p.3)
@@ -159,16 +159,16 @@ module _ (C : ℕ → ℕ → Type 0) (prices : Prices) (n : ℕ) (plan : Plan) 
     (λ h. ap Ok (held.3 ∙ sym h.3)),
   )
 
-  pub yes_no_fault : (total : ℕ) → IsYes total → (f : CheckFault) → (◌≡◌ {A = Result ℕ CheckFault} (Ok total) (Err f)) ↔ IsFirstCheckFault C prices n plan c f
+  pub yes_no_fault : (total : ℕ) → IsYes total → (f : CheckFault) → (◌≡◌ {A = Result ℕ CheckFault} (Ok total) (Err f)) ↔ IsFirstCheckFault C prices version n plan c f
   yes_no_fault total held f = ((λ e. absurd cc), (λ h. absurd (yes_has_no_fault total held f h)))
 
-  pub fault_answer : (f : CheckFault) → IsFirstCheckFault C prices n plan c f → (g : CheckFault) → (◌≡◌ {A = Result ℕ CheckFault} (Err f) (Err g)) ↔ IsFirstCheckFault C prices n plan c g
+  pub fault_answer : (f : CheckFault) → IsFirstCheckFault C prices version n plan c f → (g : CheckFault) → (◌≡◌ {A = Result ℕ CheckFault} (Err f) (Err g)) ↔ IsFirstCheckFault C prices version n plan c g
   fault_answer f h g = (
-    (λ e. let same : f ≡ g = cc in subst (IsFirstCheckFault C prices n plan c) same h),
+    (λ e. let same : f ≡ g = cc in subst (IsFirstCheckFault C prices version n plan c) same h),
     (λ k. ap Err (one_check_fault f g h k)),
   )
 
-  pub fault_no_yes : (f : CheckFault) → IsFirstCheckFault C prices n plan c f → (total : ℕ) → (◌≡◌ {A = Result ℕ CheckFault} (Err f) (Ok total)) ↔ IsYes total
+  pub fault_no_yes : (f : CheckFault) → IsFirstCheckFault C prices version n plan c f → (total : ℕ) → (◌≡◌ {A = Result ℕ CheckFault} (Err f) (Ok total)) ↔ IsYes total
   fault_no_yes f h total = ((λ e. absurd cc), (λ held. absurd (yes_has_no_fault total held f h)))
 
 -- inside a list the default doesn't matter

@@ -5,7 +5,7 @@ use Rattle.dsa_ranges.specs.Ranges.{ConflictAt}
 use Rattle.dsa_cert.specs.Certificates.{contents}
 use Rattle.dsa_plan.specs.Plan.{plan_cost}
 use Rattle.dsa_plan.specs.Legal.{IsLegal}
-use Rattle.dsa_plan.specs.Settings.{prices_of}
+use Rattle.dsa_plan.specs.Settings.{prices_of, version_of}
 use Rattle.dsa_plan.proofs.Costs.{yes_means_least}
 use Rattle.dsa_checker.specs.Steps.{PairsHold, IsFirstBadPair, StepsHold, IsFirstBadStep}
 use Rattle.dsa_checker.specs.declared.fault.CheckFault.TheVariants.{Pair, Price}
@@ -31,13 +31,13 @@ returns-in-Some-clause-fault c =
     let cert = contents c.args.certificate.now in
     let pairs_len : length cert.pairs ≡ n = omega (arith, ap length c.deref.ensures.value, c.deref.ensures.len, c.len-2.ensures, c.if-len-pieces-2.false) in
     let prices_len : length cert.prices ≡ n + 1 = omega (arith, c.args.certificate.now.prices.ok.0, c.len.ensures, c.if-len-pieces.false) in
-    let ready : IsReady C prices n c.args.plan.now cert = record {
+    let ready : IsReady C prices (version_of c.args.settings.now) n c.args.plan.now cert = record {
       legal = c.in_default.ensures.legal.0 refl;
-      version = c.if-certificate-ne-SETTINGS_VERSION.false;
+      same_version = c.if-certificate-version.false ∙ c.version.ensures;
       lengths = record { prices = prices_len; pairs = pairs_len };
     } in
     let bad : IsFirstBadPair C n cert.pairs c.in-Some.piece = rw c.deref.ensures.value at c.in-Some.ensures in
-    fault_answer C prices n c.args.plan.now cert (Pair c.in-Some.piece) (ready, bad)
+    fault_answer C prices (version_of c.args.settings.now) n c.args.plan.now cert (Pair c.in-Some.piece) (ready, bad)
 
 pub returns-in-Some-first_bad_step-clause-good : goal.returns-in-Some-first_bad_step-clause-good
 returns-in-Some-first_bad_step-clause-good c =
@@ -47,9 +47,9 @@ returns-in-Some-first_bad_step-clause-good c =
     let cert = contents c.args.certificate.now in
     let pairs_len : length cert.pairs ≡ n = omega (arith, ap length c.deref.ensures.value, c.deref.ensures.len, c.len-2.ensures, c.if-len-pieces-2.false) in
     let prices_len : length cert.prices ≡ n + 1 = omega (arith, ap length c.deref-2.ensures.value, c.deref-2.ensures.len, c.len.ensures, c.if-len-pieces.false) in
-    let ready : IsReady C prices n c.args.plan.now cert = record {
+    let ready : IsReady C prices (version_of c.args.settings.now) n c.args.plan.now cert = record {
       legal = c.in_default.ensures.legal.0 refl;
-      version = c.if-certificate-ne-SETTINGS_VERSION.false;
+      same_version = c.if-certificate-version.false ∙ c.version.ensures;
       lengths = record { prices = prices_len; pairs = pairs_len };
     } in
     let pairs : PairsHold C n cert.pairs = rw c.deref.ensures.value at c.in_default-first_bad_pair.ensures in
@@ -58,8 +58,8 @@ returns-in-Some-first_bad_step-clause-good c =
     let bad : IsFirstBadStep prices n cert.pairs cert.prices c.in-Some-first_bad_step.start c.in-Some-first_bad_step.end =
     subst (λ (m : ℕ). IsFirstBadStep prices m cert.pairs cert.prices c.in-Some-first_bad_step.start c.in-Some-first_bad_step.end) pairs_len
     (rw (c.deref-2.ensures.value, c.deref-3.ensures.value) at c.in-Some-first_bad_step.ensures) in
-    let fault : IsFirstCheckFault C prices n c.args.plan.now cert (Price c.in-Some-first_bad_step.start c.in-Some-first_bad_step.end) = (ready, pairs, inr (first, bad)) in
-    fault_no_yes C prices n c.args.plan.now cert (Price c.in-Some-first_bad_step.start c.in-Some-first_bad_step.end) fault
+    let fault : IsFirstCheckFault C prices (version_of c.args.settings.now) n c.args.plan.now cert (Price c.in-Some-first_bad_step.start c.in-Some-first_bad_step.end) = (ready, pairs, inr (first, bad)) in
+    fault_no_yes C prices (version_of c.args.settings.now) n c.args.plan.now cert (Price c.in-Some-first_bad_step.start c.in-Some-first_bad_step.end) fault
 
 pub returns-in-Some-first_bad_step-clause-fault : goal.returns-in-Some-first_bad_step-clause-fault
 returns-in-Some-first_bad_step-clause-fault c =
@@ -69,9 +69,9 @@ returns-in-Some-first_bad_step-clause-fault c =
     let cert = contents c.args.certificate.now in
     let pairs_len : length cert.pairs ≡ n = omega (arith, ap length c.deref.ensures.value, c.deref.ensures.len, c.len-2.ensures, c.if-len-pieces-2.false) in
     let prices_len : length cert.prices ≡ n + 1 = omega (arith, ap length c.deref-2.ensures.value, c.deref-2.ensures.len, c.len.ensures, c.if-len-pieces.false) in
-    let ready : IsReady C prices n c.args.plan.now cert = record {
+    let ready : IsReady C prices (version_of c.args.settings.now) n c.args.plan.now cert = record {
       legal = c.in_default.ensures.legal.0 refl;
-      version = c.if-certificate-ne-SETTINGS_VERSION.false;
+      same_version = c.if-certificate-version.false ∙ c.version.ensures;
       lengths = record { prices = prices_len; pairs = pairs_len };
     } in
     let pairs : PairsHold C n cert.pairs = rw c.deref.ensures.value at c.in_default-first_bad_pair.ensures in
@@ -80,8 +80,8 @@ returns-in-Some-first_bad_step-clause-fault c =
     let bad : IsFirstBadStep prices n cert.pairs cert.prices c.in-Some-first_bad_step.start c.in-Some-first_bad_step.end =
     subst (λ (m : ℕ). IsFirstBadStep prices m cert.pairs cert.prices c.in-Some-first_bad_step.start c.in-Some-first_bad_step.end) pairs_len
     (rw (c.deref-2.ensures.value, c.deref-3.ensures.value) at c.in-Some-first_bad_step.ensures) in
-    let fault : IsFirstCheckFault C prices n c.args.plan.now cert (Price c.in-Some-first_bad_step.start c.in-Some-first_bad_step.end) = (ready, pairs, inr (first, bad)) in
-    fault_answer C prices n c.args.plan.now cert (Price c.in-Some-first_bad_step.start c.in-Some-first_bad_step.end) fault
+    let fault : IsFirstCheckFault C prices (version_of c.args.settings.now) n c.args.plan.now cert (Price c.in-Some-first_bad_step.start c.in-Some-first_bad_step.end) = (ready, pairs, inr (first, bad)) in
+    fault_answer C prices (version_of c.args.settings.now) n c.args.plan.now cert (Price c.in-Some-first_bad_step.start c.in-Some-first_bad_step.end) fault
 
 pub returns-clause-good : goal.returns-clause-good
 returns-clause-good c =
@@ -91,9 +91,9 @@ returns-clause-good c =
     let cert = contents c.args.certificate.now in
     let pairs_len : length cert.pairs ≡ n = omega (arith, ap length c.deref.ensures.value, c.deref.ensures.len, c.len-2.ensures, c.if-len-pieces-2.false) in
     let prices_len : length cert.prices ≡ n + 1 = omega (arith, ap length c.deref-2.ensures.value, c.deref-2.ensures.len, c.len.ensures, c.if-len-pieces.false) in
-    let ready : IsReady C prices n c.args.plan.now cert = record {
+    let ready : IsReady C prices (version_of c.args.settings.now) n c.args.plan.now cert = record {
       legal = c.in_default.ensures.legal.0 refl;
-      version = c.if-certificate-ne-SETTINGS_VERSION.false;
+      same_version = c.if-certificate-version.false ∙ c.version.ensures;
       lengths = record { prices = prices_len; pairs = pairs_len };
     } in
     let pairs : PairsHold C n cert.pairs = rw c.deref.ensures.value at c.in_default-first_bad_pair.ensures in
@@ -102,8 +102,8 @@ returns-clause-good c =
     subst (λ (m : ℕ). StepsHold prices m cert.pairs cert.prices) pairs_len
     (rw (c.deref-2.ensures.value, c.deref-3.ensures.value) at c.in_default-first_bad_step.ensures) in
     let last : slice_index cert.prices n ≡ c.cost-total.result = any_default cert.prices n 0 c.index-2.result.now (omega arith) ∙ sym c.index-2.ensures ∙ c.if-index-total.false in
-    let answer : IsYes C prices n c.args.plan.now cert c.cost-total.result = all_held_is_yes C prices n c.args.plan.now cert c.cost-total.result ready pairs first steps last c.cost-total.ensures in
-    yes_answer C prices n c.args.plan.now cert c.cost-total.result answer
+    let answer : IsYes C prices (version_of c.args.settings.now) n c.args.plan.now cert c.cost-total.result = all_held_is_yes C prices (version_of c.args.settings.now) n c.args.plan.now cert c.cost-total.result ready pairs first steps last c.cost-total.ensures in
+    yes_answer C prices (version_of c.args.settings.now) n c.args.plan.now cert c.cost-total.result answer
 
 pub returns-clause-least : goal.returns-clause-least
 returns-clause-least c = λ _.
@@ -113,9 +113,9 @@ returns-clause-least c = λ _.
     let cert = contents c.args.certificate.now in
     let pairs_len : length cert.pairs ≡ n = omega (arith, ap length c.deref.ensures.value, c.deref.ensures.len, c.len-2.ensures, c.if-len-pieces-2.false) in
     let prices_len : length cert.prices ≡ n + 1 = omega (arith, ap length c.deref-2.ensures.value, c.deref-2.ensures.len, c.len.ensures, c.if-len-pieces.false) in
-    let ready : IsReady C prices n c.args.plan.now cert = record {
+    let ready : IsReady C prices (version_of c.args.settings.now) n c.args.plan.now cert = record {
       legal = c.in_default.ensures.legal.0 refl;
-      version = c.if-certificate-ne-SETTINGS_VERSION.false;
+      same_version = c.if-certificate-version.false ∙ c.version.ensures;
       lengths = record { prices = prices_len; pairs = pairs_len };
     } in
     let pairs : PairsHold C n cert.pairs = rw c.deref.ensures.value at c.in_default-first_bad_pair.ensures in
@@ -124,5 +124,5 @@ returns-clause-least c = λ _.
     subst (λ (m : ℕ). StepsHold prices m cert.pairs cert.prices) pairs_len
     (rw (c.deref-2.ensures.value, c.deref-3.ensures.value) at c.in_default-first_bad_step.ensures) in
     let last : slice_index cert.prices n ≡ c.cost-total.result = any_default cert.prices n 0 c.index-2.result.now (omega arith) ∙ sym c.index-2.ensures ∙ c.if-index-total.false in
-    let answer : IsYes C prices n c.args.plan.now cert c.cost-total.result = all_held_is_yes C prices n c.args.plan.now cert c.cost-total.result ready pairs first steps last c.cost-total.ensures in
+    let answer : IsYes C prices (version_of c.args.settings.now) n c.args.plan.now cert c.cost-total.result = all_held_is_yes C prices (version_of c.args.settings.now) n c.args.plan.now cert c.cost-total.result ready pairs first steps last c.cost-total.ensures in
     yes_means_least C prices n c.args.plan.now cert.prices cert.pairs c.cost-total.result answer.0 answer.2 answer.3

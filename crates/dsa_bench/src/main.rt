@@ -1,14 +1,16 @@
 //! How fast the crates are. Standard input names the case: `move`, `overlap` (a move to 32 bytes further on) and `fill`
 //! work in an image, beside a plain copy of as many bytes; `apart` and `chained` plan moves that don't conflict, or each
-//! of which reads what the one before wrote. Where it names none nothing is measured or printed.
+//! of which reads what the one before wrote; `split` splits one move into 65,536 pieces. Where it names none nothing is measured or printed.
 #![tactic(auto)]
 
 mod operation;
 mod planning;
+mod splitting;
 mod working;
 
 use crate::operation::operation;
 use crate::planning::measure_plans;
+use crate::splitting::measure_split;
 use crate::working::measure_image;
 use std::io;
 
@@ -23,6 +25,7 @@ fn main(rt: HostRuntime) -> io::Result<()> {
         "fill" => measure_image(&rt, &operation(0x04, PATTERN, 0)),
         "apart" => measure_plans(&rt, 4096),
         "chained" => measure_plans(&rt, 64),
+        "split" => measure_split(&rt),
         _ => Ok(()),
     }
 }

@@ -1,0 +1,33 @@
+//! Pieces of one long move.
+
+use crate::operation::operation_of;
+use dsa_descriptor::Descriptor;
+use dsa_plan::Settings;
+use dsa_splitter::pieces;
+use std::alloc::{Alloc, Global};
+use std::io;
+use std::rt::Runtime;
+use std::time::Instant;
+
+/// The bytes of a piece.
+const PIECE_LEN: u64 = 64;
+/// The bytes of 65,536 pieces.
+const MOVE_LEN: u32 = 4_194_304;
+
+/// Splits one move, and prints how long it took.
+pub(crate) fn measure_split<R: Runtime + Alloc<A = Global>>(rt: &R) -> io::Result<()> {
+    let bytes = operation_of(0x03, 0x1000_0000, 0x2000_0000, MOVE_LEN, 0x3000_0000);
+    let Ok(d) = Descriptor::read(&bytes) else {
+        return Ok(());
+    };
+    let Ok(settings) = Settings::new(1024, PIECE_LEN, 10, 14, 3, 0) else {
+        return Ok(());
+    };
+    let start = Instant::now(rt)?;
+    let count = match pieces(rt.alloc(), &[d], &settings) {
+        Ok(found) => found.len(),
+        Err(_) => 0,
+    };
+    let time = start.elapsed(rt)?;
+    println!(rt; "{count} pieces in {} us", time.as_micros())
+}

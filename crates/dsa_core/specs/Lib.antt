@@ -1,0 +1,14 @@
+pub mod Machine
+pub mod Order
+pub mod Run
+pub mod StopPoint
+pub mod Stretches
+pub mod Laws
+pub mod DescriptorMachine
+pub mod BatchRecords
+pub mod PieceRuns
+pub mod Headline
+pub mod Samples
+pub mod Accounts
+pub mod AccountLaws
+pub mod Answers

@@ -54,17 +54,24 @@ fn put(bytes: &mut [u8; 64], place: usize, part: &[u8])
     bytes[place..place + part.len()].copy_from_slice(part);
 }
 
-/// The bytes of a batch descriptor of the owner of `first`.
-fn batch_bytes(first: &Descriptor, record_at: u64, list_at: u64, count: u32) -> [u8; 64]
-    ensures { result ≡ batch_spelling (take 4 (spelling (fields first.now))) record_at list_at count }
+/// The bytes of a batch descriptor of this owner.
+pub(crate) fn batch_entry(owner: &[u8; 4], record_at: u64, list_at: u64, count: u32) -> [u8; 64]
+    ensures { result ≡ batch_spelling owner.now record_at list_at count }
 {
     let mut bytes = [0; 64];
-    put(&mut bytes, 0, &owner_bytes(first));
+    put(&mut bytes, 0, owner);
     put(&mut bytes, 4, &BATCH.to_le_bytes());
     put(&mut bytes, 8, &record_at.to_le_bytes());
     put(&mut bytes, 16, &list_at.to_le_bytes());
     put(&mut bytes, 32, &count.to_le_bytes());
     bytes
+}
+
+/// The bytes of a batch descriptor of the owner of `first`.
+fn batch_bytes(first: &Descriptor, record_at: u64, list_at: u64, count: u32) -> [u8; 64]
+    ensures { result ≡ batch_spelling (take 4 (spelling (fields first.now))) record_at list_at count }
+{
+    batch_entry(&owner_bytes(first), record_at, list_at, count)
 }
 
 /// What stands before the end of the groups.

@@ -2,9 +2,11 @@
 
 ghost use Rattle.std.specs.Prelude.{◌≡◌, ◌≢◌, ℕ, ◌^◌, ◌≤◌, ◌++◌, ◌↔◌, map, IsTrue, IfOk, Err, IfErr, MatchResult};
 ghost use Rattle.dsa_descriptor.specs.Descriptors.{fields};
+ghost use Rattle.dsa_image.specs.Memory.{Memory};
+ghost use Rattle.dsa_image.specs.Effects.{fold_done, statuses};
 ghost use Rattle.dsa_splitter.specs.declared.fault.SplitFault.{SplitFault};
-ghost use Rattle.dsa_splitter.specs.declared.fault.SplitFault.TheVariants.{Memory};
-ghost use Rattle.dsa_splitter.specs.Pieces.{all_pieces, pieces};
+ghost use Rattle.dsa_splitter.specs.declared.fault.SplitFault.TheVariants.{Memory as MemoryFault};
+ghost use Rattle.dsa_splitter.specs.Pieces.{all_pieces, all_whole, pieces, whole_statuses};
 ghost use Rattle.dsa_splitter.specs.Rules.{AllMaySplit, AreFew, FindsMeeting, IsFirstSplitFault, IsSplit, MaySplit, MeetsArea, most_pieces, piece_total};
 
 use crate::fault::SplitFault;
@@ -24,7 +26,7 @@ const STAGED_LEN: u64 = 96;
 /// How many pieces there are, where each operation may be split.
 fn count_pieces(list: &[Descriptor], greatest: u64) -> Result<u64, SplitFault>
     requires { 8 ≤ greatest }
-    ensures { MatchResult result (λ total. AreFew greatest (map fields list.now) × (total ≡ piece_total greatest (map fields list.now))) (λ fault. (fault ≢ Memory) × ((staging : ℕ) → IsFirstSplitFault greatest staging (map fields list.now) fault)) }
+    ensures { MatchResult result (λ total. AreFew greatest (map fields list.now) × (total ≡ piece_total greatest (map fields list.now))) (λ fault. (fault ≢ MemoryFault) × ((staging : ℕ) → IsFirstSplitFault greatest staging (map fields list.now) fault)) }
 {
     let mut total = 0;
     for index in 0..list.len() {
@@ -130,7 +132,9 @@ pub fn pieces(
     settings: &Settings,
 ) -> Result<Vec<Descriptor>, SplitFault>
     ensures found { IfOk result (λ found. IsSplit settings.now.greatest_transfer settings.now.staging (map fields list.now) × (map fields found.items ≡ all_pieces (map fields list.now) settings.now.greatest_transfer)) }
-    ensures refused { (fault : SplitFault) → fault ≢ Memory → IsFirstSplitFault settings.now.greatest_transfer settings.now.staging (map fields list.now) fault → result ≡ Err fault }
+    ensures memory { IfOk result (λ found. (m : Memory) → fold_done (map fields found.items) m ≡ all_whole (map fields list.now) settings.now.greatest_transfer m) }
+    ensures statuses { IfOk result (λ found. (m : Memory) → statuses (map fields found.items) m ≡ whole_statuses (map fields list.now) settings.now.greatest_transfer m) }
+    ensures refused { (fault : SplitFault) → fault ≢ MemoryFault → IsFirstSplitFault settings.now.greatest_transfer settings.now.staging (map fields list.now) fault → result ≡ Err fault }
     ensures fault { IfErr result (IsFirstSplitFault settings.now.greatest_transfer settings.now.staging (map fields list.now)) }
 {
     let greatest = settings.greatest_transfer();

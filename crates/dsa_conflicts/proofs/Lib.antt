@@ -1,1 +1,9 @@
-pub mod Back
+pub mod Values
+pub mod Ranges
+pub mod Accesses
+pub mod Found
+pub mod Greatest
+pub mod Spans
+pub mod View
+pub mod Added
+pub mod Lasts

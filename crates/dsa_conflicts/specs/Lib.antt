@@ -1,1 +1,4 @@
+pub mod Access
 pub mod Last
+pub mod Segments
+pub mod Sweep

@@ -1,0 +1,31 @@
+#!/bin/sh
+# Tries bodies of dsa_engines that no clause can refuse, since no proof tells of time: engines that are one thread,
+# engines that keep each other from their lines, and a run that always says that the gate refused. In each a test has
+# to fail. Each takes about half a minute; the crates below have to be proved (after `rt ci` they are).
+set -eu
+cd "$(dirname "$0")/.."
+top=$(pwd)
+copy=$(mktemp -d)
+trap 'rm -rf "$copy"' EXIT
+for patch in one_thread:two_engines_are_at_work_at_once locked_lines:lines_are_worked_outside_the_lock always_shut:any_number_of_engines_leaves_the_same; do
+    name=${patch%:*}
+    test=${patch#*:}
+    rm -rf "$copy/crates"
+    mkdir -p "$copy/crates"
+    grep -E '^(dsa_descriptor|dsa_ranges|dsa_image|dsa_plan|dsa_core|dsa_engines):' crates.txt > "$copy/crates.txt"
+    for crate in dsa_descriptor dsa_ranges dsa_image dsa_plan dsa_core dsa_engines; do
+        cp -a "crates/$crate" "$copy/crates/"
+    done
+    cp HANDLES "$copy/"
+    (cd "$copy/crates/dsa_engines" && patch -s -p1 < "$top/tests/engines/$name.patch")
+    if (cd "$copy/crates/dsa_engines" && rt try --test) > "$copy/log" 2>&1; then
+        echo "tests/engines.sh: $name passes the tests" >&2
+        exit 1
+    fi
+    grep -q "$test.* FAILED" "$copy/log" || {
+        echo "tests/engines.sh: $name does not fail $test" >&2
+        tail -20 "$copy/log" >&2
+        exit 1
+    }
+done
+echo "wrong engines: each fails its test"

@@ -1,0 +1,70 @@
+-- Judging has one outcome.
+use Rattle.std.proofs.Common.{◌≡◌, ◌⊎◌, inl, inr, ℕ, List, length, map, Result, Ok, Err, refl, sym, ap, subst, ◌∙◌, arith}
+use Rattle.std.proofs.lemmas.Bool.{cases_lt}
+use Rattle.dsa_descriptor.specs.declared.descriptor.Descriptor.{Descriptor}
+use Rattle.dsa_descriptor.specs.Fields.{Fields}
+use Rattle.dsa_descriptor.specs.Descriptors.{fields}
+use Rattle.dsa_ranges.specs.Ranges.{ConflictAt}
+use Rattle.dsa_plan.specs.Settings.{Limits, prices_of}
+use Rattle.dsa_plan.specs.Plan.{Plan}
+use Rattle.dsa_plan.proofs.Judged.{legal_no_fault, one_fault}
+use Rattle.dsa_planner.specs.declared.fault.PlanFault.{PlanFault}
+use Rattle.dsa_planner.specs.declared.fault.PlanFault.TheVariants.{TooManyPieces, OverTransfer, Legal}
+use Rattle.dsa_planner.specs.Lists.{IsListOf, OrMemory}
+use Rattle.dsa_planner.specs.Judge.{FitTransfer, IsFirstOver, JudgesPieces, Judges}
+use Rattle.dsa_planner.specs.Laws.{OneJudged}
+use Rattle.dsa_planner.proofs.Over.{one_over_list}
+
+-- where all fit, none is the first that is longer
+none_over : (greatest : ℕ) (fs : List Fields) (i : ℕ) → FitTransfer greatest fs → IsFirstOver greatest fs i → ⊥
+none_over greatest fs i fit over = let h = fit i over.long over.there in let g = over.over in omega arith
+
+-- one is the first that is longer
+one_over : (greatest : ℕ) (fs : List Fields) (i j : ℕ) → IsFirstOver greatest fs i → IsFirstOver greatest fs j → i ≡ j
+one_over greatest fs i j p q =
+    let over = p.over in
+    let over' = q.over in
+    elim (cases_lt i j) [
+      | inl less ↦ let h = q.before i p.long less p.there in absurd (omega arith)
+      | inr from ↦ elim (cases_lt j i) [
+        | inl more ↦ let h = p.before j q.long more q.there in absurd (omega arith)
+        | inr at_most ↦ omega arith
+      ]
+    ]
+
+-- pieces have one outcome
+one_judged_pieces : (fs : List Fields) (plan : Plan) (s : Limits) (o p : Result ℕ PlanFault) → JudgesPieces fs plan s o → JudgesPieces fs plan s p → o ≡ p
+one_judged_pieces fs plan s (Ok cost) (Ok cost') h k = ap Ok (h.3 ∙ sym k.3)
+one_judged_pieces fs plan s (Ok cost) (Err TooManyPieces) h k = let few = h.0 in absurd (omega arith)
+one_judged_pieces fs plan s (Ok cost) (Err (OverTransfer i)) h k = absurd (none_over s.greatest_transfer fs i h.1 k.1)
+one_judged_pieces fs plan s (Ok cost) (Err (Legal fault)) h k = absurd (legal_no_fault (ConflictAt fs) (prices_of s) (length fs) plan fault h.2 k.2)
+one_judged_pieces fs plan s (Ok cost) (Err _) h k = absurd k
+one_judged_pieces fs plan s (Err TooManyPieces) (Ok cost') h k = let few = k.0 in absurd (omega arith)
+one_judged_pieces fs plan s (Err TooManyPieces) (Err TooManyPieces) h k = refl
+one_judged_pieces fs plan s (Err TooManyPieces) (Err (OverTransfer i)) h k = let few = k.0 in absurd (omega arith)
+one_judged_pieces fs plan s (Err TooManyPieces) (Err (Legal fault)) h k = let few = k.0 in absurd (omega arith)
+one_judged_pieces fs plan s (Err TooManyPieces) (Err _) h k = absurd k
+one_judged_pieces fs plan s (Err (OverTransfer i)) (Ok cost') h k = absurd (none_over s.greatest_transfer fs i k.1 h.1)
+one_judged_pieces fs plan s (Err (OverTransfer i)) (Err TooManyPieces) h k = let few = h.0 in absurd (omega arith)
+one_judged_pieces fs plan s (Err (OverTransfer i)) (Err (OverTransfer j)) h k = ap (λ n. Err (OverTransfer n)) (one_over s.greatest_transfer fs i j h.1 k.1)
+one_judged_pieces fs plan s (Err (OverTransfer i)) (Err (Legal fault)) h k = absurd (none_over s.greatest_transfer fs i k.1 h.1)
+one_judged_pieces fs plan s (Err (OverTransfer i)) (Err _) h k = absurd k
+one_judged_pieces fs plan s (Err (Legal fault)) (Ok cost') h k = absurd (legal_no_fault (ConflictAt fs) (prices_of s) (length fs) plan fault k.2 h.2)
+one_judged_pieces fs plan s (Err (Legal fault)) (Err TooManyPieces) h k = let few = h.0 in absurd (omega arith)
+one_judged_pieces fs plan s (Err (Legal fault)) (Err (OverTransfer j)) h k = absurd (none_over s.greatest_transfer fs j h.1 k.1)
+one_judged_pieces fs plan s (Err (Legal fault)) (Err (Legal fault')) h k = ap (λ f. Err (Legal f)) (one_fault (ConflictAt fs) (prices_of s) (length fs) plan fault fault' h.2 k.2)
+one_judged_pieces fs plan s (Err (Legal fault)) (Err _) h k = absurd k
+one_judged_pieces fs plan s (Err _) p h k = absurd h
+
+pub one_judged : OneJudged
+one_judged bytes plan s = one_over_list (λ fs o. JudgesPieces fs plan s o) (λ fs o p. one_judged_pieces fs plan s o p) bytes
+
+-- the pieces were judged
+pub list_judged : (bytes : List ℕ) (plan : Plan) (s : Limits) (ds shown : List Descriptor) (outcome : Result ℕ PlanFault) → IsListOf bytes ds → shown ≡ ds
+    → JudgesPieces (map fields shown) plan s outcome → OrMemory (λ cost. cost) (Judges bytes plan s) outcome
+list_judged bytes plan s ds shown outcome is same judges =
+    go outcome (inr (ds, is, subst (λ (es : List Descriptor). JudgesPieces (map fields es) plan s outcome) same judges))
+  where
+    go : (o : Result ℕ PlanFault) → Judges bytes plan s o → OrMemory (λ cost. cost) (Judges bytes plan s) o
+    go (Ok cost) h = h
+    go (Err fault) h = inr h

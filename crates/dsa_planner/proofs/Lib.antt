@@ -1,0 +1,7 @@
+pub mod Sizes
+pub mod Over
+pub mod JudgedOnce
+pub mod CheckedOnce
+pub mod Submissions
+pub mod Beginnings
+pub mod Histories

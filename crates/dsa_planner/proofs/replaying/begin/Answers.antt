@@ -1,0 +1,15 @@
+use Rattle.std.proofs.Common.{Err, refl, ap}
+use Rattle.dsa_planner.proofs.Beginnings.{none_outside}
+use Rattle.dsa_planner.proofs.replaying.begin.Goals as goal
+
+pub unreachable-requires : goal.unreachable-requires
+unreachable-requires c =
+    let held = none_outside c.args.image.now c.args.pieces.now (λ i first. let e = c.in-Err-ImageSize.ensures.fault i in let same = e.1 first in let kind = c.in-Err-ImageSize.field-0-is in cc) in
+    let ok = c.in-Err-ImageSize.ensures.ok.1 held in cc
+
+pub returns-in-Ok : goal.returns-in-Ok
+returns-in-Ok c = (refl, record { some = c.if-engines-lt1.false; few = c.if-engines-gt64.false }, c.in-Ok.ensures.ok.0 refl)
+
+pub returns-in-Err-OutOfImage : goal.returns-in-Err-OutOfImage
+returns-in-Err-OutOfImage c =
+    (record { some = c.if-engines-lt1.false; few = c.if-engines-gt64.false }, (c.in-Err-OutOfImage.ensures.fault c.in-Err-OutOfImage.piece).0 (ap Err c.in-Err-OutOfImage.field-0-is))

@@ -1,0 +1,7 @@
+pub mod Fault
+pub mod Lists
+pub mod Judge
+pub mod Planned
+pub mod Checked
+pub mod Runs
+pub mod Laws

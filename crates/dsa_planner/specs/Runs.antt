@@ -1,0 +1,102 @@
+-- What replaying and running the planned pieces of a list leave.
+use Rattle.std.specs.Prelude.{◌≡◌, ℕ, ◌+◌, ◌<◌, ◌≤◌, ◌⊎◌, All, List, length, map, Result, Ok, Err}
+use Rattle.dsa_descriptor.specs.declared.descriptor.Descriptor.{Descriptor}
+use Rattle.dsa_descriptor.specs.Fields.{Fields}
+use Rattle.dsa_descriptor.specs.Descriptors.{fields}
+use Rattle.dsa_image.specs.Memory.{Memory, HoldsRanges}
+use Rattle.dsa_image.specs.Holding.{IsFirstOutside}
+use Rattle.dsa_plan.specs.Settings.{Limits}
+use Rattle.dsa_plan.specs.Plan.{Plan}
+use Rattle.dsa_splitter.specs.Pieces.{all_whole, whole_statuses}
+use Rattle.dsa_core.specs.declared.event.Event.{Event}
+use Rattle.dsa_core.specs.declared.outcome.Outcome.{Outcome}
+use Rattle.dsa_core.specs.PieceRuns.{event_count}
+use Rattle.dsa_core.specs.Accounts.{IsOutcome, IsUnfinished}
+use Rattle.dsa_core.specs.Outcomes.{room_with, IsFirstRefused}
+use Rattle.dsa_planner.specs.declared.fault.PlanFault.{PlanFault}
+use Rattle.dsa_planner.specs.declared.fault.PlanFault.TheVariants.{OutOfImage, Engines, GateShut, Stale, Mixed, TooLong, NotAStep, Incomplete}
+use Rattle.dsa_planner.specs.Lists.{IsListOf}
+use Rattle.dsa_planner.specs.Planned.{Submission, Plans}
+
+-- what a complete run leaves
+pub record Left : Type 0 where
+  pub image : Memory
+  pub finished : ℕ
+  pub batch_records : List (List ℕ)
+
+-- an outcome, as contracts see it
+abbrev pub left_of : Outcome → Left
+left_of o = record { image = o.image; finished = o.finished; batch_records = o.batch_records.items }
+
+-- the most events of one run (this project's choice)
+abbrev pub most_events : ℕ
+most_events = 4194304
+
+-- 1 to 64 engines (this project's choice)
+pub record AreEngines (engines : ℕ) : Type 0 where
+  pub some : 1 ≤ engines
+  pub few : engines ≤ 64
+
+-- a run of these pieces can begin: by so many engines, in a memory that has what they read and write, with so few events
+pub record CanBegin (m : Memory) (engines : ℕ) (pieces : List Fields) : Type 0 where
+  pub are_engines : AreEngines engines
+  pub holds : All (HoldsRanges m) pieces
+  pub few_events : event_count pieces ≤ most_events
+
+-- the first cause why it can't: the engines, a piece outside the memory, the events
+abbrev pub IsFirstBeginFault : Memory → ℕ → List Fields → PlanFault → Type 0
+IsFirstBeginFault m engines pieces Engines = ¬ AreEngines engines
+IsFirstBeginFault m engines pieces (OutOfImage i) = AreEngines engines × IsFirstOutside m pieces i
+IsFirstBeginFault m engines pieces TooLong = AreEngines engines × All (HoldsRanges m) pieces × (most_events < event_count pieces)
+IsFirstBeginFault m engines pieces _ = ⊥
+
+-- the outcome of replaying these events on pieces under a plan: what they leave where they are a complete run; else the
+-- first that is no step, or that the run isn't complete
+abbrev pub ReplaysPieces : Memory → ℕ → List Event → Plan → List Fields → Result Left PlanFault → Type 0
+ReplaysPieces m engines trace plan pieces (Ok left) =
+    CanBegin m engines pieces × IsOutcome (room_with m plan pieces engines trace) left.image left.finished left.batch_records
+ReplaysPieces m engines trace plan pieces (Err (NotAStep k)) = CanBegin m engines pieces × IsFirstRefused (room_with m plan pieces engines) trace k
+ReplaysPieces m engines trace plan pieces (Err Incomplete) = CanBegin m engines pieces × IsUnfinished (room_with m plan pieces engines trace)
+ReplaysPieces m engines trace plan pieces (Err fault) = IsFirstBeginFault m engines pieces fault
+
+-- a run breaks off where its gate refuses, where work comes back out of date, or where the room that is left is not over
+abbrev pub BreaksOff : PlanFault → Type 0
+BreaksOff fault = (fault ≡ GateShut) ⊎ ((fault ≡ Stale) ⊎ (fault ≡ Mixed))
+
+-- the outcome of running pieces under a plan: what some complete run leaves; or the run broke off
+abbrev pub RunsPieces : Memory → ℕ → Plan → List Fields → Result Left PlanFault → Type 0
+RunsPieces m engines plan pieces (Ok left) =
+    CanBegin m engines pieces × ((history : List Event) × IsOutcome (room_with m plan pieces engines history) left.image left.finished left.batch_records)
+RunsPieces m engines plan pieces (Err fault) = (CanBegin m engines pieces × BreaksOff fault) ⊎ IsFirstBeginFault m engines pieces fault
+
+-- the outcome of a call over the submission of a list: the refusal of planning it, or what the call says of it
+abbrev pub OverPlanned : {X : Type 0} → (Submission → Result X PlanFault → Type 0) → List ℕ → Limits → Result X PlanFault → Type 0
+OverPlanned Says bytes s outcome =
+    ((fault : PlanFault) × Plans bytes s (Err fault) × (outcome ≡ Err fault))
+    ⊎ ((p : Submission) × Plans bytes s (Ok p) × Says p outcome)
+
+-- the outcome of replaying events on the pieces of the list that the bytes spell, under their chosen plan
+abbrev pub Replays : List ℕ → Limits → Memory → ℕ → List Event → Result Left PlanFault → Type 0
+Replays bytes s m engines trace outcome = OverPlanned (λ p o. ReplaysPieces m engines trace p.plan (map fields p.pieces) o) bytes s outcome
+
+-- the outcome of running them
+abbrev pub Runs : List ℕ → Limits → Memory → ℕ → Result Left PlanFault → Type 0
+Runs bytes s m engines outcome = OverPlanned (λ p o. RunsPieces m engines p.plan (map fields p.pieces) o) bytes s outcome
+
+-- each operation, where the list is executed in order from this memory, writes status 1 in each of its records
+abbrev pub OperationsSucceed : Limits → List Fields → Memory → Type 0
+OperationsSucceed s fs m = All (λ status. status ≡ 1) (whole_statuses fs s.greatest_transfer m)
+
+-- Where each operation of the list that the bytes spell succeeds, executed in order, what is left is the memory of
+-- executing the list, completion records included, and all pieces are finished.
+abbrev pub LeavesWhole : List ℕ → Limits → Memory → Left → Type 0
+LeavesWhole bytes s m left =
+    (ds : List Descriptor) → IsListOf bytes ds → OperationsSucceed s (map fields ds) m →
+    (left.image ≡ all_whole (map fields ds) s.greatest_transfer m) × (left.finished ≡ length (whole_statuses (map fields ds) s.greatest_transfer m))
+
+-- ---- for private clauses
+
+-- the number of engines, where a run can begin but for its events; else the first cause before these
+abbrev pub BeginsWith : Memory → ℕ → List Fields → Result ℕ PlanFault → Type 0
+BeginsWith m engines pieces (Ok number) = (number ≡ engines) × AreEngines engines × All (HoldsRanges m) pieces
+BeginsWith m engines pieces (Err fault) = IsFirstBeginFault m engines pieces fault

@@ -1,0 +1,26 @@
+//! Calls over the bytes of a list: planning it, judging a plan of it, and checking an emission with its certificate.
+#![tactic(auto)]
+
+mod checking;
+mod fault;
+mod judging;
+mod laws;
+mod line;
+mod planning;
+mod replaying;
+mod running;
+
+pub use checking::check_bytes;
+pub use fault::PlanFault;
+pub use judging::{MOST_PIECES, judge_bytes};
+pub use laws::{
+    one_checked, one_judged, one_planned, one_replayed, one_run, planned_is_least_and_shown,
+    planned_runs_leave_whole,
+};
+pub use line::{LONGEST_LINE, refusal_line};
+pub use planning::{Planned, plan_list};
+pub use replaying::replay_bytes;
+pub use running::run_bytes;
+
+#[cfg(test)]
+mod tests;

@@ -1,0 +1,72 @@
+//! Running the planned pieces of a list by engines.
+
+ghost use Rattle.std.specs.Prelude.{◌≡◌, ◌≤◌, IfOk, Ok, Result, length, map};
+ghost use Rattle.dsa_descriptor.specs.Descriptors.{fields};
+ghost use Rattle.dsa_ranges.specs.Ranges.{ConflictAt};
+ghost use Rattle.dsa_plan.specs.Legal.{IsLegal};
+ghost use Rattle.dsa_core.specs.Accounts.{room_limits};
+ghost use Rattle.dsa_core.specs.Outcomes.{IsOutcomeOf, room_with};
+ghost use Rattle.dsa_planner.specs.Planned.{Plans, Submission};
+ghost use Rattle.dsa_planner.specs.Lists.{OrMemory};
+ghost use Rattle.dsa_planner.specs.Runs.{LeavesWhole, Runs, RunsPieces, left_of};
+
+use crate::fault::PlanFault;
+use crate::replaying::{begin, plan_to_run};
+use dsa_core::Outcome;
+use dsa_descriptor::Descriptor;
+use dsa_engines::{OpenGate, RoomFault, run};
+use dsa_image::Image;
+use dsa_plan::{Plan, Settings};
+use std::alloc::Global;
+use std::sync::Wait;
+use std::thread::Threads;
+
+/// What the engines leave, each of which is a thread.
+fn run_pieces<R: Threads + Wait + Sync>(
+    rt: &R,
+    alloc: Global,
+    plan: &Plan,
+    pieces: &[Descriptor],
+    image: &Image,
+    engines: u64,
+) -> Result<Outcome, PlanFault>
+    requires few { length pieces.now ≤ 65536 }
+    requires legal { IsLegal (ConflictAt (map fields pieces.now)) room_limits (length pieces.now) plan.now }
+    ensures told { OrMemory left_of (RunsPieces image.now engines plan.now (map fields pieces.now)) result }
+    ensures history { IfOk result (λ o. IsOutcomeOf (room_with image.now plan.now (map fields pieces.now) engines o.history.items) o) }
+{
+    let engines = begin(image, pieces, engines)?;
+    match run(rt, alloc, image, plan, pieces, engines, &OpenGate) {
+        Ok(outcome) => Ok(outcome),
+        Err(RoomFault::GateShut) => Err(PlanFault::GateShut),
+        Err(RoomFault::Stale) => Err(PlanFault::Stale),
+        Err(RoomFault::Mixed) => Err(PlanFault::Mixed),
+        Err(RoomFault::Memory) => Err(PlanFault::Memory),
+        Err(RoomFault::TooLong) => Err(PlanFault::TooLong),
+    }
+}
+
+/// Plans the list, and runs its pieces on a copy of the image by engines, each of which is a thread. All of them have
+/// ended when it returns.
+///
+/// # Errors
+/// As [`plan_list`]; else [`PlanFault::Engines`]; else [`PlanFault::OutOfImage`] with the first piece that the image
+/// doesn't hold; else [`PlanFault::TooLong`]; [`PlanFault::Memory`] where a growth or the start of a thread is refused.
+/// [`PlanFault::GateShut`], [`PlanFault::Stale`] and [`PlanFault::Mixed`] say that the run broke off.
+pub fn run_bytes<R: Threads + Wait + Sync>(
+    rt: &R,
+    alloc: Global,
+    list: &[u8],
+    settings: &Settings,
+    image: &Image,
+    engines: u64,
+) -> Result<Outcome, PlanFault>
+    ensures told { OrMemory left_of (Runs list.now settings.now image.now engines) result }
+    // The history is a complete run of the planned pieces, and the rest is what it leaves.
+    ensures history { IfOk result (λ o. (p : Submission) → Plans list.now settings.now (Ok p) → IsOutcomeOf (room_with image.now p.plan (map fields p.pieces) engines o.history.items) o) }
+    // Where each listed operation succeeds, what is left is the memory of executing the list in order.
+    ensures whole { IfOk result (λ o. LeavesWhole list.now settings.now image.now (left_of o)) }
+{
+    let planned = plan_to_run(alloc, list, settings)?;
+    run_pieces(rt, alloc, &planned.plan, &planned.pieces, image, engines)
+}

@@ -1,0 +1,180 @@
+use crate::{PlanFault, check_bytes, judge_bytes, plan_list, refusal_line};
+use dsa_cert::Certificate;
+use dsa_checker::CheckFault;
+use dsa_descriptor::FieldFault;
+use dsa_plan::{EntryFault, Group, LegalFault, Plan, Settings};
+use std::alloc::{AllocError, Global};
+use std::test::Fail;
+
+/// The bytes of a move with its record's address.
+fn move_bytes(src: u64, dst: u64, size: u32, record_at: u64) -> [u8; 64] {
+    let mut bytes = [0; 64];
+    bytes[4] = 0x0c;
+    bytes[7] = 0x03;
+    bytes[8..16].copy_from_slice(&record_at.to_le_bytes());
+    bytes[16..24].copy_from_slice(&src.to_le_bytes());
+    bytes[24..32].copy_from_slice(&dst.to_le_bytes());
+    bytes[32..36].copy_from_slice(&size.to_le_bytes());
+    bytes
+}
+
+/// Two moves, the second of which reads what the first writes.
+fn two_moves(alloc: Global) -> Result<Vec<u8>, AllocError> {
+    let mut list = Vec::new(alloc);
+    list.extend_from_slice(&move_bytes(0x1000, 0x2000, 64, 0x8000))?;
+    list.extend_from_slice(&move_bytes(0x2000, 0x4000, 64, 0x8020))?;
+    Ok(list)
+}
+
+/// The batch entry of two descriptors at 0x10000 and a record at 0x10080, and what stands at 0x10000.
+fn two_moves_emitted(alloc: Global) -> Result<(Vec<u8>, Vec<u8>), AllocError> {
+    let mut portal = Vec::new(alloc);
+    portal.extend_from_slice(&[0, 0, 0, 0, 0x0c, 0, 0, 0x01, 0x80, 0, 0x01, 0, 0, 0, 0, 0])?;
+    portal.extend_from_slice(&[0, 0, 0x01, 0, 0, 0, 0, 0, 0, 0, 0, 0, 0, 0, 0, 0])?;
+    portal.extend_from_slice(&[2, 0, 0, 0, 0, 0, 0, 0, 0, 0, 0, 0, 0, 0, 0, 0])?;
+    portal.extend_from_slice(&[0; 16])?;
+    let mut fenced = move_bytes(0x2000, 0x4000, 64, 0x8020);
+    fenced[4] = 0x0d;
+    let mut staging = Vec::new(alloc);
+    staging.extend_from_slice(&move_bytes(0x1000, 0x2000, 64, 0x8000))?;
+    staging.extend_from_slice(&fenced)?;
+    staging.extend_from_slice(&[0; 32])?;
+    Ok((portal, staging))
+}
+
+fn settings() -> Result<Settings, Fail> {
+    Ok(Settings::new(4, 4096, 10, 14, 3, 65536)?)
+}
+
+fn certificate(alloc: Global, last: u64) -> Result<Certificate, AllocError> {
+    let mut prices = Vec::new(alloc);
+    prices.extend_from_slice(&[0, 10, last])?;
+    let mut pairs = Vec::new(alloc);
+    pairs.push(Some((0, 1)))?;
+    pairs.push(None)?;
+    Ok(Certificate {
+        version: 1,
+        prices,
+        pairs,
+    })
+}
+
+#[test]
+fn plans_two_moves(rt: HostRuntime) -> Result<(), Fail> {
+    let alloc = rt.alloc();
+    let list = two_moves(alloc)?;
+    let planned = plan_list(alloc, &list, &settings()?)?;
+    assert_eq!(rt; planned.cost, 17);
+    assert_eq!(rt; planned.pieces.len(), 2);
+    assert!(rt; planned.certificate == certificate(alloc, 17)?);
+    assert_eq!(rt; planned.plan.groups().len(), 1);
+    assert!(rt; planned.plan.groups()[0].fences() == &[false, true][..]);
+    let (portal, staging) = two_moves_emitted(alloc)?;
+    assert!(rt; planned.emission.portal == portal);
+    assert!(rt; planned.emission.staging == staging);
+    Ok(())
+}
+
+#[test]
+fn refuses_what_cannot_be_planned(rt: HostRuntime) -> Result<(), Fail> {
+    let alloc = rt.alloc();
+    let mut list = two_moves(alloc)?;
+    let meets = Settings::new(4, 4096, 10, 14, 3, 0x4000)?;
+    match plan_list(alloc, &list, &meets) {
+        Err(fault) => assert_eq!(rt; fault, PlanFault::StagingMeets(1)),
+        Ok(_) => assert!(rt; false),
+    }
+    list.push(0)?;
+    match plan_list(alloc, &list, &settings()?) {
+        Err(fault) => assert_eq!(rt; fault, PlanFault::Length),
+        Ok(_) => assert!(rt; false),
+    }
+    Ok(())
+}
+
+#[test]
+fn checks_two_moves(rt: HostRuntime) -> Result<(), Fail> {
+    let alloc = rt.alloc();
+    let (portal, mut staging) = two_moves_emitted(alloc)?;
+    let good = check_bytes(
+        alloc,
+        &portal,
+        &staging,
+        &settings()?,
+        &certificate(alloc, 17)?,
+    );
+    assert_eq!(rt; good, Ok(17));
+    let other = check_bytes(
+        alloc,
+        &portal,
+        &staging,
+        &settings()?,
+        &certificate(alloc, 16)?,
+    );
+    assert_eq!(rt; other, Err(PlanFault::Check(CheckFault::Total)));
+    let _last = staging.pop();
+    let short = check_bytes(
+        alloc,
+        &portal,
+        &staging,
+        &settings()?,
+        &certificate(alloc, 17)?,
+    );
+    assert_eq!(rt; short, Err(PlanFault::StagingLength));
+    Ok(())
+}
+
+#[test]
+fn judges_two_moves(rt: HostRuntime) -> Result<(), Fail> {
+    let alloc = rt.alloc();
+    let list = two_moves(alloc)?;
+    let mut fences = Vec::new(alloc);
+    fences.extend_from_slice(&[false, true])?;
+    let mut groups = Vec::new(alloc);
+    groups.push(Group::new(fences))?;
+    assert_eq!(rt;
+        judge_bytes(alloc, &list, &Plan::new(groups), &settings()?),
+        Ok(17)
+    );
+    Ok(())
+}
+
+#[test]
+fn writes_lines_of_refusals(rt: HostRuntime) {
+    for (fault, line) in [
+        (PlanFault::Length, "refused 1 Length\n"),
+        (
+            PlanFault::Field(7, FieldFault::RecordMeetsData),
+            "refused 13 RecordMeetsData 7\n",
+        ),
+        (PlanFault::DeltaTooLong(3), "refused 30 DeltaTooLong 3\n"),
+        (
+            PlanFault::Legal(LegalFault::Unfenced(0, usize::MAX)),
+            "refused 43 Unfenced 0 18446744073709551615\n",
+        ),
+        (
+            PlanFault::Entry(1, EntryFault::Field(FieldFault::Reserved)),
+            "refused 47 Entry 1 4 Reserved\n",
+        ),
+        (
+            PlanFault::Entry(2, EntryFault::StagingMeets),
+            "refused 47 Entry 2 33 StagingMeets\n",
+        ),
+        (
+            PlanFault::Check(CheckFault::Plan(LegalFault::Unfenced(0, 1))),
+            "refused 60 Plan 43 Unfenced 0 1\n",
+        ),
+        (
+            PlanFault::Check(CheckFault::Plan(LegalFault::Count)),
+            "refused 60 Plan 40 Count\n",
+        ),
+        (
+            PlanFault::Check(CheckFault::Price(0, 3)),
+            "refused 63 Price 0 3\n",
+        ),
+        (PlanFault::NotAStep(4), "refused 76 NotAStep 4\n"),
+        (PlanFault::JobTooLong, "refused 86 JobTooLong\n"),
+    ] {
+        assert_eq!(rt; refusal_line(fault).as_str(), line);
+    }
+}

@@ -1,6 +1,6 @@
 #!/bin/sh
-# Runs the built program on the examples, and looks at its line and its status in each case: 0 for an answer, 1 for a
-# refusal, 2 where reading or writing fails.
+# Runs the built program on the examples and on the jobs of tests/jobs, and looks at its line and its status in each
+# case: 0 for an answer, 1 for a refusal, 2 where reading or writing fails.
 set -eu
 cd "$(dirname "$0")/.."
 program=crates/dsa/out/dsa
@@ -15,9 +15,14 @@ expect() {
     fi
 }
 
-for job in examples/*.job; do
-    expect 0 "$(cat "${job%.job}.line")" < "$job"
+for job in examples/*.job tests/jobs/*.job; do
+    line=$(cat "${job%.job}.line")
+    case "$line" in
+        refused*) expect 1 "$line" < "$job" ;;
+        *) expect 0 "$line" < "$job" ;;
+    esac
 done
+head -c 1048575 /dev/zero | tr '\0' ' ' | expect 1 'refused 80 Json'
 echo '{}' | expect 1 'refused 82 Do'
 echo '[' | expect 1 'refused 80 Json'
 expect 2 '' <&-

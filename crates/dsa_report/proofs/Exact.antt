@@ -1,151 +1,141 @@
--- A value spells one job, one cause stands in it or it is answered, and one thing is told of a text.
-use Rattle.std.proofs.Common.{◌≡◌, inl, inr, ℕ, Bool, Option, option_and_then, List, [], ◌∷◌, map, codes, None, Result, Ok, Err, is_some, refl, sym, ap, subst, ◌∙◌, true≢false, arith}
-use Rattle.std.specs.Result.{is_err}
+-- One cause stands in a value or it is answered, and one thing is told of a text.
+use Rattle.std.proofs.Common.{◌≡◌, inl, inr, ℕ, List, [], ◌∷◌, None, Some, Result, Ok, Err, refl, sym, ap, subst, ◌∙◌, arith}
 use Rattle.std.proofs.lemmas.Option.{same_Some}
-use Rattle.serde_json.specs.Data.{Data, boolean, string}
-use Rattle.serde_json.specs.Find.{get, as_number, as_u64, as_object}
+use Rattle.serde_json.specs.Data.{Data}
 use Rattle.hex.specs.Hex.{decode_of}
-use Rattle.dsa_report.specs.declared.fault.PlanFault.{PlanFault}
-use Rattle.dsa_report.specs.declared.fault.PlanFault.TheVariants.{Member, Do, Settings, Hex}
-use Rattle.dsa_report.specs.declared.job.JobName.TheVariants.{Judge}
-use Rattle.dsa_report.specs.declared.settings.Numbers.{Numbers}
-use Rattle.dsa_report.specs.Settings.{settings_value, limits_of, AreSettings}
-use Rattle.dsa_cert.specs.Spelled.{array_of}
-use Rattle.dsa_report.specs.Plan.{group_value, plan_value}
-use Rattle.dsa_report.specs.Job.{JudgeText, JobText, to_judge, job_value, numbers_of, texts_of, NamesJob, SomeIsNoHex, Stands}
-use Rattle.dsa_report.specs.Judge.{Judges}
-use Rattle.dsa_report.specs.Answer.{Told, TellsJob, TellsValue, told_of, cost_value, line_of, status_of, wants_memory, is_too_long, is_no_json, is_value}
-use Rattle.dsa_report.specs.Laws.{OneJob, OneCause, NoCauseStands, OneAnswer, OneLine}
-use Rattle.dsa_cert.proofs.Arrays.{same_items}
-use Rattle.dsa_report.proofs.Outcomes.{one_outcome}
-
--- lists that are spelled alike are one, where items are
-same_from_map : {Y : Type 0} (spelling : Y → Data) → ((x y : Y) → spelling x ≡ spelling y → x ≡ y) → (xs ys : List Y) → map spelling xs ≡ map spelling ys → xs ≡ ys
-same_from_map spelling one [] [] e = refl
-same_from_map spelling one [] (y ∷ ys) e = cc
-same_from_map spelling one (x ∷ xs) [] e = cc
-same_from_map spelling one (x ∷ xs) (y ∷ ys) e =
-    let first = one x y cc in
-    let rest = same_from_map spelling one xs ys cc in cc
-
-same_array : {Y : Type 0} (spelling : Y → Data) → ((x y : Y) → spelling x ≡ spelling y → x ≡ y) → (xs ys : List Y) → array_of (map spelling xs) ≡ array_of (map spelling ys) → xs ≡ ys
-same_array spelling one xs ys e = same_from_map spelling one xs ys (same_items (map spelling xs) (map spelling ys) cc)
-
-same_group : (xs ys : List Bool) → group_value xs ≡ group_value ys → xs ≡ ys
-same_group xs ys e = same_array boolean (λ x y h. cc) xs ys e
-
-same_plan : (xs ys : List (List Bool)) → plan_value xs ≡ plan_value ys → xs ≡ ys
-same_plan xs ys e = same_array group_value same_group xs ys e
-
--- the whole number that stands at a name
-abbrev number_at : List ℕ → Data → Option ℕ
-number_at name d = option_and_then as_u64 (option_and_then as_number (get name d))
-
-same_numbers : (s t : Numbers) → s.version ≡ t.version → s.greatest_batch ≡ t.greatest_batch → s.greatest_transfer ≡ t.greatest_transfer → s.lone ≡ t.lone → s.batch ≡ t.batch
-    → s.fence ≡ t.fence → s.staging ≡ t.staging → s ≡ t
-same_numbers s t v gb gt l b f st =
-    λ i. record { version = v i; greatest_batch = gb i; greatest_transfer = gt i; lone = l i; batch = b i; fence = f i; staging = st i }
-
-same_settings : (s t : Numbers) → settings_value s ≡ settings_value t → s ≡ t
-same_settings s t e =
-    let at = λ (name : List ℕ). ap (number_at name) e in
-    same_numbers s t
-    (same_Some _ _ (at (codes "version")))
-    (same_Some _ _ (at (codes "greatest_batch")))
-    (same_Some _ _ (at (codes "greatest_transfer")))
-    (same_Some _ _ (at (codes "lone")))
-    (same_Some _ _ (at (codes "batch")))
-    (same_Some _ _ (at (codes "fence")))
-    (same_Some _ _ (at (codes "staging")))
-
-same_string : (xs ys : List ℕ) → string xs ≡ string ys → xs ≡ ys
-same_string xs ys e = cc
-
-same_judge : (j k : JudgeText) → j.settings ≡ k.settings → j.list ≡ k.list → j.plan ≡ k.plan → j ≡ k
-same_judge j k s l p = λ i. record { settings = s i; list = l i; plan = p i }
-
-pub one_job : OneJob
-one_job (to_judge j) (to_judge k) e =
-    let settings = same_settings j.settings k.settings (same_Some _ _ (ap (get (codes "settings")) e)) in
-    let plan = same_plan j.plan k.plan (same_Some _ _ (ap (get (codes "plan")) e)) in
-    let list = same_string j.list k.list (same_Some _ _ (ap (get (codes "list")) e)) in
-    ap to_judge (same_judge j k settings list plan)
-
--- what decodes is hexadecimal
-decoded_is_hex : (text list : List ℕ) → decode_of text ≡ Ok list → SomeIsNoHex (text ∷ []) → ⊥
-decoded_is_hex text list e (inl err) = true≢false (sym err ∙ ap is_err e)
-decoded_is_hex text list e (inr never) = never
-
-all_are_hex : (job : JobText) (told : Told) → TellsJob job told → SomeIsNoHex (texts_of job) → ⊥
-all_are_hex (to_judge j) told (list, outcome, decoded, judges, is) no_hex = decoded_is_hex j.list list decoded no_hex
-
-is_named : (d : Data) (job : JobText) → d ≡ job_value job → NamesJob d
-is_named d (to_judge j) e = (Judge, rw e refl)
-
-is_object : (d : Data) (job : JobText) → d ≡ job_value job → as_object d ≡ None → ⊥
-is_object d (to_judge j) e none = let there = ap as_object e in cc
+use Rattle.dsa_cert.specs.Document.{Contents, Documents}
+use Rattle.dsa_cert.proofs.OneDocument.{one_document}
+use Rattle.dsa_planner.specs.declared.fault.PlanFault.{PlanFault}
+use Rattle.dsa_planner.specs.Judge.{Judges}
+use Rattle.dsa_planner.specs.Planned.{Submission, Plans}
+use Rattle.dsa_planner.specs.Checked.{Checks}
+use Rattle.dsa_planner.specs.Runs.{Left, Replays}
+use Rattle.dsa_image.specs.Memory.{Memory, IsImage}
+use Rattle.dsa_core.specs.declared.event.Event.{Event}
+use Rattle.dsa_report.specs.Image.{ImageText, HasImage}
+use Rattle.dsa_report.specs.Trace.{IsTrace}
+use Rattle.dsa_planner.proofs.JudgedOnce.{one_judged}
+use Rattle.dsa_planner.proofs.Submissions.{one_planned}
+use Rattle.dsa_planner.proofs.CheckedOnce.{one_checked}
+use Rattle.dsa_planner.proofs.Histories.{one_replayed}
+use Rattle.dsa_report.specs.Settings.{limits_of, AreSettings}
+use Rattle.dsa_report.specs.Job.{JobText, to_judge, to_plan, to_check, to_replay, job_value, numbers_of, texts_of, certificate_of}
+use Rattle.dsa_report.specs.Causes.{Cause, no_object, no_name, other_members, no_trace, outside_limits, no_bytes, no_document, no_image, causes, refusal_of, SomeIsNoHex, Applies, IsFirst, Stands}
+use Rattle.dsa_report.specs.Answer.{Told, TellsJob, TellsValue, told_of, cost_value, planned_value, left_value, line_of, status_of, wants_memory, is_too_long, is_no_json, is_value}
+use Rattle.dsa_report.specs.Laws.{OneCause, NoCauseStands, OneAnswer, OneLine}
+use Rattle.dsa_report.proofs.SameJobs.{same_job}
+use Rattle.dsa_report.proofs.Refusals.{TraceIsRight, DocumentIsRight, ImageIsRight, spelled_object, spelled_name, spelled_members, spelled_trace, spelled_limits, spelled_bytes, spelled_document, spelled_image, one_hex, two_hex}
+use Rattle.dsa_report.proofs.Events.{one_trace}
 
 -- ---- one cause
 
--- the text of a job is the one that a value spells
-same_job : (d : Data) (job other : JobText) → d ≡ job_value job → d ≡ job_value other → other ≡ job
-same_job d job other e f = one_job other job (sym f ∙ e)
-
-member_do : (d : Data) → Stands Member d → Stands Do d → ⊥
-member_do d (inl none) (object, unnamed) = true≢false (sym object ∙ ap is_some none)
-member_do d (inr (named, other)) (object, unnamed) = unnamed named
-
--- a value that spells a job breaks neither of the first two rules
-no_member : (d : Data) (job : JobText) → d ≡ job_value job → Stands Member d → ⊥
-no_member d job e (inl none) = is_object d job e none
-no_member d job e (inr (named, other)) = other job e
-
-no_do : (d : Data) (job : JobText) → d ≡ job_value job → Stands Do d → ⊥
-no_do d job e (object, unnamed) = unnamed (is_named d job e)
-
-settings_hex : (d : Data) → Stands Settings d → Stands Hex d → ⊥
-settings_hex d (job, e, outside) (other, f, inside, no_hex) = outside (subst (λ (j : JobText). AreSettings (numbers_of j)) (same_job d job other e f) inside)
+-- of a list of causes one is the first that applies
+one_first : (list : List Cause) (d : Data) (cause other : Cause) → IsFirst list d cause → IsFirst list d other → cause ≡ other
+one_first [] d cause other p q = absurd p
+one_first (next ∷ later) d cause other (inl (is, here)) (inl (is', here')) = is ∙ sym is'
+one_first (next ∷ later) d cause other (inl (is, here)) (inr (passed, q)) = absurd (passed here)
+one_first (next ∷ later) d cause other (inr (passed, p)) (inl (is', here')) = absurd (passed here')
+one_first (next ∷ later) d cause other (inr (passed, p)) (inr (passed', q)) = one_first later d cause other p q
 
 pub one_cause : OneCause
-one_cause d Member Member p q = refl
-one_cause d Member Do p q = absurd (member_do d p q)
-one_cause d Member Settings p (job, e, outside) = absurd (no_member d job e p)
-one_cause d Member Hex p (job, e, inside, no_hex) = absurd (no_member d job e p)
-one_cause d Member _ p q = absurd q
-one_cause d Do Member p q = absurd (member_do d q p)
-one_cause d Do Do p q = refl
-one_cause d Do Settings p (job, e, outside) = absurd (no_do d job e p)
-one_cause d Do Hex p (job, e, inside, no_hex) = absurd (no_do d job e p)
-one_cause d Do _ p q = absurd q
-one_cause d Settings Member (job, e, outside) q = absurd (no_member d job e q)
-one_cause d Settings Do (job, e, outside) q = absurd (no_do d job e q)
-one_cause d Settings Settings p q = refl
-one_cause d Settings Hex p q = absurd (settings_hex d p q)
-one_cause d Settings _ p q = absurd q
-one_cause d Hex Member (job, e, inside, no_hex) q = absurd (no_member d job e q)
-one_cause d Hex Do (job, e, inside, no_hex) q = absurd (no_do d job e q)
-one_cause d Hex Settings p q = absurd (settings_hex d q p)
-one_cause d Hex Hex p q = refl
-one_cause d Hex _ p q = absurd q
-one_cause d _ other p q = absurd p
+one_cause d fault other (cause, first, is) (cause', first', is') = is ∙ ap refusal_of (one_first causes d cause cause' first first') ∙ sym is'
+
+-- where none applies, none is the first
+none_first : (list : List Cause) (d : Data) (cause : Cause) → ((c : Cause) → Applies c d → ⊥) → IsFirst list d cause → ⊥
+none_first [] d cause none first = first
+none_first (next ∷ later) d cause none (inl (is, here)) = none next here
+none_first (next ∷ later) d cause none (inr (passed, first)) = none_first later d cause none first
+
+-- a text decodes to one list of bytes
+one_decoded : (text bytes other : List ℕ) → decode_of text ≡ Ok bytes → decode_of text ≡ Ok other → other ≡ bytes
+one_decoded text bytes other e f = let both = sym f ∙ e in cc
+
+-- what the call of a job is told of: all byte fields are hexadecimal
+all_bytes : (job : JobText) (told : Told) → TellsJob job told → SomeIsNoHex (texts_of job) → ⊥
+all_bytes (to_judge j) told (list, outcome, decoded, judges, is) = one_hex j.list list decoded
+all_bytes (to_plan j) told (list, outcome, decoded, plans, is) = one_hex j.list list decoded
+all_bytes (to_check j) told (portal, staging, c, outcome, decoded, decoded', documents, checks, is) = two_hex j.portal portal j.staging staging decoded decoded'
+all_bytes (to_replay j) told (list, image, trace, outcome, decoded, has, spells, replays, is) = two_hex j.list list j.image.bytes image.bytes decoded has.decoded
+
+-- and the certificate is one's document
+is_document : (job : JobText) (told : Told) → TellsJob job told → DocumentIsRight job
+is_document (to_judge j) told says document there = cc
+is_document (to_plan j) told says document there = cc
+is_document (to_replay j) told says document there = cc
+is_document (to_check j) told (portal, staging, c, outcome, decoded, decoded', documents, checks, is) document there =
+    (c, subst (λ (d : Data). Documents d c) (same_Some j.certificate document there) documents)
+
+-- and the trace is of events
+is_trace : (job : JobText) (told : Told) → TellsJob job told → TraceIsRight job
+is_trace (to_judge j) told says trace there = cc
+is_trace (to_plan j) told says trace there = cc
+is_trace (to_check j) told says trace there = cc
+is_trace (to_replay j) told (list, image, events, outcome, decoded, has, spells, replays, is) trace there = (events, subst (λ (d : Data). IsTrace d events) (same_Some j.trace trace there) spells)
+
+-- and the image is one
+image_fits : (text : ImageText) (m : Memory) (bytes : List ℕ) → HasImage text m → decode_of text.bytes ≡ Ok bytes → IsImage (record { first = text.base; bytes = bytes })
+image_fits text m bytes has decoded =
+    let same : m.bytes ≡ bytes = one_decoded text.bytes bytes m.bytes decoded has.decoded in
+    let first = has.first in
+    subst (λ (n : Memory). IsImage n) (λ i. record { first = first i; bytes = same i }) has.fits
+
+is_image : (job : JobText) (told : Told) → TellsJob job told → ImageIsRight job
+is_image (to_judge j) told says text bytes there decoded = cc
+is_image (to_plan j) told says text bytes there decoded = cc
+is_image (to_check j) told says text bytes there decoded = cc
+is_image (to_replay j) told (list, image, events, outcome, listed, has, spells, replays, is) text bytes there decoded =
+    let same : j.image ≡ text = same_Some j.image text there in
+    image_fits text image bytes (subst (λ (t : ImageText). HasImage t image) same has) decoded
+
+-- so no cause applies
+none_applies : (d : Data) (job : JobText) (told : Told) → d ≡ job_value job → AreSettings (numbers_of job) → TellsJob job told → (cause : Cause) → Applies cause d → ⊥
+none_applies d job told e inside says no_object = spelled_object d job e
+none_applies d job told e inside says no_name = spelled_name d job e
+none_applies d job told e inside says other_members = spelled_members d job e
+none_applies d job told e inside says no_trace = spelled_trace d job e (is_trace job told says)
+none_applies d job told e inside says outside_limits = spelled_limits d job e inside
+none_applies d job told e inside says no_bytes = spelled_bytes d job e (all_bytes job told says)
+none_applies d job told e inside says no_document = spelled_document d job e (is_document job told says)
+none_applies d job told e inside says no_image = spelled_image d job e (is_image job told says)
 
 pub no_cause_stands : NoCauseStands
-no_cause_stands d job told Member e inside says stands = no_member d job e stands
-no_cause_stands d job told Do e inside says stands = no_do d job e stands
-no_cause_stands d job told Settings e inside says (other, f, outside) = outside (subst (λ (j : JobText). AreSettings (numbers_of j)) (sym (same_job d job other e f)) inside)
-no_cause_stands d job told Hex e inside says (other, f, within, no_hex) =
-    all_are_hex job told says (subst (λ (j : JobText). SomeIsNoHex (texts_of j)) (same_job d job other e f) no_hex)
-no_cause_stands d job told _ e inside says stands = stands
+no_cause_stands d job told fault e inside says (cause, first, is) = none_first causes d cause (none_applies d job told e inside says) first
 
 -- ---- one answer
+
+-- a value is the document of one certificate
+one_contents : (d : Data) (c other : Contents) → Documents d c → Documents d other → other ≡ c
+one_contents d c other p q = one_document other c (sym q.0 ∙ p.0)
+
+-- a text is that of one image
+one_image : (text : ImageText) (m other : Memory) → HasImage text m → HasImage text other → other ≡ m
+one_image text m other p q =
+    let bytes = one_decoded text.bytes m.bytes other.bytes p.decoded q.decoded in
+    let first = q.first ∙ sym p.first in
+    λ i. record { first = first i; bytes = bytes i }
 
 -- one thing is told of a job
 one_told_of_job : (job : JobText) (told other : Told) → TellsJob job told → TellsJob job other → told ≡ other
 one_told_of_job (to_judge j) told other (list, outcome, decoded, judges, is) (list', outcome', decoded', judges', is') =
-    let both = sym decoded' ∙ decoded in
-    let same : list' ≡ list = cc in
-    let here = subst (λ (l : List ℕ). Judges l j.plan (limits_of j.settings) outcome') same judges' in
-    is ∙ ap (λ (o : Result ℕ PlanFault). told_of cost_value o) (one_outcome list j.plan (limits_of j.settings) outcome outcome' judges here) ∙ sym is'
+    let s = limits_of j.settings in
+    let here = subst (λ (l : List ℕ). Judges l j.plan s outcome') (one_decoded j.list list list' decoded decoded') judges' in
+    is ∙ ap (λ (o : Result ℕ PlanFault). told_of cost_value o) (one_judged list j.plan s outcome outcome' judges here) ∙ sym is'
+one_told_of_job (to_plan j) told other (list, outcome, decoded, plans, is) (list', outcome', decoded', plans', is') =
+    let s = limits_of j.settings in
+    let here = subst (λ (l : List ℕ). Plans l s outcome') (one_decoded j.list list list' decoded decoded') plans' in
+    is ∙ ap (λ (o : Result Submission PlanFault). told_of planned_value o) (one_planned list s outcome outcome' plans here) ∙ sym is'
+one_told_of_job (to_check j) told other (portal, staging, c, outcome, decoded, decoded2, documents, checks, is) (portal', staging', c', outcome', decoded', decoded2', documents', checks', is') =
+    let s = limits_of j.settings in
+    let at_portal = subst (λ (l : List ℕ). Checks l staging' s c' outcome') (one_decoded j.portal portal portal' decoded decoded') checks' in
+    let at_staging = subst (λ (l : List ℕ). Checks portal l s c' outcome') (one_decoded j.staging staging staging' decoded2 decoded2') at_portal in
+    let here = subst (λ (x : Contents). Checks portal staging s x outcome') (one_contents j.certificate c c' documents documents') at_staging in
+    is ∙ ap (λ (o : Result ℕ PlanFault). told_of cost_value o) (one_checked portal staging s c outcome outcome' checks here) ∙ sym is'
+one_told_of_job (to_replay j) told other (list, image, trace, outcome, decoded, has, spells, replays, is) (list', image', trace', outcome', decoded', has', spells', replays', is') =
+    let s = limits_of j.settings in
+    let at_list = subst (λ (l : List ℕ). Replays l s image' j.engines trace' outcome') (one_decoded j.list list list' decoded decoded') replays' in
+    let at_image = subst (λ (m : Memory). Replays list s m j.engines trace' outcome') (one_image j.image image image' has has') at_list in
+    let here = subst (λ (t : List Event). Replays list s image j.engines t outcome') (one_trace j.trace trace trace' spells spells') at_image in
+    is ∙ ap (λ (o : Result Left PlanFault). told_of left_value o) (one_replayed list s image j.engines trace outcome outcome' replays here) ∙ sym is'
 
 -- one thing is told of a value
 one_told_of_value : (d : Data) (told other : Told) → TellsValue d told → TellsValue d other → told ≡ other

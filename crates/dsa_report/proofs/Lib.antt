@@ -1,7 +1,9 @@
 pub mod Gained
+pub mod SameJobs
 pub mod Refusals
+pub mod Floats
+pub mod Digits
+pub mod Opened
+pub mod Events
 pub mod Told
-pub mod Sizes
-pub mod Judging
-pub mod Outcomes
 pub mod Exact

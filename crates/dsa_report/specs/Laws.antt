@@ -1,21 +1,19 @@
 -- What the definitions of a job promise of each other.
-use Rattle.std.specs.Prelude.{◌≡◌, ◌≢◌, ℕ, List, Result, Err}
+use Rattle.std.specs.Prelude.{◌≡◌, ◌≢◌, ℕ, List, Err}
 use Rattle.serde_json.specs.Data.{Data}
-use Rattle.dsa_plan.specs.Settings.{Limits}
-use Rattle.dsa_plan.specs.Plan.{Plan}
-use Rattle.dsa_report.specs.declared.fault.PlanFault.{PlanFault}
-use Rattle.dsa_report.specs.declared.fault.PlanFault.TheVariants.{Memory}
-use Rattle.dsa_report.specs.Fault.{refusal_line}
+use Rattle.dsa_planner.specs.declared.fault.PlanFault.{PlanFault}
+use Rattle.dsa_planner.specs.declared.fault.PlanFault.TheVariants.{Memory}
+use Rattle.dsa_planner.specs.Fault.{refusal_line}
 use Rattle.dsa_report.specs.Settings.{AreSettings}
-use Rattle.dsa_report.specs.Job.{JobText, job_value, numbers_of, Stands}
-use Rattle.dsa_report.specs.Judge.{Judges}
+use Rattle.dsa_report.specs.Job.{JobText, job_value, numbers_of}
+use Rattle.dsa_report.specs.Causes.{Stands}
 use Rattle.dsa_report.specs.Answer.{Told, TellsJob, Tells, Answer}
 
 -- a value spells one job at most
 abbrev pub OneJob : Type 0
 OneJob = (job other : JobText) → job_value job ≡ job_value other → job ≡ other
 
--- one cause at most to refuse a value as a job stands in it
+-- one cause at most is told to refuse a value as a job
 abbrev pub OneCause : Type 0
 OneCause = (d : Data) (fault other : PlanFault) → Stands fault d → Stands other d → fault ≡ other
 
@@ -23,10 +21,6 @@ OneCause = (d : Data) (fault other : PlanFault) → Stands fault d → Stands ot
 abbrev pub NoCauseStands : Type 0
 NoCauseStands = (d : Data) (job : JobText) (told : Told) (fault : PlanFault)
     → d ≡ job_value job → AreSettings (numbers_of job) → TellsJob job told → Stands fault d → ⊥
-
--- bytes, a plan and settings have one outcome at most
-abbrev pub OneOutcome : Type 0
-OneOutcome = (bytes : List ℕ) (plan : Plan) (s : Limits) (outcome other : Result ℕ PlanFault) → Judges bytes plan s outcome → Judges bytes plan s other → outcome ≡ other
 
 -- but for want of memory, one thing at most is told of a text
 abbrev pub OneAnswer : Type 0

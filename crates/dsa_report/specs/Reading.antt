@@ -2,7 +2,7 @@
 use Rattle.std.specs.Prelude.{◌≡◌, ℕ, ◌+◌, ◌≤◌, ◌⊎◌, List, length, Option, Result, Ok, Err, Vec}
 use Rattle.std.specs.declared.alloc.Global.{Global}
 use Rattle.std.specs.Io.KnownBytes.{Consumes, IsAtEnd}
-use Rattle.dsa_report.specs.declared.fault.PlanFault.TheVariants.{Memory, JobTooLong}
+use Rattle.dsa_planner.specs.declared.fault.PlanFault.TheVariants.{Memory, JobTooLong}
 use Rattle.dsa_report.specs.declared.reading.Stop.{Stop}
 use Rattle.dsa_report.specs.declared.reading.Stop.TheVariants.{Fault, Refusal}
 

@@ -3,7 +3,7 @@
 ghost use Rattle.std.specs.Prelude.{◌≡◌, ◌≢◌, ◌⊎◌};
 ghost use Rattle.dsa_report.specs.Hex.{ReadsHex};
 
-use crate::fault::PlanFault;
+use dsa_planner::PlanFault;
 use hex::FromHexError;
 use std::alloc::Global;
 

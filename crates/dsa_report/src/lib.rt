@@ -4,20 +4,30 @@
 
 mod answers;
 mod bytes;
-mod fault;
+mod certificate;
+mod check_job;
+mod image;
 mod job;
-mod judge;
+mod judge_job;
 mod laws;
+mod left_line;
+mod line;
 mod plan;
+mod plan_job;
+mod planned_line;
 mod reading;
+mod replay_job;
 mod serving;
 mod settings;
+mod trace;
 mod writing;
 
 pub use answers::answer;
-pub use fault::{LONGEST_LINE, PlanFault, refusal_line};
-pub use judge::{MOST_PIECES, judge_bytes};
-pub use laws::{no_cause_stands, one_answer, one_cause, one_job, one_outcome};
+pub use dsa_planner::{
+    LONGEST_LINE, MOST_PIECES, PlanFault, Planned, check_bytes, judge_bytes, plan_list,
+    refusal_line, replay_bytes,
+};
+pub use laws::{no_cause_stands, one_answer, one_cause, one_job};
 pub use reading::{LONGEST_TEXT, Stop, TURN_BYTES, TURNS, read_text};
 pub use serving::{Served, serve};
 pub use writing::write_line;

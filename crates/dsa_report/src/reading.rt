@@ -4,7 +4,7 @@ ghost use Rattle.std.specs.Prelude.{◌≡◌, ◌+◌, ◌≤◌, ℕ, List, le
 ghost use Rattle.std.specs.Io.KnownBytes.{Consumes};
 ghost use Rattle.dsa_report.specs.Reading.{ReadsText, longest_text};
 
-use crate::fault::PlanFault;
+use dsa_planner::PlanFault;
 use std::alloc::Global;
 use std::io::Read;
 

@@ -6,9 +6,9 @@ ghost use Rattle.dsa_report.specs.Reading.{longest_text};
 ghost use Rattle.dsa_report.specs.Gives.{AnswersText, WritesAnswer, WritesPrefix, WritesLine};
 
 use crate::answers::answer;
-use crate::fault::{PlanFault, refusal_line};
 use crate::reading::{Stop, read_text};
 use crate::writing::write_line;
+use dsa_planner::{PlanFault, refusal_line};
 use std::alloc::Global;
 use std::io::{Read, Write};
 
@@ -63,7 +63,7 @@ pub fn serve<H: AllocGlobal, R: Read, W: Write>(rt: &H, reader: &mut R, writer: 
 }
 
 // The line that answers the text of a reader, or why it is refused; none where reading failed.
-fn line_for<R: Read>(alloc: Global, reader: &mut R) -> Option<Result<String, PlanFault>>
+fn line_for<R: Read>(alloc: Global, reader: &mut R) -> Option<Result<Vec<u8>, PlanFault>>
     ensures line { AnswersText (R.remaining reader.old) result }
     ensures bounded { (bytes : List ℕ) × Consumes (R.remaining reader.old) (R.remaining reader.new) bytes
         × (length bytes ≤ longest_text + 1) }
@@ -76,12 +76,12 @@ fn line_for<R: Read>(alloc: Global, reader: &mut R) -> Option<Result<String, Pla
 }
 
 // Writes the line of an answer or of a refusal.
-fn write_outcome<W: Write>(writer: &mut W, outcome: &Result<String, PlanFault>) -> Served
+fn write_outcome<W: Write>(writer: &mut W, outcome: &Result<Vec<u8>, PlanFault>) -> Served
     ensures { WritesLine (W.contents writer.old) (W.contents writer.new) outcome.now result }
 {
     match outcome {
         Ok(line) => {
-            if write_line(writer, line.as_bytes()) {
+            if write_line(writer, line) {
                 Served::Answered
             } else {
                 Served::WriteFault

@@ -2,8 +2,11 @@ use crate::{Served, serve};
 use std::alloc::{AllocError, Global};
 use std::process::Abort;
 
+mod checking;
 mod judging;
 mod lines;
+mod planning;
+mod replaying;
 mod streams;
 mod texts;
 
@@ -15,6 +18,16 @@ const AFTER: &str = "000000000c000003 2080000000000000 0020000000000000 00400000
 
 /// A move of 64 bytes from 0x3000 to 0x4000, with its record at 0x8020.
 const APART: &str = "000000000c000003 2080000000000000 0030000000000000 0040000000000000 40000000";
+
+/// [`AFTER`] with a fence.
+const AFTER_FENCE: &str =
+    "000000000d000003 2080000000000000 0020000000000000 0040000000000000 40000000";
+
+/// A batch of two.
+const PAIR: &str = "000000000c000001 8000010000000000 0000010000000000 0000000000000000 02000000";
+
+/// The digits of the record bytes of a batch.
+const RECORD: &str = "0000000000000000000000000000000000000000000000000000000000000000";
 
 /// The members of settings, but for `greatest_batch`.
 const REST: &str =
@@ -36,12 +49,36 @@ fn entry(alloc: Global, digits: &str) -> Result<String, AllocError> {
     Ok(text)
 }
 
-/// The digits of a list of two entries at most.
-fn list(alloc: Global, first: &str, second: Option<&str>) -> Result<String, AllocError> {
-    let mut text = entry(alloc, first)?;
-    if let Some(digits) = second {
+/// The digits of entries.
+fn entries(alloc: Global, all: &[&str]) -> Result<String, AllocError> {
+    let mut text = String::new(alloc);
+    for digits in all {
         let more = entry(alloc, digits)?;
         text.push_str(&more)?;
+    }
+    Ok(text)
+}
+
+/// The digits of a list of two entries at most.
+fn list(alloc: Global, first: &str, second: Option<&str>) -> Result<String, AllocError> {
+    match second {
+        Some(digits) => entries(alloc, &[first, digits]),
+        None => entry(alloc, first),
+    }
+}
+
+/// The digits of so many bytes: those of each part from its place on, and zeros. The parts are in order, apart, and end
+/// in time.
+fn digits_at(alloc: Global, parts: &[(usize, &str)], bytes: usize) -> Result<String, AllocError> {
+    let mut text = String::new(alloc);
+    for (place, digits) in parts {
+        for _ in text.len() / 2..*place {
+            text.push_str("00")?;
+        }
+        text.push_str(digits)?;
+    }
+    for _ in text.len() / 2..bytes {
+        text.push_str("00")?;
     }
     Ok(text)
 }

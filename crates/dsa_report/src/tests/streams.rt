@@ -166,7 +166,7 @@ fn reads_answers_and_writes_in_steps(rt: HostRuntime) -> Result<(), Fail> {
         return Ok(());
     };
     let mut written = Vec::new(alloc);
-    assert!(rt; write_line(&mut written, line.as_bytes()));
+    assert!(rt; write_line(&mut written, &line));
     assert_eq!(rt; &written[..], &b"{\"cost\":0}\n"[..]);
     Ok(())
 }

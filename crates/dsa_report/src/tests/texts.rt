@@ -15,12 +15,13 @@ fn refuses_texts(rt: HostRuntime) {
     expect(&rt, b"\"\xff\"", "refused 80 Json\n");
     expect(&rt, b"[]", "refused 81 Member\n");
     expect(&rt, b"{}", "refused 82 Do\n");
-    expect(&rt, b"{\"do\":\"plan\"}", "refused 82 Do\n");
-    expect(&rt, b"{\"do\":\"check\"}", "refused 82 Do\n");
+    expect(&rt, b"{\"do\":\"plans\"}", "refused 82 Do\n");
     expect(&rt, b"{\"do\":\"run\"}", "refused 82 Do\n");
-    expect(&rt, b"{\"do\":\"replay\"}", "refused 82 Do\n");
     expect(&rt, b"{\"do\":1}", "refused 82 Do\n");
     expect(&rt, b"{\"do\":\"judge\"}", "refused 81 Member\n");
+    expect(&rt, b"{\"do\":\"plan\"}", "refused 81 Member\n");
+    expect(&rt, b"{\"do\":\"check\"}", "refused 81 Member\n");
+    expect(&rt, b"{\"do\":\"replay\"}", "refused 81 Member\n");
 }
 
 #[test]

@@ -1,15 +1,21 @@
 //! How fast the crates are. Standard input names the case: `move`, `overlap` (a move to 32 bytes further on) and `fill`
 //! work in an image, beside a plain copy of as many bytes; `apart` and `chained` plan moves that don't conflict, or each
-//! of which reads what the one before wrote; `split` splits one move into 65,536 pieces. Where it names none nothing is measured or printed.
+//! of which reads what the one before wrote; `split` splits one move into 65,536 pieces; `replay` replays traces of
+//! 4,000,122 events; `run` runs large and small pieces by threads. Where it names none nothing is measured or printed.
 #![tactic(auto)]
 
+mod batches;
 mod operation;
 mod planning;
+mod replaying;
+mod running;
 mod splitting;
 mod working;
 
 use crate::operation::operation;
 use crate::planning::measure_plans;
+use crate::replaying::measure_replays;
+use crate::running::measure_runs;
 use crate::splitting::measure_split;
 use crate::working::measure_image;
 use std::io;
@@ -26,6 +32,8 @@ fn main(rt: HostRuntime) -> io::Result<()> {
         "apart" => measure_plans(&rt, 4096),
         "chained" => measure_plans(&rt, 64),
         "split" => measure_split(&rt),
+        "replay" => measure_replays(&rt),
+        "run" => measure_runs(&rt),
         _ => Ok(()),
     }
 }

@@ -14,7 +14,7 @@ const IMAGE_LEN: usize = 16_777_216;
 const ROUNDS: u32 = 50;
 
 /// Does the operation, where the image has its addresses.
-fn run_once(image: &mut Image, ds: &[Descriptor]) {
+pub(crate) fn run_once(image: &mut Image, ds: &[Descriptor]) {
     if image.holds_all(ds).is_ok() {
         image.execute_list(ds);
     }

@@ -1,0 +1,51 @@
+//! Plans of equal batches, and pieces that an image holds.
+
+ghost use Rattle.std.specs.Prelude.{◌≤◌, All, IsTrue, length, map};
+ghost use Rattle.dsa_descriptor.specs.Descriptors.{fields};
+ghost use Rattle.dsa_ranges.specs.Ranges.{ConflictAt};
+ghost use Rattle.dsa_image.specs.Memory.{HoldsRanges};
+ghost use Rattle.dsa_plan.specs.Legal.{IsLegal};
+ghost use Rattle.dsa_core.specs.Accounts.{room_limits};
+
+use dsa_descriptor::Descriptor;
+use dsa_image::Image;
+use dsa_plan::{Group, Plan, Settings, is_legal};
+use std::alloc::{AllocError, Global};
+
+/// A plan of so many pieces in batches of `size` without fences, the last of which has those that are left.
+pub(crate) fn batches(alloc: Global, count: usize, size: usize) -> Result<Plan, AllocError> {
+    let mut groups = Vec::new(alloc);
+    let mut fences = Vec::new(alloc);
+    for _ in 0..count {
+        fences.push(false)?;
+        if fences.len() >= size {
+            groups.push(Group::new(fences))?;
+            fences = Vec::new(alloc);
+        }
+    }
+    if fences.len() > 0 {
+        groups.push(Group::new(fences))?;
+    }
+    Ok(Plan::new(groups))
+}
+
+/// The plan is legal for the pieces, which the image holds.
+pub(crate) fn can_run(image: &Image, plan: &Plan, pieces: &[Descriptor]) -> bool
+    ensures few { IsTrue result → length pieces.now ≤ 65536 }
+    ensures legal { IsTrue result → IsLegal (ConflictAt (map fields pieces.now)) room_limits (length pieces.now) plan.now }
+    ensures holds { IsTrue result → All (HoldsRanges image.now) (map fields pieces.now) }
+{
+    if pieces.len() > 65536 {
+        return false;
+    }
+    let Ok(settings) = Settings::new(1024, 4096, 1, 1, 1, 65536) else {
+        return false;
+    };
+    let Ok(()) = is_legal(plan, pieces, &settings) else {
+        return false;
+    };
+    let Ok(()) = image.holds_all(pieces) else {
+        return false;
+    };
+    true
+}

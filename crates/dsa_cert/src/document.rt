@@ -51,8 +51,8 @@ fn pair_json(alloc: Global, pair: Option<(u32, u32)>) -> Result<Value, AllocErro
 /// The certificate that the value is the document of.
 ///
 /// # Errors
-/// [`CertFault::Shape`] where it is no such document: an object with exactly `pairs`, an array of null or of arrays of two
-/// numbers below 2^32, `prices`, an array of whole numbers, and `version`, a whole number.
+/// [`CertFault::Shape`] where it is no such document. One has the members `pairs`, `prices` and `version` and no others: an
+/// array with null or two numbers below 2^32 for each piece, an array of whole numbers, and a whole number.
 pub fn read_json(alloc: Global, value: &Value) -> Result<Certificate, CertFault>
     ensures found { IfOk result (λ c. Documents (view value.now) (contents c)) }
     ensures only { (c : Contents) → Documents (view value.now) c → MatchResult result (λ d. contents d ≡ c) (λ fault. fault ≡ CertFault.Memory) }

@@ -145,7 +145,7 @@ impl Room {
         })
     }
 
-    /// Does an event where it is a step now, and says whether it did.
+    /// Does the event if it is a step now; the answer says whether it was one.
     pub fn step(&mut self, event: Event) -> bool
         ensures answer { AnswersStep self.old event result self.new }
         ensures engines { self.new.engines ≡ self.old.engines }
@@ -236,7 +236,8 @@ impl Room {
         Finished::Record(record)
     }
 
-    /// A copy of the inputs of the engine's next line; none where no line is its next step, or the room is halted.
+    /// What an engine needs to work its next line elsewhere; nothing where its next step isn't a line or the room is
+    /// halted.
     pub fn fetch(&self, engine: u8) -> Option<Parcel>
         ensures { Fetches self.now engine result }
     {
@@ -258,8 +259,8 @@ impl Room {
     /// Does the line of a worked parcel, where it is the engine's next line and the room still holds its inputs.
     ///
     /// # Errors
-    /// `Stale` where the parcel wasn't worked, the room is halted, or the engine's piece or line is another or an input
-    /// differs.
+    /// `Stale` of a parcel without outputs, in a halted room, and where the engine has come to another piece or line, or
+    /// the image now has other inputs for it.
     pub fn commit(&mut self, parcel: &Parcel) -> Result<(), Stale>
         ensures answer { Commits self.old parcel.now result self.new }
         ensures engines { self.new.engines ≡ self.old.engines }

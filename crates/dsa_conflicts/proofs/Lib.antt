@@ -1,9 +1,11 @@
 pub mod Values
 pub mod Ranges
 pub mod Accesses
+pub mod Back
 pub mod Found
 pub mod Greatest
 pub mod Spans
 pub mod View
 pub mod Added
 pub mod Lasts
+pub mod Looks

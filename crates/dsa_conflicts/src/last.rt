@@ -8,8 +8,8 @@ use crate::sweep::Sweep;
 use dsa_descriptor::Descriptor;
 use std::alloc::{AllocError, Global};
 
-/// For each piece `b` the greatest `a` with `a < b <= a + window` that conflicts with it, if there is one. It asks for at
-/// most 65,536 pieces.
+/// For each piece the last one before it, `window` places back at most, that conflicts with it, if there is one. The list
+/// must not be longer than 65,536 pieces.
 ///
 /// # Errors
 /// Only want of memory.

@@ -35,7 +35,7 @@ use Rattle.dsa_core.specs.Accounts.{Account, room_limits, room_setup, IsNow, Can
 use Rattle.dsa_core.specs.Outcomes.{room_with, IsFirstRefused, IsOutcomeOf}
 use Rattle.dsa_core.proofs.Accounts.{over_or_not}
 use Rattle.dsa_core.proofs.PieceRunLaws.{every_run_is_in_order}
-use Rattle.dsa_core.proofs.Moments.{events_decide}
+use Rattle.dsa_core.proofs.OneReplay.{none_refused, one_refused}
 use Rattle.dsa_core.proofs.StopPoint.{stop_points_agree}
 use Rattle.dsa_core.proofs.Stretches.{legal_with_more}
 use Rattle.dsa_planner.specs.declared.fault.PlanFault.{PlanFault}
@@ -53,60 +53,15 @@ legal_in_room C s n plan within legal = legal_with_more C (prices_of s) room_lim
 
 -- ---- a trace has one end
 
--- no event of a run is refused at its place
-steps_refuse_none : {D P : Type 0} (machine : Machine D P) (setup : Setup D) (vs : List Event) (k : ℕ) (v : Event) (s t u : State P) → Steps machine setup s vs t →
-    slice_get vs k ≡ Some v → Steps machine setup s (take k vs) u → ((new : State P) → Step machine setup u v new → ⊥) → ⊥
-steps_refuse_none machine setup [] k v s t u steps at before refused = cc
-steps_refuse_none {D} {P} machine setup (w ∷ ws) zero v s t u (mid, step, rest) at before refused =
-    let same : w ≡ v = cc in
-    refused mid (subst (λ (x : State P). Step machine setup x v mid) (sym before) (subst (λ (y : Event). Step machine setup s y mid) same step))
-steps_refuse_none {D} {P} machine setup (w ∷ ws) (suc k) v s t u (mid, step, rest) at (mid', step', rest') refused =
-    let same : mid' ≡ mid = events_decide machine setup (w ∷ []) s mid' mid (mid', step', refl) (mid, step, refl) in
-    steps_refuse_none machine setup ws k v mid t u rest at (subst (λ (x : State P). Steps machine setup x (take k ws) u) same rest') refused
-
 module _ (m : Memory) (plan : Plan) (pieces : List Fields) (engines : ℕ) where
   abbrev room : List Event → Account
   room history = room_with m plan pieces engines history
 
-  run_refuses_none : (trace : List Event) (k : ℕ) (s : State Partial) → IsNow (room trace) s → IsFirstRefused room trace k → ⊥
-  run_refuses_none trace k s now first =
-      let (u, before, not) = first.refused in
-      steps_refuse_none descriptor_machine (room_setup (room trace)) trace k first.refused_event (start_state descriptor_machine (room_setup (room trace)) m) s u now first.is_event before
-      (λ new step. not (new, step))
-
-  take_of_more : (trace : List Event) (i k : ℕ) → i < k → take i (take k trace) ≡ take i trace
-  take_of_more trace zero k lt = refl
-  take_of_more [] (suc i) (suc k) lt = refl
-  take_of_more (v ∷ vs) (suc i) (suc k) lt = ap (λ (ws : List Event). v ∷ ws) (take_of_more vs i k (omega arith))
-  take_of_more trace (suc i) zero lt = absurd (omega arith)
-
-  at_of_more : (trace : List Event) (i k : ℕ) (v : Event) → i < k → slice_get trace i ≡ Some v → slice_get (take k trace) i ≡ Some v
-  at_of_more [] i k v lt at = cc
-  at_of_more (w ∷ ws) zero (suc k) v lt at = at
-  at_of_more (w ∷ ws) (suc i) (suc k) v lt at = at_of_more ws i k v (omega arith) at
-  at_of_more (w ∷ ws) i zero v lt at = absurd (omega arith)
-
-  not_earlier : (trace : List Event) (i k : ℕ) → IsFirstRefused room trace i → IsFirstRefused room trace k → i < k → ⊥
-  not_earlier trace i k first second lt =
-      let (u, before, not) = second.refused in
-      run_refuses_none (take k trace) i u before (record {
-        refused_event = first.refused_event;
-        is_event = at_of_more trace i k first.refused_event lt first.is_event;
-        refused = subst (λ (vs : List Event). IsRefused (room vs) first.refused_event) (sym (take_of_more trace i k lt)) first.refused;
-      })
-
-  one_refused : (trace : List Event) (i k : ℕ) → IsFirstRefused room trace i → IsFirstRefused room trace k → i ≡ k
-  one_refused trace i k first second = elim (cases_order i k) [
-    | inl e ↦ e
-    | inr (inl l) ↦ absurd (not_earlier trace i k first second l)
-    | inr (inr l) ↦ absurd (not_earlier trace k i second first l)
-  ]
-
   over_refuses_none : (trace : List Event) (k : ℕ) → IsOver (room trace) → IsFirstRefused room trace k → ⊥
-  over_refuses_none trace k (s, now, over) first = run_refuses_none trace k s now first
+  over_refuses_none trace k (s, now, over) first = none_refused m plan pieces engines trace s k now first
 
   unfinished_refuses_none : (trace : List Event) (k : ℕ) → IsUnfinished (room trace) → IsFirstRefused room trace k → ⊥
-  unfinished_refuses_none trace k (s, now, not_yet) first = run_refuses_none trace k s now first
+  unfinished_refuses_none trace k (s, now, not_yet) first = none_refused m plan pieces engines trace s k now first
 
 -- what a run leaves is one, whatever its history
 left_is_one : (m : Memory) (plan : Plan) (pieces : List Fields) (engines : ℕ) (vs ws : List Event) (a b : Left) →

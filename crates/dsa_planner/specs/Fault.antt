@@ -13,6 +13,10 @@ use Rattle.dsa_plan.specs.declared.emission_fault.EmissionFault.{EmissionFault}
 use Rattle.dsa_plan.specs.declared.emission_fault.EmissionFault.TheVariants.{PortalLength as WrongPortal, StagingLength as WrongStaging, BatchFields as WrongBatch, EntryFence as WrongFence, Entry as WrongEntry, RecordBytes as WrongRecord, Memory as EmissionMemory}
 use Rattle.dsa_splitter.specs.declared.fault.SplitFault.{SplitFault}
 use Rattle.dsa_splitter.specs.declared.fault.SplitFault.TheVariants.{DeltaTooLong as SplitDelta, ExpectedSplit as SplitExpected, TooManyPieces as SplitMany, StagingMeets as SplitStaging, RowMeetsData as SplitRow, RowWrap as SplitWrap, Memory as SplitMemory}
+use Rattle.dsa_core.specs.declared.fault.CoreFault.{CoreFault}
+use Rattle.dsa_core.specs.declared.fault.CoreFault.TheVariants.{Memory as CoreMemory, TooLong as CoreLong, NotAStep as CoreStep, Incomplete as CoreCut}
+use Rattle.dsa_engines.specs.declared.fault.RoomFault.{RoomFault}
+use Rattle.dsa_engines.specs.declared.fault.RoomFault.TheVariants.{GateShut as RoomShut, Stale as RoomStale, Mixed as RoomMixed, Memory as RoomMemory, TooLong as RoomLong}
 use Rattle.dsa_checker.specs.declared.fault.CheckFault.{CheckFault}
 use Rattle.dsa_checker.specs.declared.fault.CheckFault.TheVariants.{Plan, Version, Lengths, Pair, Price, Total}
 use Rattle.dsa_planner.specs.declared.fault.PlanFault.{PlanFault}
@@ -213,6 +217,21 @@ emission_cause (WrongFence group) = EntryFence group
 emission_cause (WrongEntry index fault) = Entry index fault
 emission_cause (WrongRecord batch) = RecordBytes batch
 emission_cause EmissionMemory = Memory
+
+-- why a list of events has no outcome
+abbrev pub core_cause : CoreFault → PlanFault
+core_cause CoreMemory = Memory
+core_cause CoreLong = TooLong
+core_cause (CoreStep event) = NotAStep event
+core_cause CoreCut = Incomplete
+
+-- why a run by threads has none
+abbrev pub room_cause : RoomFault → PlanFault
+room_cause RoomShut = GateShut
+room_cause RoomStale = Stale
+room_cause RoomMixed = Mixed
+room_cause RoomMemory = Memory
+room_cause RoomLong = TooLong
 
 -- ---- the line
 

@@ -1,5 +1,5 @@
 -- What replaying and running the planned pieces of a list leave.
-use Rattle.std.specs.Prelude.{◌≡◌, ℕ, ◌+◌, ◌<◌, ◌≤◌, ◌⊎◌, All, List, length, map, Result, Ok, Err}
+use Rattle.std.specs.Prelude.{◌≡◌, ◌≢◌, ℕ, ◌+◌, ◌<◌, ◌≤◌, ◌⊎◌, All, List, length, map, Result, Ok, Err}
 use Rattle.dsa_descriptor.specs.declared.descriptor.Descriptor.{Descriptor}
 use Rattle.dsa_descriptor.specs.Fields.{Fields}
 use Rattle.dsa_descriptor.specs.Descriptors.{fields}
@@ -51,7 +51,7 @@ IsFirstBeginFault m engines pieces TooLong = AreEngines engines × All (HoldsRan
 IsFirstBeginFault m engines pieces _ = ⊥
 
 -- the outcome of replaying these events on pieces under a plan: what they leave where they are a complete run; else the
--- first that is no step, or that the run isn't complete
+-- first that is no step, or that the run isn't complete; or the first cause why none can begin
 abbrev pub ReplaysPieces : Memory → ℕ → List Event → Plan → List Fields → Result Left PlanFault → Type 0
 ReplaysPieces m engines trace plan pieces (Ok left) =
     CanBegin m engines pieces × IsOutcome (room_with m plan pieces engines trace) left.image left.finished left.batch_records
@@ -63,7 +63,8 @@ ReplaysPieces m engines trace plan pieces (Err fault) = IsFirstBeginFault m engi
 abbrev pub BreaksOff : PlanFault → Type 0
 BreaksOff fault = (fault ≡ GateShut) ⊎ ((fault ≡ Stale) ⊎ (fault ≡ Mixed))
 
--- the outcome of running pieces under a plan: what some complete run leaves; or the run broke off
+-- the outcome of running pieces under a plan: what some complete run leaves; or that the run broke off; or the first cause
+-- why none can begin
 abbrev pub RunsPieces : Memory → ℕ → Plan → List Fields → Result Left PlanFault → Type 0
 RunsPieces m engines plan pieces (Ok left) =
     CanBegin m engines pieces × ((history : List Event) × IsOutcome (room_with m plan pieces engines history) left.image left.finished left.batch_records)
@@ -99,4 +100,4 @@ LeavesWhole bytes s m left =
 -- the number of engines, where a run can begin but for its events; else the first cause before these
 abbrev pub BeginsWith : Memory → ℕ → List Fields → Result ℕ PlanFault → Type 0
 BeginsWith m engines pieces (Ok number) = (number ≡ engines) × AreEngines engines × All (HoldsRanges m) pieces
-BeginsWith m engines pieces (Err fault) = IsFirstBeginFault m engines pieces fault
+BeginsWith m engines pieces (Err fault) = (fault ≢ TooLong) × IsFirstBeginFault m engines pieces fault

@@ -2,10 +2,12 @@
 
 ghost use Rattle.std.specs.Prelude.{◌≡◌, ◌≤◌, length};
 ghost use Rattle.dsa_planner.specs.declared.fault.PlanFault.TheVariants.{Memory, Settings, Legal, Check};
-ghost use Rattle.dsa_planner.specs.Fault.{field_name, legal_number, legal_name, check_number, check_name, entry_number, entry_name, fault_number, fault_name, list_cause, split_cause, emission_cause};
+ghost use Rattle.dsa_planner.specs.Fault.{field_name, legal_number, legal_name, check_number, check_name, entry_number, entry_name, fault_number, fault_name, list_cause, split_cause, emission_cause, core_cause, room_cause};
 
 use dsa_checker::CheckFault;
+use dsa_core::CoreFault;
 use dsa_descriptor::{FieldFault, ListFault};
+use dsa_engines::RoomFault;
 use dsa_plan::{EmissionFault, EntryFault, LegalFault, SettingsFault};
 use dsa_splitter::SplitFault;
 use std::alloc::AllocError;
@@ -21,7 +23,7 @@ pub enum PlanFault {
     MixedPasid(usize),
     /// The image lacks an address that the piece of this index reads or writes.
     OutOfImage(usize),
-    /// The image is longer than 16 MiB, or goes past 2^64.
+    /// The image has more than 16 MiB, or its last address is no 64-bit number.
     ImageSize,
     /// The delta of this index is longer than the greatest transfer.
     DeltaTooLong(usize),
@@ -71,7 +73,7 @@ pub enum PlanFault {
     Incomplete,
     /// The text is no JSON.
     Json,
-    /// A member is missing, of a wrong kind, or not named for the job.
+    /// The text is no object, or its members aren't those of the job, each of its kind.
     Member,
     /// No job goes by what stands under `do`.
     Do,
@@ -126,6 +128,33 @@ impl From<EmissionFault> for PlanFault {
             EmissionFault::Entry(index, fault) => PlanFault::Entry(index, fault),
             EmissionFault::RecordBytes(batch) => PlanFault::RecordBytes(batch),
             EmissionFault::Memory => PlanFault::Memory,
+        }
+    }
+}
+
+impl From<CoreFault> for PlanFault {
+    ghost from_gives = { λ cause fault. fault ≡ core_cause cause };
+
+    fn from(cause: CoreFault) -> PlanFault {
+        match cause {
+            CoreFault::Memory => PlanFault::Memory,
+            CoreFault::TooLong => PlanFault::TooLong,
+            CoreFault::NotAStep(event) => PlanFault::NotAStep(event as usize),
+            CoreFault::Incomplete => PlanFault::Incomplete,
+        }
+    }
+}
+
+impl From<RoomFault> for PlanFault {
+    ghost from_gives = { λ cause fault. fault ≡ room_cause cause };
+
+    fn from(cause: RoomFault) -> PlanFault {
+        match cause {
+            RoomFault::GateShut => PlanFault::GateShut,
+            RoomFault::Stale => PlanFault::Stale,
+            RoomFault::Mixed => PlanFault::Mixed,
+            RoomFault::Memory => PlanFault::Memory,
+            RoomFault::TooLong => PlanFault::TooLong,
         }
     }
 }

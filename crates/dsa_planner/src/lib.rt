@@ -1,4 +1,5 @@
-//! Calls over the bytes of a list: planning it, judging a plan of it, and checking an emission with its certificate.
+//! Calls over the bytes of a list: planning it, judging a plan of it, checking an emission with its certificate, and
+//! replaying or running it.
 #![tactic(auto)]
 
 mod checking;

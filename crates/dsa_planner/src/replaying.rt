@@ -13,7 +13,7 @@ ghost use Rattle.dsa_planner.specs.Runs.{BeginsWith, Left, LeavesWhole, Replays,
 
 use crate::fault::PlanFault;
 use crate::planning::{Planned, plan_list};
-use dsa_core::{CoreFault, Event, Outcome, replay};
+use dsa_core::{Event, Outcome, replay};
 use dsa_descriptor::Descriptor;
 use dsa_image::{Image, ImageFault};
 use dsa_plan::{Plan, Settings};
@@ -67,21 +67,17 @@ fn replay_pieces(
     ensures history { IfOk result (λ o. o.history.items ≡ trace.now) }
 {
     let engines = begin(image, pieces, engines)?;
-    match replay(alloc, image, plan, pieces, engines, trace) {
-        Ok(outcome) => Ok(outcome),
-        Err(CoreFault::Memory) => Err(PlanFault::Memory),
-        Err(CoreFault::TooLong) => Err(PlanFault::TooLong),
-        Err(CoreFault::NotAStep(event)) => Err(PlanFault::NotAStep(event as usize)),
-        Err(CoreFault::Incomplete) => Err(PlanFault::Incomplete),
-    }
+    let outcome = replay(alloc, image, plan, pieces, engines, trace)?;
+    Ok(outcome)
 }
 
 /// Plans the list, and replays these events on its pieces: what they leave, where they are a complete run of the plan.
 ///
 /// # Errors
 /// As [`plan_list`]; else [`PlanFault::Engines`]; else [`PlanFault::OutOfImage`] with the first piece that the image
-/// doesn't hold; else [`PlanFault::TooLong`]; else [`PlanFault::NotAStep`] with the first event that is no step; else
-/// [`PlanFault::Incomplete`]; and [`PlanFault::Memory`] where a growth is refused.
+/// doesn't hold; else [`PlanFault::TooLong`]; else [`PlanFault::NotAStep`], which names the first event at which the run
+/// can't go on; else [`PlanFault::Incomplete`] of a run that ends too early; and [`PlanFault::Memory`] where a growth is
+/// refused.
 pub fn replay_bytes(
     alloc: Global,
     list: &[u8],

@@ -14,7 +14,7 @@ use crate::fault::PlanFault;
 use crate::replaying::{begin, plan_to_run};
 use dsa_core::Outcome;
 use dsa_descriptor::Descriptor;
-use dsa_engines::{OpenGate, RoomFault, run};
+use dsa_engines::{OpenGate, run};
 use dsa_image::Image;
 use dsa_plan::{Plan, Settings};
 use std::alloc::Global;
@@ -36,14 +36,8 @@ fn run_pieces<R: Threads + Wait + Sync>(
     ensures history { IfOk result (λ o. IsOutcomeOf (room_with image.now plan.now (map fields pieces.now) engines o.history.items) o) }
 {
     let engines = begin(image, pieces, engines)?;
-    match run(rt, alloc, image, plan, pieces, engines, &OpenGate) {
-        Ok(outcome) => Ok(outcome),
-        Err(RoomFault::GateShut) => Err(PlanFault::GateShut),
-        Err(RoomFault::Stale) => Err(PlanFault::Stale),
-        Err(RoomFault::Mixed) => Err(PlanFault::Mixed),
-        Err(RoomFault::Memory) => Err(PlanFault::Memory),
-        Err(RoomFault::TooLong) => Err(PlanFault::TooLong),
-    }
+    let outcome = run(rt, alloc, image, plan, pieces, engines, &OpenGate)?;
+    Ok(outcome)
 }
 
 /// Plans the list, and runs its pieces on a copy of the image by engines, each of which is a thread. All of them have

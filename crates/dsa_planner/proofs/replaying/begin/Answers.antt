@@ -12,4 +12,4 @@ returns-in-Ok c = (refl, record { some = c.if-engines-lt1.false; few = c.if-engi
 
 pub returns-in-Err-OutOfImage : goal.returns-in-Err-OutOfImage
 returns-in-Err-OutOfImage c =
-    (record { some = c.if-engines-lt1.false; few = c.if-engines-gt64.false }, (c.in-Err-OutOfImage.ensures.fault c.in-Err-OutOfImage.piece).0 (ap Err c.in-Err-OutOfImage.field-0-is))
+    (λ e. cc, (record { some = c.if-engines-lt1.false; few = c.if-engines-gt64.false }, (c.in-Err-OutOfImage.ensures.fault c.in-Err-OutOfImage.piece).0 (ap Err c.in-Err-OutOfImage.field-0-is)))

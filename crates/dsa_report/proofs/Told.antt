@@ -14,18 +14,19 @@ use Rattle.dsa_report.specs.declared.judge_job.JudgeJob.{JudgeJob}
 use Rattle.dsa_report.specs.declared.plan_job.PlanJob.{PlanJob}
 use Rattle.dsa_report.specs.declared.check_job.CheckJob.{CheckJob}
 use Rattle.dsa_report.specs.Settings.{limits_of}
-use Rattle.dsa_report.specs.Job.{to_judge, to_plan, to_check, to_replay}
+use Rattle.dsa_report.specs.Job.{to_judge, to_plan, to_check, to_replay, to_run}
 use Rattle.dsa_plan.specs.Plan.{Plan}
 use Rattle.dsa_cert.specs.Certificates.{contents}
 use Rattle.dsa_planner.specs.Planned.{Plans}
 use Rattle.dsa_planner.specs.Checked.{Checks}
-use Rattle.dsa_planner.specs.Runs.{Replays}
+use Rattle.dsa_planner.specs.Runs.{Replays, Runs}
+use Rattle.dsa_report.specs.declared.run_job.RunJob.{RunJob}
 use Rattle.dsa_report.specs.declared.replay_job.ReplayJob.{ReplayJob}
 use Rattle.dsa_plan.specs.Settings.{Limits}
 use Rattle.dsa_planner.specs.Judge.{Judges}
-use Rattle.dsa_report.specs.Read.{IsJudge, IsPlanJob, IsCheck, IsReplay}
+use Rattle.dsa_report.specs.Read.{IsJudge, IsPlanJob, IsCheck, IsReplay, IsRun}
 use Rattle.dsa_report.specs.Answer.{Told, told_of, TellsValue, Tells, wants_memory, is_too_long, is_value, Answer}
-use Rattle.dsa_report.specs.Gives.{GivesLine, TellsJudge, TellsPlan, TellsCheck, TellsReplay, outcome_line, outcome_status, AnswersText, WritesPrefix, WritesLine}
+use Rattle.dsa_report.specs.Gives.{GivesLine, TellsJudge, TellsPlan, TellsCheck, TellsReplay, TellsRun, outcome_line, outcome_status, AnswersText, WritesPrefix, WritesLine}
 
 -- what is told of the part is told of the whole
 pub GivesLine-weaker : (P Q : Told → Type 0) (r : Result (Vec ℕ Global) PlanFault) → ((told : Told) → P told → Q told) → GivesLine P r → GivesLine Q r
@@ -66,6 +67,12 @@ told_of_replay d job (j, spells, decoded, image, engines, trace) told (outcome, 
     let here = subst (λ (s : Limits). Replays job.list.items s job.image job.engines job.trace.items outcome) spells.agree replays in
     let replays' = subst (λ (n : ℕ). Replays job.list.items (limits_of j.settings) job.image n job.trace.items outcome) engines here in
     inr (to_replay j, spells.spelled, spells.in_limits, (job.list.items, job.image, job.trace.items, outcome, decoded, image, trace, replays', is))
+
+pub told_of_run : (d : Data) (job : RunJob) → IsRun d job → (told : Told) → TellsRun job told → TellsValue d told
+told_of_run d job (j, spells, decoded, image, engines) told (outcome, runs, is) =
+    let here = subst (λ (s : Limits). Runs job.list.items s job.image job.engines outcome) spells.agree runs in
+    let runs' = subst (λ (n : ℕ). Runs job.list.items (limits_of j.settings) job.image n outcome) engines here in
+    inr (to_run j, spells.spelled, spells.in_limits, (job.list.items, job.image, outcome, decoded, image, runs', is))
 
 -- a line or a refusal that is told answers the text
 pub Answer-given : (text : List ℕ) (outcome : Result (Vec ℕ Global) PlanFault) → GivesLine (Tells text) outcome → Answer text (outcome_line outcome) (outcome_status outcome)

@@ -7,7 +7,7 @@ ghost use Rattle.serde_json.specs.Written.{has_float};
 ghost use Rattle.dsa_report.specs.Reading.{longest_text};
 ghost use Rattle.dsa_report.specs.Answer.{line_of, cost_value, TellsValue, Tells};
 ghost use Rattle.dsa_report.specs.Job.{HasName};
-ghost use Rattle.dsa_report.specs.Gives.{GivesLine, TellsJudge, TellsPlan, TellsCheck, TellsReplay};
+ghost use Rattle.dsa_report.specs.Gives.{GivesLine, TellsJudge, TellsPlan, TellsCheck, TellsReplay, TellsRun};
 
 use crate::check_job::{CheckJob, check_of};
 use crate::job::{JobName, job_name};
@@ -16,22 +16,33 @@ use crate::left_line::left_line;
 use crate::plan_job::{PlanJob, plan_job_of};
 use crate::planned_line::planned_line;
 use crate::replay_job::{ReplayJob, replay_of};
-use dsa_planner::{PlanFault, check_bytes, judge_bytes, plan_list, replay_bytes};
+use crate::run_job::{RunJob, run_of};
+use dsa_planner::{PlanFault, check_bytes, judge_bytes, plan_list, replay_bytes, run_bytes};
 use serde_json::{Error, Value, json};
 use std::alloc::{AllocError, Global};
+use std::sync::Wait;
+use std::thread::Threads;
 
-/// The line of the answer to a text, or why the text is refused.
-pub fn answer(alloc: Global, text: &[u8]) -> Result<Vec<u8>, PlanFault>
+/// The line of the answer to a text, or why the text is refused. A job to run starts its engines by the handle.
+pub(crate) fn answer<H: Threads + Wait + Sync>(
+    rt: &H,
+    alloc: Global,
+    text: &[u8],
+) -> Result<Vec<u8>, PlanFault>
     requires { length text.now ≤ longest_text }
     ensures { GivesLine (Tells text.now) result }
 {
     match Value::from_slice(alloc, text) {
-        Ok(value) => answer_value(alloc, &value),
+        Ok(value) => answer_value(rt, alloc, &value),
         Err(e) => Err(json_fault(&e)),
     }
 }
 
-fn answer_value(alloc: Global, value: &Value) -> Result<Vec<u8>, PlanFault>
+fn answer_value<H: Threads + Wait + Sync>(
+    rt: &H,
+    alloc: Global,
+    value: &Value,
+) -> Result<Vec<u8>, PlanFault>
     ensures { GivesLine (TellsValue (view value.now)) result }
 {
     if !value.is_object() {
@@ -42,6 +53,7 @@ fn answer_value(alloc: Global, value: &Value) -> Result<Vec<u8>, PlanFault>
         Some(JobName::Plan) => plan_answer(alloc, value),
         Some(JobName::Check) => check_answer(alloc, value),
         Some(JobName::Replay) => replay_answer(alloc, value),
+        Some(JobName::Run) => run_answer(rt, alloc, value),
         None => Err(PlanFault::Do),
     }
 }
@@ -76,6 +88,18 @@ fn replay_answer(alloc: Global, value: &Value) -> Result<Vec<u8>, PlanFault>
 {
     let job = replay_of(alloc, value)?;
     replay_line(alloc, &job)
+}
+
+fn run_answer<H: Threads + Wait + Sync>(
+    rt: &H,
+    alloc: Global,
+    value: &Value,
+) -> Result<Vec<u8>, PlanFault>
+    requires { HasName (view value.now) JobName.Run }
+    ensures { GivesLine (TellsValue (view value.now)) result }
+{
+    let job = run_of(alloc, value)?;
+    run_line(rt, alloc, &job)
 }
 
 fn judge_line(alloc: Global, job: &JudgeJob) -> Result<Vec<u8>, PlanFault>
@@ -119,6 +143,18 @@ fn replay_line(alloc: Global, job: &ReplayJob) -> Result<Vec<u8>, PlanFault>
         job.engines,
         &job.trace,
     )?;
+    let line = left_line(alloc, &outcome)?;
+    Ok(line)
+}
+
+fn run_line<H: Threads + Wait + Sync>(
+    rt: &H,
+    alloc: Global,
+    job: &RunJob,
+) -> Result<Vec<u8>, PlanFault>
+    ensures { GivesLine (TellsRun job.now) result }
+{
+    let outcome = run_bytes(rt, alloc, &job.list, &job.settings, &job.image, job.engines)?;
     let line = left_line(alloc, &outcome)?;
     Ok(line)
 }

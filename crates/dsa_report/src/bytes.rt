@@ -19,7 +19,7 @@ pub fn bytes_of(alloc: Global, text: &str) -> Result<Vec<u8>, PlanFault>
 
 // Why a text was not decoded.
 fn hex_fault(e: FromHexError) -> PlanFault
-    ensures { (result ≡ PlanFault.Memory) ⊎ ((result ≡ PlanFault.Hex) × (e ≢ FromHexError.OutOfMemory)) }
+    ensures { ((result ≡ PlanFault.Memory) × (e ≡ FromHexError.OutOfMemory)) ⊎ ((result ≡ PlanFault.Hex) × (e ≢ FromHexError.OutOfMemory)) }
 {
     match e {
         FromHexError::OutOfMemory => PlanFault::Memory,

@@ -1,8 +1,8 @@
 //! One job: its text is read, and its line is written.
 
-ghost use Rattle.std.specs.Prelude.{◌≡◌, ◌+◌, ◌≤◌, ℕ, List, length, IfSome};
-ghost use Rattle.std.specs.Io.KnownBytes.{Consumes, Keeps};
-ghost use Rattle.dsa_report.specs.Reading.{longest_text};
+ghost use Rattle.std.specs.Prelude.{◌≡◌, ◌+◌, IfNone, IfSome};
+ghost use Rattle.std.specs.Io.KnownBytes.{Keeps};
+ghost use Rattle.dsa_report.specs.Reading.{ReadsAtMost, longest_text};
 ghost use Rattle.dsa_report.specs.Gives.{AnswersText, WritesAnswer, WritesPrefix, WritesLine};
 
 use crate::answers::answer;
@@ -11,6 +11,8 @@ use crate::writing::write_line;
 use dsa_planner::{PlanFault, refusal_line};
 use std::alloc::Global;
 use std::io::{Read, Write};
+use std::sync::Wait;
+use std::thread::Threads;
 
 /// What came of a job.
 #[derive(Clone, Copy, Debug, PartialEq, Eq)]
@@ -41,7 +43,13 @@ impl Served {
 }
 
 /// Reads one job to its end, and writes its line.
-pub fn serve<H: AllocGlobal, R: Read, W: Write>(rt: &H, reader: &mut R, writer: &mut W) -> Served
+///
+/// The handle gives memory, starts the engines of a job to run, and waits for them.
+pub fn serve<H: AllocGlobal + Threads + Wait + Sync, R: Read, W: Write>(
+    rt: &H,
+    reader: &mut R,
+    writer: &mut W,
+) -> Served
     // One line was written, which answers the reader's text.
     ensures answered { result ≡ Served.Answered → IfSome (R.remaining reader.old)
         (λ text. WritesAnswer text 0 (W.contents writer.old) (W.contents writer.new)) }
@@ -49,27 +57,32 @@ pub fn serve<H: AllocGlobal, R: Read, W: Write>(rt: &H, reader: &mut R, writer: 
         (λ text. WritesAnswer text 1 (W.contents writer.old) (W.contents writer.new)) }
     // Nothing was written.
     ensures read_fault { result ≡ Served.ReadFault → Keeps (W.contents writer.old) (W.contents writer.new) }
+    // The reader failed before the text was seen to be too long.
+    ensures read_part { result ≡ Served.ReadFault → ReadsAtMost longest_text (R.remaining reader.old) (R.remaining reader.new) }
     // A prefix of that line was written.
     ensures write_fault { result ≡ Served.WriteFault → IfSome (R.remaining reader.old)
         (λ text. WritesPrefix text (W.contents writer.old) (W.contents writer.new)) }
     // No byte is read past the first one that is too many.
-    ensures bounded { (bytes : List ℕ) × Consumes (R.remaining reader.old) (R.remaining reader.new) bytes
-        × (length bytes ≤ longest_text + 1) }
+    ensures bounded { ReadsAtMost (longest_text + 1) (R.remaining reader.old) (R.remaining reader.new) }
 {
-    let Some(outcome) = line_for(rt.alloc(), reader) else {
+    let Some(outcome) = line_for(rt, rt.alloc(), reader) else {
         return Served::ReadFault;
     };
     write_outcome(writer, &outcome)
 }
 
 // The line that answers the text of a reader, or why it is refused; none where reading failed.
-fn line_for<R: Read>(alloc: Global, reader: &mut R) -> Option<Result<Vec<u8>, PlanFault>>
+fn line_for<H: Threads + Wait + Sync, R: Read>(
+    rt: &H,
+    alloc: Global,
+    reader: &mut R,
+) -> Option<Result<Vec<u8>, PlanFault>>
     ensures line { AnswersText (R.remaining reader.old) result }
-    ensures bounded { (bytes : List ℕ) × Consumes (R.remaining reader.old) (R.remaining reader.new) bytes
-        × (length bytes ≤ longest_text + 1) }
+    ensures part { IfNone result (ReadsAtMost longest_text (R.remaining reader.old) (R.remaining reader.new)) }
+    ensures bounded { ReadsAtMost (longest_text + 1) (R.remaining reader.old) (R.remaining reader.new) }
 {
     match read_text(alloc, reader) {
-        Ok(text) => Some(answer(alloc, &text)),
+        Ok(text) => Some(answer(rt, alloc, &text)),
         Err(Stop::Refusal(fault)) => Some(Err(fault)),
         Err(Stop::Fault) => None,
     }

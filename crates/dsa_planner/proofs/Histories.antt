@@ -1,17 +1,14 @@
 -- A trace has one end, and a run of a list that succeeds leaves what executing the list leaves.
-use Rattle.std.proofs.Common.{◌≡◌, ◌⊎◌, inl, inr, ℕ, zero, suc, ◌+◌, ◌<◌, ◌≤◌, List, [], ◌∷◌, length, map, take, get_or, slice_get, Some, None, Result, Ok, Err, refl, sym, ap, subst, ◌∙◌, arith}
+use Rattle.std.proofs.Common.{◌≡◌, ◌⊎◌, inl, inr, ℕ, suc, ◌≤◌, List, [], ◌∷◌, length, map, take, get_or, slice_get, Some, Result, Ok, Err, refl, sym, ap, subst, ◌∙◌, arith}
 use Rattle.std.specs.Prelude.{All, IfOk}
 use Rattle.std.proofs.lemmas.List.{length-map}
-use Rattle.std.proofs.lemmas.Bool.{cases_order}
 use Rattle.std.proofs.lemmas.List.{take_all}
-use Rattle.std.proofs.lemmas.Option.{slice_get-get_or, slice_get_within}
+use Rattle.std.proofs.lemmas.Option.{slice_get-get_or}
 use Rattle.dsa_descriptor.specs.declared.descriptor.Descriptor.{Descriptor}
 use Rattle.dsa_descriptor.specs.Fields.{Fields}
 use Rattle.dsa_descriptor.specs.Descriptors.{fields}
-use Rattle.dsa_image.specs.declared.partial.Partial.{Partial}
-use Rattle.dsa_image.specs.Memory.{Memory, HoldsRanges}
+use Rattle.dsa_image.specs.Memory.{Memory}
 use Rattle.dsa_image.specs.Effects.{done, fold_done, statuses}
-use Rattle.dsa_image.specs.Holding.{IsFirstOutside}
 use Rattle.dsa_image.proofs.Holdings.{first_is_one, none_outside}
 use Rattle.dsa_plan.specs.Plan.{Plan}
 use Rattle.dsa_plan.specs.Settings.{Limits, AreInLimits, prices_of}
@@ -24,14 +21,12 @@ use Rattle.dsa_ranges.specs.Ranges.{ConflictAt}
 use Rattle.dsa_core.specs.declared.outcome.Outcome.{Outcome}
 use Rattle.dsa_planner.specs.declared.planning.Planned.{Planned}
 use Rattle.dsa_core.specs.declared.event.Event.{Event}
-use Rattle.dsa_core.specs.Machine.{Machine}
-use Rattle.dsa_core.specs.Run.{Setup, State, Step, Steps, start_state}
+use Rattle.dsa_core.specs.Run.{Step}
 use Rattle.dsa_core.specs.StopPoint.{AllSucceed}
 use Rattle.dsa_core.specs.BatchRecords.{batch_records}
 use Rattle.dsa_core.specs.Stretches.{stretch_of}
-use Rattle.dsa_core.specs.DescriptorMachine.{descriptor_machine}
-use Rattle.dsa_core.specs.PieceRuns.{event_count, StopsAfter}
-use Rattle.dsa_core.specs.Accounts.{Account, room_limits, room_setup, IsNow, CanStep, IsOver, IsUnfinished, IsRefused, IsOutcome}
+use Rattle.dsa_core.specs.PieceRuns.{StopsAfter}
+use Rattle.dsa_core.specs.Accounts.{Account, room_limits, IsOver, IsUnfinished, IsOutcome}
 use Rattle.dsa_core.specs.Outcomes.{room_with, IsFirstRefused, IsOutcomeOf}
 use Rattle.dsa_core.proofs.Accounts.{over_or_not}
 use Rattle.dsa_core.proofs.PieceRunLaws.{every_run_is_in_order}
@@ -39,10 +34,10 @@ use Rattle.dsa_core.proofs.OneReplay.{none_refused, one_refused}
 use Rattle.dsa_core.proofs.StopPoint.{stop_points_agree}
 use Rattle.dsa_core.proofs.Stretches.{legal_with_more}
 use Rattle.dsa_planner.specs.declared.fault.PlanFault.{PlanFault}
-use Rattle.dsa_planner.specs.declared.fault.PlanFault.TheVariants.{OutOfImage, Engines, TooLong, NotAStep, Incomplete, GateShut, Stale, Mixed, Memory as NoMemory}
-use Rattle.dsa_planner.specs.Lists.{IsListOf, OrMemory}
-use Rattle.dsa_planner.specs.Planned.{Submission, submission_of, Plans, IsSubmissionOf}
-use Rattle.dsa_planner.specs.Runs.{Left, left_of, CanBegin, IsFirstBeginFault, ReplaysPieces, RunsPieces, OverPlanned, Replays, LeavesWhole, OperationsSucceed}
+use Rattle.dsa_planner.specs.declared.fault.PlanFault.TheVariants.{OutOfImage, Engines, TooLong, NotAStep, Incomplete, Memory as NoMemory}
+use Rattle.dsa_planner.specs.Lists.{OrMemory}
+use Rattle.dsa_planner.specs.Planned.{Submission, submission_of, Plans}
+use Rattle.dsa_planner.specs.Runs.{Left, left_of, CanBegin, IsFirstBeginFault, ReplaysPieces, RunsPieces, OverPlanned, Replays, LeavesWhole}
 use Rattle.dsa_planner.specs.Laws.{OneReplayed, HasBrokenOff, OneRun, PlannedRunsLeaveWhole}
 use Rattle.dsa_planner.proofs.Over.{one_list}
 use Rattle.dsa_planner.proofs.Submissions.{one_planned, planned_is_least_and_shown}

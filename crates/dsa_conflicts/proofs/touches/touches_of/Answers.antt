@@ -1,0 +1,40 @@
+use Rattle.std.proofs.Common.{rules, ◌≡◌, ◌++◌, List, ◌+◌, map, arith, sym, subst, ap, ◌∙◌}
+use Rattle.std.specs.Prelude.{All, Some, slice_get}
+use Rattle.std.proofs.lemmas.List.Sorted.{All-permutation, Contains-permutation, IsNonDecreasingBy-from_sort_by_key}
+use Rattle.dsa_descriptor.specs.declared.span.Span.{Span}
+use Rattle.dsa_descriptor.specs.Descriptors.{fields}
+use Rattle.dsa_ranges.specs.Ranges.{read_spans, written_spans}
+use Rattle.dsa_ranges.proofs.Places.{fields_at}
+use Rattle.dsa_conflicts.specs.declared.access.Access.TheVariants.{Read, Write}
+use Rattle.dsa_conflicts.specs.declared.touches.Touch.{Touch}
+use Rattle.dsa_conflicts.specs.Touches.{HasTouches, IsTouchOf, touch}
+use Rattle.dsa_conflicts.proofs.Touching.{has_more, known_more}
+use Rattle.dsa_conflicts.proofs.touches.touches_of.Goals as goal
+
+pub loop-piece-preserved : goal.loop-piece-preserved
+loop-piece-preserved c =
+    let fs = map fields c.args.pieces.now in
+    let i = c.loop-piece.piece in
+    let d = fields c.index-pieces-piece.result in
+    let at : slice_get fs i ≡ Some d = fields_at c.args.pieces.now i c.index-pieces-piece.result c.loop-piece-test.true c.index-pieces-piece.is in
+    let old = c.loop-piece.touches.items in
+    let is_reads : c.deref.result.now ≡ read_spans d = c.deref.ensures.0 ∙ c.touched-touched.ensures.reads in
+    let is_writes : c.deref-in-loop-piece.result.now ≡ written_spans d = c.deref-in-loop-piece.ensures.0 ∙ c.touched-touched.ensures.writes in
+    let one : c.push_touches.new.touches.items ≡ old ++ map (touch i Read) (read_spans d) = c.in_ok-push_touches.ensures ∙ ap (λ (xs : List Span). old ++ map (touch i Read) xs) is_reads in
+    let two : c.push_touches-in-loop-piece.new.touches.items ≡ (old ++ map (touch i Read) (read_spans d)) ++ map (touch i Write) (written_spans d) =
+    c.in_ok-push_touches-2.ensures ∙ ap (λ (xs : List Touch). xs ++ map (touch i Write) c.deref-in-loop-piece.result.now) one ∙ ap (λ (xs : List Span). (old ++ map (touch i Read) (read_spans d)) ++ map (touch i Write) xs) is_writes in
+    record {
+      known = subst (λ (xs : List Touch). All (IsTouchOf fs) xs) (sym two) (known_more fs i d at old c.loop-piece.invariant.known);
+      all = subst (λ (xs : List Touch). HasTouches xs fs (i + 1)) (sym two) (has_more fs i d at old c.loop-piece.invariant.all);
+    }
+
+pub returns-clause-sorted : goal.returns-clause-sorted
+returns-clause-sorted c = IsNonDecreasingBy-from_sort_by_key (λ (t : Touch). t.span.first) _ c.sort_unstable_by_key.ensures.sorted (λ a r q k. search rules)
+
+pub returns-clause-known : goal.returns-clause-known
+returns-clause-known c = All-permutation (IsTouchOf (map fields c.args.pieces.now)) c.loop-piece.touches.items c.sort_unstable_by_key.new.self.items c.sort_unstable_by_key.ensures.permutation c.loop-piece.invariant.known
+
+pub returns-clause-all : goal.returns-clause-all
+returns-clause-all c i access s lt has =
+    Contains-permutation c.loop-piece.touches.items c.sort_unstable_by_key.new.self.items (touch i access s) c.sort_unstable_by_key.ensures.permutation
+    (c.loop-piece.invariant.all i access s (omega (arith, lt, c.loop-piece-test.false)) has)

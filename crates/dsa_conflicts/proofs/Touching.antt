@@ -10,7 +10,7 @@ use Rattle.dsa_descriptor.specs.Fields.{Fields}
 use Rattle.dsa_conflicts.specs.declared.access.Access.{Access}
 use Rattle.dsa_conflicts.specs.declared.access.Access.TheVariants.{Read, Write}
 use Rattle.dsa_conflicts.specs.declared.touches.Touch.{Touch}
-use Rattle.dsa_conflicts.specs.Touches.{HasTouches, IsTouchOf, spans_by, touch}
+use Rattle.dsa_conflicts.specs.Touches.{HasTouches, IsTouchOf, spans_by, touch, with_touches}
 
 -- what stands at a place is an element, and the other way round
 pub contains_at : {X : Type 0} (xs : List X) (k : ℕ) (x : X) → slice_get xs k ≡ Some x → Contains xs x
@@ -31,7 +31,7 @@ module _ (fs : List Fields) (i : ℕ) (d : Fields) (at : slice_get fs i ≡ Some
 
   module _ (old : List Touch) where
     abbrev more : List Touch
-    more = (old ++ map (touch i Read) (spans_by Read d)) ++ map (touch i Write) (spans_by Write d)
+    more = with_touches old d i
 
     -- one piece more
     pub known_more : All (IsTouchOf fs) old → All (IsTouchOf fs) more

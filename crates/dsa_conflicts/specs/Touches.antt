@@ -1,5 +1,5 @@
 -- Spans that pieces read and write, and the conflicts of two that overlap.
-use Rattle.std.specs.Prelude.{◌≡◌, ℕ, ◌<◌, List, Some, slice_get}
+use Rattle.std.specs.Prelude.{◌≡◌, ℕ, ◌<◌, List, ◌++◌, map, Some, slice_get}
 use Rattle.std.specs.List.{Contains}
 use Rattle.dsa_descriptor.specs.declared.span.Span.{Span}
 use Rattle.dsa_descriptor.specs.Fields.{Fields}
@@ -16,6 +16,10 @@ touch piece access span = record { span = span; piece = piece; access = access }
 abbrev pub spans_by : Access → Fields → List Span
 spans_by Read f = read_spans f
 spans_by Write f = written_spans f
+
+-- with the accesses by one piece more behind them
+abbrev pub with_touches : List Touch → Fields → ℕ → List Touch
+with_touches touches f piece = (touches ++ map (touch piece Read) (spans_by Read f)) ++ map (touch piece Write) (spans_by Write f)
 
 -- a piece accesses a span
 abbrev pub Accesses : List Fields → ℕ → Access → Span → Type 0

@@ -9,7 +9,9 @@ use crate::access::{Access, later};
 use crate::touches::Touch;
 
 /// How many overlaps are looked at for each span, on average.
-const OVERLAPS: usize = 16;
+const OVERLAPS: usize = 4;
+/// How many are looked at in any list.
+const ALWAYS: usize = 4096;
 
 /// Whether one of the two writes.
 fn either_writes(here: Touch, there: Touch) -> bool
@@ -86,7 +88,10 @@ pub(crate) fn note_all(lasts: &mut [Option<u32>], touches: &[Touch], window: u32
     requires known { All (λ t. t.piece < length lasts.old) touches.now }
     ensures { IsTrue result → Notes (ClashAmong touches.now window (length touches.now)) lasts.old lasts.new }
 {
-    let mut left = touches.len().saturating_mul(OVERLAPS);
+    let mut left = touches
+        .len()
+        .saturating_mul(OVERLAPS)
+        .saturating_add(ALWAYS);
     for place in 0..touches.len() {
         let Some(rest) = note_from(lasts, touches, place, window, left) else {
             return false;

@@ -3,11 +3,10 @@
 ghost use Rattle.std.specs.Prelude.{◌≡◌, ℕ, ◌<◌, ◌≤◌, ◌++◌, List, All, length, map, slice_get, Some, IfOk, OnOk};
 ghost use Rattle.std.specs.List.Sorted.{IsNonDecreasingBy};
 ghost use Rattle.dsa_descriptor.specs.Descriptors.{fields};
-ghost use Rattle.dsa_conflicts.specs.Touches.{HasTouches, IsTouchOf, touch};
+ghost use Rattle.dsa_conflicts.specs.Touches.{HasTouches, IsTouchOf, touch, with_touches};
 
 use crate::access::Access;
-use dsa_descriptor::Descriptor;
-use dsa_ranges::{Span, touched};
+use dsa_descriptor::{Descriptor, Span, record_span};
 use std::alloc::{AllocError, Global};
 
 /// A span that a piece reads or writes.
@@ -38,6 +37,19 @@ fn push_touches(
     Ok(())
 }
 
+/// Appends what the piece touches.
+fn push_piece(touches: &mut Vec<Touch>, d: &Descriptor, piece: u32) -> Result<(), AllocError>
+    ensures { OnOk result (touches.new.items ≡ with_touches touches.old.items (fields d.now) piece) }
+{
+    push_touches(touches, &d.op.sources(d.size), piece, Access::Read)?;
+    touches.push(Touch {
+        span: record_span(d.record_at),
+        piece,
+        access: Access::Write,
+    })?;
+    push_touches(touches, &d.op.targets(d.size), piece, Access::Write)
+}
+
 /// What the pieces touch, in the order of first addresses.
 pub(crate) fn touches_of(alloc: Global, pieces: &[Descriptor]) -> Result<Vec<Touch>, AllocError>
     requires { length pieces.now ≤ 65536 }
@@ -48,9 +60,7 @@ pub(crate) fn touches_of(alloc: Global, pieces: &[Descriptor]) -> Result<Vec<Tou
     // Most pieces touch three spans.
     let mut touches = Vec::with_capacity(alloc, 3 * pieces.len())?;
     for piece in 0..pieces.len() {
-        let touched = touched(&pieces[piece]);
-        push_touches(&mut touches, &touched.reads, piece as u32, Access::Read)?;
-        push_touches(&mut touches, &touched.writes, piece as u32, Access::Write)?;
+        push_piece(&mut touches, &pieces[piece], piece as u32)?;
     }
     touches.sort_unstable_by_key(|touch| touch.span.first);
     Ok(touches)

@@ -7,7 +7,7 @@ use Rattle.dsa_ranges.specs.Ranges.{read_spans, written_spans}
 use Rattle.dsa_ranges.proofs.Places.{fields_at}
 use Rattle.dsa_conflicts.specs.declared.access.Access.TheVariants.{Read, Write}
 use Rattle.dsa_conflicts.specs.declared.touches.Touch.{Touch}
-use Rattle.dsa_conflicts.specs.Touches.{HasTouches, IsTouchOf, touch}
+use Rattle.dsa_conflicts.specs.Touches.{HasTouches, IsTouchOf, touch, with_touches}
 use Rattle.dsa_conflicts.proofs.Touching.{has_more, known_more}
 use Rattle.dsa_conflicts.proofs.touches.touches_of.Goals as goal
 
@@ -18,14 +18,10 @@ loop-piece-preserved c =
     let d = fields c.index-pieces-piece.result in
     let at : slice_get fs i ≡ Some d = fields_at c.args.pieces.now i c.index-pieces-piece.result c.loop-piece-test.true c.index-pieces-piece.is in
     let old = c.loop-piece.touches.items in
-    let is_reads : c.deref.result.now ≡ read_spans d = c.deref.ensures.0 ∙ c.touched-touched.ensures.reads in
-    let is_writes : c.deref-in-loop-piece.result.now ≡ written_spans d = c.deref-in-loop-piece.ensures.0 ∙ c.touched-touched.ensures.writes in
-    let one : c.push_touches.new.touches.items ≡ old ++ map (touch i Read) (read_spans d) = c.in_ok-push_touches.ensures ∙ ap (λ (xs : List Span). old ++ map (touch i Read) xs) is_reads in
-    let two : c.push_touches-in-loop-piece.new.touches.items ≡ (old ++ map (touch i Read) (read_spans d)) ++ map (touch i Write) (written_spans d) =
-    c.in_ok-push_touches-2.ensures ∙ ap (λ (xs : List Touch). xs ++ map (touch i Write) c.deref-in-loop-piece.result.now) one ∙ ap (λ (xs : List Span). (old ++ map (touch i Read) (read_spans d)) ++ map (touch i Write) xs) is_writes in
+    let is : c.push_piece.new.touches.items ≡ with_touches old d i = c.in_ok-push_piece.ensures in
     record {
-      known = subst (λ (xs : List Touch). All (IsTouchOf fs) xs) (sym two) (known_more fs i d at old c.loop-piece.invariant.known);
-      all = subst (λ (xs : List Touch). HasTouches xs fs (i + 1)) (sym two) (has_more fs i d at old c.loop-piece.invariant.all);
+      known = subst (λ (xs : List Touch). All (IsTouchOf fs) xs) (sym is) (known_more fs i d at old c.loop-piece.invariant.known);
+      all = subst (λ (xs : List Touch). HasTouches xs fs (i + 1)) (sym is) (has_more fs i d at old c.loop-piece.invariant.all);
     }
 
 pub returns-clause-sorted : goal.returns-clause-sorted

@@ -1,11 +1,8 @@
-use Rattle.std.proofs.Common.{rules, ◌≡◌, ◌++◌, List, ◌+◌, map, arith, sym, subst, ap, ◌∙◌}
+use Rattle.std.proofs.Common.{rules, ◌≡◌, List, ◌+◌, map, arith, sym, subst}
 use Rattle.std.specs.Prelude.{All, Some, slice_get}
 use Rattle.std.proofs.lemmas.List.Sorted.{All-permutation, Contains-permutation, IsNonDecreasingBy-from_sort_by_key}
-use Rattle.dsa_descriptor.specs.declared.span.Span.{Span}
 use Rattle.dsa_descriptor.specs.Descriptors.{fields}
-use Rattle.dsa_ranges.specs.Ranges.{read_spans, written_spans}
 use Rattle.dsa_ranges.proofs.Places.{fields_at}
-use Rattle.dsa_conflicts.specs.declared.access.Access.TheVariants.{Read, Write}
 use Rattle.dsa_conflicts.specs.declared.touches.Touch.{Touch}
 use Rattle.dsa_conflicts.specs.Touches.{HasTouches, IsTouchOf, touch, with_touches}
 use Rattle.dsa_conflicts.proofs.Touching.{has_more, known_more}

@@ -1,0 +1,178 @@
+"""Measures two programs of the same jobs side by side; see tests/bench.sh.
+
+Jobs are made in processes of their own: the peak memory of a program can't be seen below that of the process that
+started it.
+"""
+
+import json
+import os
+import random
+import subprocess
+import sys
+import tempfile
+import time
+
+RUNS = 5
+PIECES = 65536
+RECORDS = 1 << 50
+MOVE, FILL, COMPARE, DUALCAST = 3, 4, 5, 9
+
+
+def descriptor(code, first, second, size, number, own=b''):
+    """The 64 bytes of an operation whose record is that of this number."""
+    words = [(0x0C | code << 24, 4), (RECORDS + 32 * number, 8), (first, 8), (second, 8), (size, 4)]
+    head = bytes(4) + b''.join(value.to_bytes(width, 'little') for value, width in words)
+    return head + bytes(4) + own.ljust(24, b'\0')
+
+
+def apart():
+    return [descriptor(MOVE, 8192 * k, 1 << 40 | 8192 * k, 4096, k) for k in range(PIECES)]
+
+
+def chained():
+    return [descriptor(MOVE, 4096 * k, 4096 * (k + 1), 4096, k) for k in range(PIECES)]
+
+
+def crowded():
+    """Moves and fills among 64 buffers."""
+    chance = random.Random(1)
+    out = []
+    for k in range(PIECES):
+        source, target = (4096 * place for place in chance.sample(range(64), 2))
+        if chance.randrange(4) == 0:
+            out.append(descriptor(FILL, chance.getrandbits(64), target, 512, k))
+        else:
+            out.append(descriptor(MOVE, source, target, chance.choice((64, 1024, 4096)), k))
+    return out
+
+
+def wide():
+    """Comparisons of long ranges over one another, and a fill now and then."""
+    chance = random.Random(2)
+    out = []
+    for k in range(PIECES):
+        start = chance.randrange(1 << 24)
+        if k % 500 == 499:
+            out.append(descriptor(FILL, 0, (1 << 33) + start, 64, k))
+        else:
+            out.append(descriptor(COMPARE, (1 << 33) - start, (1 << 40) + start, 1 << 25, k))
+    return out
+
+
+def split():
+    return [descriptor(MOVE, 0, 1 << 45, 4096 * PIECES, 0)]
+
+
+def hostile():
+    """Many dualcasts of a byte, then comparisons over all of them."""
+    half = PIECES // 2
+    out = [descriptor(DUALCAST, 1 << 41, 4096 * k, 1, k, (4096 * (half + k)).to_bytes(8, 'little'))
+           for k in range(half)]
+    return out + [descriptor(COMPARE, 0, 1 << 45, 1 << 28, k) for k in range(half, PIECES)]
+
+
+def copies(size, rounds, room):
+    """Moves from anywhere to anywhere in `room` bytes; their records stand behind."""
+    chance = random.Random(3)
+    out = []
+    for k in range(rounds):
+        source, target = (chance.randrange(room - size) for _ in 'ab')
+        out.append(descriptor(MOVE, source, target, size, k).replace(
+            (RECORDS + 32 * k).to_bytes(8, 'little'), (room + 32 * k).to_bytes(8, 'little')))
+    return out
+
+
+def settings(batch, transfer):
+    return {'version': 1, 'greatest_batch': batch, 'greatest_transfer': transfer, 'lone': 10,
+            'batch': 14, 'fence': 3, 'staging': 1 << 62}
+
+
+def job_of(do, parts, batch, transfer=4096, **more):
+    return {'do': do, 'settings': settings(batch, transfer), 'list': b''.join(parts).hex(), **more}
+
+
+def image(room, records):
+    return {'base': 0, 'bytes': random.Random(4).randbytes(room).hex() + '00' * (32 * records)}
+
+
+def check_of(plan, program):
+    """The job that checks the answer to a job to plan."""
+    done = subprocess.run([program], input=json.dumps(plan).encode(), stdout=subprocess.PIPE, check=True)
+    answer = json.loads(done.stdout)
+    return {'do': 'check', 'settings': plan['settings'],
+            **{name: answer[name] for name in ('portal', 'staging', 'certificate')}}
+
+
+def run_of(engines, size, rounds):
+    room = 12 << 20
+    return job_of('run', copies(size, rounds, room), 32, 1 << 31, engines=engines,
+                  image=image(room, rounds))
+
+
+JOBS = {
+    'plan-apart': lambda program: job_of('plan', apart(), 1024),
+    'plan-chained': lambda program: job_of('plan', chained(), 1024),
+    'plan-crowded': lambda program: job_of('plan', crowded(), 32),
+    'plan-wide': lambda program: job_of('plan', wide(), 1024, 1 << 31),
+    'plan-split': lambda program: job_of('plan', split(), 1024),
+    'plan-hostile': lambda program: job_of('plan', hostile(), 1024, 1 << 31),
+    'check-apart': lambda program: check_of(job_of('plan', apart(), 1024), program),
+    'check-chained': lambda program: check_of(job_of('plan', chained(), 1024), program),
+    'judge-apart': lambda program: job_of('judge', apart(), 32, plan=[[False] * 32] * (PIECES // 32)),
+    'run-large-1': lambda program: run_of(1, 1 << 20, 800),
+    'run-large-2': lambda program: run_of(2, 1 << 20, 800),
+    'run-large-4': lambda program: run_of(4, 1 << 20, 800),
+    'run-small-1': lambda program: run_of(1, 512, PIECES),
+}
+
+
+def measured(program, path, answer):
+    """Wall time in ms and peak memory in MiB of one run, whose answer goes to a file."""
+    with open(path, 'rb') as job, open(answer, 'wb') as line:
+        begin = time.perf_counter()
+        child = subprocess.Popen([program], stdin=job, stdout=line)
+        _, status, usage = os.wait4(child.pid, 0)
+    child.returncode = os.waitstatus_to_exitcode(status)
+    return 1e3 * (time.perf_counter() - begin), usage.ru_maxrss / 1024
+
+
+def same(first, second):
+    with open(first, 'rb') as a, open(second, 'rb') as b:
+        while part := a.read(1 << 16):
+            if part != b.read(1 << 16):
+                return False
+        return not b.read(1)
+
+
+def make(name, program, path):
+    """Writes the job of this name."""
+    with open(path, 'w', encoding='ascii') as file:
+        json.dump(JOBS[name](program), file, separators=(',', ':'))
+
+
+def main():
+    own, other, *wanted = sys.argv[1:]
+    names = [n for n in JOBS if not wanted or any(n.startswith(w) for w in wanted)]
+    print('| job | dsa, ms | other, ms | ratio | dsa, MiB | other, MiB | answers |')
+    print('|---|---|---|---|---|---|---|')
+    with tempfile.TemporaryDirectory() as folder:
+        job = os.path.join(folder, 'job')
+        lines = [os.path.join(folder, name) for name in ('own', 'other')]
+        for name in names:
+            subprocess.run([sys.executable, __file__, '--make', name, own, job], check=True)
+            runs = [[], []]
+            for _ in range(RUNS):
+                for k, program in enumerate((own, other)):
+                    runs[k].append(measured(program, job, lines[k]))
+            best = [min(its)[0] for its in runs]
+            peak = [max(memory for _, memory in its) for its in runs]
+            print('| %s | %.0f | %.0f | %.2f | %.0f | %.0f | %s |' % (
+                name, best[0], best[1], best[0] / best[1], peak[0], peak[1],
+                'equal' if same(*lines) else 'DIFFER'), flush=True)
+
+
+if __name__ == '__main__':
+    if sys.argv[1] == '--make':
+        make(*sys.argv[2:])
+    else:
+        main()

@@ -1,10 +1,12 @@
 //! How fast the crates are. Standard input names the case: `move`, `overlap` (a move to 32 bytes further on) and `fill`
 //! work in an image, beside a plain copy of as many bytes; `apart` and `chained` plan moves that don't conflict, or each
-//! of which reads what the one before wrote; `split` splits one move into 65,536 pieces; `replay` replays traces of
-//! 4,000,122 events; `run` runs large and small pieces by threads. Where it names none nothing is measured or printed.
+//! of which reads what the one before wrote; `conflicts` finds the last conflicts of short and long lists of several
+//! shapes, and searches their plans; `split` splits one move into 65,536 pieces; `replay` replays traces of 4,000,122
+//! events; `run` runs large and small pieces by threads. Where it names none nothing is measured or printed.
 #![tactic(auto)]
 
 mod batches;
+mod finding;
 mod operation;
 mod planning;
 mod replaying;
@@ -12,6 +14,7 @@ mod running;
 mod splitting;
 mod working;
 
+use crate::finding::measure_conflicts;
 use crate::operation::operation;
 use crate::planning::measure_plans;
 use crate::replaying::measure_replays;
@@ -31,6 +34,7 @@ fn main(rt: HostRuntime) -> io::Result<()> {
         "fill" => measure_image(&rt, &operation(0x04, PATTERN, 0)),
         "apart" => measure_plans(&rt, 4096),
         "chained" => measure_plans(&rt, 64),
+        "conflicts" => measure_conflicts(&rt),
         "split" => measure_split(&rt),
         "replay" => measure_replays(&rt),
         "run" => measure_runs(&rt),

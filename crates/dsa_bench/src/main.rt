@@ -1,7 +1,8 @@
 //! How fast the crates are. Standard input names the case: `move`, `overlap` (a move to 32 bytes further on) and `fill`
-//! work in an image, beside a plain copy of as many bytes; `apart` and `chained` plan moves that don't conflict, or each
-//! of which reads what the one before wrote; `conflicts` finds the last conflicts of short and long lists of several
-//! shapes, and searches their plans; `split` splits one move into 65,536 pieces; `replay` replays traces of 4,000,122
+//! work in an image, beside a plain copy of as many bytes, and so do `compare` (of two equal regions) and `pattern` (of a
+//! region that repeats it); `apart` and `chained` plan moves that don't conflict, or each of which reads what the one before
+//! wrote; `conflicts` finds the last conflicts of short and long lists of several shapes, and searches their plans; `split`
+//! splits one move into 65,536 pieces; `replay` replays traces of 4,000,122
 //! events; `run` runs large and small pieces by threads. Where it names none nothing is measured or printed.
 #![tactic(auto)]
 
@@ -26,12 +27,17 @@ use std::io;
 /// The pattern of a fill.
 const PATTERN: u64 = 0x0706_0504_0302_0100;
 
+/// The pattern that an image repeats whose bytes are all 1.
+const ONES: u64 = 0x0101_0101_0101_0101;
+
 fn main(rt: HostRuntime) -> io::Result<()> {
     let name = io::read_to_string(rt.alloc(), rt.reader())?;
     match name.trim() {
         "move" => measure_image(&rt, &operation(0x03, 0x7f_ffe0, 0)),
         "overlap" => measure_image(&rt, &operation(0x03, 0, 0x20)),
         "fill" => measure_image(&rt, &operation(0x04, PATTERN, 0)),
+        "compare" => measure_image(&rt, &operation(0x05, 0, 0x7f_ffe0)),
+        "pattern" => measure_image(&rt, &operation(0x06, 0, ONES)),
         "apart" => measure_plans(&rt, 4096),
         "chained" => measure_plans(&rt, 64),
         "conflicts" => measure_conflicts(&rt),

@@ -4,4 +4,5 @@ pub mod JudgedOnce
 pub mod CheckedOnce
 pub mod Submissions
 pub mod Beginnings
+pub mod Refusals
 pub mod Histories

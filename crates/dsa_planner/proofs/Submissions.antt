@@ -1,37 +1,32 @@
 -- Planning has one outcome, whose plan is least and shown to be.
-use Rattle.std.proofs.Common.{◌≡◌, ◌≢◌, ◌⊎◌, inl, inr, ℕ, ◌*◌, ◌≤◌, All, List, length, map, Result, Ok, Err, refl, sym, ap, subst, ◌∙◌, arith}
+use Rattle.std.proofs.Common.{◌≡◌, inl, inr, ℕ, ◌≤◌, List, length, map, Result, Ok, Err, sym, ap, subst, ◌∙◌, arith}
 use Rattle.std.proofs.lemmas.List.{length-map}
 use Rattle.dsa_descriptor.specs.declared.descriptor.Descriptor.{Descriptor}
 use Rattle.dsa_descriptor.specs.Fields.{Fields}
 use Rattle.dsa_descriptor.specs.Descriptors.{fields}
 use Rattle.dsa_descriptor.specs.Lists.{HaveOneOwner, list_spelling}
-use Rattle.dsa_descriptor.specs.Spans.{InSpan}
 use Rattle.dsa_descriptor.proofs.Entries.{one_list_spelling}
-use Rattle.dsa_ranges.specs.Ranges.{ConflictAt, Touches}
-use Rattle.dsa_plan.specs.Settings.{Limits, prices_of, version_of}
-use Rattle.dsa_plan.specs.Plan.{Plan, plan_cost, piece_count}
+use Rattle.dsa_ranges.specs.Ranges.{ConflictAt}
+use Rattle.dsa_plan.specs.Settings.{Limits, prices_of}
+use Rattle.dsa_plan.specs.Plan.{Plan, plan_cost}
 use Rattle.dsa_plan.specs.Legal.{IsLegal, IsLeast}
 use Rattle.dsa_plan.specs.LegalFaults.{HasGroupShapes}
 use Rattle.dsa_plan.specs.Certificate.{IsGood}
 use Rattle.dsa_plan.specs.Emission.{portal_bytes, staging_bytes, CanBeEmitted}
-use Rattle.dsa_plan.specs.EmissionFaults.{IsEmission}
 use Rattle.dsa_splitter.specs.declared.fault.SplitFault.{SplitFault}
 use Rattle.dsa_splitter.specs.declared.fault.SplitFault.TheVariants.{DeltaTooLong, ExpectedSplit, TooManyPieces, StagingMeets, RowMeetsData, RowWrap, Memory as SplitMemory}
 use Rattle.dsa_splitter.specs.Pieces.{all_pieces}
-use Rattle.dsa_splitter.specs.Rules.{IsSplit, IsFirstSplitFault, staging_area}
+use Rattle.dsa_splitter.specs.Rules.{IsSplit, IsFirstSplitFault}
 use Rattle.dsa_splitter.proofs.OneFault.{one_first_fault, split_no_fault}
 use Rattle.dsa_splitter.proofs.PieceLimits.{all_short, all_clear, all_one_owner}
 use Rattle.dsa_splitter.proofs.Walks.{length_all}
 use Rattle.dsa_search.specs.Chosen.{IsChosen}
 use Rattle.dsa_search.proofs.Choosing.{chosen_is_good, chosen_is_least}
 use Rattle.dsa_search.proofs.Unique.{one_chosen}
-use Rattle.dsa_plan.specs.Chain.{Pairs}
-use Rattle.dsa_cert.specs.Document.{Contents}
 use Rattle.dsa_planner.specs.declared.fault.PlanFault.{PlanFault}
 use Rattle.dsa_planner.specs.Fault.{split_cause}
-use Rattle.dsa_planner.specs.Lists.{IsListOf, OrMemory, OverList}
+use Rattle.dsa_planner.specs.Lists.{IsListOf, OrMemory}
 use Rattle.dsa_planner.specs.Planned.{Submission, IsSubmissionOf, PlansOperations, Plans, CanBePlanned, ArePiecesOf, SplitsList, IsSubmissionOfPieces}
-use Rattle.dsa_planner.specs.Checked.{IsShownLeast, Checks}
 use Rattle.dsa_planner.specs.Laws.{OnePlanned, IsLeastAndShown, PlannedIsLeastAndShown}
 use Rattle.dsa_planner.proofs.Over.{one_over_list}
 

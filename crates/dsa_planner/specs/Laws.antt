@@ -19,7 +19,7 @@ use Rattle.dsa_planner.specs.declared.fault.PlanFault.{PlanFault}
 use Rattle.dsa_planner.specs.Judge.{Judges}
 use Rattle.dsa_planner.specs.Planned.{Submission, Plans}
 use Rattle.dsa_planner.specs.Checked.{Checks}
-use Rattle.dsa_planner.specs.Runs.{Left, OperationsSucceed, BreaksOff, Replays, Runs}
+use Rattle.dsa_planner.specs.Runs.{Left, CanBegin, IsFirstBeginFault, OperationsSucceed, BreaksOff, ReplaysPieces, RunsPieces, Replays, Runs}
 
 -- bytes, a plan and settings have one outcome at most of judging
 abbrev pub OneJudged : Type 0
@@ -59,6 +59,22 @@ HasBrokenOff outcome = (fault : PlanFault) × (outcome ≡ Err fault) × BreaksO
 abbrev pub OneRun : Type 0
 OneRun = (bytes : List ℕ) (s : Limits) (m : Memory) (engines : ℕ) (outcome other : Result Left PlanFault) →
     Runs bytes s m engines outcome → Runs bytes s m engines other → (outcome ≡ other) ⊎ (HasBrokenOff outcome ⊎ HasBrokenOff other)
+
+-- what a call says of this submission: the first cause why no run of its pieces can begin, or where one can, what it says
+abbrev pub IsOfPlan : {X : Type 0} → (Submission → Result X PlanFault → Type 0) → Memory → ℕ → Submission → Result X PlanFault → Type 0
+IsOfPlan Says m engines p outcome =
+    ((fault : PlanFault) × IsFirstBeginFault m engines (map fields p.pieces) fault × (outcome ≡ Err fault))
+    ⊎ (CanBegin m engines (map fields p.pieces) × Says p outcome)
+
+-- where planning answers, replaying is of that submission
+abbrev pub ReplaysFollowPlans : Type 0
+ReplaysFollowPlans = (bytes : List ℕ) (s : Limits) (m : Memory) (engines : ℕ) (trace : List Event) (p : Submission) (outcome : Result Left PlanFault) →
+    Plans bytes s (Ok p) → Replays bytes s m engines trace outcome → IsOfPlan (λ q o. ReplaysPieces m engines trace q.plan (map fields q.pieces) o) m engines p outcome
+
+-- and so is running
+abbrev pub RunsFollowPlans : Type 0
+RunsFollowPlans = (bytes : List ℕ) (s : Limits) (m : Memory) (engines : ℕ) (p : Submission) (outcome : Result Left PlanFault) →
+    Plans bytes s (Ok p) → Runs bytes s m engines outcome → IsOfPlan (λ q o. RunsPieces m engines q.plan (map fields q.pieces) o) m engines p outcome
 
 -- where planning answers, every complete run of the plan leaves what executing the list in order leaves, if each operation
 -- succeeds there

@@ -8,6 +8,7 @@ use Rattle.dsa_descriptor.specs.Spans.{InSpan}
 use Rattle.dsa_ranges.specs.Ranges.{ConflictAt, Touches}
 use Rattle.dsa_plan.specs.Settings.{Limits, prices_of, version_of}
 use Rattle.dsa_plan.specs.Plan.{Plan, plan_cost}
+use Rattle.dsa_plan.specs.Chain.{Pairs}
 use Rattle.dsa_plan.specs.Emission.{portal_bytes, staging_bytes, staging_span}
 use Rattle.dsa_splitter.specs.declared.fault.SplitFault.{SplitFault}
 use Rattle.dsa_splitter.specs.declared.fault.SplitFault.TheVariants.{Memory as SplitMemory}
@@ -53,6 +54,13 @@ PlansOperations s fs (Err fault) =
 abbrev pub Plans : List ℕ → Limits → Result Submission PlanFault → Type 0
 Plans bytes settings outcome = OverList (λ fs o. PlansOperations settings fs o) bytes outcome
 
+-- these are the pieces that the operations are split into which the bytes spell
+pub record ArePiecesOf (s : Limits) (bytes : List ℕ) (pieces : List Descriptor) : Type 0 where
+  pub operations : List Descriptor
+  pub listed : IsListOf bytes operations
+  pub split : IsSplit s.greatest_transfer s.staging (map fields operations)
+  pub pieces_are : map fields pieces ≡ all_pieces (map fields operations) s.greatest_transfer
+
 -- what was planned, as contracts see it
 abbrev pub submission_of : Planned → Submission
 submission_of p =
@@ -74,13 +82,6 @@ pub record CanBePlanned (s : Limits) (pieces : List Fields) : Type 0 where
   pub short : All (λ d. d.size ≤ s.greatest_transfer) pieces
   pub clear : All (λ d. (address : ℕ) → InSpan (staging_span s pieces) address → ¬ Touches d address) pieces
 
--- these are the pieces of the operations that the bytes spell
-pub record ArePiecesOf (s : Limits) (bytes : List ℕ) (pieces : List Descriptor) : Type 0 where
-  pub operations : List Descriptor
-  pub listed : IsListOf bytes operations
-  pub split : IsSplit s.greatest_transfer s.staging (map fields operations)
-  pub pieces_are : map fields pieces ≡ all_pieces (map fields operations) s.greatest_transfer
-
 -- the outcome of splitting the operations that the bytes spell
 abbrev pub SplitsList : Limits → List ℕ → Result (List Descriptor) PlanFault → Type 0
 SplitsList s bytes (Ok pieces) = ArePiecesOf s bytes pieces
@@ -93,3 +94,8 @@ pub record IsSubmissionOfPieces (s : Limits) (p : Submission) : Type 0 where
   pub cost_is : p.cost ≡ plan_cost (prices_of s) p.plan
   pub portal_is : p.portal ≡ portal_bytes s p.plan (map fields p.pieces)
   pub staging_is : p.staging ≡ staging_bytes p.plan (map fields p.pieces)
+
+-- the chosen plan of these pieces, with some prices and pairs
+abbrev pub IsPlanOf : Limits → List Descriptor → Plan → Type 0
+IsPlanOf s pieces plan =
+    (prices : List ℕ) × (pairs : Pairs) × IsChosen (ConflictAt (map fields pieces)) (prices_of s) (length pieces) prices pairs plan

@@ -1,5 +1,5 @@
 -- What replaying and running the planned pieces of a list leave.
-use Rattle.std.specs.Prelude.{◌≡◌, ◌≢◌, ℕ, ◌+◌, ◌<◌, ◌≤◌, ◌⊎◌, All, List, length, map, Result, Ok, Err}
+use Rattle.std.specs.Prelude.{◌≡◌, ℕ, ◌<◌, ◌≤◌, ◌⊎◌, All, List, length, map, Result, Ok, Err}
 use Rattle.dsa_descriptor.specs.declared.descriptor.Descriptor.{Descriptor}
 use Rattle.dsa_descriptor.specs.Fields.{Fields}
 use Rattle.dsa_descriptor.specs.Descriptors.{fields}
@@ -16,7 +16,7 @@ use Rattle.dsa_core.specs.Outcomes.{room_with, IsFirstRefused}
 use Rattle.dsa_planner.specs.declared.fault.PlanFault.{PlanFault}
 use Rattle.dsa_planner.specs.declared.fault.PlanFault.TheVariants.{OutOfImage, Engines, GateShut, Stale, Mixed, TooLong, NotAStep, Incomplete}
 use Rattle.dsa_planner.specs.Lists.{IsListOf}
-use Rattle.dsa_planner.specs.Planned.{Submission, Plans}
+use Rattle.dsa_planner.specs.Planned.{Submission, Plans, ArePiecesOf}
 
 -- what a complete run leaves
 pub record Left : Type 0 where
@@ -50,39 +50,45 @@ IsFirstBeginFault m engines pieces (OutOfImage i) = AreEngines engines × IsFirs
 IsFirstBeginFault m engines pieces TooLong = AreEngines engines × All (HoldsRanges m) pieces × (most_events < event_count pieces)
 IsFirstBeginFault m engines pieces _ = ⊥
 
--- the outcome of replaying these events on pieces under a plan: what they leave where they are a complete run; else the
--- first that is no step, or that the run isn't complete; or the first cause why none can begin
+-- the outcome of replaying these events on pieces under a plan, where a run of these can begin: what they leave where they
+-- are a complete run; else the first that is no step, or that the run isn't complete
 abbrev pub ReplaysPieces : Memory → ℕ → List Event → Plan → List Fields → Result Left PlanFault → Type 0
-ReplaysPieces m engines trace plan pieces (Ok left) =
-    CanBegin m engines pieces × IsOutcome (room_with m plan pieces engines trace) left.image left.finished left.batch_records
-ReplaysPieces m engines trace plan pieces (Err (NotAStep k)) = CanBegin m engines pieces × IsFirstRefused (room_with m plan pieces engines) trace k
-ReplaysPieces m engines trace plan pieces (Err Incomplete) = CanBegin m engines pieces × IsUnfinished (room_with m plan pieces engines trace)
-ReplaysPieces m engines trace plan pieces (Err fault) = IsFirstBeginFault m engines pieces fault
+ReplaysPieces m engines trace plan pieces (Ok left) = IsOutcome (room_with m plan pieces engines trace) left.image left.finished left.batch_records
+ReplaysPieces m engines trace plan pieces (Err fault) =
+    ((k : ℕ) × (fault ≡ NotAStep k) × IsFirstRefused (room_with m plan pieces engines) trace k)
+    ⊎ ((fault ≡ Incomplete) × IsUnfinished (room_with m plan pieces engines trace))
 
 -- a run breaks off where its gate refuses, where work comes back out of date, or where the room that is left is not over
 abbrev pub BreaksOff : PlanFault → Type 0
 BreaksOff fault = (fault ≡ GateShut) ⊎ ((fault ≡ Stale) ⊎ (fault ≡ Mixed))
 
--- the outcome of running pieces under a plan: what some complete run leaves; or that the run broke off; or the first cause
--- why none can begin
+-- the outcome of running pieces under a plan, where a run of them can begin: what some complete run leaves; or that the run
+-- broke off
 abbrev pub RunsPieces : Memory → ℕ → Plan → List Fields → Result Left PlanFault → Type 0
 RunsPieces m engines plan pieces (Ok left) =
-    CanBegin m engines pieces × ((history : List Event) × IsOutcome (room_with m plan pieces engines history) left.image left.finished left.batch_records)
-RunsPieces m engines plan pieces (Err fault) = (CanBegin m engines pieces × BreaksOff fault) ⊎ IsFirstBeginFault m engines pieces fault
+    (history : List Event) × IsOutcome (room_with m plan pieces engines history) left.image left.finished left.batch_records
+RunsPieces m engines plan pieces (Err fault) = BreaksOff fault
 
--- the outcome of a call over the submission of a list: the refusal of planning it, or what the call says of it
-abbrev pub OverPlanned : {X : Type 0} → (Submission → Result X PlanFault → Type 0) → List ℕ → Limits → Result X PlanFault → Type 0
-OverPlanned Says bytes s outcome =
-    ((fault : PlanFault) × Plans bytes s (Err fault) × (outcome ≡ Err fault))
-    ⊎ ((p : Submission) × Plans bytes s (Ok p) × Says p outcome)
+-- the first cause why no run of the list that the bytes spell can begin: the refusal of planning it; or, where it is split
+-- into pieces, the first cause why a run of these can't
+abbrev pub RefusesRun : List ℕ → Limits → Memory → ℕ → PlanFault → Type 0
+RefusesRun bytes s m engines fault =
+    Plans bytes s (Err fault) ⊎ ((pieces : List Descriptor) × ArePiecesOf s bytes pieces × IsFirstBeginFault m engines (map fields pieces) fault)
+
+-- the outcome of a call over the planned list: the first cause why no run can begin; or, where one of the planned pieces
+-- can, what the call says of their submission
+abbrev pub OverPlanned : {X : Type 0} → (Submission → Result X PlanFault → Type 0) → List ℕ → Limits → Memory → ℕ → Result X PlanFault → Type 0
+OverPlanned Says bytes s m engines outcome =
+    ((fault : PlanFault) × RefusesRun bytes s m engines fault × (outcome ≡ Err fault))
+    ⊎ ((p : Submission) × Plans bytes s (Ok p) × CanBegin m engines (map fields p.pieces) × Says p outcome)
 
 -- the outcome of replaying events on the pieces of the list that the bytes spell, under their chosen plan
 abbrev pub Replays : List ℕ → Limits → Memory → ℕ → List Event → Result Left PlanFault → Type 0
-Replays bytes s m engines trace outcome = OverPlanned (λ p o. ReplaysPieces m engines trace p.plan (map fields p.pieces) o) bytes s outcome
+Replays bytes s m engines trace outcome = OverPlanned (λ p o. ReplaysPieces m engines trace p.plan (map fields p.pieces) o) bytes s m engines outcome
 
 -- the outcome of running them
 abbrev pub Runs : List ℕ → Limits → Memory → ℕ → Result Left PlanFault → Type 0
-Runs bytes s m engines outcome = OverPlanned (λ p o. RunsPieces m engines p.plan (map fields p.pieces) o) bytes s outcome
+Runs bytes s m engines outcome = OverPlanned (λ p o. RunsPieces m engines p.plan (map fields p.pieces) o) bytes s m engines outcome
 
 -- each operation, where the list is executed in order from this memory, writes status 1 in each of its records
 abbrev pub OperationsSucceed : Limits → List Fields → Memory → Type 0
@@ -97,7 +103,17 @@ LeavesWhole bytes s m left =
 
 -- ---- for private clauses
 
--- the number of engines, where a run can begin but for its events; else the first cause before these
+-- the number of engines, where a run of these pieces can begin; else the first cause why it can't
 abbrev pub BeginsWith : Memory → ℕ → List Fields → Result ℕ PlanFault → Type 0
-BeginsWith m engines pieces (Ok number) = (number ≡ engines) × AreEngines engines × All (HoldsRanges m) pieces
-BeginsWith m engines pieces (Err fault) = (fault ≢ TooLong) × IsFirstBeginFault m engines pieces fault
+BeginsWith m engines pieces (Ok number) = (number ≡ engines) × CanBegin m engines pieces
+BeginsWith m engines pieces (Err fault) = IsFirstBeginFault m engines pieces fault
+
+-- the pieces and the plan of the list's submission
+abbrev pub IsPlanned : List ℕ → Limits → List Descriptor → Plan → Type 0
+IsPlanned bytes s pieces plan = (p : Submission) × Plans bytes s (Ok p) × (p.pieces ≡ pieces) × (p.plan ≡ plan)
+
+-- what a run of the list takes: the pieces and the plan of its submission, and the number of engines
+pub record IsReady (bytes : List ℕ) (s : Limits) (m : Memory) (engines : ℕ) (pieces : List Descriptor) (plan : Plan) (number : ℕ) : Type 0 where
+  pub planned : IsPlanned bytes s pieces plan
+  pub number_is : number ≡ engines
+  pub can : CanBegin m engines (map fields pieces)

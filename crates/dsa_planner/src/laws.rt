@@ -1,7 +1,7 @@
 //! What the outcomes of the calls promise of each other. Each function is a law: its body is empty, and its clause is
 //! what the proof shows.
 
-ghost use Rattle.dsa_planner.specs.Laws.{OneJudged, OnePlanned, OneChecked, OneReplayed, OneRun, PlannedIsLeastAndShown, PlannedRunsLeaveWhole};
+ghost use Rattle.dsa_planner.specs.Laws.{OneJudged, OnePlanned, OneChecked, OneReplayed, OneRun, PlannedIsLeastAndShown, PlannedRunsLeaveWhole, ReplaysFollowPlans, RunsFollowPlans};
 
 /// Bytes, a plan and settings have one outcome at most of judging them.
 pub fn one_judged()
@@ -33,6 +33,16 @@ pub fn one_replayed()
 /// breaks off.
 pub fn one_run()
     ensures { OneRun }
+{}
+
+/// Where planning answers, replaying is of its pieces and its plan.
+pub fn replays_follow_plans()
+    ensures { ReplaysFollowPlans }
+{}
+
+/// Where planning answers, running is of its pieces and its plan.
+pub fn runs_follow_plans()
+    ensures { RunsFollowPlans }
 {}
 
 /// Where planning answers, every complete run of the plan, in whatever order and by whatever engines, leaves what

@@ -16,7 +16,7 @@ pub use fault::PlanFault;
 pub use judging::{MOST_PIECES, judge_bytes};
 pub use laws::{
     one_checked, one_judged, one_planned, one_replayed, one_run, planned_is_least_and_shown,
-    planned_runs_leave_whole,
+    planned_runs_leave_whole, replays_follow_plans, runs_follow_plans,
 };
 pub use line::{LONGEST_LINE, refusal_line};
 pub use planning::{Planned, plan_list};

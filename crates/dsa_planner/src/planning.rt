@@ -37,7 +37,11 @@ pub struct Planned {
 }
 
 /// The pieces of the operations that the bytes spell.
-fn pieces_of(alloc: Global, list: &[u8], settings: &Settings) -> Result<Vec<Descriptor>, PlanFault>
+pub(crate) fn pieces_of(
+    alloc: Global,
+    list: &[u8],
+    settings: &Settings,
+) -> Result<Vec<Descriptor>, PlanFault>
     ensures split { OrMemory (λ pieces. pieces.items) (SplitsList settings.now list.now) result }
     ensures can { IfOk result (λ pieces. CanBePlanned settings.now (map fields pieces.items)) }
 {

@@ -1,42 +1,36 @@
 //! Replaying a list of events on the planned pieces of a list.
 
-ghost use Rattle.std.specs.Prelude.{◌≡◌, ◌≤◌, IfOk, Result, length, map};
+ghost use Rattle.std.specs.Prelude.{◌≡◌, ◌≤◌, ◌⊎◌, IfOk, MatchResult, Result, length, map};
 ghost use Rattle.dsa_descriptor.specs.Descriptors.{fields};
 ghost use Rattle.dsa_ranges.specs.Ranges.{ConflictAt};
 ghost use Rattle.dsa_plan.specs.Legal.{IsLegal};
 ghost use Rattle.dsa_core.specs.Accounts.{room_limits};
 ghost use Rattle.dsa_planner.specs.declared.fault.PlanFault.{PlanFault};
+ghost use Rattle.dsa_planner.specs.declared.fault.PlanFault.TheVariants.{Memory};
 ghost use Rattle.dsa_planner.specs.Lists.{OrMemory, IsOrMemory};
 ghost use Rattle.dsa_plan.specs.Settings.{AreInLimits};
-ghost use Rattle.dsa_planner.specs.Planned.{Plans, submission_of};
-ghost use Rattle.dsa_planner.specs.Runs.{BeginsWith, Left, LeavesWhole, Replays, ReplaysPieces, left_of};
+ghost use Rattle.dsa_planner.specs.Planned.{IsPlanOf};
+ghost use Rattle.dsa_planner.specs.Runs.{BeginsWith, CanBegin, IsReady, Left, LeavesWhole, RefusesRun, Replays, ReplaysPieces, left_of};
 
 use crate::fault::PlanFault;
-use crate::planning::{Planned, plan_list};
-use dsa_core::{Event, Outcome, replay};
+use crate::planning::pieces_of;
+use dsa_core::{Event, Outcome, events_within, replay};
 use dsa_descriptor::Descriptor;
 use dsa_image::{Image, ImageFault};
 use dsa_plan::{Plan, Settings};
-use std::alloc::Global;
+use dsa_search::{Found, search};
+use std::alloc::{AllocError, Global};
 
-/// Plans the list for a run of its pieces.
-pub(crate) fn plan_to_run(
-    alloc: Global,
-    list: &[u8],
-    settings: &Settings,
-) -> Result<Planned, PlanFault>
-    ensures told { OrMemory submission_of (Plans list.now settings.now) result }
-    ensures few { IfOk result (λ p. length p.pieces.items ≤ 65536) }
-    ensures legal { IfOk result (λ p. IsLegal (ConflictAt (map fields p.pieces.items)) room_limits (length p.pieces.items) p.plan) }
-    ensures limits { AreInLimits settings.now }
-{
-    // Its clause says that the settings are within their limits.
-    let _greatest = settings.greatest_batch();
-    plan_list(alloc, list, settings)
+/// What a run of a list takes.
+#[derive(Drop)]
+pub(crate) struct Ready {
+    pub(crate) pieces: Vec<Descriptor>,
+    pub(crate) plan: Plan,
+    pub(crate) engines: u8,
 }
 
-/// The number of engines, where there are 1 to 64 and the image holds the pieces.
-pub(crate) fn begin(image: &Image, pieces: &[Descriptor], engines: u64) -> Result<u8, PlanFault>
+/// The number of engines, where there are 1 to 64, the image holds the pieces, and a run of them isn't too long.
+fn begin(image: &Image, pieces: &[Descriptor], engines: u64) -> Result<u8, PlanFault>
     ensures { BeginsWith image.now engines (map fields pieces.now) result }
 {
     if engines < 1 {
@@ -46,10 +40,61 @@ pub(crate) fn begin(image: &Image, pieces: &[Descriptor], engines: u64) -> Resul
         return Err(PlanFault::Engines);
     }
     match image.holds_all(pieces) {
-        Ok(()) => Ok(engines as u8),
+        Ok(()) => match events_within(pieces) {
+            Some(_events) => Ok(engines as u8),
+            None => Err(PlanFault::TooLong),
+        },
         Err(ImageFault::OutOfImage(piece)) => Err(PlanFault::OutOfImage(piece)),
         Err(ImageFault::ImageSize) => unreachable!(),
     }
+}
+
+/// The chosen plan of the pieces. Its prices and pairs are let go of: a run doesn't need them.
+fn chosen_plan(
+    alloc: Global,
+    pieces: &[Descriptor],
+    settings: &Settings,
+) -> Result<Plan, AllocError>
+    requires { length pieces.now ≤ 65536 }
+    ensures chosen { IfOk result (λ plan. IsPlanOf settings.now pieces.now plan) }
+    ensures legal { IfOk result (λ plan. IsLegal (ConflictAt (map fields pieces.now)) room_limits (length pieces.now) plan) }
+{
+    // Its clause says that the settings are within their limits.
+    let _greatest = settings.greatest_batch();
+    let Found {
+        plan,
+        prices: _,
+        pairs: _,
+    } = search(alloc, pieces, settings)?;
+    Ok(plan)
+}
+
+/// Splits the list, and plans its pieces where a run of them can begin. Each refusal but that of memory comes before the
+/// search for a plan.
+pub(crate) fn prepare(
+    alloc: Global,
+    list: &[u8],
+    settings: &Settings,
+    image: &Image,
+    engines: u64,
+) -> Result<Ready, PlanFault>
+    ensures told { MatchResult result
+        (λ r. IsReady list.now settings.now image.now engines r.pieces.items r.plan r.engines)
+        (λ fault. (fault ≡ Memory) ⊎ RefusesRun list.now settings.now image.now engines fault) }
+    ensures few { IfOk result (λ r. length r.pieces.items ≤ 65536) }
+    ensures legal { IfOk result (λ r. IsLegal (ConflictAt (map fields r.pieces.items)) room_limits (length r.pieces.items) r.plan) }
+    ensures limits { AreInLimits settings.now }
+{
+    // Its clause says that the settings are within their limits.
+    let _greatest = settings.greatest_batch();
+    let pieces = pieces_of(alloc, list, settings)?;
+    let engines = begin(image, &pieces, engines)?;
+    let plan = chosen_plan(alloc, &pieces, settings)?;
+    Ok(Ready {
+        pieces,
+        plan,
+        engines,
+    })
 }
 
 /// What the events leave that are a complete run of the plan.
@@ -58,15 +103,15 @@ fn replay_pieces(
     plan: &Plan,
     pieces: &[Descriptor],
     image: &Image,
-    engines: u64,
+    engines: u8,
     trace: &[Event],
 ) -> Result<Outcome, PlanFault>
     requires few { length pieces.now ≤ 65536 }
     requires legal { IsLegal (ConflictAt (map fields pieces.now)) room_limits (length pieces.now) plan.now }
+    requires can { CanBegin image.now engines (map fields pieces.now) }
     ensures told { OrMemory left_of (ReplaysPieces image.now engines trace.now plan.now (map fields pieces.now)) result }
     ensures history { IfOk result (λ o. o.history.items ≡ trace.now) }
 {
-    let engines = begin(image, pieces, engines)?;
     let outcome = replay(alloc, image, plan, pieces, engines, trace)?;
     Ok(outcome)
 }
@@ -74,10 +119,10 @@ fn replay_pieces(
 /// Plans the list, and replays these events on its pieces: what they leave, where they are a complete run of the plan.
 ///
 /// # Errors
-/// As [`plan_list`]; else [`PlanFault::Engines`]; else [`PlanFault::OutOfImage`] with the first piece that the image
-/// doesn't hold; else [`PlanFault::TooLong`]; else [`PlanFault::NotAStep`], which names the first event at which the run
-/// can't go on; else [`PlanFault::Incomplete`] of a run that ends too early; and [`PlanFault::Memory`] where a growth is
-/// refused.
+/// As [`plan_list`](crate::plan_list()); else [`PlanFault::Engines`]; else [`PlanFault::OutOfImage`] with the first piece
+/// that the image doesn't hold; else [`PlanFault::TooLong`]; all these before the search for a plan. Else
+/// [`PlanFault::NotAStep`], which names the first event at which the run can't go on; else [`PlanFault::Incomplete`] of a
+/// run that ends too early; and [`PlanFault::Memory`] where a growth is refused.
 pub fn replay_bytes(
     alloc: Global,
     list: &[u8],
@@ -94,6 +139,13 @@ pub fn replay_bytes(
     // Where each listed operation succeeds, what is left is the memory of executing the list in order.
     ensures whole { IfOk result (λ o. LeavesWhole list.now settings.now image.now (left_of o)) }
 {
-    let planned = plan_to_run(alloc, list, settings)?;
-    replay_pieces(alloc, &planned.plan, &planned.pieces, image, engines, trace)
+    let ready = prepare(alloc, list, settings, image, engines)?;
+    replay_pieces(
+        alloc,
+        &ready.plan,
+        &ready.pieces,
+        image,
+        ready.engines,
+        trace,
+    )
 }

@@ -8,10 +8,10 @@ ghost use Rattle.dsa_core.specs.Accounts.{room_limits};
 ghost use Rattle.dsa_core.specs.Outcomes.{IsOutcomeOf, room_with};
 ghost use Rattle.dsa_planner.specs.Planned.{Plans, Submission};
 ghost use Rattle.dsa_planner.specs.Lists.{OrMemory};
-ghost use Rattle.dsa_planner.specs.Runs.{LeavesWhole, Runs, RunsPieces, left_of};
+ghost use Rattle.dsa_planner.specs.Runs.{CanBegin, LeavesWhole, Runs, RunsPieces, left_of};
 
 use crate::fault::PlanFault;
-use crate::replaying::{begin, plan_to_run};
+use crate::replaying::prepare;
 use dsa_core::Outcome;
 use dsa_descriptor::Descriptor;
 use dsa_engines::{OpenGate, run};
@@ -28,14 +28,14 @@ fn run_pieces<R: Threads + Wait + Sync>(
     plan: &Plan,
     pieces: &[Descriptor],
     image: &Image,
-    engines: u64,
+    engines: u8,
 ) -> Result<Outcome, PlanFault>
     requires few { length pieces.now ≤ 65536 }
     requires legal { IsLegal (ConflictAt (map fields pieces.now)) room_limits (length pieces.now) plan.now }
+    requires can { CanBegin image.now engines (map fields pieces.now) }
     ensures told { OrMemory left_of (RunsPieces image.now engines plan.now (map fields pieces.now)) result }
     ensures history { IfOk result (λ o. IsOutcomeOf (room_with image.now plan.now (map fields pieces.now) engines o.history.items) o) }
 {
-    let engines = begin(image, pieces, engines)?;
     let outcome = run(rt, alloc, image, plan, pieces, engines, &OpenGate)?;
     Ok(outcome)
 }
@@ -44,9 +44,10 @@ fn run_pieces<R: Threads + Wait + Sync>(
 /// ended when it returns.
 ///
 /// # Errors
-/// As [`plan_list`]; else [`PlanFault::Engines`]; else [`PlanFault::OutOfImage`] with the first piece that the image
-/// doesn't hold; else [`PlanFault::TooLong`]; [`PlanFault::Memory`] where a growth or the start of a thread is refused.
-/// [`PlanFault::GateShut`], [`PlanFault::Stale`] and [`PlanFault::Mixed`] say that the run broke off.
+/// As [`plan_list`](crate::plan_list()); else [`PlanFault::Engines`]; else [`PlanFault::OutOfImage`] with the first piece
+/// that the image doesn't hold; else [`PlanFault::TooLong`]; all these before the search for a plan.
+/// [`PlanFault::Memory`] where a growth or the start of a thread is refused. [`PlanFault::GateShut`],
+/// [`PlanFault::Stale`] and [`PlanFault::Mixed`] say that the run broke off.
 pub fn run_bytes<R: Threads + Wait + Sync>(
     rt: &R,
     alloc: Global,
@@ -61,6 +62,6 @@ pub fn run_bytes<R: Threads + Wait + Sync>(
     // Where each listed operation succeeds, what is left is the memory of executing the list in order.
     ensures whole { IfOk result (λ o. LeavesWhole list.now settings.now image.now (left_of o)) }
 {
-    let planned = plan_to_run(alloc, list, settings)?;
-    run_pieces(rt, alloc, &planned.plan, &planned.pieces, image, engines)
+    let ready = prepare(alloc, list, settings, image, engines)?;
+    run_pieces(rt, alloc, &ready.plan, &ready.pieces, image, ready.engines)
 }

@@ -1,7 +1,10 @@
-use crate::{PlanFault, check_bytes, judge_bytes, plan_list, refusal_line};
+use crate::{
+    PlanFault, check_bytes, judge_bytes, plan_list, refusal_line, replay_bytes, run_bytes,
+};
 use dsa_cert::Certificate;
 use dsa_checker::CheckFault;
 use dsa_descriptor::FieldFault;
+use dsa_image::Image;
 use dsa_plan::{EntryFault, Group, LegalFault, Plan, Settings};
 use std::alloc::{AllocError, Global};
 use std::test::Fail;
@@ -88,6 +91,51 @@ fn refuses_what_cannot_be_planned(rt: HostRuntime) -> Result<(), Fail> {
     match plan_list(alloc, &list, &settings()?) {
         Err(fault) => assert_eq!(rt; fault, PlanFault::Length),
         Ok(_) => assert!(rt; false),
+    }
+    Ok(())
+}
+
+/// An image of so many zeros from address 0.
+fn zeros(alloc: Global, count: usize) -> Result<Image, Fail> {
+    let mut bytes = Vec::new(alloc);
+    bytes.resize(count, 0)?;
+    match Image::new(0, bytes) {
+        Ok(image) => Ok(image),
+        Err(_) => Err(Fail::new("no image")),
+    }
+}
+
+/// 2,048 moves of 2,047 pages, whose runs have 4,196,352 events.
+fn long_list(alloc: Global) -> Result<Vec<u8>, AllocError> {
+    let mut list = Vec::new(alloc);
+    for _ in 0..2048 {
+        list.extend_from_slice(&move_bytes(0, 0x80_0000, 0x7f_f000, 0x7f_f000))?;
+    }
+    Ok(list)
+}
+
+#[test]
+fn refuses_runs_in_order(rt: HostRuntime) -> Result<(), Fail> {
+    let alloc = rt.alloc();
+    let list = long_list(alloc)?;
+    let settings = Settings::new(1024, 1 << 30, 10, 14, 3, 1 << 40)?;
+    let small = zeros(alloc, 4096)?;
+    let large = zeros(alloc, 0x100_0000)?;
+    for (image, engines, fault) in [
+        (&small, 0, PlanFault::Engines),
+        (&small, 65, PlanFault::Engines),
+        (&small, 1, PlanFault::OutOfImage(0)),
+        (&large, 1, PlanFault::TooLong),
+        (&large, 64, PlanFault::TooLong),
+    ] {
+        match replay_bytes(alloc, &list, &settings, image, engines, &[]) {
+            Err(cause) => assert_eq!(rt; cause, fault),
+            Ok(_) => assert!(rt; false),
+        }
+        match run_bytes(&rt, alloc, &list, &settings, image, engines) {
+            Err(cause) => assert_eq!(rt; cause, fault),
+            Ok(_) => assert!(rt; false),
+        }
     }
     Ok(())
 }

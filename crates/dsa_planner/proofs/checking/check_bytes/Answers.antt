@@ -1,4 +1,4 @@
-use Rattle.std.proofs.Common.{ℕ, List, map, Ok, Err, subst}
+use Rattle.std.proofs.Common.{List, map, subst}
 use Rattle.dsa_descriptor.specs.declared.descriptor.Descriptor.{Descriptor}
 use Rattle.dsa_descriptor.specs.Descriptors.{fields}
 use Rattle.dsa_cert.specs.Certificates.{contents}

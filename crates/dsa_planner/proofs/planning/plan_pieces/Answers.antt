@@ -1,7 +1,3 @@
-use Rattle.std.proofs.Common.{ℕ, map, length, List, sym, subst}
-use Rattle.std.proofs.lemmas.List.{length-map}
-use Rattle.dsa_descriptor.specs.declared.descriptor.Descriptor.{Descriptor}
-use Rattle.dsa_descriptor.specs.Descriptors.{fields}
 use Rattle.dsa_planner.proofs.Submissions.{can_emit_found}
 use Rattle.dsa_planner.proofs.planning.plan_pieces.Goals as goal
 

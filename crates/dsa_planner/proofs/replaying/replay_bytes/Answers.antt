@@ -1,4 +1,4 @@
-use Rattle.std.proofs.Common.{List, Err, sym, subst, map, length}
+use Rattle.std.proofs.Common.{◌≡◌, ◌⊎◌, List, Err, sym, subst, map, length}
 use Rattle.std.proofs.lemmas.Result.{err_from_is_err_and}
 use Rattle.dsa_descriptor.specs.declared.descriptor.Descriptor.{Descriptor}
 use Rattle.dsa_descriptor.specs.Descriptors.{fields}
@@ -6,31 +6,36 @@ use Rattle.dsa_ranges.specs.Ranges.{ConflictAt}
 use Rattle.dsa_plan.specs.Legal.{IsLegal}
 use Rattle.dsa_core.specs.Accounts.{room_limits}
 use Rattle.dsa_planner.specs.declared.fault.PlanFault.{PlanFault}
+use Rattle.dsa_planner.specs.declared.fault.PlanFault.TheVariants.{Memory}
 use Rattle.dsa_planner.specs.Lists.{OrMemory}
-use Rattle.dsa_planner.specs.Planned.{Plans, submission_of}
-use Rattle.dsa_planner.specs.Runs.{ReplaysPieces, Replays, left_of}
+use Rattle.dsa_planner.specs.Runs.{RefusesRun, ReplaysPieces, Replays, left_of}
 use Rattle.dsa_planner.proofs.Over.{only_outcome}
-use Rattle.dsa_planner.proofs.Histories.{planned_refused, planned_taken, lent_pieces, one_replayed, replay_leaves_whole}
+use Rattle.dsa_planner.proofs.Refusals.{run_refused, ready_taken, ready_can, of_submission}
+use Rattle.dsa_planner.proofs.Histories.{one_replayed, replay_leaves_whole}
 use Rattle.dsa_planner.proofs.replaying.replay_bytes.Goals as goal
 
-pub returns-in_err-planned-clause-only : goal.returns-in_err-planned-clause-only
-returns-in_err-planned-clause-only c =
+pub returns-in_err-ready-clause-only : goal.returns-in_err-ready-clause-only
+returns-in_err-ready-clause-only c =
     let p = err_from_is_err_and c.from_residual.result c.from_residual.ensures.1 in
-    let refused = subst (λ (f : PlanFault). OrMemory submission_of (Plans c.args.list.now c.args.settings.now) (Err f)) (sym p.2) c.in_err-planned.ensures.told in
+    let refused = subst (λ (f : PlanFault). (f ≡ Memory) ⊎ RefusesRun c.args.list.now c.args.settings.now c.args.image.now c.args.engines f) (sym p.2) c.in_err-ready.ensures.told in
     rw p.1 (only_outcome left_of (Replays c.args.list.now c.args.settings.now c.args.image.now c.args.engines c.args.trace.now)
     (one_replayed c.args.list.now c.args.settings.now c.args.image.now c.args.engines c.args.trace.now) (Err p.0)
-    (planned_refused left_of (λ p o. ReplaysPieces c.args.image.now c.args.engines c.args.trace.now p.plan (map fields p.pieces) o) c.args.list.now c.args.settings.now p.0 refused))
+    (run_refused left_of (λ p o. ReplaysPieces c.args.image.now c.args.engines c.args.trace.now p.plan (map fields p.pieces) o) c.args.list.now c.args.settings.now c.args.image.now c.args.engines p.0 refused))
 
 pub replay_pieces-requires-clause-legal : goal.replay_pieces-requires-clause-legal
 replay_pieces-requires-clause-legal c =
-    subst (λ (ds : List Descriptor). IsLegal (ConflictAt (map fields ds)) room_limits (length ds) c.in_ok-planned.planned.plan) (sym c.deref.ensures.value) c.in_ok-planned.ensures.legal
+    subst (λ (ds : List Descriptor). IsLegal (ConflictAt (map fields ds)) room_limits (length ds) c.in_ok-ready.ready.plan) (sym c.deref.ensures.value) c.in_ok-ready.ensures.legal
+
+pub replay_pieces-requires-clause-can : goal.replay_pieces-requires-clause-can
+replay_pieces-requires-clause-can c =
+    let r = c.in_ok-ready.ready in
+    ready_can c.args.list.now c.args.settings.now c.args.image.now c.args.engines r.pieces.items c.deref.result.now r.plan r.engines c.in_ok-ready.ensures.told c.deref.ensures.value
 
 pub returns-clause-told : goal.returns-clause-told
 returns-clause-told c =
-    planned_taken left_of (λ p o. ReplaysPieces c.args.image.now c.args.engines c.args.trace.now p.plan (map fields p.pieces) o) c.args.list.now c.args.settings.now
-    (submission_of c.in_ok-planned.planned) c.replay_pieces.result c.in_ok-planned.ensures.told
-    (lent_pieces (λ fs o. ReplaysPieces c.args.image.now c.args.engines c.args.trace.now c.in_ok-planned.planned.plan fs o) c.deref.result.now c.in_ok-planned.planned.pieces.items
-    c.replay_pieces.result c.deref.ensures.value c.replay_pieces.ensures.told)
+    let r = c.in_ok-ready.ready in
+    ready_taken (λ n plan fs o. ReplaysPieces c.args.image.now n c.args.trace.now plan fs o) c.args.list.now c.args.settings.now c.args.image.now c.args.engines r.pieces.items c.deref.result.now
+    r.plan r.engines c.replay_pieces.result c.in_ok-ready.ensures.told c.deref.ensures.value c.replay_pieces.ensures.told
 
 pub returns-clause-only : goal.returns-clause-only
 returns-clause-only c =
@@ -39,7 +44,8 @@ returns-clause-only c =
 
 pub returns-clause-whole : goal.returns-clause-whole
 returns-clause-whole c =
-    replay_leaves_whole c.args.list.now c.args.settings.now c.args.image.now c.args.engines c.args.trace.now (submission_of c.in_ok-planned.planned) c.replay_pieces.result
-    c.plan_to_run.ensures.limits c.in_ok-planned.ensures.told
-    (lent_pieces (λ fs o. ReplaysPieces c.args.image.now c.args.engines c.args.trace.now c.in_ok-planned.planned.plan fs o) c.deref.result.now c.in_ok-planned.planned.pieces.items
-    c.replay_pieces.result c.deref.ensures.value c.replay_pieces.ensures.told)
+    let r = c.in_ok-ready.ready in
+    let ready = c.in_ok-ready.ensures.told in
+    replay_leaves_whole c.args.list.now c.args.settings.now c.args.image.now c.args.engines c.args.trace.now ready.planned.0 c.replay_pieces.result c.in_ok-ready.ensures.limits ready.planned.1
+    (of_submission (λ n plan ds. OrMemory left_of (ReplaysPieces c.args.image.now n c.args.trace.now plan (map fields ds)) c.replay_pieces.result) c.args.list.now c.args.settings.now
+    c.args.image.now c.args.engines r.pieces.items c.deref.result.now r.plan r.engines ready c.deref.ensures.value c.replay_pieces.ensures.told)

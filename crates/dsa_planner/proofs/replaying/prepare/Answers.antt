@@ -1,0 +1,28 @@
+use Rattle.std.proofs.Common.{List, map, inr, sym, subst}
+use Rattle.std.proofs.lemmas.Result.{err_from_is_err_and}
+use Rattle.dsa_descriptor.specs.declared.descriptor.Descriptor.{Descriptor}
+use Rattle.dsa_descriptor.specs.Descriptors.{fields}
+use Rattle.dsa_planner.specs.declared.fault.PlanFault.{PlanFault}
+use Rattle.dsa_planner.specs.Planned.{IsPlanOf}
+use Rattle.dsa_planner.specs.Runs.{CanBegin, IsFirstBeginFault}
+use Rattle.dsa_planner.proofs.Refusals.{found_submission}
+use Rattle.dsa_planner.proofs.replaying.prepare.Goals as goal
+
+pub returns-in_err-engines-clause-told : goal.returns-in_err-engines-clause-told
+returns-in_err-engines-clause-told c =
+    let p = err_from_is_err_and c.from_residual-in_err-engines.result c.from_residual-in_err-engines.ensures.1 in
+    let m = c.args.image.now in
+    let pieces = c.in_ok-pieces.pieces.items in
+    let first = subst (λ (ds : List Descriptor). IsFirstBeginFault m c.args.engines (map fields ds) c.in_err-engines.field-0.0) c.deref.ensures.value c.in_err-engines.ensures in
+    rw p.1 (inr (inr (pieces, c.in_ok-pieces.ensures.split, subst (λ (f : PlanFault). IsFirstBeginFault m c.args.engines (map fields pieces) f) (sym p.2) first)))
+
+pub returns-clause-told : goal.returns-clause-told
+returns-clause-told c =
+    let s = c.args.settings.now in
+    let plan = c.in_ok-plan.plan in
+    record {
+      planned = found_submission c.args.list.now s c.in_ok-pieces.pieces.items plan c.in_ok-pieces.ensures.split
+          (subst (λ (ds : List Descriptor). IsPlanOf s ds plan) c.deref-2.ensures.value c.in_ok-plan.ensures.chosen);
+      number_is = c.in_ok-engines.ensures.0;
+      can = subst (λ (ds : List Descriptor). CanBegin c.args.image.now c.args.engines (map fields ds)) c.deref.ensures.value c.in_ok-engines.ensures.1;
+    }

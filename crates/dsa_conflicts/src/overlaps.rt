@@ -11,7 +11,7 @@ use crate::touches::Touch;
 /// How many overlaps are looked at for each span, on average.
 const OVERLAPS: usize = 4;
 /// How many are looked at in any list.
-const ALWAYS: usize = 256;
+const ALWAYS: usize = 1024;
 
 /// Whether one of the two writes.
 fn either_writes(here: Touch, there: Touch) -> bool

@@ -27,7 +27,7 @@ pub enum PlanFault {
     ImageSize,
     /// The delta of this index is longer than the greatest transfer.
     DeltaTooLong(usize),
-    /// The compare of this index expects a difference, and needs more than one piece.
+    /// The comparison of this index expects a difference, and needs more than one piece.
     ExpectedSplit(usize),
     /// There are more than 65,536 pieces.
     TooManyPieces,

@@ -39,7 +39,7 @@ bytes_refused portal staging s c EmissionMemory fault is first = inl is
 
 -- what a yes says, in the checker's words
 held_of : (s : Limits) (fs : List Fields) (plan : Plan) (c : Contents) (cost : ℕ) → IsShownLeast s fs plan c cost
-    → IsLegal (ConflictAt fs) (prices_of s) (length fs) plan × (c.version ≡ version_of s) × IsGood (ConflictAt fs) (prices_of s) (length fs) c.prices c.pairs cost × (cost ≡ plan_cost (prices_of s) plan)
+    → IsLegal (ConflictAt fs) s.greatest_batch (length fs) plan × (c.version ≡ version_of s) × IsGood (ConflictAt fs) (prices_of s) (length fs) c.prices c.pairs cost × (cost ≡ plan_cost (prices_of s) plan)
 held_of s fs plan c cost h = (h.legal, h.version, h.good, h.is_cost)
 
 not_both : (s : Limits) (fs : List Fields) (plan : Plan) (c : Contents) (cost : ℕ) (f : CheckFault) → IsShownLeast s fs plan c cost
@@ -97,12 +97,12 @@ shown_least portal staging s c (Ok cost) (inr (plan', ds', emission', shown)) pl
 
 -- what the checker says of pieces, by their number as fields
 pub yes_shown : (s : Limits) (ds : List Descriptor) (plan : Plan) (c : Contents) (cost : ℕ)
-    → IsLegal (ConflictAt (map fields ds)) (prices_of s) (length ds) plan × (c.version ≡ version_of s) × IsGood (ConflictAt (map fields ds)) (prices_of s) (length ds) c.prices c.pairs cost × (cost ≡ plan_cost (prices_of s) plan)
+    → IsLegal (ConflictAt (map fields ds)) s.greatest_batch (length ds) plan × (c.version ≡ version_of s) × IsGood (ConflictAt (map fields ds)) (prices_of s) (length ds) c.prices c.pairs cost × (cost ≡ plan_cost (prices_of s) plan)
     → IsShownLeast s (map fields ds) plan c cost
 yes_shown s ds plan c cost h =
     let count = sym (length-map ds fields) in
     record {
-      legal = subst (λ (n : ℕ). IsLegal (ConflictAt (map fields ds)) (prices_of s) n plan) count h.0;
+      legal = subst (λ (n : ℕ). IsLegal (ConflictAt (map fields ds)) s.greatest_batch n plan) count h.0;
       version = h.1;
       good = subst (λ (n : ℕ). IsGood (ConflictAt (map fields ds)) (prices_of s) n c.prices c.pairs cost) count h.2;
       is_cost = h.3;

@@ -165,7 +165,7 @@ pub planned_runs_leave_whole : PlannedRunsLeaveWhole
 planned_runs_leave_whole bytes s p m engines history state within plans holds run =
     let least = (planned_is_least_and_shown bytes s p plans).least in
     let count : length p.pieces ≡ length (map fields p.pieces) = omega (arith, length-map p.pieces fields) in
-    let legal = subst (λ (n : ℕ). IsLegal (ConflictAt (map fields p.pieces)) (prices_of s) n p.plan) count least.legal in
+    let legal = subst (λ (n : ℕ). IsLegal (ConflictAt (map fields p.pieces)) s.greatest_batch n p.plan) count least.legal in
     let ended = every_run_is_in_order (prices_of s) p.pieces p.plan m engines history state (record { legal = legal; holds = holds }) run in
     let left : Left = record { image = state.memory; finished = ended.0; batch_records = batch_records p.plan ended.0 (statuses (map fields p.pieces) m) } in
     let outcome : IsOutcome (room_with m p.plan (map fields p.pieces) engines history) left.image left.finished left.batch_records =

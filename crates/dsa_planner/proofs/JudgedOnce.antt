@@ -37,7 +37,7 @@ one_judged_pieces : (fs : List Fields) (plan : Plan) (s : Limits) (o p : Result 
 one_judged_pieces fs plan s (Ok cost) (Ok cost') h k = ap Ok (h.3 ∙ sym k.3)
 one_judged_pieces fs plan s (Ok cost) (Err TooManyPieces) h k = let few = h.0 in absurd (omega arith)
 one_judged_pieces fs plan s (Ok cost) (Err (OverTransfer i)) h k = absurd (none_over s.greatest_transfer fs i h.1 k.1)
-one_judged_pieces fs plan s (Ok cost) (Err (Legal fault)) h k = absurd (legal_no_fault (ConflictAt fs) (prices_of s) (length fs) plan fault h.2 k.2)
+one_judged_pieces fs plan s (Ok cost) (Err (Legal fault)) h k = absurd (legal_no_fault (ConflictAt fs) s.greatest_batch (length fs) plan fault h.2 k.2)
 one_judged_pieces fs plan s (Ok cost) (Err _) h k = absurd k
 one_judged_pieces fs plan s (Err TooManyPieces) (Ok cost') h k = let few = k.0 in absurd (omega arith)
 one_judged_pieces fs plan s (Err TooManyPieces) (Err TooManyPieces) h k = refl
@@ -49,10 +49,10 @@ one_judged_pieces fs plan s (Err (OverTransfer i)) (Err TooManyPieces) h k = let
 one_judged_pieces fs plan s (Err (OverTransfer i)) (Err (OverTransfer j)) h k = ap (λ n. Err (OverTransfer n)) (one_over s.greatest_transfer fs i j h.1 k.1)
 one_judged_pieces fs plan s (Err (OverTransfer i)) (Err (Legal fault)) h k = absurd (none_over s.greatest_transfer fs i k.1 h.1)
 one_judged_pieces fs plan s (Err (OverTransfer i)) (Err _) h k = absurd k
-one_judged_pieces fs plan s (Err (Legal fault)) (Ok cost') h k = absurd (legal_no_fault (ConflictAt fs) (prices_of s) (length fs) plan fault k.2 h.2)
+one_judged_pieces fs plan s (Err (Legal fault)) (Ok cost') h k = absurd (legal_no_fault (ConflictAt fs) s.greatest_batch (length fs) plan fault k.2 h.2)
 one_judged_pieces fs plan s (Err (Legal fault)) (Err TooManyPieces) h k = let few = h.0 in absurd (omega arith)
 one_judged_pieces fs plan s (Err (Legal fault)) (Err (OverTransfer j)) h k = absurd (none_over s.greatest_transfer fs j h.1 k.1)
-one_judged_pieces fs plan s (Err (Legal fault)) (Err (Legal fault')) h k = ap (λ f. Err (Legal f)) (one_fault (ConflictAt fs) (prices_of s) (length fs) plan fault fault' h.2 k.2)
+one_judged_pieces fs plan s (Err (Legal fault)) (Err (Legal fault')) h k = ap (λ f. Err (Legal f)) (one_fault (ConflictAt fs) s.greatest_batch (length fs) plan fault fault' h.2 k.2)
 one_judged_pieces fs plan s (Err (Legal fault)) (Err _) h k = absurd k
 one_judged_pieces fs plan s (Err _) p h k = absurd h
 

@@ -13,7 +13,7 @@ use Rattle.dsa_splitter.specs.Pieces.{all_pieces}
 use Rattle.dsa_splitter.specs.Rules.{IsSplit}
 use Rattle.dsa_splitter.proofs.OneFault.{split_no_fault}
 use Rattle.dsa_core.specs.declared.outcome.Outcome.{Outcome}
-use Rattle.dsa_core.specs.Accounts.{room_limits}
+use Rattle.dsa_core.specs.Accounts.{most_members}
 use Rattle.dsa_core.proofs.Stretches.{legal_with_more}
 use Rattle.dsa_planner.specs.declared.fault.PlanFault.{PlanFault}
 use Rattle.dsa_planner.specs.declared.fault.PlanFault.TheVariants.{OutOfImage, Engines, TooLong, Memory as NoMemory}
@@ -134,8 +134,8 @@ follows_plan Says bytes s m engines p o plans (inr (q, plans', can, says)) =
 -- ---- what a run takes
 
 -- a legal plan is legal in a room
-pub legal_in_room : (C : ℕ → ℕ → Type 0) (s : Limits) (n : ℕ) (plan : Plan) → AreInLimits s → IsLegal C (prices_of s) n plan → IsLegal C room_limits n plan
-legal_in_room C s n plan within legal = legal_with_more C (prices_of s) room_limits n plan within.most_batch legal
+pub legal_in_room : (C : ℕ → ℕ → Type 0) (s : Limits) (n : ℕ) (plan : Plan) → AreInLimits s → IsLegal C s.greatest_batch n plan → IsLegal C most_members n plan
+legal_in_room C s n plan within legal = legal_with_more C s.greatest_batch most_members n plan within.most_batch legal
 
 -- the pieces of a list and their chosen plan are those of its submission
 pub found_submission : (bytes : List ℕ) (s : Limits) (pieces : List Descriptor) (plan : Plan) → ArePiecesOf s bytes pieces → IsPlanOf s pieces plan → IsPlanned bytes s pieces plan

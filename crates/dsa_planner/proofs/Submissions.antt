@@ -43,13 +43,13 @@ pieces_can s fs es owner split is =
     })
 
 -- the groups of a legal plan have the shapes of groups
-pub legal_shapes : (C : ℕ → ℕ → Type 0) (s : Limits) (n : ℕ) (plan : Plan) → IsLegal C (prices_of s) n plan → HasGroupShapes (prices_of s) plan
+pub legal_shapes : (C : ℕ → ℕ → Type 0) (s : Limits) (n : ℕ) (plan : Plan) → IsLegal C s.greatest_batch n plan → HasGroupShapes s.greatest_batch plan
 legal_shapes C s n plan legal number group is =
     let g = legal.groups number group is in
-    record { size = record { nonempty = g.nonempty; fits = g.fits }; begins = g.first_unfenced }
+    record { size = g.size; begins = g.begins }
 
 -- a legal plan of them can be emitted
-pub can_emit : (C : ℕ → ℕ → Type 0) (s : Limits) (fs : List Fields) (plan : Plan) → CanBePlanned s fs → IsLegal C (prices_of s) (length fs) plan → CanBeEmitted s plan fs
+pub can_emit : (C : ℕ → ℕ → Type 0) (s : Limits) (fs : List Fields) (plan : Plan) → CanBePlanned s fs → IsLegal C s.greatest_batch (length fs) plan → CanBeEmitted s plan fs
 can_emit C s fs plan can legal = record {
   covers = legal.covers;
   few = can.few;
@@ -128,7 +128,7 @@ submission_shown s fs p owner sub =
     let least = chosen_is_least C (prices_of s) (length p.pieces) p.certificate.prices p.certificate.pairs p.plan sub.chosen in
     let good = chosen_is_good C (prices_of s) (length p.pieces) p.certificate.prices p.certificate.pairs sub.chosen.has_costs sub.chosen.has_pairs in
     let good' = subst (λ (w : ℕ). IsGood C (prices_of s) (length p.pieces) p.certificate.prices p.certificate.pairs w) (sym least.1 ∙ sym sub.cost_is) good in
-    let legal = subst (λ (n : ℕ). IsLegal C (prices_of s) n p.plan) (sym count) least.0.legal in
+    let legal = subst (λ (n : ℕ). IsLegal C s.greatest_batch n p.plan) (sym count) least.0.legal in
     let can = can_emit C s (map fields p.pieces) p.plan (pieces_can s fs (map fields p.pieces) owner sub.split sub.pieces_are) legal in
     record {
       least = least.0;
@@ -154,7 +154,7 @@ planned_is_least_and_shown bytes s p (inr (ds, list, sub)) = submission_shown s 
 pub can_emit_found : (s : Limits) (pieces ds es : List Descriptor) (plan : Plan) → CanBePlanned s (map fields pieces) → ds ≡ pieces → es ≡ pieces
     → IsLeast (ConflictAt (map fields ds)) (prices_of s) (length ds) plan → CanBeEmitted s plan (map fields es)
 can_emit_found s pieces ds es plan can same same' least =
-    let here : IsLegal (ConflictAt (map fields pieces)) (prices_of s) (length pieces) plan =
-    subst (λ (xs : List Descriptor). IsLegal (ConflictAt (map fields xs)) (prices_of s) (length xs) plan) same least.legal in
-    let legal = subst (λ (n : ℕ). IsLegal (ConflictAt (map fields pieces)) (prices_of s) n plan) (sym (length-map pieces fields)) here in
+    let here : IsLegal (ConflictAt (map fields pieces)) s.greatest_batch (length pieces) plan =
+    subst (λ (xs : List Descriptor). IsLegal (ConflictAt (map fields xs)) s.greatest_batch (length xs) plan) same least.legal in
+    let legal = subst (λ (n : ℕ). IsLegal (ConflictAt (map fields pieces)) s.greatest_batch n plan) (sym (length-map pieces fields)) here in
     subst (λ (xs : List Descriptor). CanBeEmitted s plan (map fields xs)) (sym same') (can_emit (ConflictAt (map fields pieces)) s (map fields pieces) plan can legal)

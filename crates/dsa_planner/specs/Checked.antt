@@ -19,7 +19,7 @@ use Rattle.dsa_planner.specs.Fault.{emission_cause}
 
 -- the certificate shows that the plan of these pieces is legal and that none costs less than this
 pub record IsShownLeast (s : Limits) (pieces : List Fields) (plan : Plan) (c : Contents) (cost : ℕ) : Type 0 where
-  pub legal : IsLegal (ConflictAt pieces) (prices_of s) (length pieces) plan
+  pub legal : IsLegal (ConflictAt pieces) s.greatest_batch (length pieces) plan
   pub version : c.version ≡ version_of s
   pub good : IsGood (ConflictAt pieces) (prices_of s) (length pieces) c.prices c.pairs cost
   pub is_cost : cost ≡ plan_cost (prices_of s) plan

@@ -29,11 +29,11 @@ pub record IsFirstOver (greatest : ℕ) (pieces : List Fields) (i : ℕ) : Type 
 -- in the order of the number of pieces, their sizes and the faults of the plan (this project's choice)
 abbrev pub JudgesPieces : List Fields → Plan → Limits → Result ℕ PlanFault → Type 0
 JudgesPieces pieces plan settings (Ok cost) =
-    (length pieces ≤ most_pieces) × FitTransfer settings.greatest_transfer pieces × IsLegal (ConflictAt pieces) (prices_of settings) (length pieces) plan × (cost ≡ plan_cost (prices_of settings) plan)
+    (length pieces ≤ most_pieces) × FitTransfer settings.greatest_transfer pieces × IsLegal (ConflictAt pieces) settings.greatest_batch (length pieces) plan × (cost ≡ plan_cost (prices_of settings) plan)
 JudgesPieces pieces plan settings (Err TooManyPieces) = most_pieces < length pieces
 JudgesPieces pieces plan settings (Err (OverTransfer i)) = (length pieces ≤ most_pieces) × IsFirstOver settings.greatest_transfer pieces i
 JudgesPieces pieces plan settings (Err (Legal fault)) =
-    (length pieces ≤ most_pieces) × FitTransfer settings.greatest_transfer pieces × IsFirstLegalFault (ConflictAt pieces) (prices_of settings) (length pieces) plan fault
+    (length pieces ≤ most_pieces) × FitTransfer settings.greatest_transfer pieces × IsFirstLegalFault (ConflictAt pieces) settings.greatest_batch (length pieces) plan fault
 JudgesPieces pieces plan settings (Err _) = ⊥
 
 -- the outcome of judging these bytes: the first fault of the bytes as a list, or what judging the descriptors that they

@@ -4,7 +4,7 @@ ghost use Rattle.std.specs.Prelude.{◌≡◌, ◌≤◌, ◌⊎◌, IfOk, Match
 ghost use Rattle.dsa_descriptor.specs.Descriptors.{fields};
 ghost use Rattle.dsa_ranges.specs.Ranges.{ConflictAt};
 ghost use Rattle.dsa_plan.specs.Legal.{IsLegal};
-ghost use Rattle.dsa_core.specs.Accounts.{room_limits};
+ghost use Rattle.dsa_core.specs.Accounts.{most_members};
 ghost use Rattle.dsa_planner.specs.declared.fault.PlanFault.{PlanFault};
 ghost use Rattle.dsa_planner.specs.declared.fault.PlanFault.TheVariants.{Memory};
 ghost use Rattle.dsa_planner.specs.Lists.{OrMemory, IsOrMemory};
@@ -57,7 +57,7 @@ fn chosen_plan(
 ) -> Result<Plan, AllocError>
     requires { length pieces.now ≤ 65536 }
     ensures chosen { IfOk result (λ plan. IsPlanOf settings.now pieces.now plan) }
-    ensures legal { IfOk result (λ plan. IsLegal (ConflictAt (map fields pieces.now)) room_limits (length pieces.now) plan) }
+    ensures legal { IfOk result (λ plan. IsLegal (ConflictAt (map fields pieces.now)) most_members (length pieces.now) plan) }
 {
     // Its clause says that the settings are within their limits.
     let _greatest = settings.greatest_batch();
@@ -82,7 +82,7 @@ pub(crate) fn prepare(
         (λ r. IsReady list.now settings.now image.now engines r.pieces.items r.plan r.engines)
         (λ fault. (fault ≡ Memory) ⊎ RefusesRun list.now settings.now image.now engines fault) }
     ensures few { IfOk result (λ r. length r.pieces.items ≤ 65536) }
-    ensures legal { IfOk result (λ r. IsLegal (ConflictAt (map fields r.pieces.items)) room_limits (length r.pieces.items) r.plan) }
+    ensures legal { IfOk result (λ r. IsLegal (ConflictAt (map fields r.pieces.items)) most_members (length r.pieces.items) r.plan) }
     ensures limits { AreInLimits settings.now }
 {
     // Its clause says that the settings are within their limits.
@@ -107,7 +107,7 @@ fn replay_pieces(
     trace: &[Event],
 ) -> Result<Outcome, PlanFault>
     requires few { length pieces.now ≤ 65536 }
-    requires legal { IsLegal (ConflictAt (map fields pieces.now)) room_limits (length pieces.now) plan.now }
+    requires legal { IsLegal (ConflictAt (map fields pieces.now)) most_members (length pieces.now) plan.now }
     requires can { CanBegin image.now engines (map fields pieces.now) }
     ensures told { OrMemory left_of (ReplaysPieces image.now engines trace.now plan.now (map fields pieces.now)) result }
     ensures history { IfOk result (λ o. o.history.items ≡ trace.now) }

@@ -4,7 +4,7 @@ ghost use Rattle.std.specs.Prelude.{◌≡◌, ◌≤◌, IfOk, Ok, Result, leng
 ghost use Rattle.dsa_descriptor.specs.Descriptors.{fields};
 ghost use Rattle.dsa_ranges.specs.Ranges.{ConflictAt};
 ghost use Rattle.dsa_plan.specs.Legal.{IsLegal};
-ghost use Rattle.dsa_core.specs.Accounts.{room_limits};
+ghost use Rattle.dsa_core.specs.Accounts.{most_members};
 ghost use Rattle.dsa_core.specs.Outcomes.{IsOutcomeOf, room_with};
 ghost use Rattle.dsa_planner.specs.Planned.{Plans, Submission};
 ghost use Rattle.dsa_planner.specs.Lists.{OrMemory};
@@ -31,7 +31,7 @@ fn run_pieces<R: Threads + Wait + Sync>(
     engines: u8,
 ) -> Result<Outcome, PlanFault>
     requires few { length pieces.now ≤ 65536 }
-    requires legal { IsLegal (ConflictAt (map fields pieces.now)) room_limits (length pieces.now) plan.now }
+    requires legal { IsLegal (ConflictAt (map fields pieces.now)) most_members (length pieces.now) plan.now }
     requires can { CanBegin image.now engines (map fields pieces.now) }
     ensures told { OrMemory left_of (RunsPieces image.now engines plan.now (map fields pieces.now)) result }
     ensures history { IfOk result (λ o. IsOutcomeOf (room_with image.now plan.now (map fields pieces.now) engines o.history.items) o) }

@@ -4,7 +4,7 @@ use Rattle.dsa_descriptor.specs.declared.descriptor.Descriptor.{Descriptor}
 use Rattle.dsa_descriptor.specs.Descriptors.{fields}
 use Rattle.dsa_ranges.specs.Ranges.{ConflictAt}
 use Rattle.dsa_plan.specs.Legal.{IsLegal}
-use Rattle.dsa_core.specs.Accounts.{room_limits}
+use Rattle.dsa_core.specs.Accounts.{most_members}
 use Rattle.dsa_planner.specs.declared.fault.PlanFault.{PlanFault}
 use Rattle.dsa_planner.specs.declared.fault.PlanFault.TheVariants.{Memory}
 use Rattle.dsa_planner.specs.Lists.{OrMemory}
@@ -24,7 +24,7 @@ returns-in_err-ready-clause-only c =
 
 pub replay_pieces-requires-clause-legal : goal.replay_pieces-requires-clause-legal
 replay_pieces-requires-clause-legal c =
-    subst (λ (ds : List Descriptor). IsLegal (ConflictAt (map fields ds)) room_limits (length ds) c.in_ok-ready.ready.plan) (sym c.deref.ensures.value) c.in_ok-ready.ensures.legal
+    subst (λ (ds : List Descriptor). IsLegal (ConflictAt (map fields ds)) most_members (length ds) c.in_ok-ready.ready.plan) (sym c.deref.ensures.value) c.in_ok-ready.ensures.legal
 
 pub replay_pieces-requires-clause-can : goal.replay_pieces-requires-clause-can
 replay_pieces-requires-clause-can c =

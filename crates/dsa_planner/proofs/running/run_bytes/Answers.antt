@@ -4,7 +4,7 @@ use Rattle.dsa_descriptor.specs.declared.descriptor.Descriptor.{Descriptor}
 use Rattle.dsa_descriptor.specs.Descriptors.{fields}
 use Rattle.dsa_ranges.specs.Ranges.{ConflictAt}
 use Rattle.dsa_plan.specs.Legal.{IsLegal}
-use Rattle.dsa_core.specs.Accounts.{room_limits}
+use Rattle.dsa_core.specs.Accounts.{most_members}
 use Rattle.dsa_core.specs.Outcomes.{IsOutcomeOf, room_with}
 use Rattle.dsa_planner.specs.Lists.{OrMemory}
 use Rattle.dsa_planner.specs.Runs.{RunsPieces, left_of}
@@ -14,7 +14,7 @@ use Rattle.dsa_planner.proofs.running.run_bytes.Goals as goal
 
 pub run_pieces-requires-clause-legal : goal.run_pieces-requires-clause-legal
 run_pieces-requires-clause-legal g c lifetimes outlives =
-    subst (λ (ds : List Descriptor). IsLegal (ConflictAt (map fields ds)) room_limits (length ds) c.in_ok-ready.ready.plan) (sym c.deref.ensures.value) c.in_ok-ready.ensures.legal
+    subst (λ (ds : List Descriptor). IsLegal (ConflictAt (map fields ds)) most_members (length ds) c.in_ok-ready.ready.plan) (sym c.deref.ensures.value) c.in_ok-ready.ensures.legal
 
 pub run_pieces-requires-clause-can : goal.run_pieces-requires-clause-can
 run_pieces-requires-clause-can g c lifetimes outlives =

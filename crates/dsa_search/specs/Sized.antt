@@ -1,0 +1,28 @@
+-- Prices by the size of a batch, and what the pieces of a block know of their chains, for private clauses.
+use Rattle.std.specs.Prelude.{ℕ, ◌≡◌, ◌+◌, ◌-◌, ◌*◌, ◌/◌, ◌<◌, ◌≤◌, List, length, slice_index}
+use Rattle.dsa_plan.specs.Plan.{Prices}
+use Rattle.dsa_plan.specs.Chain.{Pairs, IsLastBelow, HasCountBelow}
+use Rattle.dsa_plan.specs.Settings.{batch_price}
+use Rattle.dsa_plan.specs.Settings.BatchPrices.{BySize}
+
+-- a batch of size s costs what entry s - 2 of the table says
+abbrev pub sized_prices : ℕ → ℕ → List ℕ → Prices
+sized_prices lone fence table =
+    record { greatest_batch = length table + 1; lone = lone; fence = fence; batch = batch_price (BySize table) }
+
+-- the pieces are parted into blocks of 64: the first piece past that of x
+unfoldable pub past_block : ℕ → ℕ
+past_block x = x / 64 * 64 + 64
+
+-- each piece from `from` on has a row of 64 counts: how many pairs of its chain end below each end up to past its block,
+-- and its last piece of that block
+pub record HasRows (pairs : Pairs) (from : ℕ) (rows lasts : List ℕ) : Type 0 where
+  pub row_count : length rows ≡ 64 * length pairs
+  pub last_count : length lasts ≡ length pairs
+  pub row :
+      (x j : ℕ) → from ≤ x → x < j → j ≤ past_block x → j ≤ length pairs →
+      HasCountBelow pairs x j (slice_index rows (64 * x + (j + 63 - past_block x)))
+  pub last :
+      (x : ℕ) → from ≤ x → past_block x ≤ length pairs →
+      IsLastBelow pairs x (past_block x) (slice_index rows (64 * x + 63)) (slice_index lasts x)
+  pub blank : (k : ℕ) → k < 64 * from → slice_index rows k ≡ 0

@@ -1,0 +1,295 @@
+//! The table of least costs where a batch has a price by its size.
+
+ghost use Rattle.std.specs.Prelude.{◌≡◌, ◌⊎◌, ℕ, ◌+◌, ◌-◌, ◌*◌, ◌<◌, ◌≤◌, min, length, slice_index, IfOk};
+ghost use Rattle.dsa_plan.specs.Chain.{GoForward, IsLastBelow};
+ghost use Rattle.dsa_search.specs.Filled.{HasOffers, IsFilled, past_reach};
+ghost use Rattle.dsa_plan.specs.Settings.{ArePrices};
+ghost use Rattle.dsa_search.specs.Sized.{HasRows, past_block, sized_prices};
+
+use crate::table::{UNREACHED, last_of_run, lower};
+use dsa_plan::chain_step;
+use std::alloc::{AllocError, Global};
+
+/// How many pieces a block has, and how many counts a row.
+const BLOCK: usize = 64;
+
+/// The first piece past the block of this one.
+fn block_end(piece: usize) -> usize
+    requires { piece ≤ 65536 }
+    ensures value { result ≡ past_block piece }
+    ensures later { piece < result }
+    ensures near { result ≤ piece + 64 }
+{
+    piece / BLOCK * BLOCK + BLOCK
+}
+
+/// Copies so many counts, each with one more.
+fn copy_counts(rows: &mut [u8], to: usize, from: usize, count: usize)
+    requires apart { to + count ≤ from }
+    requires inside { from + count ≤ length rows.old }
+    requires small { (k : ℕ) → k < count → slice_index rows.old (from + k) ≤ 64 }
+    ensures count { length rows.new ≡ length rows.old }
+    ensures inside { (k : ℕ) → k < count → slice_index rows.new (to + k) ≡ slice_index rows.old (from + k) + 1 }
+    ensures outside { (k : ℕ) → (k < to) ⊎ (to + count ≤ k) → slice_index rows.new k ≡ slice_index rows.old k }
+{
+    for k in 0..count {
+        rows[to + k] = rows[from + k] + 1;
+    }
+}
+
+/// Makes the row of a piece from that of the piece that its pair leads to, if that is in its block.
+fn fill_row(pairs: &[Option<(u32, u32)>], rows: &mut [u8], lasts: &mut [u32], piece: usize)
+    requires forward { GoForward pairs.now }
+    requires few { length pairs.now ≤ 65536 }
+    requires inside { piece < length pairs.now }
+    requires later { HasRows pairs.now (piece + 1) rows.old lasts.old }
+    ensures { HasRows pairs.now piece rows.new lasts.new }
+{
+    let past = block_end(piece);
+    let last = past.min(pairs.len());
+    match pairs[piece] {
+        Some((_, second)) if (second as usize) < last => {
+            let next = second as usize;
+            let skip = next + BLOCK - past;
+            copy_counts(rows, BLOCK * piece + skip, BLOCK * next + skip, last - next);
+            lasts[piece] = lasts[next];
+        }
+        _ => lasts[piece] = piece as u32,
+    }
+}
+
+/// Makes the rows of all pieces, from the last to the first.
+fn fill_rows(pairs: &[Option<(u32, u32)>], rows: &mut [u8], lasts: &mut [u32])
+    requires forward { GoForward pairs.now }
+    requires few { length pairs.now ≤ 65536 }
+    requires blank { HasRows pairs.now (length pairs.now) rows.old lasts.old }
+    ensures { HasRows pairs.now 0 rows.new lasts.new }
+{
+    for done in 0..pairs.len() {
+        fill_row(pairs, rows, lasts, pairs.len() - 1 - done);
+    }
+}
+
+/// Lowers the costs of the ends from `from` to below `to`: to this cost, the price of the group's size and its fences, whose
+/// counts stand in the row from `at` on.
+fn lower_row(
+    costs: &mut [u64],
+    table: &[u64],
+    rows: &[u8],
+    fence: u64,
+    start: usize,
+    from: usize,
+    to: usize,
+    cost: u64,
+    at: usize,
+)
+    requires order { from ≤ to }
+    requires late { start + 2 ≤ from }
+    requires inside { to ≤ length costs.old }
+    requires sizes { to ≤ start + 2 + length table.now }
+    requires counts { at + to ≤ from + length rows.now }
+    requires prices { ArePrices table.now }
+    requires fence { fence ≤ 1000000000 }
+    requires small { cost ≤ 1000000000000000 }
+    ensures count { length costs.new ≡ length costs.old }
+    ensures inside { (k : ℕ) → from ≤ k → k < to → slice_index costs.new k ≡ min (slice_index costs.old k) (cost + slice_index table.now (k - start - 2) + fence * slice_index rows.now (at + (k - from))) }
+    ensures outside { (k : ℕ) → (k < from) ⊎ (to ≤ k) → slice_index costs.new k ≡ slice_index costs.old k }
+{
+    for end in from..to {
+        let fences = u64::from(rows[at + (end - from)]);
+        let sum = cost + table[end - start - 2] + fence * fences;
+        costs[end] = costs[end].min(sum);
+    }
+}
+
+/// Lowers the costs of the ends from `from` to below `to`: to this cost and the price of the group's size.
+fn lower_run(costs: &mut [u64], table: &[u64], start: usize, from: usize, to: usize, cost: u64)
+    requires order { from ≤ to }
+    requires late { start + 2 ≤ from }
+    requires inside { to ≤ length costs.old }
+    requires sizes { to ≤ start + 2 + length table.now }
+    requires prices { ArePrices table.now }
+    requires small { cost ≤ 1000000000000000 }
+    ensures count { length costs.new ≡ length costs.old }
+    ensures inside { (k : ℕ) → from ≤ k → k < to → slice_index costs.new k ≡ min (slice_index costs.old k) (cost + slice_index table.now (k - start - 2)) }
+    ensures outside { (k : ℕ) → (k < from) ⊎ (to ≤ k) → slice_index costs.new k ≡ slice_index costs.old k }
+{
+    for end in from..to {
+        let sum = cost + table[end - start - 2];
+        costs[end] = costs[end].min(sum);
+    }
+}
+
+/// Offers the ends up to past the block of a piece of the chain, by the row of the piece. The answer is the chain's last piece
+/// below the next end, the number of its pairs, and that end.
+fn offer_row(
+    pairs: &[Option<(u32, u32)>],
+    rows: &[u8],
+    lasts: &[u32],
+    lone: u64,
+    fence: u64,
+    table: &[u64],
+    start: usize,
+    chain: (usize, u64),
+    end: usize,
+    costs: &mut [u64],
+) -> (usize, u64, usize)
+    requires forward { GoForward pairs.now }
+    requires few { length pairs.now ≤ 65536 }
+    requires rows { HasRows pairs.now 0 rows.now lasts.now }
+    requires sizes { length table.now ≤ 1023 }
+    requires prices { ArePrices table.now }
+    requires fence { fence ≤ 1000000000 }
+    requires late { start + 2 ≤ end }
+    requires chain { IsLastBelow pairs.now start end chain.1 chain.0 }
+    requires near { end ≤ past_block chain.0 }
+    requires within { end < past_reach (sized_prices lone fence table.now) (length pairs.now) start }
+    requires table { HasOffers (sized_prices lone fence table.now) pairs.now start end costs.old }
+    ensures further { end < result.2 }
+    ensures within { result.2 ≤ past_reach (sized_prices lone fence table.now) (length pairs.now) start }
+    ensures table { HasOffers (sized_prices lone fence table.now) pairs.now start result.2 costs.new }
+    ensures chain { result.2 < past_reach (sized_prices lone fence table.now) (length pairs.now) start → IsLastBelow pairs.now start result.2 result.1 result.0 }
+{
+    let (piece, fences) = chain;
+    let reach = pairs.len().min(start + table.len() + 1);
+    let past = block_end(piece);
+    let last = past.min(reach);
+    let cost = costs[start] + fence * fences;
+    let at = BLOCK * piece + (end + 63 - past);
+    lower_row(costs, table, rows, fence, start, end, last + 1, cost, at);
+    if last < past {
+        return (piece, fences, last + 1);
+    }
+    let more = u64::from(rows[BLOCK * piece + 63]);
+    let (next, count) = chain_step(pairs, lasts[piece] as usize, fences + more, past);
+    (next, count, past + 1)
+}
+
+/// Offers the ends up to that where the chain goes on from its piece, between which there is no fence. Answers as
+/// [`offer_row`].
+fn offer_run(
+    pairs: &[Option<(u32, u32)>],
+    lone: u64,
+    fence: u64,
+    table: &[u64],
+    start: usize,
+    chain: (usize, u64),
+    end: usize,
+    costs: &mut [u64],
+) -> (usize, u64, usize)
+    requires forward { GoForward pairs.now }
+    requires few { length pairs.now ≤ 65536 }
+    requires sizes { length table.now ≤ 1023 }
+    requires prices { ArePrices table.now }
+    requires fence { fence ≤ 1000000000 }
+    requires late { start + 2 ≤ end }
+    requires chain { IsLastBelow pairs.now start end chain.1 chain.0 }
+    requires within { end < past_reach (sized_prices lone fence table.now) (length pairs.now) start }
+    requires table { HasOffers (sized_prices lone fence table.now) pairs.now start end costs.old }
+    ensures further { end < result.2 }
+    ensures within { result.2 ≤ past_reach (sized_prices lone fence table.now) (length pairs.now) start }
+    ensures table { HasOffers (sized_prices lone fence table.now) pairs.now start result.2 costs.new }
+    ensures chain { IsLastBelow pairs.now start result.2 result.1 result.0 }
+{
+    let (piece, fences) = chain;
+    let reach = pairs.len().min(start + table.len() + 1);
+    let last = last_of_run(pairs, piece, reach);
+    let cost = costs[start] + fence * fences;
+    lower_run(costs, table, start, end, last + 1, cost);
+    let (next, count) = chain_step(pairs, piece, fences, last);
+    (next, count, last + 1)
+}
+
+/// Offers each end that one group from `start` reaches the cost with that group.
+fn offer_sizes(
+    pairs: &[Option<(u32, u32)>],
+    rows: &[u8],
+    lasts: &[u32],
+    lone: u64,
+    fence: u64,
+    table: &[u64],
+    start: usize,
+    costs: &mut [u64],
+)
+    requires forward { GoForward pairs.now }
+    requires few { length pairs.now ≤ 65536 }
+    requires rows { HasRows pairs.now 0 rows.now lasts.now }
+    requires sizes { length table.now ≤ 1023 }
+    requires prices { ArePrices table.now }
+    requires fence { fence ≤ 1000000000 }
+    requires lone { lone ≤ 1000000000 }
+    requires inside { start < length pairs.now }
+    requires table { HasOffers (sized_prices lone fence table.now) pairs.now start (start + 1) costs.old }
+    ensures { HasOffers (sized_prices lone fence table.now) pairs.now (start + 1) (start + 2) costs.new }
+{
+    let cost = costs[start] + lone;
+    lower(costs, start + 1, start + 2, cost);
+    let reach = pairs.len().min(start + table.len() + 1);
+    let mut chain = chain_step(pairs, start, 0, start + 1);
+    let mut end = start + 2;
+    while end <= reach {
+        let (piece, fences, further) = if end <= block_end(chain.0) {
+            offer_row(
+                pairs, rows, lasts, lone, fence, table, start, chain, end, costs,
+            )
+        } else {
+            offer_run(pairs, lone, fence, table, start, chain, end, costs)
+        };
+        chain = (piece, fences);
+        end = further;
+    }
+}
+
+/// Fills the table: each start in turn offers its groups.
+fn fill_sizes(
+    pairs: &[Option<(u32, u32)>],
+    rows: &[u8],
+    lasts: &[u32],
+    lone: u64,
+    fence: u64,
+    table: &[u64],
+    costs: &mut [u64],
+)
+    requires forward { GoForward pairs.now }
+    requires few { length pairs.now ≤ 65536 }
+    requires rows { HasRows pairs.now 0 rows.now lasts.now }
+    requires sizes { length table.now ≤ 1023 }
+    requires prices { ArePrices table.now }
+    requires fence { fence ≤ 1000000000 }
+    requires lone { lone ≤ 1000000000 }
+    requires table { HasOffers (sized_prices lone fence table.now) pairs.now 0 1 costs.old }
+    ensures { IsFilled (sized_prices lone fence table.now) pairs.now costs.new }
+{
+    for start in 0..pairs.len() {
+        offer_sizes(pairs, rows, lasts, lone, fence, table, start, costs);
+    }
+}
+
+/// The least cost of the first 0, 1, .. pieces, where a batch of `size` pieces has the price `table[size - 2]` without its
+/// fences, and a group has at most `table.len() + 1` pieces.
+///
+/// # Errors
+/// Only want of memory.
+pub(crate) fn table_by_size(
+    alloc: Global,
+    pairs: &[Option<(u32, u32)>],
+    lone: u64,
+    fence: u64,
+    table: &[u64],
+) -> Result<Vec<u64>, AllocError>
+    requires forward { GoForward pairs.now }
+    requires few { length pairs.now ≤ 65536 }
+    requires sizes { length table.now ≤ 1023 }
+    requires prices { ArePrices table.now }
+    requires fence { fence ≤ 1000000000 }
+    requires lone { lone ≤ 1000000000 }
+    ensures { IfOk result (λ costs. IsFilled (sized_prices lone fence table.now) pairs.now costs.items) }
+{
+    let mut rows = vec![in alloc; 0u8; BLOCK * pairs.len()]?;
+    let mut lasts = vec![in alloc; 0u32; pairs.len()]?;
+    fill_rows(pairs, &mut rows, &mut lasts);
+    let mut costs = vec![in alloc; UNREACHED; pairs.len() + 1]?;
+    costs[0] = 0;
+    fill_sizes(pairs, &rows, &lasts, lone, fence, table, &mut costs);
+    Ok(costs)
+}

@@ -79,7 +79,8 @@ pub fn read_json(alloc: Global, value: &Value) -> Result<Certificate, CertFault>
     })
 }
 
-fn prices_of(alloc: Global, value: &Value) -> Result<Option<Vec<u64>>, AllocError>
+/// The prices that a value spells, an array of whole numbers; none where it spells none.
+pub fn prices_of(alloc: Global, value: &Value) -> Result<Option<Vec<u64>>, AllocError>
     ensures { IfOk result (λ prices. ReadsPrices (view value.now) (option_map (λ v. v.items) prices)) }
 {
     let Some(items) = value.as_array() else {

@@ -6,7 +6,7 @@ mod document;
 mod members;
 
 pub use certificate::{CertFault, Certificate};
-pub use document::{read_json, write_json};
+pub use document::{prices_of, read_json, write_json};
 pub use members::{has_names, number_at, text_at};
 
 #[cfg(test)]

@@ -10,7 +10,7 @@ use Rattle.dsa_descriptor.specs.Descriptors.{fields}
 use Rattle.dsa_image.specs.Memory.{Memory}
 use Rattle.dsa_image.specs.Effects.{done, fold_done, statuses}
 use Rattle.dsa_plan.specs.Plan.{Plan}
-use Rattle.dsa_plan.specs.Settings.{Limits, AreInLimits, prices_of}
+use Rattle.dsa_plan.specs.Settings.{Limits, AreInLimits}
 use Rattle.dsa_plan.specs.Legal.{IsLegal}
 use Rattle.dsa_splitter.specs.Pieces.{all_whole, whole_statuses}
 use Rattle.dsa_splitter.proofs.PiecesWhole.{all_pieces_whole, all_pieces_statuses}
@@ -166,7 +166,7 @@ planned_runs_leave_whole bytes s p m engines history state within plans holds ru
     let least = (planned_is_least_and_shown bytes s p plans).least in
     let count : length p.pieces ≡ length (map fields p.pieces) = omega (arith, length-map p.pieces fields) in
     let legal = subst (λ (n : ℕ). IsLegal (ConflictAt (map fields p.pieces)) s.greatest_batch n p.plan) count least.legal in
-    let ended = every_run_is_in_order (prices_of s) p.pieces p.plan m engines history state (record { legal = legal; holds = holds }) run in
+    let ended = every_run_is_in_order s.greatest_batch p.pieces p.plan m engines history state (record { legal = legal; holds = holds }) run in
     let left : Left = record { image = state.memory; finished = ended.0; batch_records = batch_records p.plan ended.0 (statuses (map fields p.pieces) m) } in
     let outcome : IsOutcome (room_with m p.plan (map fields p.pieces) engines history) left.image left.finished left.batch_records =
     record { over = (state, run.is_run, run.complete); stops = ended.1.stops; memory = ended.1.done.memory; records_are = refl } in

@@ -1,5 +1,5 @@
 -- What all pieces of a list touch.
-use Rattle.std.proofs.Common.{◌≡◌, ℕ, ◌+◌, List, ◌++◌, map, sym, ap, subst, ◌∙◌, arith, inl, inr}
+use Rattle.std.proofs.Common.{◌≡◌, ℕ, zero, suc, ◌+◌, List, ◌++◌, get_or, map, refl, sym, ap, subst, ◌∙◌, arith, inl, inr}
 use Rattle.std.specs.Prelude.{All, Some, slice_get, option_map}
 use Rattle.std.specs.List.{Contains}
 use Rattle.std.proofs.lemmas.Bool.{cases_eq}
@@ -10,7 +10,9 @@ use Rattle.dsa_descriptor.specs.Fields.{Fields}
 use Rattle.dsa_conflicts.specs.declared.access.Access.{Access}
 use Rattle.dsa_conflicts.specs.declared.access.Access.TheVariants.{Read, Write}
 use Rattle.dsa_conflicts.specs.declared.touches.Touch.{Touch}
-use Rattle.dsa_conflicts.specs.Touches.{HasTouches, IsTouchOf, spans_by, touch, with_touches}
+use Rattle.dsa_conflicts.specs.declared.touches.Kind.{Kind}
+use Rattle.dsa_conflicts.specs.declared.touches.Kind.TheVariants.{Source, Record, Target}
+use Rattle.dsa_conflicts.specs.Touches.{HasKind, HasTouches, IsTouchOf, access_of, spans_by, spans_of, touch}
 
 -- what stands at a place is an element, and the other way round
 pub contains_at : {X : Type 0} (xs : List X) (k : ℕ) (x : X) → slice_get xs k ≡ Some x → Contains xs x
@@ -19,38 +21,53 @@ contains_at xs k x e = (k, slice_get_within xs k x e, get_or_from_slice_get xs k
 pub at_contains : {X : Type 0} (xs : List X) (x : X) → Contains xs x → (k : ℕ) × (slice_get xs k ≡ Some x)
 at_contains xs x h = (h.0, slice_get-get_or xs h.0 x h.1 ∙ ap Some h.2)
 
-module _ (fs : List Fields) (i : ℕ) (d : Fields) (at : slice_get fs i ≡ Some d) where
-  -- the accesses of one kind by a piece
-  known_by : (access : Access) → All (IsTouchOf fs) (map (touch i access) (spans_by access d))
-  known_by access =
-      All-map (IsTouchOf fs) (touch i access) (spans_by access d)
-      (λ k e lt. (d, at, (k, slice_get-get_or (spans_by access d) k e lt)))
+-- the spans of each kind are among those by an access, and the other way round
+pub span_by_kind : (kind : Kind) (f : Fields) (k : ℕ) (s : Span) → slice_get (spans_of kind f) k ≡ Some s → (m : ℕ) × (slice_get (spans_by (access_of kind) f) m ≡ Some s)
+span_by_kind Source f k s e = (k, e)
+span_by_kind Record f zero s e = (0, e)
+span_by_kind Record f (suc k) s e = absurd cc
+span_by_kind Target f k s e = (suc k, e)
 
-  has_by : (access : Access) (k : ℕ) (s : Span) → slice_get (spans_by access d) k ≡ Some s → Contains (map (touch i access) (spans_by access d)) (touch i access s)
-  has_by access k s e = contains_at (map (touch i access) (spans_by access d)) k (touch i access s) (slice_get-map (touch i access) (spans_by access d) k ∙ ap (option_map (touch i access)) e)
+pub kind_of_span : (access : Access) (f : Fields) (k : ℕ) (s : Span) → slice_get (spans_by access f) k ≡ Some s → (kind : Kind) × (access_of kind ≡ access) × ((m : ℕ) × (slice_get (spans_of kind f) m ≡ Some s))
+kind_of_span Read f k s e = (Source, refl, (k, e))
+kind_of_span Write f zero s e = (Record, refl, (0, e))
+kind_of_span Write f (suc k) s e = (Target, refl, (k, e))
 
-  module _ (old : List Touch) where
-    abbrev more : List Touch
-    more = with_touches old d i
+module _ (fs : List Fields) (kind : Kind) (i : ℕ) (d : Fields) (at : slice_get fs i ≡ Some d) (old : List Touch) where
+  abbrev own : List Touch
+  own = map (touch i (access_of kind)) (spans_of kind d)
 
-    -- one piece more
-    pub known_more : All (IsTouchOf fs) old → All (IsTouchOf fs) more
-    known_more known =
-        All-append (IsTouchOf fs) (old ++ map (touch i Read) (spans_by Read d)) (map (touch i Write) (spans_by Write d))
-        (All-append (IsTouchOf fs) old (map (touch i Read) (spans_by Read d)) known (known_by Read)) (known_by Write)
+  -- one piece more
+  pub known_more : All (IsTouchOf fs) old → All (IsTouchOf fs) (old ++ own)
+  known_more known =
+      All-append (IsTouchOf fs) old own known
+      (All-map (IsTouchOf fs) (touch i (access_of kind)) (spans_of kind d) (λ k e lt. (d, at, span_by_kind kind d k (get_or (spans_of kind d) k e) (slice_get-get_or (spans_of kind d) k e lt))))
 
-    earlier : (t : Touch) → Contains old t → Contains more t
-    earlier t h = Contains-append_left (old ++ map (touch i Read) (spans_by Read d)) (map (touch i Write) (spans_by Write d)) t (Contains-append_left old (map (touch i Read) (spans_by Read d)) t h)
+  pub kept_more : (t : Touch) → Contains old t → Contains (old ++ own) t
+  kept_more t h = Contains-append_left old own t h
 
-    here : (access : Access) (k : ℕ) (s : Span) → slice_get (spans_by access d) k ≡ Some s → Contains more (touch i access s)
-    here Read k s e = Contains-append_left (old ++ map (touch i Read) (spans_by Read d)) (map (touch i Write) (spans_by Write d)) (touch i Read s) (Contains-append_right old (map (touch i Read) (spans_by Read d)) (touch i Read s) (has_by Read k s e))
-    here Write k s e = Contains-append_right (old ++ map (touch i Read) (spans_by Read d)) (map (touch i Write) (spans_by Write d)) (touch i Write s) (has_by Write k s e)
+  here : (k : ℕ) (s : Span) → slice_get (spans_of kind d) k ≡ Some s → Contains (old ++ own) (touch i (access_of kind) s)
+  here k s e =
+      Contains-append_right old own (touch i (access_of kind) s)
+      (contains_at own k (touch i (access_of kind) s) (slice_get-map (touch i (access_of kind)) (spans_of kind d) k ∙ ap (option_map (touch i (access_of kind))) e))
 
-    pub has_more : HasTouches old fs i → HasTouches more fs (i + 1)
-    has_more has j access s lt (f, at', (k, e)) =
-        elim (cases_eq j i) [
-          | inl same ↦
-              let is : f ≡ d = same_Some f d (sym at' ∙ (ap (slice_get fs) same ∙ at)) in
-              subst (λ (n : ℕ). Contains more (touch n access s)) (sym same) (here access k s (subst (λ (g : Fields). slice_get (spans_by access g) k ≡ Some s) is e))
-          | inr apart ↦ earlier (touch j access s) (has j access s (omega (arith, lt, apart)) (f, at', (k, e)))
-        ]
+  pub has_more : HasKind kind old fs i → HasKind kind (old ++ own) fs (i + 1)
+  has_more has j f k s lt at' e =
+      elim (cases_eq j i) [
+        | inl same ↦
+            let is : f ≡ d = same_Some f d (sym at' ∙ (ap (slice_get fs) same ∙ at)) in
+            subst (λ (n : ℕ). Contains (old ++ own) (touch n (access_of kind) s)) (sym same) (here k s (subst (λ (g : Fields). slice_get (spans_of kind g) k ≡ Some s) is e))
+        | inr apart ↦ kept_more (touch j (access_of kind) s) (has j f k s (omega (arith, lt, apart)) at' e)
+      ]
+
+-- with all kinds there are all accesses
+pub has_kinds : (fs : List Fields) (touches : List Touch) (n : ℕ) → ((kind : Kind) → HasKind kind touches fs n) → HasTouches touches fs n
+has_kinds fs touches n has i access s lt (f, at, (k, e)) =
+    let w = kind_of_span access f k s e in
+    subst (λ (x : Access). Contains touches (touch i x s)) w.1 (has w.0 i f w.2.0 s lt at w.2.1)
+
+-- three kinds are all
+pub each_kind : (P : Kind → Type 0) → P Source → P Record → P Target → (kind : Kind) → P kind
+each_kind P s r t Source = s
+each_kind P s r t Record = r
+each_kind P s r t Target = t

@@ -3,9 +3,12 @@
 ghost use Rattle.std.specs.Prelude.{◌≡◌, ℕ, ◌<◌, ◌≤◌, ◌++◌, List, All, length, map, slice_get, Some, IfOk, OnOk};
 ghost use Rattle.std.specs.List.Sorted.{IsNonDecreasingBy};
 ghost use Rattle.dsa_descriptor.specs.Descriptors.{fields};
-ghost use Rattle.dsa_conflicts.specs.Touches.{HasTouches, IsTouchOf, touch, with_touches};
+ghost use Rattle.std.specs.List.{Contains};
+ghost use Rattle.dsa_conflicts.specs.declared.touches.Touch.{Touch};
+ghost use Rattle.dsa_conflicts.specs.Touches.{HasKind, HasTouches, IsTouchOf, access_of, spans_of, touch};
 
 use crate::access::Access;
+use arrayvec::ArrayVec;
 use dsa_descriptor::{Descriptor, Span, record_span};
 use std::alloc::{AllocError, Global};
 
@@ -16,6 +19,40 @@ pub(crate) struct Touch {
     /// The index of the piece.
     pub(crate) piece: u32,
     pub(crate) access: Access,
+}
+
+/// What a span is to its piece. The spans of one kind often rise from piece to piece.
+#[derive(Clone, Copy, Debug)]
+enum Kind {
+    Source,
+    Record,
+    Target,
+}
+
+/// What a piece does with its spans of this kind.
+fn access_of(kind: Kind) -> Access
+    ensures { result ≡ access_of kind }
+{
+    match kind {
+        Kind::Source => Access::Read,
+        Kind::Record => Access::Write,
+        Kind::Target => Access::Write,
+    }
+}
+
+/// The piece's spans of this kind.
+fn spans_of(d: &Descriptor, kind: Kind) -> ArrayVec<Span, 2>
+    ensures { result.items ≡ spans_of kind (fields d.now) }
+{
+    match kind {
+        Kind::Source => d.op.sources(d.size),
+        Kind::Record => {
+            let mut spans = ArrayVec::new();
+            spans.push(record_span(d.record_at));
+            spans
+        }
+        Kind::Target => d.op.targets(d.size),
+    }
 }
 
 /// Appends an access of the spans by the piece.
@@ -37,17 +74,19 @@ fn push_touches(
     Ok(())
 }
 
-/// Appends what the piece touches.
-fn push_piece(touches: &mut Vec<Touch>, d: &Descriptor, piece: u32) -> Result<(), AllocError>
-    ensures { OnOk result (touches.new.items ≡ with_touches touches.old.items (fields d.now) piece) }
+/// Appends what the pieces touch of this kind.
+fn push_kind(touches: &mut Vec<Touch>, pieces: &[Descriptor], kind: Kind) -> Result<(), AllocError>
+    requires few { length pieces.now ≤ 65536 }
+    requires known { All (IsTouchOf (map fields pieces.now)) touches.old.items }
+    ensures known { OnOk result (All (IsTouchOf (map fields pieces.now)) touches.new.items) }
+    ensures kept { OnOk result ((t : Touch) → Contains touches.old.items t → Contains touches.new.items t) }
+    ensures all { OnOk result (HasKind kind touches.new.items (map fields pieces.now) (length pieces.now)) }
 {
-    push_touches(touches, &d.op.sources(d.size), piece, Access::Read)?;
-    touches.push(Touch {
-        span: record_span(d.record_at),
-        piece,
-        access: Access::Write,
-    })?;
-    push_touches(touches, &d.op.targets(d.size), piece, Access::Write)
+    for piece in 0..pieces.len() {
+        let spans = spans_of(&pieces[piece], kind);
+        push_touches(touches, &spans, piece as u32, access_of(kind))?;
+    }
+    Ok(())
 }
 
 /// What the pieces touch, in the order of first addresses.
@@ -57,11 +96,11 @@ pub(crate) fn touches_of(alloc: Global, pieces: &[Descriptor]) -> Result<Vec<Tou
     ensures known { IfOk result (λ touches. All (IsTouchOf (map fields pieces.now)) touches.items) }
     ensures all { IfOk result (λ touches. HasTouches touches.items (map fields pieces.now) (length pieces.now)) }
 {
-    // Most pieces touch three spans.
+    // Most pieces touch three spans. Each kind has a run of its own, since a stable sort merges runs.
     let mut touches = Vec::with_capacity(alloc, 3 * pieces.len())?;
-    for piece in 0..pieces.len() {
-        push_piece(&mut touches, &pieces[piece], piece as u32)?;
-    }
-    touches.sort_unstable_by_key(|touch| touch.span.first);
+    push_kind(&mut touches, pieces, Kind::Source)?;
+    push_kind(&mut touches, pieces, Kind::Record)?;
+    push_kind(&mut touches, pieces, Kind::Target)?;
+    touches.sort_by_key(|touch| touch.span.first)?;
     Ok(touches)
 }

@@ -1,0 +1,8 @@
+use Rattle.std.proofs.Common.{ℕ, ◌<◌, length}
+use Rattle.dsa_checker.specs.Steps.{StepsHoldFrom}
+use Rattle.dsa_checker.specs.Sized.{sized_prices}
+use Rattle.dsa_checker.proofs.sized.first_bad_sized_step.Given as goal
+
+-- the steps from the starts so far hold
+abbrev pub invariant-loop-start : goal.invariant-loop-start
+invariant-loop-start l = (k : ℕ) → k < l.start → StepsHoldFrom (sized_prices l.lone l.fence l.table) (length l.pairs) l.pairs l.prices k

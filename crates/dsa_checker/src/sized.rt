@@ -1,0 +1,101 @@
+//! The steps of a certificate's prices where a batch has a price by its size.
+
+ghost use Rattle.std.specs.Prelude.{◌≡◌, ℕ, ◌+◌, ◌<◌, ◌≤◌, length, MatchOption};
+ghost use Rattle.dsa_plan.specs.Chain.{GoForward, LeadsTo};
+ghost use Rattle.dsa_checker.specs.Steps.{StepsHold, StepsHoldFrom, IsFirstBadEnd, IsFirstBadStep};
+ghost use Rattle.dsa_checker.specs.Sized.{AreWithin, IsFirstAbove, sized_prices};
+
+use dsa_plan::chain_step;
+
+/// The last end, `reach` at most, before the chain goes on from this piece.
+fn last_of_run(pairs: &[Option<(u32, u32)>], piece: usize, reach: usize) -> usize
+    requires { piece < length pairs.now }
+    ensures inside { result ≤ reach }
+    ensures before { (b : ℕ) → LeadsTo pairs.now piece b → result ≤ b }
+    ensures far { (end : ℕ) → end ≤ reach → ((b : ℕ) → LeadsTo pairs.now piece b → end ≤ b) → end ≤ result }
+{
+    match pairs[piece] {
+        Some((_, second)) => reach.min(second as usize),
+        None => reach,
+    }
+}
+
+/// The first end from `from` to before `to` with a price above `most` and that of a batch of the pieces from `start` on. A
+/// sum that is cut off serves as well as the true one, since no price is above it.
+fn first_above(
+    prices: &[u64],
+    table: &[u64],
+    start: usize,
+    from: usize,
+    to: usize,
+    most: u64,
+) -> Option<usize>
+    requires late { start + 2 ≤ from }
+    requires inside { to ≤ length prices.now }
+    requires sizes { to ≤ start + 2 + length table.now }
+    ensures { MatchOption result (AreWithin prices.now table.now start from to most) (IsFirstAbove prices.now table.now start from to most) }
+{
+    for end in from..to {
+        if prices[end] > most.saturating_add(table[end - start - 2]) {
+            return Some(end);
+        }
+    }
+    None
+}
+
+/// The first end of a group from `start` whose price is too high: run by run, since between two fences all ends have as many.
+fn first_bad_end(
+    prices: &[u64],
+    pairs: &[Option<(u32, u32)>],
+    lone: u64,
+    fence: u64,
+    table: &[u64],
+    start: usize,
+) -> Option<usize>
+    requires forward { GoForward pairs.now }
+    requires few { length pairs.now ≤ 65536 }
+    requires inside { start < length pairs.now }
+    requires count { length prices.now ≡ length pairs.now + 1 }
+    requires sizes { length table.now ≤ 1023 }
+    ensures { MatchOption result (StepsHoldFrom (sized_prices lone fence table.now) (length pairs.now) pairs.now prices.now start) (IsFirstBadEnd (sized_prices lone fence table.now) (length pairs.now) pairs.now prices.now start) }
+{
+    if prices[start + 1] > prices[start].saturating_add(lone) {
+        return Some(start + 1);
+    }
+    let reach = pairs.len().min(start + table.len() + 1);
+    let (mut piece, mut fences) = chain_step(pairs, start, 0, start + 1);
+    let mut end = start + 2;
+    while end <= reach {
+        let last = last_of_run(pairs, piece, reach);
+        let most = prices[start].saturating_add(fence.saturating_mul(fences));
+        if let Some(bad) = first_above(prices, table, start, end, last + 1, most) {
+            return Some(bad);
+        }
+        (piece, fences) = chain_step(pairs, piece, fences, last);
+        end = last + 1;
+    }
+    None
+}
+
+/// The first start and end whose step is too high, where one piece costs `lone` and a batch of `size` pieces
+/// `table[size - 2]` without its fences.
+pub fn first_bad_sized_step(
+    prices: &[u64],
+    pairs: &[Option<(u32, u32)>],
+    lone: u64,
+    fence: u64,
+    table: &[u64],
+) -> Option<(usize, usize)>
+    requires forward { GoForward pairs.now }
+    requires few { length pairs.now ≤ 65536 }
+    requires count { length prices.now ≡ length pairs.now + 1 }
+    requires sizes { length table.now ≤ 1023 }
+    ensures { MatchOption result (StepsHold (sized_prices lone fence table.now) (length pairs.now) pairs.now prices.now) (λ step. IsFirstBadStep (sized_prices lone fence table.now) (length pairs.now) pairs.now prices.now step.0 step.1) }
+{
+    for start in 0..pairs.len() {
+        if let Some(end) = first_bad_end(prices, pairs, lone, fence, table, start) {
+            return Some((start, end));
+        }
+    }
+    None
+}

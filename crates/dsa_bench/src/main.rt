@@ -1,12 +1,14 @@
 //! How fast the crates are. Standard input names the case: `move`, `overlap` (a move to 32 bytes further on) and `fill`
 //! work in an image, beside a plain copy of as many bytes, and so do `compare` (of two equal regions) and `pattern` (of a
 //! region that repeats it); `apart` and `chained` plan moves that don't conflict, or each of which reads what the one before
-//! wrote; `conflicts` finds the last conflicts of short and long lists of several shapes, and searches their plans; `split`
-//! splits one move into 65,536 pieces; `replay` replays traces of 4,000,122
-//! events; `run` runs large and small pieces by threads. Where it names none nothing is measured or printed.
+//! wrote; `check` checks the certificates of such plans, and `judge` judges a plan in batches of 32; `conflicts` finds the
+//! last conflicts of short and long lists of several shapes, and searches their plans; `split` splits one move into 65,536
+//! pieces; `replay` replays traces of 4,000,122 events; `run` runs large and small pieces by threads. Where it names none
+//! nothing is measured or printed.
 #![tactic(auto)]
 
 mod batches;
+mod checking;
 mod finding;
 mod operation;
 mod planning;
@@ -15,6 +17,7 @@ mod running;
 mod splitting;
 mod working;
 
+use crate::checking::{measure_checks, measure_judgements};
 use crate::finding::measure_conflicts;
 use crate::operation::operation;
 use crate::planning::measure_plans;
@@ -40,6 +43,8 @@ fn main(rt: HostRuntime) -> io::Result<()> {
         "pattern" => measure_image(&rt, &operation(0x06, 0, ONES)),
         "apart" => measure_plans(&rt, 4096),
         "chained" => measure_plans(&rt, 64),
+        "check" => measure_checks(&rt),
+        "judge" => measure_judgements(&rt),
         "conflicts" => measure_conflicts(&rt),
         "split" => measure_split(&rt),
         "replay" => measure_replays(&rt),

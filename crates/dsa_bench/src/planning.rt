@@ -12,7 +12,7 @@ use std::rt::Runtime;
 use std::time::Instant;
 
 /// The bytes of moves of 64 bytes to the next 64, from one source to the next `step` bytes further on.
-fn moves(alloc: Global, count: u64, step: u64) -> Result<Vec<u8>, AllocError> {
+pub(crate) fn moves(alloc: Global, count: u64, step: u64) -> Result<Vec<u8>, AllocError> {
     let mut list = Vec::new(alloc);
     let mut source = 0x1000_0000u64;
     let mut record_at = 0x1000u64;

@@ -4,7 +4,8 @@ use Rattle.dsa_plan.specs.Plan.{Prices, price_of}
 use Rattle.dsa_plan.specs.Chain.{Pairs, GoForward, LeadsTo, IsLastBelow, HasCountBelow}
 use Rattle.dsa_plan.proofs.Fences.{price_of-batch}
 use Rattle.dsa_checker.specs.Steps.{StepHolds}
-use Rattle.dsa_checker.specs.Sized.{AreWithin, IsFirstAbove, sized_prices}
+use Rattle.dsa_plan.specs.Settings.{sized_prices}
+use Rattle.dsa_checker.specs.Sized.{AreWithin, IsFirstAbove}
 use Rattle.dsa_checker.proofs.Led.{step_by_count}
 
 module _ (lone fence : ℕ) (table : List ℕ) (pairs : Pairs) (costs : List ℕ) (n : ℕ) (forward : GoForward pairs) (start : ℕ) where

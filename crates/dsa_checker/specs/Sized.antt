@@ -1,11 +1,5 @@
--- Prices by the size of a batch, and the ends of one run of a chain.
-use Rattle.std.specs.Prelude.{ℕ, ◌+◌, ◌-◌, ◌<◌, ◌≤◌, List, length, slice_index}
-use Rattle.dsa_plan.specs.Plan.{Prices}
-
--- a batch of s pieces costs what entry s - 2 of the table says
-abbrev pub sized_prices : ℕ → ℕ → List ℕ → Prices
-sized_prices lone fence table =
-    record { greatest_batch = length table + 1; lone = lone; fence = fence; batch = λ size. slice_index table (size - 2) }
+-- The ends of one run of a chain, for private clauses.
+use Rattle.std.specs.Prelude.{ℕ, ◌+◌, ◌-◌, ◌<◌, ◌≤◌, List, slice_index}
 
 -- no end from one to before another has a price above this and that of a batch of the pieces from `start` on
 abbrev pub AreWithin : List ℕ → List ℕ → ℕ → ℕ → ℕ → ℕ → Type 0

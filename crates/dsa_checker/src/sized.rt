@@ -3,7 +3,8 @@
 ghost use Rattle.std.specs.Prelude.{◌≡◌, ℕ, ◌+◌, ◌<◌, ◌≤◌, length, MatchOption};
 ghost use Rattle.dsa_plan.specs.Chain.{GoForward, LeadsTo};
 ghost use Rattle.dsa_checker.specs.Steps.{StepsHold, StepsHoldFrom, IsFirstBadEnd, IsFirstBadStep};
-ghost use Rattle.dsa_checker.specs.Sized.{AreWithin, IsFirstAbove, sized_prices};
+ghost use Rattle.dsa_plan.specs.Settings.{sized_prices};
+ghost use Rattle.dsa_checker.specs.Sized.{AreWithin, IsFirstAbove};
 
 use dsa_plan::chain_step;
 
@@ -79,7 +80,7 @@ fn first_bad_end(
 
 /// The first start and end whose step is too high, where one piece costs `lone` and a batch of `size` pieces
 /// `table[size - 2]` without its fences.
-pub fn first_bad_sized_step(
+pub(crate) fn first_bad_sized_step(
     prices: &[u64],
     pairs: &[Option<(u32, u32)>],
     lone: u64,

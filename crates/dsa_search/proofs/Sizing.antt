@@ -10,7 +10,8 @@ use Rattle.dsa_plan.specs.Settings.{greatest_price}
 use Rattle.dsa_search.specs.Filled.{HasOffers}
 use Rattle.dsa_search.proofs.Filling.{last_fits, offers_each}
 use Rattle.dsa_search.proofs.Grouping.{count_one_more, count_none}
-use Rattle.dsa_search.specs.Sized.{past_block, sized_prices, HasRows}
+use Rattle.dsa_plan.specs.Settings.{sized_prices}
+use Rattle.dsa_search.specs.Sized.{past_block, HasRows}
 
 pub past_block_later : (x : ℕ) → (x < past_block x) × (past_block x ≤ x + 64)
 unfolding past_block

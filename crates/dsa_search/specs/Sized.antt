@@ -1,14 +1,6 @@
--- Prices by the size of a batch, and what the pieces of a block know of their chains, for private clauses.
+-- What the pieces of a block know of their chains, for private clauses.
 use Rattle.std.specs.Prelude.{ℕ, ◌≡◌, ◌+◌, ◌-◌, ◌*◌, ◌/◌, ◌<◌, ◌≤◌, List, length, slice_index}
-use Rattle.dsa_plan.specs.Plan.{Prices}
 use Rattle.dsa_plan.specs.Chain.{Pairs, IsLastBelow, HasCountBelow}
-use Rattle.dsa_plan.specs.Settings.{batch_price}
-use Rattle.dsa_plan.specs.Settings.BatchPrices.{BySize}
-
--- a batch of size s costs what entry s - 2 of the table says
-abbrev pub sized_prices : ℕ → ℕ → List ℕ → Prices
-sized_prices lone fence table =
-    record { greatest_batch = length table + 1; lone = lone; fence = fence; batch = batch_price (BySize table) }
 
 -- the pieces are parted into blocks of 64: the first piece past that of x
 unfoldable pub past_block : ℕ → ℕ

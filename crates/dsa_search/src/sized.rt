@@ -4,7 +4,8 @@ ghost use Rattle.std.specs.Prelude.{◌≡◌, ◌⊎◌, ℕ, ◌+◌, ◌-◌,
 ghost use Rattle.dsa_plan.specs.Chain.{GoForward, IsLastBelow};
 ghost use Rattle.dsa_search.specs.Filled.{HasOffers, IsFilled, past_reach};
 ghost use Rattle.dsa_plan.specs.Settings.{ArePrices};
-ghost use Rattle.dsa_search.specs.Sized.{HasRows, past_block, sized_prices};
+ghost use Rattle.dsa_plan.specs.Settings.{sized_prices};
+ghost use Rattle.dsa_search.specs.Sized.{HasRows, past_block};
 
 use crate::table::{UNREACHED, last_of_run, lower};
 use dsa_plan::chain_step;

@@ -3,7 +3,7 @@ use Rattle.std.proofs.lemmas.Bool.{cases_lt}
 use Rattle.dsa_plan.specs.Plan.{price_of}
 use Rattle.dsa_plan.specs.Chain.{IsLastBelow}
 use Rattle.dsa_plan.proofs.Chains.{IsLastBelow-start}
-use Rattle.dsa_checker.specs.Sized.{sized_prices}
+use Rattle.dsa_plan.specs.Settings.{sized_prices}
 use Rattle.dsa_checker.specs.Steps.{StepHolds}
 use Rattle.dsa_checker.proofs.Led.{first_step, last_fits}
 use Rattle.dsa_checker.proofs.Runs.{run_breaks, run_holds}

@@ -1,0 +1,123 @@
+//! Rooms: made and used while memory is refused, or made before.
+
+ghost use Rattle.std.specs.Prelude.{◌≤◌, All, IsTrue, length, map};
+ghost use Rattle.dsa_descriptor.specs.Descriptors.{fields};
+ghost use Rattle.dsa_ranges.specs.Ranges.{ConflictAt};
+ghost use Rattle.dsa_image.specs.Memory.{HoldsRanges};
+ghost use Rattle.dsa_plan.specs.Legal.{IsLegal};
+ghost use Rattle.dsa_core.specs.Accounts.{room_limits};
+
+use crate::cases::Case;
+use crate::telling::{mark, tell_outcome};
+use dsa_core::{Event, Finished, Kind, Outcome, Room, Taken};
+use dsa_descriptor::Descriptor;
+use dsa_image::Image;
+use dsa_plan::{Plan, Settings, is_legal};
+use dsa_planner::PlanFault;
+use std::alloc::{Alloc, Global};
+use std::io;
+use std::rt::Runtime;
+
+/// The plan is legal for the pieces, which the image holds.
+pub(crate) fn can_run(image: &Image, plan: &Plan, pieces: &[Descriptor]) -> bool
+    ensures few { IsTrue result → length pieces.now ≤ 65536 }
+    ensures legal { IsTrue result → IsLegal (ConflictAt (map fields pieces.now)) room_limits (length pieces.now) plan.now }
+    ensures holds { IsTrue result → All (HoldsRanges image.now) (map fields pieces.now) }
+{
+    if pieces.len() > 65536 {
+        return false;
+    }
+    let Ok(settings) = Settings::new(1024, 4096, 1, 1, 1, 65536) else {
+        return false;
+    };
+    let Ok(()) = is_legal(plan, pieces, &settings) else {
+        return false;
+    };
+    let Ok(()) = image.holds_all(pieces) else {
+        return false;
+    };
+    true
+}
+
+/// The room of the case's run. Each of the lists has a legal plan and an image that holds it, so `Incomplete` never
+/// comes.
+fn room_of(alloc: Global, case: &Case) -> Result<Room, PlanFault> {
+    let planned = &case.planned;
+    let pieces = planned.pieces.as_slice();
+    if !can_run(&case.image, &planned.plan, pieces) {
+        return Err(PlanFault::Incomplete);
+    }
+    let room = Room::new(alloc, &case.image, &planned.plan, pieces, 2)?;
+    Ok(room)
+}
+
+/// Does the events in the room, and answers what they leave.
+fn stepped(mut room: Room, trace: &[Event]) -> Result<Outcome, PlanFault> {
+    for event in trace {
+        if !room.step(*event) {
+            return Err(PlanFault::Incomplete);
+        }
+    }
+    room.into_outcome().map_err(|_room| PlanFault::Incomplete)
+}
+
+/// Does the event by the call of an engine, and a line by its parcel. Says whether it did.
+fn does(room: &mut Room, event: &Event) -> bool {
+    if event.engine >= room.engines() {
+        return false;
+    }
+    match event.kind {
+        Kind::Take => match room.take(event.engine) {
+            Taken::Piece(_) => true,
+            Taken::Wait | Taken::Over | Taken::Holding(_) => false,
+        },
+        Kind::Line => {
+            let Some(mut parcel) = room.fetch(event.engine) else {
+                return false;
+            };
+            parcel.work();
+            room.commit(&parcel).is_ok()
+        }
+        Kind::Finish => match room.finish(event.engine) {
+            Finished::Record(_) => true,
+            Finished::Early | Finished::Idle | Finished::Halted => false,
+        },
+    }
+}
+
+/// Does the events by the calls of engines. Which waiting piece an engine takes is the room's choice.
+fn engaged(mut room: Room, trace: &[Event]) -> Result<Outcome, PlanFault> {
+    for event in trace {
+        if !does(&mut room, event) {
+            return Err(PlanFault::Incomplete);
+        }
+    }
+    room.into_outcome().map_err(|_room| PlanFault::Incomplete)
+}
+
+pub(crate) fn whole<R: Runtime + Alloc<A = Global>>(rt: &R, case: &Case) -> io::Result<()> {
+    mark(rt)?;
+    let answer = room_of(rt.alloc(), case).and_then(|room| stepped(room, &case.trace));
+    mark(rt)?;
+    tell_outcome(rt, &answer)
+}
+
+pub(crate) fn steps<R: Runtime + Alloc<A = Global>>(rt: &R, case: &Case) -> io::Result<()> {
+    let Ok(room) = room_of(rt.alloc(), case) else {
+        return Ok(());
+    };
+    mark(rt)?;
+    let answer = stepped(room, &case.trace);
+    mark(rt)?;
+    tell_outcome(rt, &answer)
+}
+
+pub(crate) fn parcels<R: Runtime + Alloc<A = Global>>(rt: &R, case: &Case) -> io::Result<()> {
+    let Ok(room) = room_of(rt.alloc(), case) else {
+        return Ok(());
+    };
+    mark(rt)?;
+    let answer = engaged(room, &case.trace);
+    mark(rt)?;
+    tell_outcome(rt, &answer)
+}

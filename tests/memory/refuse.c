@@ -1,0 +1,131 @@
+/*
+ * Put before a program (LD_PRELOAD), it refuses the program allocations and starts of threads, and makes its standard
+ * input and output slow or faulty. All numbers count from 1. Allocations and starts are counted between the program's
+ * first and its second read of a single byte of standard input, or, where HOSTILE_ALL is set, from start to end.
+ *
+ *   HOSTILE_FIRST, HOSTILE_LAST     the first and the last allocation that is refused
+ *   HOSTILE_THREAD                  the start of a thread that is refused
+ *   HOSTILE_REPORT                  the file that gets a line when counting ends: how many allocations were asked for,
+ *                                   and how many starts of threads
+ *   HOSTILE_READ_MOST               the most bytes that a read gives
+ *   HOSTILE_READ_FAULT              the read that fails; the next would go on
+ *   HOSTILE_WRITE_MOST              the most bytes that a write takes
+ *   HOSTILE_WRITE_FAULT             how many bytes are taken, and one, before a write fails; the next would go on
+ *   HOSTILE_ERROR                   the error of such a read or write; 0: the write takes nothing
+ */
+#define _GNU_SOURCE
+#include <dlfcn.h>
+#include <errno.h>
+#include <pthread.h>
+#include <stdatomic.h>
+#include <stdbool.h>
+#include <stdio.h>
+#include <stdlib.h>
+#include <sys/syscall.h>
+#include <unistd.h>
+
+typedef void *(*thread_body)(void *);
+typedef int (*create)(pthread_t *, const pthread_attr_t *, thread_body, void *);
+
+extern void *__libc_malloc(size_t size);
+extern void *__libc_calloc(size_t count, size_t size);
+extern void *__libc_realloc(void *old, size_t size);
+
+static atomic_bool counting;
+static atomic_ulong allocations, starts;
+static unsigned long first_refused, last_refused, refused_start, report_to;
+static unsigned long read_most, read_fault, write_most, write_fault, fault_error;
+static unsigned long marks, turns, taken;
+static bool counts_all;
+
+static unsigned long number(const char *name) {
+    const char *text = getenv(name);
+    return text ? strtoul(text, NULL, 10) : 0;
+}
+
+static void report(void) {
+    char line[80];
+    int length = snprintf(line, sizeof line, "%lu %lu\n", allocations, starts);
+    if (report_to && syscall(SYS_write, (int)report_to, line, (size_t)length) != length)
+        abort();
+    report_to = 0;
+}
+
+__attribute__((constructor)) static void begin(void) {
+    first_refused = number("HOSTILE_FIRST");
+    last_refused = number("HOSTILE_LAST");
+    refused_start = number("HOSTILE_THREAD");
+    report_to = number("HOSTILE_REPORT");
+    read_most = number("HOSTILE_READ_MOST");
+    read_fault = number("HOSTILE_READ_FAULT");
+    write_most = number("HOSTILE_WRITE_MOST");
+    write_fault = number("HOSTILE_WRITE_FAULT");
+    fault_error = number("HOSTILE_ERROR");
+    counts_all = getenv("HOSTILE_ALL");
+    counting = counts_all;
+}
+
+__attribute__((destructor)) static void end(void) {
+    counting = false;
+    report();
+}
+
+void _exit(int status) {
+    end();
+    for (;;)
+        syscall(SYS_exit_group, status);
+}
+
+static bool refuses(void) {
+    if (!counting)
+        return false;
+    unsigned long place = ++allocations;
+    if (place < first_refused || place > last_refused)
+        return false;
+    errno = ENOMEM;
+    return true;
+}
+
+void *malloc(size_t size) { return refuses() ? NULL : __libc_malloc(size); }
+
+void *calloc(size_t count, size_t size) { return refuses() ? NULL : __libc_calloc(count, size); }
+
+void *realloc(void *old, size_t size) { return refuses() ? NULL : __libc_realloc(old, size); }
+
+int pthread_create(pthread_t *thread, const pthread_attr_t *attributes, thread_body body, void *argument) {
+    if (counting && ++starts == refused_start)
+        return EAGAIN;
+    return ((create)dlsym(RTLD_NEXT, "pthread_create"))(thread, attributes, body, argument);
+}
+
+ssize_t read(int file, void *buffer, size_t size) {
+    if (file == 0 && size == 1 && !counts_all) {
+        counting = ++marks == 1;
+        if (marks == 2)
+            report();
+    }
+    if (file == 0 && ++turns == read_fault) {
+        errno = (int)fault_error;
+        return -1;
+    }
+    if (file == 0 && read_most && size > read_most)
+        size = read_most;
+    return syscall(SYS_read, file, buffer, size);
+}
+
+ssize_t write(int file, const void *buffer, size_t size) {
+    if (file == 1 && write_fault && size > write_fault - 1 - taken) {
+        size = write_fault - 1 - taken;
+        if (size == 0) {
+            write_fault = 0;
+            errno = (int)fault_error;
+            return fault_error ? -1 : 0;
+        }
+    }
+    if (file == 1 && write_most && size > write_most)
+        size = write_most;
+    ssize_t count = syscall(SYS_write, file, buffer, size);
+    if (file == 1 && count > 0)
+        taken += (unsigned long)count;
+    return count;
+}

@@ -1,6 +1,7 @@
 """Runs the program on random jobs, and compares each of its lines with what model.py says that it has to be.
 
     run.py PROGRAM [COUNT [SEED]]
+    run.py --write FOLDER [COUNT [SEED]]
 
 A list of up to six pieces of all operations over few addresses is planned; its answer is checked; plans of it are judged;
 and it is run by 1 to 4 engines and replayed, in order and in a random complete order. With more than 1,000 lists it tells
@@ -22,19 +23,35 @@ class Wrong(Exception):
     pass
 
 
-def answer(program, job):
-    """The line that the program answers a job with, and its status."""
-    text = json.dumps(job)
-    ran = subprocess.run([program], input=text.encode(), capture_output=True, timeout=60)
-    if ran.stderr:
-        raise Wrong(f"{text}\n  writes to its standard error: {ran.stderr[:200]}")
-    return ran.stdout.decode(), ran.returncode
+class Runs:
+    """Runs the program on each job."""
+
+    def __init__(self, program):
+        self.program = program
+
+    def expect(self, text, wanted):
+        ran = subprocess.run([self.program], input=text.encode(), capture_output=True, timeout=60)
+        line = ran.stdout.decode() + ran.stderr.decode()
+        if line != wanted + "\n" or ran.returncode != int(wanted.startswith("refused")):
+            raise Wrong(f"{text}\n  wanted {wanted}\n  got    {line.rstrip()} with status {ran.returncode}")
+
+
+class Writes:
+    """Writes each job, and the line that has to answer it, to files of a folder, as `rt try --cases` takes them."""
+
+    def __init__(self, folder):
+        self.folder = folder
+        self.count = 0
+
+    def expect(self, text, wanted):
+        self.count += 1
+        for name, content in ((f"{self.count:05}", text), (f"{self.count:05}.stdout", wanted + "\n")):
+            with open(f"{self.folder}/{name}", "w") as file:
+                file.write(content)
 
 
 def expect(program, job, wanted):
-    line, status = answer(program, job)
-    if line != wanted + "\n" or status != int(wanted.startswith("refused")):
-        raise Wrong(f"{json.dumps(job)}\n  wanted {wanted}\n  got    {line.rstrip()} with status {status}")
+    program.expect(json.dumps(job), wanted)
 
 
 def compact(value):
@@ -174,9 +191,10 @@ def run_and_replay(program, case, plan):
 
 
 def main():
-    program = sys.argv[1]
-    count = int(sys.argv[2]) if len(sys.argv) > 2 else 200
-    seed = int(sys.argv[3]) if len(sys.argv) > 3 else 1
+    given = sys.argv[1:]
+    program = Writes(given.pop(1)) if given[0] == "--write" else Runs(given[0])
+    count = int(given[1]) if len(given) > 1 else 200
+    seed = int(given[2]) if len(given) > 2 else 1
     failed = 0
     for number in range(count):
         case = Case(f"{seed}/{number}")

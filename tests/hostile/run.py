@@ -1,8 +1,10 @@
 """Applies all patches of tests/hostile to a copy of the tree, each of which changes a call of its own, runs these calls by
-`rt try`, which proves nothing, and sees that tests/memory refuses what each prints.
+`rt try`, which proves nothing, and sees that tests/memory refuses what each prints. Then it does the same with a planner
+that always submits alone, which has to fail jobs of tests/campaign.
 """
 
 import os
+import re
 import subprocess
 import sys
 import tempfile
@@ -19,20 +21,49 @@ WRONG = [
 ]
 
 
-def tried(tree, calls):
-    """What the changed program prints for each call."""
+def copy_tree(tree):
     tracked = subprocess.run(["git", "ls-files", "-z", "HANDLES", "crates.txt", "crates"], capture_output=True, check=True)
     subprocess.run(["xargs", "-0", "cp", "--parents", "-t", tree], input=tracked.stdout, check=True)
+    os.mkdir(f"{tree}/cases")
+
+
+def try_cases(tree, crate):
+    """What `rt try` says of the program on the files of the folder `cases`."""
+    ran = subprocess.run(["rt", "try", "--steps", "1", "--cases", f"{tree}/cases"], cwd=f"{tree}/crates/{crate}", capture_output=True)
+    return ran.stdout.decode(errors="replace") + ran.stderr.decode(errors="replace")
+
+
+def tried(tree, calls):
+    """What the changed program prints for each call."""
+    copy_tree(tree)
     for patch, _, _ in WRONG:
         subprocess.run(["patch", "-s", "-d", tree, "-p1", "-i", os.path.abspath(f"tests/hostile/{patch}.patch")], check=True)
-    os.mkdir(f"{tree}/cases")
     for number, call in enumerate(calls):
         with open(f"{tree}/cases/{number}", "wb") as file:
             file.write(call.text)
-    ran = subprocess.run(["rt", "try", "--cases", f"{tree}/cases"], cwd=f"{tree}/crates/dsa_hostile", capture_output=True)
-    printed = ran.stdout.decode(errors="replace") + ran.stderr.decode(errors="replace")
+    printed = try_cases(tree, "dsa_hostile")
     parts = printed.split("== ")[1:]
     return {int(part.split("\n")[0]): part.split("\n", 1)[1] for part in parts}, printed
+
+
+def edit(tree, crate, name):
+    """Applies a must-fail edit of the crate."""
+    lines = open(f"{tree}/crates/{crate}/must-fail/{name}.edit").read().splitlines()
+    file, old, new = (line.split(": ", 1)[1] for line in lines[:3])
+    text = open(f"{tree}/crates/{crate}/{file}").read()
+    assert text.count(old) == 1, f"{name} does not apply"
+    with open(f"{tree}/crates/{crate}/{file}", "w") as changed:
+        changed.write(text.replace(old, new))
+
+
+def campaign_sees_lone_pieces(tree):
+    """Whether jobs of the campaign are answered otherwise by a planner that always submits alone, and some as before."""
+    copy_tree(tree)
+    edit(tree, "dsa_search", "always_alone")
+    subprocess.run([sys.executable, "-B", "tests/campaign/run.py", "--write", f"{tree}/cases", "5"], capture_output=True, check=True)
+    said = try_cases(tree, "dsa")
+    found = re.search(r"^cases=(\d+) .*differs=(\d+) ", said, re.M)
+    return found is not None and 0 < int(found[2]) < int(found[1]), said
 
 
 def main():
@@ -46,7 +77,12 @@ def main():
         if text not in found.get(number, "") or not calls[number].faults:
             failed += 1
             print(f"{patch} is not seen by {name}: {found.get(number, printed)[:600]}", file=sys.stderr)
-    print(f"{len(WRONG) - failed} passed, {failed} failed")
+    with tempfile.TemporaryDirectory() as tree:
+        is_seen, said = campaign_sees_lone_pieces(tree)
+    if not is_seen:
+        failed += 1
+        print(f"always_alone is not seen by tests/campaign: {said[-600:]}", file=sys.stderr)
+    print(f"{len(WRONG) + 1 - failed} passed, {failed} failed")
     sys.exit(1 if failed else 0)
 
 

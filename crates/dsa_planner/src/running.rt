@@ -14,7 +14,7 @@ use crate::fault::PlanFault;
 use crate::replaying::prepare;
 use dsa_core::Outcome;
 use dsa_descriptor::Descriptor;
-use dsa_engines::{OpenGate, run};
+use dsa_engines::{Gate, OpenGate, run};
 use dsa_image::Image;
 use dsa_plan::{Plan, Settings};
 use std::alloc::Global;
@@ -22,13 +22,14 @@ use std::sync::Wait;
 use std::thread::Threads;
 
 /// What the engines leave, each of which is a thread.
-fn run_pieces<R: Threads + Wait + Sync>(
+fn run_pieces<G: Gate + Sync, R: Threads + Wait + Sync>(
     rt: &R,
     alloc: Global,
     plan: &Plan,
     pieces: &[Descriptor],
     image: &Image,
     engines: u8,
+    gate: &G,
 ) -> Result<Outcome, PlanFault>
     requires few { length pieces.now ≤ 65536 }
     requires legal { IsLegal (ConflictAt (map fields pieces.now)) most_members (length pieces.now) plan.now }
@@ -36,8 +37,34 @@ fn run_pieces<R: Threads + Wait + Sync>(
     ensures told { OrMemory left_of (RunsPieces image.now engines plan.now (map fields pieces.now)) result }
     ensures history { IfOk result (λ o. IsOutcomeOf (room_with image.now plan.now (map fields pieces.now) engines o.history.items) o) }
 {
-    let outcome = run(rt, alloc, image, plan, pieces, engines, &OpenGate)?;
+    let outcome = run(rt, alloc, image, plan, pieces, engines, gate)?;
     Ok(outcome)
+}
+
+/// As [`run_bytes`], with a gate that the engines ask.
+pub(crate) fn run_gated<G: Gate + Sync, R: Threads + Wait + Sync>(
+    rt: &R,
+    alloc: Global,
+    list: &[u8],
+    settings: &Settings,
+    image: &Image,
+    engines: u64,
+    gate: &G,
+) -> Result<Outcome, PlanFault>
+    ensures told { OrMemory left_of (Runs list.now settings.now image.now engines) result }
+    ensures history { IfOk result (λ o. (p : Submission) → Plans list.now settings.now (Ok p) → IsOutcomeOf (room_with image.now p.plan (map fields p.pieces) engines o.history.items) o) }
+    ensures whole { IfOk result (λ o. LeavesWhole list.now settings.now image.now (left_of o)) }
+{
+    let ready = prepare(alloc, list, settings, image, engines)?;
+    run_pieces(
+        rt,
+        alloc,
+        &ready.plan,
+        &ready.pieces,
+        image,
+        ready.engines,
+        gate,
+    )
 }
 
 /// Plans the list, and runs its pieces on a copy of the image by engines, each of which is a thread. All of them have
@@ -62,6 +89,5 @@ pub fn run_bytes<R: Threads + Wait + Sync>(
     // Where each listed operation succeeds, what is left is the memory of executing the list in order.
     ensures whole { IfOk result (λ o. LeavesWhole list.now settings.now image.now (left_of o)) }
 {
-    let ready = prepare(alloc, list, settings, image, engines)?;
-    run_pieces(rt, alloc, &ready.plan, &ready.pieces, image, ready.engines)
+    run_gated(rt, alloc, list, settings, image, engines, &OpenGate)
 }

@@ -1,13 +1,20 @@
+use crate::running::run_gated;
 use crate::{
     PlanFault, check_bytes, judge_bytes, plan_list, refusal_line, replay_bytes, run_bytes,
 };
 use dsa_cert::Certificate;
 use dsa_checker::CheckFault;
+use dsa_core::{Event, Kind};
 use dsa_descriptor::FieldFault;
+use dsa_engines::{Gate, GateShut};
 use dsa_image::Image;
 use dsa_plan::{EntryFault, Group, LegalFault, Plan, Settings};
 use std::alloc::{AllocError, Global};
+use std::rt::Clock;
+use std::sync::atomic::{AtomicU32, Ordering};
 use std::test::Fail;
+use std::thread;
+use std::time::Duration;
 
 /// The bytes of a move with its record's address.
 fn move_bytes(src: u64, dst: u64, size: u32, record_at: u64) -> [u8; 64] {
@@ -137,6 +144,52 @@ fn refuses_runs_in_order(rt: HostRuntime) -> Result<(), Fail> {
             Ok(_) => assert!(rt; false),
         }
     }
+    Ok(())
+}
+
+/// Holds each piece before its finish until so many engines are there, and refuses where they don't come.
+#[derive(Drop)]
+struct Meeting<'a, R: Clock> {
+    rt: &'a R,
+    engines: u32,
+    here: AtomicU32,
+}
+
+impl<'a, R: Clock> Gate for Meeting<'a, R> {
+    fn before(&self, event: &Event) -> Result<(), GateShut> {
+        if event.kind != Kind::Finish {
+            return Ok(());
+        }
+        let _before = self.here.fetch_add(1, Ordering::SeqCst);
+        for _ in 0..10_000 {
+            if self.here.load(Ordering::SeqCst) >= self.engines {
+                return Ok(());
+            }
+            thread::sleep(self.rt, Duration::from_millis(1));
+        }
+        Err(GateShut)
+    }
+
+    fn after(&self, _event: &Event) -> Result<(), GateShut> {
+        Ok(())
+    }
+}
+
+#[test]
+fn as_many_engines_run_as_are_asked_for(rt: HostRuntime) -> Result<(), Fail> {
+    let alloc = rt.alloc();
+    let mut list = Vec::new(alloc);
+    for (src, dst, record_at) in [(0, 0x20, 0x80), (0x40, 0x60, 0xa0), (8, 0x28, 0xc0)] {
+        list.extend_from_slice(&move_bytes(src, dst, 8, record_at))?;
+    }
+    let gate = Meeting {
+        rt: &rt,
+        engines: 3,
+        here: AtomicU32::new(0),
+    };
+    let image = zeros(alloc, 256)?;
+    let outcome = run_gated(&rt, alloc, &list, &settings()?, &image, 3, &gate)?;
+    assert_eq!(rt; outcome.finished, 3);
     Ok(())
 }
 

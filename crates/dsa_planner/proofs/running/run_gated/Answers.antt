@@ -10,7 +10,7 @@ use Rattle.dsa_planner.specs.Lists.{OrMemory}
 use Rattle.dsa_planner.specs.Runs.{RunsPieces, left_of}
 use Rattle.dsa_planner.proofs.Refusals.{ready_taken, ready_can, of_submission}
 use Rattle.dsa_planner.proofs.Histories.{engines_leave_whole, engines_have_run}
-use Rattle.dsa_planner.proofs.running.run_bytes.Goals as goal
+use Rattle.dsa_planner.proofs.running.run_gated.Goals as goal
 
 pub run_pieces-requires-clause-legal : goal.run_pieces-requires-clause-legal
 run_pieces-requires-clause-legal g c lifetimes outlives =

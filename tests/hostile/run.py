@@ -1,6 +1,6 @@
 """Applies all patches of tests/hostile to a copy of the tree, each of which changes a call of its own, runs these calls by
 `rt try`, which proves nothing, and sees that tests/memory refuses what each prints. Then it does the same with a planner
-that always submits alone, which has to fail jobs of tests/campaign.
+that always submits alone, which has to fail jobs of tests/campaign, and runs tests/streams on again.c.
 """
 
 import os
@@ -66,6 +66,19 @@ def campaign_sees_lone_pieces(tree):
     return found is not None and 0 < int(found[2]) < int(found[1]), said
 
 
+def streams_see_a_second_try(folder):
+    """Whether just those runs fail in which again.c reads or writes after an error."""
+    flags = ["-O2", "-Wall", "-Wextra", "-Werror"]
+    shared, program = f"{folder}/refuse.so", f"{folder}/again"
+    subprocess.run(["cc", *flags, "-shared", "-fPIC", "-o", shared, "tests/memory/refuse.c"], check=True)
+    subprocess.run(["cc", *flags, "-o", program, "tests/hostile/again.c"], check=True)
+    words = [sys.executable, "-B", "tests/streams/run.py", shared, program, "tests/jobs/nothing.job"]
+    ran = subprocess.run(words, capture_output=True, text=True)
+    faults = ran.stderr.splitlines()
+    whole = [line for line in faults if "fails" not in line]
+    return len(faults) > 0 and not whole and not ran.stdout.startswith("0 passed"), ran.stdout + ran.stderr
+
+
 def main():
     by_name = {run.name: run for run in runs("", "")}
     calls = [by_name[name] for _, name, _ in WRONG]
@@ -82,7 +95,12 @@ def main():
     if not is_seen:
         failed += 1
         print(f"always_alone is not seen by tests/campaign: {said[-600:]}", file=sys.stderr)
-    print(f"{len(WRONG) + 1 - failed} passed, {failed} failed")
+    with tempfile.TemporaryDirectory() as folder:
+        is_seen, said = streams_see_a_second_try(folder)
+    if not is_seen:
+        failed += 1
+        print(f"again.c is not seen by tests/streams: {said[-600:]}", file=sys.stderr)
+    print(f"{len(WRONG) + 2 - failed} passed, {failed} failed")
     sys.exit(1 if failed else 0)
 
 

@@ -1,7 +1,7 @@
 """Runs the program on jobs whose input comes slowly or fails, and whose output is taken slowly or not at all, by the shared
 object of tests/memory.
 
-    run.py REFUSE.SO PROGRAM
+    run.py REFUSE.SO PROGRAM [WORD]      WORD: only runs whose name has it
 """
 
 import errno
@@ -71,13 +71,14 @@ def fault_of(case):
 def main():
     global SHARED, PROGRAM
     SHARED, PROGRAM = map(os.path.abspath, sys.argv[1:3])
+    word = sys.argv[3] if len(sys.argv) > 3 else ""
     with ThreadPoolExecutor(os.cpu_count()) as pool:
-        answers = list(pool.map(fault_of, all_cases()))
+        answers = list(pool.map(fault_of, (case for case in all_cases() if word in case[0])))
     faults = [fault for fault in answers if fault]
     for fault in faults:
         print(fault, file=sys.stderr)
     print(f"{len(answers) - len(faults)} passed, {len(faults)} failed")
-    sys.exit(1 if faults else 0)
+    sys.exit(1 if faults or not answers else 0)
 
 
 main()

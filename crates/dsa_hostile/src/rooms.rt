@@ -5,7 +5,7 @@ ghost use Rattle.dsa_descriptor.specs.Descriptors.{fields};
 ghost use Rattle.dsa_ranges.specs.Ranges.{ConflictAt};
 ghost use Rattle.dsa_image.specs.Memory.{HoldsRanges};
 ghost use Rattle.dsa_plan.specs.Legal.{IsLegal};
-ghost use Rattle.dsa_core.specs.Accounts.{room_limits};
+ghost use Rattle.dsa_core.specs.Accounts.{most_members};
 
 use crate::cases::Case;
 use crate::telling::{mark, tell_outcome};
@@ -21,7 +21,7 @@ use std::rt::Runtime;
 /// The plan is legal for the pieces, which the image holds.
 pub(crate) fn can_run(image: &Image, plan: &Plan, pieces: &[Descriptor]) -> bool
     ensures few { IsTrue result → length pieces.now ≤ 65536 }
-    ensures legal { IsTrue result → IsLegal (ConflictAt (map fields pieces.now)) room_limits (length pieces.now) plan.now }
+    ensures legal { IsTrue result → IsLegal (ConflictAt (map fields pieces.now)) most_members (length pieces.now) plan.now }
     ensures holds { IsTrue result → All (HoldsRanges image.now) (map fields pieces.now) }
 {
     if pieces.len() > 65536 {

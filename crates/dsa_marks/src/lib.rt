@@ -1,0 +1,97 @@
+//! A plan as one byte for each piece, its mark: whether the piece begins a group, and whether it is fenced.
+#![tactic(auto)]
+
+ghost use Rattle.std.specs.Prelude.{◌≡◌, ◌++◌, IfOk};
+ghost use Rattle.dsa_marks.specs.Marks.{mark, group_marks, marks_of, begins_group, is_fenced, plan_of};
+ghost use Rattle.dsa_marks.specs.Laws.{MarksSpellPlans, PlansSpellMarks};
+
+use dsa_plan::{Group, Plan};
+use std::alloc::{AllocError, Global};
+
+/// The mark of a piece that begins a group.
+pub const BEGINS: u8 = 1;
+/// The mark of a piece that is fenced.
+pub const FENCED: u8 = 2;
+
+// The mark of a piece.
+fn mark(begins: bool, fenced: bool) -> u8
+    ensures { result ≡ mark begins fenced }
+{
+    let first = if begins { BEGINS } else { 0 };
+    let second = if fenced { FENCED } else { 0 };
+    first + second
+}
+
+// The piece of this mark begins a group.
+fn begins_group(mark: u8) -> bool
+    ensures { result ≡ begins_group mark }
+{
+    mark % 2 == 1
+}
+
+// The piece of this mark is fenced.
+fn is_fenced(mark: u8) -> bool
+    ensures { result ≡ is_fenced mark }
+{
+    mark / 2 % 2 == 1
+}
+
+// Adds the marks of the pieces of a group.
+fn push_group(marks: &mut Vec<u8>, group: &[bool]) -> Result<(), AllocError>
+    ensures { IfOk result (λ _. marks.new.items ≡ marks.old.items ++ group_marks group.now) }
+{
+    if let [first, rest @ ..] = group {
+        marks.push(mark(true, *first))?;
+        for fenced in rest {
+            marks.push(mark(false, *fenced))?;
+        }
+    }
+    Ok(())
+}
+
+/// The marks of the plan's pieces, in order: [`BEGINS`] for one that begins a group, and [`FENCED`] added for one that
+/// is fenced.
+pub fn marks_of(alloc: Global, plan: &Plan) -> Result<Vec<u8>, AllocError>
+    ensures { IfOk result (λ marks. marks.items ≡ marks_of plan.now) }
+{
+    let mut marks = Vec::new(alloc);
+    for group in plan.groups() {
+        push_group(&mut marks, group.fences())?;
+    }
+    Ok(marks)
+}
+
+/// The plan that these marks spell. The first piece begins a group, whatever its mark; of each mark the bits [`BEGINS`]
+/// and [`FENCED`] count alone.
+pub fn plan_of(alloc: Global, marks: &[u8]) -> Result<Plan, AllocError>
+    ensures { IfOk result (λ plan. plan ≡ plan_of marks.now) }
+{
+    let mut groups = Vec::new(alloc);
+    let mut group = Vec::new(alloc);
+    for mark in marks {
+        if begins_group(*mark) && !group.is_empty() {
+            groups.push(Group::new(group))?;
+            group = Vec::new(alloc);
+        }
+        group.push(is_fenced(*mark))?;
+    }
+    if !group.is_empty() {
+        groups.push(Group::new(group))?;
+    }
+    Ok(Plan::new(groups))
+}
+
+/// A plan whose groups are not empty is the plan that its marks spell, and it has as many marks as pieces. This is a
+/// law: the body is empty, and the clause is what the proof shows.
+pub fn marks_spell_plans()
+    ensures { MarksSpellPlans }
+{}
+
+/// Marks of two bits, the first of which begins a group, are the marks of the plan that they spell: so there is one
+/// such list for each plan. This is a law too.
+pub fn plans_spell_marks()
+    ensures { PlansSpellMarks }
+{}
+
+#[cfg(test)]
+mod tests;

@@ -1,0 +1,52 @@
+-- Why calls refuse, and what planning answers.
+use Rattle.std.proofs.Common.{List, ℕ, ◌≡◌, ◌⊎◌, ◌<◌, Ok, Err, inl, inr, length, map, ap, subst, ◌∙◌, arith}
+use Rattle.dsa_descriptor.specs.Descriptors.{fields}
+use Rattle.dsa_ranges.specs.Ranges.{ConflictAt}
+use Rattle.dsa_plan.specs.Settings.{Limits, prices_of}
+use Rattle.dsa_plan.specs.Legal.{IsLeast}
+use Rattle.dsa_plan.specs.Certificate.{IsGood}
+use Rattle.dsa_cert.specs.Document.{Contents}
+use Rattle.dsa_planner.specs.declared.fault.PlanFault.{PlanFault}
+use Rattle.dsa_planner.specs.declared.fault.PlanFault.TheVariants.{Memory}
+use Rattle.dsa_planner.specs.Planned.{Submission, Plans}
+use Rattle.dsa_planner.specs.Checked.{Checks}
+use Rattle.dsa_c.specs.declared.settings.RawSettings.{RawSettings}
+use Rattle.dsa_c.specs.declared.refusal.RawRefusal.{RawRefusal}
+use Rattle.dsa_c.specs.Raw.{limits_of, AreSettings, refusal_of, no_room}
+use Rattle.dsa_c.specs.Checking.{RefusesCheck}
+use Rattle.dsa_c.specs.Planning.{IsPlannedFor, Refuses}
+
+-- what planning answers under the settings that the numbers are
+pub planned_for : (s : RawSettings) (table list : List ℕ) (l : Limits) (p : Submission) → l ≡ limits_of s table → AreSettings s table → Plans list l (Ok p)
+    → IsLeast (ConflictAt (map fields p.pieces)) (prices_of l) (length p.pieces) p.plan
+    → IsGood (ConflictAt (map fields p.pieces)) (prices_of l) (length p.pieces) p.certificate.prices p.certificate.pairs p.cost
+    → Checks p.portal p.staging l p.certificate (Ok p.cost) → IsPlannedFor s table list p
+planned_for s table list l p is are planned least good checks =
+    record {
+      settings = are;
+      planned = subst (λ (x : Limits). Plans list x (Ok p)) is planned;
+      least = subst (λ (x : Limits). IsLeast (ConflictAt (map fields p.pieces)) (prices_of x) (length p.pieces) p.plan) is least;
+      good = subst (λ (x : Limits). IsGood (ConflictAt (map fields p.pieces)) (prices_of x) (length p.pieces) p.certificate.prices p.certificate.pairs p.cost) is good;
+      checks = subst (λ (x : Limits). Checks p.portal p.staging x p.certificate (Ok p.cost)) is checks;
+    }
+
+-- planning refuses
+pub refuses_list : (s : RawSettings) (table list : List ℕ) (portal staging : ℕ) (l : Limits) (fault : PlanFault) (r : RawRefusal) → l ≡ limits_of s table → AreSettings s table
+    → (fault ≡ Memory) ⊎ Plans list l (Err fault) → r ≡ refusal_of fault → Refuses s table list portal staging r
+refuses_list s table list portal staging l fault r is are (inl memory) value = inr (inl (value ∙ ap refusal_of memory, are))
+refuses_list s table list portal staging l fault r is are (inr refused) value =
+    inr (inr (inl (fault, are, subst (λ (x : Limits). Plans list x (Err fault)) is refused, value)))
+
+-- a buffer is too small
+pub refuses_buffers : (s : RawSettings) (table list : List ℕ) (portal staging : ℕ) (p : Submission) (r : RawRefusal) → IsPlannedFor s table list p
+    → (portal < length p.portal) ⊎ (staging < length p.staging) → r ≡ no_room (length p.portal) (length p.staging) → Refuses s table list portal staging r
+refuses_buffers s table list portal staging p r planned (inl short) value = inr (inr (inr (p, planned, (λ fits. omega (arith, fits.0, short)), value)))
+refuses_buffers s table list portal staging p r planned (inr short) value = inr (inr (inr (p, planned, (λ fits. omega (arith, fits.1, short)), value)))
+
+-- checking refuses
+pub refuses_check : (s : RawSettings) (table portal staging : List ℕ) (l : Limits) (c d : Contents) (fault : PlanFault) (r : RawRefusal) → l ≡ limits_of s table → AreSettings s table → d ≡ c
+    → (fault ≡ Memory) ⊎ Checks portal staging l d (Err fault) → r ≡ refusal_of fault → RefusesCheck s table portal staging c r
+refuses_check s table portal staging l c d fault r is are same (inl memory) value = inr (inl (value ∙ ap refusal_of memory, are))
+refuses_check s table portal staging l c d fault r is are same (inr refused) value =
+    let for_c = subst (λ (x : Contents). Checks portal staging l x (Err fault)) same refused in
+    inr (inr (fault, are, subst (λ (x : Limits). Checks portal staging x c (Err fault)) is for_c, value))

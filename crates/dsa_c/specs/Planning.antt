@@ -1,0 +1,76 @@
+-- What planning into buffers promises.
+use Rattle.std.specs.Prelude.{◌≡◌, ◌⊎◌, ℕ, ◌+◌, ◌≤◌, List, length, map, Ok, Err}
+use Rattle.dsa_descriptor.specs.Descriptors.{fields}
+use Rattle.dsa_ranges.specs.Ranges.{ConflictAt}
+use Rattle.dsa_plan.specs.Settings.{prices_of}
+use Rattle.dsa_plan.specs.Legal.{IsLeast}
+use Rattle.dsa_plan.specs.Certificate.{IsGood}
+use Rattle.dsa_marks.specs.Marks.{marks_of}
+use Rattle.dsa_planner.specs.declared.fault.PlanFault.{PlanFault}
+use Rattle.dsa_planner.specs.declared.fault.PlanFault.TheVariants.{Memory, Settings}
+use Rattle.dsa_planner.specs.Planned.{Submission, Plans}
+use Rattle.dsa_planner.specs.Checked.{Checks}
+use Rattle.dsa_c.specs.declared.settings.RawSettings.{RawSettings}
+use Rattle.dsa_c.specs.declared.refusal.RawRefusal.{RawRefusal}
+use Rattle.dsa_c.specs.declared.planning.RawPlanned.{RawPlanned}
+use Rattle.dsa_c.specs.declared.certificate.RawPair.{RawPair}
+use Rattle.dsa_c.specs.Raw.{limits_of, AreSettings, written, refusal_of, no_room, no_room_for_certificate}
+use Rattle.dsa_c.specs.Certificates.{raw_pair_of}
+
+-- this is what planning the bytes answers: the plan is legal and no legal plan costs less, the certificate is good for its
+-- cost, and checking the bytes that submit it with the certificate answers the cost
+pub record IsPlannedFor (s : RawSettings) (table list : List ℕ) (p : Submission) : Type 0 where
+  pub settings : AreSettings s table
+  pub planned : Plans list (limits_of s table) (Ok p)
+  pub least : IsLeast (ConflictAt (map fields p.pieces)) (prices_of (limits_of s table)) (length p.pieces) p.plan
+  pub good : IsGood (ConflictAt (map fields p.pieces)) (prices_of (limits_of s table)) (length p.pieces) p.certificate.prices p.certificate.pairs p.cost
+  pub checks : Checks p.portal p.staging (limits_of s table) p.certificate (Ok p.cost)
+
+-- the cost, the number of pieces, and how many bytes are written
+abbrev pub summary_of : Submission → RawPlanned
+summary_of p = record { cost = p.cost; pieces = length p.pieces; portal_len = length p.portal; staging_len = length p.staging }
+
+-- what is written fits in buffers of these lengths
+abbrev pub FitsIn : Submission → ℕ → ℕ → Type 0
+FitsIn p portal staging = (length p.portal ≤ portal) × (length p.staging ≤ staging)
+
+-- the emission of the planned list stands at the front of the two buffers, whose rest is left, and this is its summary
+pub record IsWritten (s : RawSettings) (table list portal new_portal staging new_staging : List ℕ) (summary : RawPlanned) : Type 0 where
+  pub submission : Submission
+  pub planned : IsPlannedFor s table list submission
+  pub fits : FitsIn submission (length portal) (length staging)
+  pub portal_is : new_portal ≡ written submission.portal portal
+  pub staging_is : new_staging ≡ written submission.staging staging
+  pub summary_is : summary ≡ summary_of submission
+
+-- Why nothing is written: the numbers are no settings; an allocation failed; planning refuses the list; or the bytes of the
+-- planned list don't fit, and this is what they need.
+abbrev pub Refuses : RawSettings → List ℕ → List ℕ → ℕ → ℕ → RawRefusal → Type 0
+Refuses s table list portal staging r =
+    ((r ≡ refusal_of Settings) × (¬ AreSettings s table))
+    ⊎ ((r ≡ refusal_of Memory) × AreSettings s table)
+    ⊎ ((fault : PlanFault) × AreSettings s table × Plans list (limits_of s table) (Err fault) × (r ≡ refusal_of fault))
+    ⊎ ((p : Submission) × IsPlannedFor s table list p × (¬ FitsIn p portal staging) × (r ≡ no_room (length p.portal) (length p.staging)))
+
+-- the certificate and the marks of the pieces fit in arrays of these lengths: n + 1 prices, n pairs and n marks of n pieces
+abbrev pub CertificateFitsIn : Submission → ℕ → ℕ → ℕ → Type 0
+CertificateFitsIn p prices pairs marks = (length p.pieces + 1 ≤ prices) × (length p.pieces ≤ pairs) × (length p.pieces ≤ marks)
+
+-- the same as IsWritten, with the certificate and the marks of the groups and fences at the front of their arrays
+pub record IsCertifiedWritten (s : RawSettings) (table list portal new_portal staging new_staging prices new_prices : List ℕ) (pairs new_pairs : List RawPair) (marks new_marks : List ℕ) (summary : RawPlanned) : Type 0 where
+  pub submission : Submission
+  pub planned : IsPlannedFor s table list submission
+  pub fits : FitsIn submission (length portal) (length staging)
+  pub certificate_fits : CertificateFitsIn submission (length prices) (length pairs) (length marks)
+  pub portal_is : new_portal ≡ written submission.portal portal
+  pub staging_is : new_staging ≡ written submission.staging staging
+  pub prices_is : new_prices ≡ written submission.certificate.prices prices
+  pub pairs_is : new_pairs ≡ written (map raw_pair_of submission.certificate.pairs) pairs
+  pub marks_is : new_marks ≡ written (marks_of submission.plan) marks
+  pub summary_is : summary ≡ summary_of submission
+
+-- why nothing is written: as for planning alone; or the certificate or the marks don't fit
+abbrev pub RefusesCertified : RawSettings → List ℕ → List ℕ → ℕ → ℕ → ℕ → ℕ → ℕ → RawRefusal → Type 0
+RefusesCertified s table list portal staging prices pairs marks r =
+    Refuses s table list portal staging r
+    ⊎ ((p : Submission) × IsPlannedFor s table list p × (¬ CertificateFitsIn p prices pairs marks) × (r ≡ no_room_for_certificate (length p.pieces)))

@@ -1,0 +1,54 @@
+-- What crosses to C and back.
+use Rattle.std.specs.Prelude.{◌≡◌, ℕ, List, ◌++◌, drop, length, slice_index_or}
+use Rattle.dsa_plan.specs.Settings.{Limits, AreInLimits, limits}
+use Rattle.dsa_checker.specs.declared.fault.CheckFault.TheVariants.{Plan}
+use Rattle.dsa_planner.specs.declared.fault.PlanFault.{PlanFault}
+use Rattle.dsa_planner.specs.declared.fault.PlanFault.TheVariants.{Entry, Check}
+use Rattle.dsa_planner.specs.Fault.{fault_number, fault_places, legal_number, legal_places, entry_number}
+use Rattle.dsa_c.specs.declared.settings.RawSettings.{RawSettings}
+use Rattle.dsa_c.specs.declared.refusal.RawRefusal.{RawRefusal}
+
+-- the settings that these numbers are; the table of prices by size counts with version 2 alone, which is not known yet
+abbrev pub limits_of : RawSettings → List ℕ → Limits
+limits_of r table = limits r.greatest_batch r.greatest_transfer r.lone r.batch r.fence r.staging
+
+-- these numbers are settings: of a known version, and each in its limits
+abbrev pub AreSettings : RawSettings → List ℕ → Type 0
+AreSettings r table = (r.version ≡ 1) × AreInLimits (limits_of r table)
+
+-- a buffer after the items were written at its front
+abbrev pub written : {X : Type 0} → List X → List X → List X
+written items old = items ++ drop (length items) old
+
+-- the number of the cause within, of a piece's fault or a plan's, else 0
+abbrev pub inner_of : PlanFault → ℕ
+inner_of (Entry index fault) = entry_number fault
+inner_of (Check (Plan fault)) = legal_number fault
+inner_of _ = 0
+
+-- all indices that a refusal names; of a plan that is refused in its turn, those of its fault
+abbrev pub all_places : PlanFault → List ℕ
+all_places (Check (Plan fault)) = legal_places fault
+all_places fault = fault_places fault
+
+-- these are the first two numbers of the list, with 0 for each that is missing
+abbrev pub ArePlaces : List ℕ → ℕ × ℕ → Type 0
+ArePlaces places p = (p.0 ≡ slice_index_or places 0 0) × (p.1 ≡ slice_index_or places 1 0)
+
+-- the refusal of a cause, as C sees it
+abbrev pub refusal_of : PlanFault → RawRefusal
+refusal_of fault =
+    record {
+      number = fault_number fault;
+      inner = inner_of fault;
+      first = slice_index_or (all_places fault) 0 0;
+      second = slice_index_or (all_places fault) 1 0;
+    }
+
+-- the refusal of buffers that are too small: number 90, and the bytes that each needs (this project's choice)
+abbrev pub no_room : ℕ → ℕ → RawRefusal
+no_room portal staging = record { number = 90; inner = 0; first = portal; second = staging }
+
+-- the refusal of arrays that are too small for a certificate: number 91, and the number of pieces (this project's choice)
+abbrev pub no_room_for_certificate : ℕ → RawRefusal
+no_room_for_certificate pieces = record { number = 91; inner = 0; first = pieces; second = 0 }

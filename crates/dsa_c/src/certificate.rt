@@ -1,0 +1,80 @@
+//! Certificates, as C lays them out.
+
+ghost use Rattle.std.specs.Prelude.{◌≡◌, IfOk, map};
+ghost use Rattle.dsa_cert.specs.Certificates.{contents};
+ghost use Rattle.dsa_c.specs.Certificates.{pair_of, raw_pair_of, contents_of};
+
+use dsa_cert::Certificate;
+use std::alloc::{AllocError, Global};
+
+/// Both numbers of a pair that stands for none.
+pub const NONE: u32 = 0xffff_ffff;
+
+/// `struct dsa_pair`: two pieces, or none, where both numbers are [`NONE`].
+#[repr(C)]
+#[derive(Clone, Copy)]
+pub struct RawPair {
+    /// The earlier piece.
+    pub first: u32,
+    /// The later piece.
+    pub second: u32,
+}
+
+// What the pair stands for.
+fn pair_of(raw: RawPair) -> Option<(u32, u32)>
+    ensures { result ≡ pair_of raw }
+{
+    if raw.first == NONE && raw.second == NONE {
+        None
+    } else {
+        Some((raw.first, raw.second))
+    }
+}
+
+// How a pair is laid out.
+fn raw_pair_of(pair: Option<(u32, u32)>) -> RawPair
+    ensures { result ≡ raw_pair_of pair }
+{
+    match pair {
+        Some((first, second)) => RawPair { first, second },
+        None => RawPair {
+            first: NONE,
+            second: NONE,
+        },
+    }
+}
+
+// What the pairs stand for.
+fn pairs_of(alloc: Global, raw: &[RawPair]) -> Result<Vec<Option<(u32, u32)>>, AllocError>
+    ensures { IfOk result (λ pairs. pairs.items ≡ map pair_of raw.now) }
+{
+    raw.iter().map(|raw| pair_of(*raw)).collect(alloc)
+}
+
+/// The certificate of this version with these prices and pairs.
+pub(crate) fn certificate_of(
+    alloc: Global,
+    version: u64,
+    prices: &[u64],
+    pairs: &[RawPair],
+) -> Result<Certificate, AllocError>
+    ensures { IfOk result (λ c. contents c ≡ contents_of version prices.now pairs.now) }
+{
+    let prices = Vec::from_slice(alloc, prices)?;
+    let pairs = pairs_of(alloc, pairs)?;
+    Ok(Certificate {
+        version,
+        prices,
+        pairs,
+    })
+}
+
+/// How these pairs are laid out.
+pub(crate) fn raw_pairs(
+    alloc: Global,
+    pairs: &[Option<(u32, u32)>],
+) -> Result<Vec<RawPair>, AllocError>
+    ensures { IfOk result (λ raw. raw.items ≡ map raw_pair_of pairs.now) }
+{
+    pairs.iter().map(|pair| raw_pair_of(*pair)).collect(alloc)
+}

@@ -1,0 +1,126 @@
+//! Planning a list, with the certificate of the plan and the marks of its groups and fences.
+
+ghost use Rattle.std.specs.Prelude.{◌≡◌, ◌≢◌, ◌<◌, length, map, MatchResult};
+ghost use Rattle.dsa_marks.specs.Marks.{marks_of};
+ghost use Rattle.dsa_planner.specs.Planned.{submission_of};
+ghost use Rattle.dsa_c.specs.Certificates.{raw_pair_of};
+ghost use Rattle.dsa_c.specs.Planning.{IsPlannedFor, FitsIn, CertificateFitsIn, IsCertifiedWritten, RefusesCertified};
+
+use crate::buffer::put;
+use crate::certificate::{RawPair, raw_pairs};
+use crate::planning::{RawPlanned, plan_for, summary};
+use crate::refusal::{RawRefusal, no_room_for_certificate, refusal};
+use crate::settings::RawSettings;
+use dsa_marks::marks_of;
+use dsa_planner::{PlanFault, Planned};
+use std::alloc::Global;
+
+// A planned list, and how its pairs, groups and fences are laid out.
+#[derive(Drop)]
+struct Certified {
+    planned: Planned,
+    pairs: Vec<RawPair>,
+    marks: Vec<u8>,
+}
+
+// How many items each of the caller's arrays has room for.
+#[derive(Clone, Copy)]
+struct Rooms {
+    portal: usize,
+    staging: usize,
+    prices: usize,
+    pairs: usize,
+    marks: usize,
+}
+
+// The planned list, where it is planned and all fits.
+fn certified_for(
+    alloc: Global,
+    settings: &RawSettings,
+    table: &[u64],
+    list: &[u8],
+    rooms: Rooms,
+) -> Result<Certified, RawRefusal>
+    ensures { MatchResult result
+        (λ x. IsPlannedFor settings.now table.now list.now (submission_of x.planned)
+        × FitsIn (submission_of x.planned) rooms.portal rooms.staging
+        × CertificateFitsIn (submission_of x.planned) rooms.prices rooms.pairs rooms.marks
+        × (x.pairs.items ≡ map raw_pair_of x.planned.certificate.pairs.items)
+        × (x.marks.items ≡ marks_of x.planned.plan))
+        (λ r. (0 < r.number)
+        × RefusesCertified settings.now table.now list.now
+        rooms.portal rooms.staging rooms.prices rooms.pairs rooms.marks r) }
+{
+    let planned = match plan_for(alloc, settings, table, list, rooms.portal, rooms.staging) {
+        Ok(planned) => planned,
+        Err(cause) => return Err(cause),
+    };
+    let pieces = planned.pieces.len();
+    if rooms.prices <= pieces || rooms.pairs < pieces || rooms.marks < pieces {
+        return Err(no_room_for_certificate(pieces));
+    }
+    let Ok(pairs) = raw_pairs(alloc, &planned.certificate.pairs) else {
+        return Err(refusal(PlanFault::Memory));
+    };
+    let Ok(marks) = marks_of(alloc, &planned.plan) else {
+        return Err(refusal(PlanFault::Memory));
+    };
+    Ok(Certified {
+        planned,
+        pairs,
+        marks,
+    })
+}
+
+/// Plans a list as [`dsa_plan_list`](crate::dsa_plan_list) does, and writes the plan's certificate too, to `prices` and
+/// `pairs`, and for each piece a mark to `marks`: 1 for one that begins a group, and 2 more for one that is fenced.
+#[unsafe(no_mangle)]
+pub extern "C" fn dsa_plan_list_certified(
+    alloc: Global,
+    settings: &RawSettings,
+    table: &[u64],
+    list: &[u8],
+    portal: &mut [u8],
+    staging: &mut [u8],
+    prices: &mut [u64],
+    pairs: &mut [RawPair],
+    marks: &mut [u8],
+    planned: &mut RawPlanned,
+    refusal: &mut RawRefusal,
+) -> u32
+    ensures planned { result ≡ 0 →
+        IsCertifiedWritten settings.now table.now list.now
+        portal.old portal.new staging.old staging.new prices.old prices.new
+        pairs.old pairs.new marks.old marks.new planned.new }
+    ensures unchanged { result ≢ 0 →
+        (portal.new ≡ portal.old) × (staging.new ≡ staging.old) × (prices.new ≡ prices.old)
+        × (pairs.new ≡ pairs.old) × (marks.new ≡ marks.old) × (planned.new ≡ planned.old) }
+    ensures refused { result ≢ 0 → (result ≡ refusal.new.number)
+        × RefusesCertified settings.now table.now list.now (length portal.old)
+        (length staging.old) (length prices.old) (length pairs.old) (length marks.old)
+        refusal.new }
+    ensures quiet { result ≡ 0 → refusal.new ≡ refusal.old }
+{
+    let rooms = Rooms {
+        portal: portal.len(),
+        staging: staging.len(),
+        prices: prices.len(),
+        pairs: pairs.len(),
+        marks: marks.len(),
+    };
+    match certified_for(alloc, settings, table, list, rooms) {
+        Ok(answer) => {
+            put(portal, &answer.planned.emission.portal);
+            put(staging, &answer.planned.emission.staging);
+            put(prices, &answer.planned.certificate.prices);
+            put(pairs, &answer.pairs);
+            put(marks, &answer.marks);
+            *planned = summary(&answer.planned);
+            0
+        }
+        Err(cause) => {
+            *refusal = cause;
+            cause.number
+        }
+    }
+}

@@ -1,0 +1,79 @@
+//! Checking bytes to submit, with a certificate.
+
+ghost use Rattle.std.specs.Prelude.{◌≡◌, ◌≢◌, ◌<◌, MatchResult};
+ghost use Rattle.dsa_c.specs.Certificates.{contents_of};
+ghost use Rattle.dsa_c.specs.Checking.{IsCheckedCost, RefusesCheck};
+
+use crate::certificate::{RawPair, certificate_of};
+use crate::refusal::{RawRefusal, refusal};
+use crate::settings::{RawSettings, settings_of};
+use dsa_planner::{PlanFault, check_bytes};
+use std::alloc::Global;
+
+// The cost of the bytes, where the certificate checks.
+fn check_for(
+    alloc: Global,
+    settings: &RawSettings,
+    table: &[u64],
+    portal: &[u8],
+    staging: &[u8],
+    version: u64,
+    prices: &[u64],
+    pairs: &[RawPair],
+) -> Result<u64, RawRefusal>
+    ensures { let s = settings.now in let t = table.now in
+        let c = contents_of version prices.now pairs.now in
+        MatchResult result
+        (λ cost. IsCheckedCost s t portal.now staging.now c cost)
+        (λ r. (0 < r.number) × RefusesCheck s t portal.now staging.now c r) }
+{
+    let Ok(checked) = settings_of(settings, table) else {
+        return Err(refusal(PlanFault::Settings));
+    };
+    let Ok(certificate) = certificate_of(alloc, version, prices, pairs) else {
+        return Err(refusal(PlanFault::Memory));
+    };
+    match check_bytes(alloc, portal, staging, &checked, &certificate) {
+        Ok(cost) => Ok(cost),
+        Err(fault) => Err(refusal(fault)),
+    }
+}
+
+/// Checks the bytes of a portal and a staging area with a certificate of this version, and writes the cost of their plan
+/// to `cost` where no legal plan of their pieces costs less. It answers 0 then, and else the number of the refusal, and
+/// has written `refusal` alone.
+#[unsafe(no_mangle)]
+pub extern "C" fn dsa_check(
+    alloc: Global,
+    settings: &RawSettings,
+    table: &[u64],
+    portal: &[u8],
+    staging: &[u8],
+    version: u64,
+    prices: &[u64],
+    pairs: &[RawPair],
+    cost: &mut u64,
+    refusal: &mut RawRefusal,
+) -> u32
+    ensures checked { result ≡ 0 →
+        IsCheckedCost settings.now table.now portal.now staging.now
+        (contents_of version prices.now pairs.now) cost.new }
+    ensures unchanged { result ≢ 0 → cost.new ≡ cost.old }
+    ensures refused { result ≢ 0 → (result ≡ refusal.new.number)
+        × RefusesCheck settings.now table.now portal.now staging.now
+        (contents_of version prices.now pairs.now) refusal.new }
+    ensures quiet { result ≡ 0 → refusal.new ≡ refusal.old }
+{
+    match check_for(
+        alloc, settings, table, portal, staging, version, prices, pairs,
+    ) {
+        Ok(found) => {
+            *cost = found;
+            0
+        }
+        Err(cause) => {
+            *refusal = cause;
+            cause.number
+        }
+    }
+}

@@ -1,0 +1,66 @@
+//! Judging a plan of the caller's.
+
+ghost use Rattle.std.specs.Prelude.{◌≡◌, ◌≢◌, ◌<◌, MatchResult};
+ghost use Rattle.dsa_c.specs.Judging.{IsJudgedCost, RefusesJudge};
+
+use crate::refusal::{RawRefusal, refusal};
+use crate::settings::{RawSettings, settings_of};
+use dsa_marks::plan_of;
+use dsa_planner::{PlanFault, judge_bytes};
+use std::alloc::Global;
+
+// The cost of the plan that the marks spell.
+fn judge_for(
+    alloc: Global,
+    settings: &RawSettings,
+    table: &[u64],
+    list: &[u8],
+    marks: &[u8],
+) -> Result<u64, RawRefusal>
+    ensures { MatchResult result
+        (λ cost. IsJudgedCost settings.now table.now list.now marks.now cost)
+        (λ r. (0 < r.number) × RefusesJudge settings.now table.now list.now marks.now r) }
+{
+    let Ok(checked) = settings_of(settings, table) else {
+        return Err(refusal(PlanFault::Settings));
+    };
+    let Ok(plan) = plan_of(alloc, marks) else {
+        return Err(refusal(PlanFault::Memory));
+    };
+    match judge_bytes(alloc, list, &plan, &checked) {
+        Ok(cost) => Ok(cost),
+        Err(fault) => Err(refusal(fault)),
+    }
+}
+
+/// Judges the plan that the marks spell, one for each descriptor of the list, none of which is split, and writes what it
+/// costs to `cost` where it may be submitted. It answers 0 then, and else the number of the refusal, and has written
+/// `refusal` alone.
+#[unsafe(no_mangle)]
+pub extern "C" fn dsa_judge(
+    alloc: Global,
+    settings: &RawSettings,
+    table: &[u64],
+    list: &[u8],
+    marks: &[u8],
+    cost: &mut u64,
+    refusal: &mut RawRefusal,
+) -> u32
+    ensures judged { result ≡ 0 →
+        IsJudgedCost settings.now table.now list.now marks.now cost.new }
+    ensures unchanged { result ≢ 0 → cost.new ≡ cost.old }
+    ensures refused { result ≢ 0 → (result ≡ refusal.new.number)
+        × RefusesJudge settings.now table.now list.now marks.now refusal.new }
+    ensures quiet { result ≡ 0 → refusal.new ≡ refusal.old }
+{
+    match judge_for(alloc, settings, table, list, marks) {
+        Ok(found) => {
+            *cost = found;
+            0
+        }
+        Err(cause) => {
+            *refusal = cause;
+            cause.number
+        }
+    }
+}

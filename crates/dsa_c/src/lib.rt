@@ -1,0 +1,24 @@
+//! The planner for programs in C: descriptors as bytes in, bytes to submit out, in buffers of the caller.
+#![tactic(auto)]
+
+mod buffer;
+mod certificate;
+mod certified;
+mod checking;
+mod counting;
+mod judging;
+mod planning;
+mod refusal;
+mod settings;
+
+pub use certificate::RawPair;
+pub use certified::dsa_plan_list_certified;
+pub use checking::dsa_check;
+pub use counting::dsa_count_pieces;
+pub use judging::dsa_judge;
+pub use planning::{RawPlanned, dsa_plan_list};
+pub use refusal::RawRefusal;
+pub use settings::RawSettings;
+
+#[cfg(test)]
+mod tests;

@@ -1,0 +1,108 @@
+//! Planning a list into buffers of the caller.
+
+ghost use Rattle.std.specs.Prelude.{◌≡◌, ◌≢◌, ◌<◌, length, MatchResult};
+ghost use Rattle.dsa_planner.specs.Planned.{submission_of};
+ghost use Rattle.dsa_c.specs.Planning.{IsPlannedFor, FitsIn, IsWritten, Refuses, summary_of};
+
+use crate::buffer::put;
+use crate::refusal::{RawRefusal, no_room, refusal};
+use crate::settings::{RawSettings, settings_of};
+use dsa_planner::{PlanFault, Planned, plan_list};
+use std::alloc::Global;
+
+/// `struct dsa_planned`: what was written, and what it costs.
+#[repr(C)]
+#[derive(Clone, Copy)]
+pub struct RawPlanned {
+    /// What the plan costs, in the unit of the settings' prices.
+    pub cost: u64,
+    /// The number of pieces.
+    pub pieces: u64,
+    /// The bytes that were written for the portal, 64 for each group.
+    pub portal_len: u64,
+    /// The bytes that were written for the staging area.
+    pub staging_len: u64,
+}
+
+/// The cost of the planned list, and the lengths of what is written of it.
+pub(crate) fn summary(planned: &Planned) -> RawPlanned
+    ensures { result ≡ summary_of (submission_of planned.now) }
+{
+    RawPlanned {
+        cost: planned.cost,
+        pieces: planned.pieces.len() as u64,
+        portal_len: planned.emission.portal.len() as u64,
+        staging_len: planned.emission.staging.len() as u64,
+    }
+}
+
+/// The planned list, where it is planned and its bytes fit.
+pub(crate) fn plan_for(
+    alloc: Global,
+    settings: &RawSettings,
+    table: &[u64],
+    list: &[u8],
+    portal_room: usize,
+    staging_room: usize,
+) -> Result<Planned, RawRefusal>
+    ensures { MatchResult result
+        (λ p. IsPlannedFor settings.now table.now list.now (submission_of p)
+        × FitsIn (submission_of p) portal_room staging_room)
+        (λ r. (0 < r.number)
+        × Refuses settings.now table.now list.now portal_room staging_room r) }
+{
+    let Ok(checked) = settings_of(settings, table) else {
+        return Err(refusal(PlanFault::Settings));
+    };
+    match plan_list(alloc, list, &checked) {
+        Ok(planned) => {
+            let portal_len = planned.emission.portal.len();
+            let staging_len = planned.emission.staging.len();
+            if portal_len <= portal_room && staging_len <= staging_room {
+                Ok(planned)
+            } else {
+                Err(no_room(portal_len, staging_len))
+            }
+        }
+        Err(fault) => Err(refusal(fault)),
+    }
+}
+
+/// Plans the operations that the bytes of `list` spell, and writes the bytes that submit the plan of least cost to
+/// `portal` and `staging`. It answers 0 then, and else the number of the refusal, and has written `refusal` alone.
+#[unsafe(no_mangle)]
+pub extern "C" fn dsa_plan_list(
+    alloc: Global,
+    settings: &RawSettings,
+    table: &[u64],
+    list: &[u8],
+    portal: &mut [u8],
+    staging: &mut [u8],
+    planned: &mut RawPlanned,
+    refusal: &mut RawRefusal,
+) -> u32
+    // What is written is the emission of the planned list, at the front of the buffers, and their rest is left.
+    ensures planned { result ≡ 0 →
+        IsWritten settings.now table.now list.now
+        portal.old portal.new staging.old staging.new planned.new }
+    // Otherwise the buffers are left alone, and the refusal has its cause.
+    ensures unchanged { result ≢ 0 →
+        (portal.new ≡ portal.old) × (staging.new ≡ staging.old) × (planned.new ≡ planned.old) }
+    ensures refused { result ≢ 0 → (result ≡ refusal.new.number)
+        × Refuses settings.now table.now list.now
+        (length portal.old) (length staging.old) refusal.new }
+    ensures quiet { result ≡ 0 → refusal.new ≡ refusal.old }
+{
+    match plan_for(alloc, settings, table, list, portal.len(), staging.len()) {
+        Ok(answer) => {
+            put(portal, &answer.emission.portal);
+            put(staging, &answer.emission.staging);
+            *planned = summary(&answer);
+            0
+        }
+        Err(cause) => {
+            *refusal = cause;
+            cause.number
+        }
+    }
+}

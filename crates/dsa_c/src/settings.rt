@@ -1,0 +1,45 @@
+//! The settings, as C lays them out.
+
+ghost use Rattle.std.specs.Prelude.{◌≡◌, MatchResult};
+ghost use Rattle.dsa_c.specs.Raw.{limits_of, AreSettings};
+
+use dsa_plan::{Settings, SettingsFault};
+
+/// `struct dsa_settings`.
+#[repr(C)]
+#[derive(Clone, Copy)]
+pub struct RawSettings {
+    /// 1.
+    pub version: u64,
+    /// The greatest number of pieces of a batch.
+    pub greatest_batch: u64,
+    /// The greatest number of bytes of a piece.
+    pub greatest_transfer: u64,
+    /// The price of a piece by itself.
+    pub lone: u64,
+    /// The price of a batch, without its fences.
+    pub batch: u64,
+    /// The price of each fence.
+    pub fence: u64,
+    /// The address where the staging bytes will stand.
+    pub staging: u64,
+}
+
+/// The settings of these numbers, where they are of a known version and in their limits. The table has the price of a
+/// batch by its size; it counts with version 2 alone, which is not known yet.
+pub(crate) fn settings_of(raw: &RawSettings, table: &[u64]) -> Result<Settings, SettingsFault>
+    ensures { let s = raw.now in let t = table.now in
+        MatchResult result (λ l. (l ≡ limits_of s t) × AreSettings s t) (λ _. ¬ AreSettings s t) }
+{
+    if raw.version != 1 {
+        return Err(SettingsFault::Settings);
+    }
+    Settings::new(
+        raw.greatest_batch,
+        raw.greatest_transfer,
+        raw.lone,
+        raw.batch,
+        raw.fence,
+        raw.staging,
+    )
+}

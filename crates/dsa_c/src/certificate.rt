@@ -1,7 +1,8 @@
 //! Certificates, as C lays them out.
 
-ghost use Rattle.std.specs.Prelude.{◌≡◌, IfOk, map};
+ghost use Rattle.std.specs.Prelude.{◌≡◌, ◌≤◌, IfOk, length, map};
 ghost use Rattle.dsa_cert.specs.Certificates.{contents};
+ghost use Rattle.dsa_c.specs.Raw.{written};
 ghost use Rattle.dsa_c.specs.Certificates.{pair_of, raw_pair_of, contents_of};
 
 use dsa_cert::Certificate;
@@ -48,7 +49,11 @@ fn raw_pair_of(pair: Option<(u32, u32)>) -> RawPair
 fn pairs_of(alloc: Global, raw: &[RawPair]) -> Result<Vec<Option<(u32, u32)>>, AllocError>
     ensures { IfOk result (λ pairs. pairs.items ≡ map pair_of raw.now) }
 {
-    raw.iter().map(|raw| pair_of(*raw)).collect(alloc)
+    let mut pairs = Vec::with_capacity(alloc, raw.len())?;
+    for raw in raw {
+        pairs.push(pair_of(*raw))?;
+    }
+    Ok(pairs)
 }
 
 /// The certificate of this version with these prices and pairs.
@@ -69,12 +74,12 @@ pub(crate) fn certificate_of(
     })
 }
 
-/// How these pairs are laid out.
-pub(crate) fn raw_pairs(
-    alloc: Global,
-    pairs: &[Option<(u32, u32)>],
-) -> Result<Vec<RawPair>, AllocError>
-    ensures { IfOk result (λ raw. raw.items ≡ map raw_pair_of pairs.now) }
+/// Writes how the pairs are laid out at the front of the array, and leaves the rest of it.
+pub(crate) fn put_pairs(buffer: &mut [RawPair], pairs: &[Option<(u32, u32)>])
+    requires { length pairs.now ≤ length buffer.old }
+    ensures { buffer.new ≡ written (map raw_pair_of pairs.now) buffer.old }
 {
-    pairs.iter().map(|pair| raw_pair_of(*pair)).collect(alloc)
+    for (index, pair) in pairs.iter().enumerate() {
+        buffer[index] = raw_pair_of(*pair);
+    }
 }

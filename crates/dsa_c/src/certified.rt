@@ -1,13 +1,12 @@
 //! Planning a list, with the certificate of the plan and the marks of its groups and fences.
 
-ghost use Rattle.std.specs.Prelude.{◌≡◌, ◌≢◌, ◌<◌, length, map, MatchResult};
+ghost use Rattle.std.specs.Prelude.{◌≡◌, ◌≢◌, ◌<◌, length, MatchResult};
 ghost use Rattle.dsa_marks.specs.Marks.{marks_of};
 ghost use Rattle.dsa_planner.specs.Planned.{submission_of};
-ghost use Rattle.dsa_c.specs.Certificates.{raw_pair_of};
 ghost use Rattle.dsa_c.specs.Planning.{IsPlannedFor, FitsIn, CertificateFitsIn, IsCertifiedWritten, RefusesCertified};
 
 use crate::buffer::put;
-use crate::certificate::{RawPair, raw_pairs};
+use crate::certificate::{RawPair, put_pairs};
 use crate::planning::{RawPlanned, plan_for, summary};
 use crate::refusal::{RawRefusal, no_room_for_certificate, refusal};
 use crate::settings::RawSettings;
@@ -15,11 +14,10 @@ use dsa_marks::marks_of;
 use dsa_planner::{PlanFault, Planned};
 use std::alloc::Global;
 
-// A planned list, and how its pairs, groups and fences are laid out.
+// A planned list, and the marks of its pieces.
 #[derive(Drop)]
 struct Certified {
     planned: Planned,
-    pairs: Vec<RawPair>,
     marks: Vec<u8>,
 }
 
@@ -45,7 +43,6 @@ fn certified_for(
         (λ x. IsPlannedFor settings.now table.now list.now (submission_of x.planned)
         × FitsIn (submission_of x.planned) rooms.portal rooms.staging
         × CertificateFitsIn (submission_of x.planned) rooms.prices rooms.pairs rooms.marks
-        × (x.pairs.items ≡ map raw_pair_of x.planned.certificate.pairs.items)
         × (x.marks.items ≡ marks_of x.planned.plan))
         (λ r. (0 < r.number)
         × RefusesCertified settings.now table.now list.now
@@ -59,17 +56,10 @@ fn certified_for(
     if rooms.prices <= pieces || rooms.pairs < pieces || rooms.marks < pieces {
         return Err(no_room_for_certificate(pieces));
     }
-    let Ok(pairs) = raw_pairs(alloc, &planned.certificate.pairs) else {
-        return Err(refusal(PlanFault::Memory));
-    };
     let Ok(marks) = marks_of(alloc, &planned.plan) else {
         return Err(refusal(PlanFault::Memory));
     };
-    Ok(Certified {
-        planned,
-        pairs,
-        marks,
-    })
+    Ok(Certified { planned, marks })
 }
 
 /// Plans a list as [`dsa_plan_list`](crate::dsa_plan_list) does, and writes the plan's certificate too, to `prices` and
@@ -113,7 +103,7 @@ pub extern "C" fn dsa_plan_list_certified(
             put(portal, &answer.planned.emission.portal);
             put(staging, &answer.planned.emission.staging);
             put(prices, &answer.planned.certificate.prices);
-            put(pairs, &answer.pairs);
+            put_pairs(pairs, &answer.planned.certificate.pairs);
             put(marks, &answer.marks);
             *planned = summary(&answer.planned);
             0

@@ -1,0 +1,244 @@
+/*
+ * dsa_planner.h: plans lists of descriptors of Intel's Data Streaming Accelerator, from C or C++.
+ *
+ * A list of operations goes in, 64 bytes for each (struct dsa_hw_desc of linux/idxd.h); out come the bytes that submit
+ * it, as batches and lone descriptors with fences, at least cost. What each call promises is proved: the contracts stand
+ * at the functions of the same names in crates/dsa_c/src.
+ *
+ * Link:      cc app.c libdsa_c.a liblibc_c.a
+ *            libdsa_c.a is crates/dsa_c/out/libdsa_c.a (`cd crates/dsa_c && rt lib` proves and builds it).
+ *            liblibc_c.a, of the toolchain, has the three functions of memory below over malloc, realloc and free; a
+ *            program may define the three itself and leave that archive out.
+ *
+ * Platform:  x86-64, System V calling convention, instructions up to x86-64-v2.
+ *
+ * Threads:   no call has state of its own, takes a lock, starts a thread or does input or output. Calls may run at the
+ *            same time on different threads, each with outputs of its own; inputs may be shared. No call may be made
+ *            from a signal handler, nor from the forked child of a process with threads.
+ *
+ * Memory:    the caller owns every array and struct; a call keeps no pointer after it returns. What a call allocates it
+ *            frees before it returns.
+ *
+ * A caller owes, since no C compiler checks it (undefined behaviour else):
+ *   - each pointer is aligned and not NULL, and points to as many items as its length says, which can be read (const) or
+ *     written (not const). With length 0 it is not read, and any valid address will do; it may still not be NULL.
+ *   - no output of a call overlaps another output or an input of that call.
+ *   - nothing else writes to inputs or outputs, or reads outputs, during the call.
+ *
+ * Units:     lengths of byte arrays and `_len` of results are bytes; lengths of prices, pairs, marks and tables are
+ *            items. Addresses are the device's. Prices and costs are in one unit of the caller's choice, for example
+ *            nanoseconds. Numbers in descriptors are little-endian; numbers in structs are the machine's.
+ */
+#ifndef DSA_PLANNER_H
+#define DSA_PLANNER_H
+
+#include <stddef.h>
+#include <stdint.h>
+
+#ifdef __cplusplus
+extern "C" {
+#endif
+
+/* The most pieces of a planned list. An operation longer than greatest_transfer is several pieces. */
+#define DSA_MOST_PIECES 65536u
+
+/* Bytes that are always enough for portal and staging of n pieces. */
+#define DSA_PORTAL_ROOM(n) ((size_t)64 * (size_t)(n))
+#define DSA_STAGING_ROOM(n) ((size_t)80 * (size_t)(n))
+
+/*
+ * The limits of the device and of its work queue, and what submissions cost.
+ *
+ * Beside it each call takes a table of prices by size. It counts with version 2 alone: table[s - 2] is the price of a
+ * batch of s pieces, greatest_batch - 1 entries in all, and `batch` does not count. With version 1 it is not read: pass
+ * any valid address and 0, for example &settings.batch, 0. This library knows version 1; version 2 is refused 83.
+ */
+struct dsa_settings {
+    uint64_t version;           /* 1 */
+    uint64_t greatest_batch;    /* most pieces of a batch, 2 to 1,024 */
+    uint64_t greatest_transfer; /* most bytes of a piece, 8 to 2^31, a multiple of 8 */
+    uint64_t lone;              /* price of a descriptor by itself, at most 1,000,000,000 */
+    uint64_t batch;             /* price of a batch, without its fences, at most 1,000,000,000 */
+    uint64_t fence;             /* price of each fence, at most 1,000,000,000 */
+    uint64_t staging;           /* where the staging bytes will stand, a multiple of 64, at most 2^63 */
+};
+
+/* A planned list. */
+struct dsa_planned {
+    uint64_t cost;        /* what the plan costs; no legal plan of these pieces costs less */
+    uint64_t pieces;      /* how many pieces */
+    uint64_t portal_len;  /* bytes written to portal: 64 for each group */
+    uint64_t staging_len; /* bytes written to staging */
+};
+
+/* Why a call refused. */
+struct dsa_refusal {
+    uint32_t number; /* a number of enum dsa_number */
+    uint32_t inner;  /* of DSA_ENTRY the number of the piece's fault, of DSA_PLAN that of the plan's; else 0 */
+    uint64_t first;  /* the first index that the cause names, from 0; of DSA_NO_ROOM the bytes that portal needs, of
+                        DSA_NO_ROOM_FOR_CERTIFICATE the number of pieces; else 0 */
+    uint64_t second; /* the second index; of DSA_NO_ROOM the bytes that staging needs; else 0 */
+};
+
+/* A pair of conflicting pieces in a certificate; both numbers are DSA_NONE where a piece has no pair. */
+#define DSA_NONE UINT32_C(0xffffffff)
+struct dsa_pair {
+    uint32_t first;
+    uint32_t second;
+};
+
+/* The mark of a piece is a sum of these: it begins a group (a batch, or a descriptor by itself); it carries the fence. */
+#define DSA_BEGINS 1u
+#define DSA_FENCED 2u
+
+/*
+ * What a call returns: 0, or the number of the refusal. docs/FORMATS.md explains each cause and their order. Where a
+ * comment names an index, it stands in refusal.first (and refusal.second).
+ */
+enum dsa_number {
+    DSA_OK = 0,
+    /* the list: index of the descriptor */
+    DSA_LENGTH = 1, /* no index: the length is no multiple of 64 */
+    DSA_OPCODE = 2,
+    DSA_FLAG_BITS = 3,
+    DSA_RESERVED = 4,
+    DSA_SIZE_ZERO = 5,
+    DSA_WRAP = 6,
+    DSA_RECORD_ALIGN = 7,
+    DSA_DUALCAST_BITS = 8,
+    DSA_OVERLAP = 9,
+    DSA_DELTA = 10,
+    DSA_EXPECTED = 11,
+    DSA_MIXED_PASID = 12,
+    DSA_RECORD_MEETS_DATA = 13,
+    /* splitting: index of the operation */
+    DSA_DELTA_TOO_LONG = 30,
+    DSA_EXPECTED_SPLIT = 31,
+    DSA_TOO_MANY_PIECES = 32, /* no index */
+    DSA_STAGING_MEETS = 33,   /* index of the piece */
+    DSA_ROW_MEETS_DATA = 34,
+    DSA_ROW_WRAP = 35,
+    /* judging: index of the descriptor, which is longer than greatest_transfer */
+    DSA_OVER_TRANSFER = 37,
+    /* a plan: of dsa_judge the number, of dsa_check the inner number of DSA_PLAN */
+    DSA_COUNT = 40,       /* no index */
+    DSA_GROUP_SIZE = 41,  /* index of the group */
+    DSA_FIRST_FENCE = 42, /* index of the group */
+    DSA_UNFENCED = 43,    /* the two pieces */
+    /* bytes to submit */
+    DSA_PORTAL_LENGTH = 44,  /* no index */
+    DSA_BATCH_FIELDS = 45,   /* index of the group */
+    DSA_STAGING_LENGTH = 46, /* no index */
+    DSA_ENTRY = 47,          /* index of the piece */
+    DSA_ENTRY_FENCE = 48,    /* index of the group */
+    DSA_RECORD_BYTES = 49,   /* index of the batch */
+    /* a certificate */
+    DSA_PLAN = 60,    /* the indices of the plan's fault */
+    DSA_LENGTHS = 61, /* no index */
+    DSA_PAIR = 62,    /* index of the piece */
+    DSA_PRICE = 63,   /* where the group begins, and where it ends */
+    DSA_TOTAL = 64,   /* no index */
+    DSA_VERSION = 65, /* no index */
+    /* any call, no index */
+    DSA_MEMORY = 73,   /* an allocation failed */
+    DSA_SETTINGS = 83, /* a setting outside its limits, or an unknown version */
+    /* room in the caller's arrays */
+    DSA_NO_ROOM = 90,
+    DSA_NO_ROOM_FOR_CERTIFICATE = 91
+};
+
+/*
+ * How many pieces a list has, to size buffers before planning it: with n the result, DSA_PORTAL_ROOM(n) and
+ * DSA_STAGING_ROOM(n) bytes are enough. It looks at sizes alone and allocates nothing. 65,537 for more pieces than may be
+ * planned; 0 for settings that are refused (and for an empty list). Where no operation is longer than greatest_transfer
+ * the result is list_len / 64.
+ */
+uint64_t dsa_count_pieces(const struct dsa_settings *settings,
+                          const uint64_t *table, size_t table_len,
+                          const uint8_t *list, size_t list_len);
+
+/*
+ * Plans a list: 64 bytes for each operation, in the order in which they are to take effect.
+ *
+ * Returns 0: portal and staging begin with the bytes that submit the plan of least cost, and planned has their lengths.
+ * What stood behind these bytes in the buffers still does; refusal is not written. To run the plan, put the staging bytes
+ * at settings->staging; then for each 64 bytes of portal: write them to the work queue's portal, wait until the
+ * completion record at the address in their bytes 8..16 has a status, and stop where the status is not 1.
+ *
+ * Returns another number: refusal has it, and nothing else was written. DSA_NO_ROOM: refusal.first and refusal.second
+ * are the bytes that portal and staging need.
+ */
+uint32_t dsa_plan_list(const struct dsa_settings *settings,
+                       const uint64_t *table, size_t table_len,
+                       const uint8_t *list, size_t list_len,
+                       uint8_t *portal, size_t portal_capacity,
+                       uint8_t *staging, size_t staging_capacity,
+                       struct dsa_planned *planned,
+                       struct dsa_refusal *refusal);
+
+/*
+ * The same, and for n pieces it writes the plan's certificate, n + 1 prices and n pairs, and n marks (DSA_BEGINS,
+ * DSA_FENCED), each to the front of its array. DSA_NO_ROOM_FOR_CERTIFICATE: one of the three arrays is too small, and
+ * refusal.first is n. The certificate's version is that of the settings.
+ */
+uint32_t dsa_plan_list_certified(const struct dsa_settings *settings,
+                                 const uint64_t *table, size_t table_len,
+                                 const uint8_t *list, size_t list_len,
+                                 uint8_t *portal, size_t portal_capacity,
+                                 uint8_t *staging, size_t staging_capacity,
+                                 uint64_t *prices, size_t prices_capacity,
+                                 struct dsa_pair *pairs, size_t pairs_capacity,
+                                 uint8_t *marks, size_t marks_capacity,
+                                 struct dsa_planned *planned,
+                                 struct dsa_refusal *refusal);
+
+/*
+ * Checks bytes to submit, whoever made them, with a certificate of this version, whoever wrote it.
+ *
+ * Returns 0: cost is what the plan costs that the bytes submit; each conflict within a batch has its fence, and no legal
+ * plan of these pieces costs less. Returns another number: refusal has it, and nothing else was written.
+ */
+uint32_t dsa_check(const struct dsa_settings *settings,
+                   const uint64_t *table, size_t table_len,
+                   const uint8_t *portal, size_t portal_len,
+                   const uint8_t *staging, size_t staging_len,
+                   uint64_t version,
+                   const uint64_t *prices, size_t prices_len,
+                   const struct dsa_pair *pairs, size_t pairs_len,
+                   uint64_t *cost,
+                   struct dsa_refusal *refusal);
+
+/*
+ * Judges a plan of the caller's, a mark for each descriptor of the list. No descriptor is split. The first descriptor
+ * begins a group, whatever its mark; bits of a mark beside DSA_BEGINS and DSA_FENCED do not count.
+ *
+ * Returns 0: cost is what the plan costs; it is within the limits, and each conflict within a batch has its fence.
+ * Returns another number: refusal has it, and nothing else was written. DSA_UNFENCED: the pieces refusal.first and
+ * refusal.second of one batch conflict, and no fence stands between them.
+ */
+uint32_t dsa_judge(const struct dsa_settings *settings,
+                   const uint64_t *table, size_t table_len,
+                   const uint8_t *list, size_t list_len,
+                   const uint8_t *marks, size_t marks_len,
+                   uint64_t *cost,
+                   struct dsa_refusal *refusal);
+
+/*
+ * What the library takes its memory with, for programs that bring their own (a pool of DPDK or SPDK, an arena); else link
+ * liblibc_c.a. `ok` is 1 and `at` the block, or `ok` is 0 and `at` some address that is not NULL. A block of size bytes
+ * is aligned to align, which is a power of two, at most 16. A size of 0 wants a block too. dsa_count_pieces calls none of
+ * the three.
+ */
+struct rattle_block {
+    uint64_t ok;
+    void *at;
+};
+struct rattle_block rattle_alloc(size_t size, size_t align);
+struct rattle_block rattle_realloc(void *at, size_t old_size, size_t size, size_t align);
+void rattle_dealloc(void *at);
+
+#ifdef __cplusplus
+}
+#endif
+
+#endif

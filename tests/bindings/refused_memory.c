@@ -1,0 +1,127 @@
+/* Refuses each allocation of each call in turn, by memory functions of its own: the answer has to be 73, no output but
+ * the refusal may have changed, and nothing may be kept. Then each call needs no more than it took with ample memory. */
+#include <inttypes.h>
+#include <stdio.h>
+#include <stdlib.h>
+#include <string.h>
+
+#include "dsa_planner.h"
+
+static uint64_t asked, live, refused_at;
+
+struct rattle_block rattle_alloc(size_t size, size_t align)
+{
+    static uint8_t none[16];
+    if (++asked == refused_at)
+        return (struct rattle_block){0, none};
+    void *at = aligned_alloc(16, (size + align + 15) / 16 * 16);
+    if (!at)
+        return (struct rattle_block){0, none};
+    live++;
+    return (struct rattle_block){1, at};
+}
+
+void rattle_dealloc(void *at)
+{
+    live--;
+    free(at);
+}
+
+struct rattle_block rattle_realloc(void *at, size_t old_size, size_t size, size_t align)
+{
+    struct rattle_block block = rattle_alloc(size, align);
+    if (block.ok) {
+        memcpy(block.at, at, old_size < size ? old_size : size);
+        rattle_dealloc(at);
+    }
+    return block;
+}
+
+enum { N = 24 };
+static const struct dsa_settings settings = {1, 5, 4096, 10, 14, 3, UINT64_C(1) << 40};
+static uint8_t list[64 * N], marks_in[N], portal_in[64 * N], staging_in[80 * N];
+static uint64_t prices_in[N + 1];
+static struct dsa_pair pairs_in[N];
+static struct dsa_planned planned_in;
+
+/* All that calls write, in one block, so that one comparison sees any change. */
+static struct outputs {
+    uint8_t portal[64 * N], staging[80 * N], marks[N];
+    uint64_t prices[N + 1], cost;
+    struct dsa_pair pairs[N];
+    struct dsa_planned planned;
+} outputs, before;
+
+static uint32_t call(int which, struct dsa_refusal *r)
+{
+    struct outputs *o = &outputs;
+    switch (which) {
+    case 0:
+        return dsa_plan_list(&settings, &settings.batch, 0, list, sizeof list, o->portal, sizeof o->portal, o->staging,
+                             sizeof o->staging, &o->planned, r);
+    case 1:
+        return dsa_plan_list_certified(&settings, &settings.batch, 0, list, sizeof list, o->portal, sizeof o->portal,
+                                       o->staging, sizeof o->staging, o->prices, N + 1, o->pairs, N, o->marks, N,
+                                       &o->planned, r);
+    case 2:
+        return dsa_check(&settings, &settings.batch, 0, portal_in, planned_in.portal_len, staging_in,
+                         planned_in.staging_len, 1, prices_in, N + 1, pairs_in, N, &o->cost, r);
+    default:
+        return dsa_judge(&settings, &settings.batch, 0, list, sizeof list, marks_in, N, &o->cost, r);
+    }
+}
+
+static void fail(const char *what, int which, uint64_t at)
+{
+    printf("call %d, allocation %" PRIu64 ": %s\n", which, at, what);
+    exit(EXIT_FAILURE);
+}
+
+int main(void)
+{
+    struct dsa_refusal r;
+    for (uint64_t i = 0; i < N; i++) { /* moves of 64 bytes, each third of which reads what the one before writes */
+        uint8_t *d = list + 64 * i;
+        uint64_t fields[3] = {0x800000 + 32 * i, 0x1000 * (i % 3 == 2 ? i - 1 : i + 100), 0x1000 * i};
+        d[4] = 0x0c;
+        d[7] = 0x03;
+        memcpy(d + 8, fields, 24);
+        d[32] = 64;
+    }
+    if (call(1, &r) != DSA_OK)
+        fail("refused with ample memory", 1, 0);
+    memcpy(portal_in, outputs.portal, sizeof portal_in);
+    memcpy(staging_in, outputs.staging, sizeof staging_in);
+    memcpy(marks_in, outputs.marks, sizeof marks_in);
+    memcpy(prices_in, outputs.prices, sizeof prices_in);
+    memcpy(pairs_in, outputs.pairs, sizeof pairs_in);
+    planned_in = outputs.planned;
+    for (int which = 0; which < 4; which++) {
+        refused_at = asked = 0;
+        if (call(which, &r) != DSA_OK || live != 0 || asked == 0)
+            fail("refused with ample memory, or kept some", which, 0);
+        uint64_t growths = asked;
+        memset(&before, 0xa5, sizeof before);
+        for (refused_at = 1; refused_at <= growths; refused_at++) {
+            const struct dsa_refusal want = {DSA_MEMORY, 0, 0, 0};
+            asked = 0;
+            memset(&outputs, 0xa5, sizeof outputs);
+            memset(&r, 0xa5, sizeof r);
+            if (call(which, &r) != DSA_MEMORY || memcmp(&r, &want, sizeof r) != 0)
+                fail("not refused 73", which, refused_at);
+            if (memcmp(&outputs, &before, sizeof before) != 0)
+                fail("an output has changed", which, refused_at);
+            if (live != 0)
+                fail("a block was kept", which, refused_at);
+        }
+        asked = 0;
+        if (call(which, &r) != DSA_OK || asked != growths)
+            fail("refused afterwards", which, growths + 1);
+        printf("call %d: %" PRIu64 " allocations refused in turn\n", which, growths);
+    }
+    refused_at = 1;
+    asked = 0;
+    if (dsa_count_pieces(&settings, &settings.batch, 0, list, sizeof list) != N || asked != 0)
+        fail("counting allocates", 4, asked);
+    return EXIT_SUCCESS;
+}

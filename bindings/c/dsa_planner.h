@@ -12,7 +12,7 @@
  *
  * Platform:  x86-64, System V calling convention, instructions up to x86-64-v2.
  *
- * Threads:   no call has state of its own, takes a lock, starts a thread or does input or output. Calls may run at the
+ * Threads:   no call keeps state, takes a lock of its own, starts a thread or does input or output. Calls may run at the
  *            same time on different threads, each with outputs of its own; inputs may be shared. No call may be made
  *            from a signal handler, nor from the forked child of a process with threads.
  *
@@ -226,8 +226,10 @@ uint32_t dsa_judge(const struct dsa_settings *settings,
 /*
  * What the library takes its memory with, for programs that bring their own (a pool of DPDK or SPDK, an arena); else link
  * liblibc_c.a. `ok` is 1 and `at` the block, or `ok` is 0 and `at` some address that is not NULL. A block of size bytes
- * is aligned to align, which is a power of two, at most 16. A size of 0 wants a block too. dsa_count_pieces calls none of
- * the three.
+ * is aligned to align, which is a power of two, at most 16. A size of 0 wants a block too. rattle_realloc gives a block of
+ * size bytes that begins as the old one did, and takes the old one back; where it fails, the old one stays as it is. The
+ * three are called on the thread of the call, which has given every block back when it returns. dsa_count_pieces calls
+ * none of them.
  */
 struct rattle_block {
     uint64_t ok;

@@ -32,7 +32,12 @@ fn main() -> Result<(), Refusal> {
     println!("cost {}, marks {:?}", planned.cost, planned.marks);
     println!("portal {}", hex(&planned.portal));
     println!("staging {}", hex(&planned.staging));
-    let cost = check(&settings, &planned.portal, &planned.staging, &planned.certificate)?;
+    let cost = check(
+        &settings,
+        &planned.portal,
+        &planned.staging,
+        &planned.certificate,
+    )?;
     println!("checked {cost}");
     Ok(())
 }

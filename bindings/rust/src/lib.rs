@@ -132,7 +132,10 @@ pub struct Planned {
     pub certificate: Certificate,
 }
 
-const NONE: raw::Pair = raw::Pair { first: u32::MAX, second: u32::MAX };
+const NONE: raw::Pair = raw::Pair {
+    first: u32::MAX,
+    second: u32::MAX,
+};
 
 /// How many pieces a list has: 64 bytes for each are enough for `portal`, and 80 for `staging`. It is 65,537 for more
 /// pieces than may be planned, and 0 for settings that are refused (and for an empty list).
@@ -176,7 +179,8 @@ pub fn plan_list(settings: &Settings, list: &[u8]) -> Result<Planned, Refusal> {
     let (raw, table) = settings.raw();
     let pieces = usize::try_from(count_pieces(settings, list)).map_or(0, |n| n.min(MOST_PIECES));
     let (mut portal, mut staging) = (vec![0; 64 * pieces], vec![0; 80 * pieces]);
-    let (mut prices, mut pairs, mut marks) = (vec![0; pieces + 1], vec![NONE; pieces], vec![0; pieces]);
+    let (mut prices, mut pairs, mut marks) =
+        (vec![0; pieces + 1], vec![NONE; pieces], vec![0; pieces]);
     let (mut summary, mut refusal) = (Summary::default(), Refusal::default());
     // SAFETY: each pointer and length are those of one slice, or of one struct, and no output overlaps another argument.
     let code = unsafe {
@@ -203,9 +207,21 @@ pub fn plan_list(settings: &Settings, list: &[u8]) -> Result<Planned, Refusal> {
     let summary = answer(code, summary, refusal)?;
     portal.truncate(summary.portal_len as usize);
     staging.truncate(summary.staging_len as usize);
-    let pairs = pairs.into_iter().map(|pair| (pair != NONE).then_some((pair.first, pair.second)));
-    let certificate = Certificate { version: raw.version, prices, pairs: pairs.collect() };
-    Ok(Planned { cost: summary.cost, portal, staging, marks, certificate })
+    let pairs = pairs
+        .into_iter()
+        .map(|pair| (pair != NONE).then_some((pair.first, pair.second)));
+    let certificate = Certificate {
+        version: raw.version,
+        prices,
+        pairs: pairs.collect(),
+    };
+    Ok(Planned {
+        cost: summary.cost,
+        portal,
+        staging,
+        marks,
+        certificate,
+    })
 }
 
 /// What the bytes of a portal and a staging area cost, where each conflict within a batch has its fence and the

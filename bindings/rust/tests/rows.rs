@@ -26,18 +26,37 @@ fn move_bytes(src: u64, dst: u64, size: u32, record: u64) -> [u8; 64] {
 }
 
 fn two_moves() -> Vec<u8> {
-    [move_bytes(0x1000, 0x2000, 64, 0x8000), move_bytes(0x2000, 0x4000, 64, 0x8020)].concat()
+    [
+        move_bytes(0x1000, 0x2000, 64, 0x8000),
+        move_bytes(0x2000, 0x4000, 64, 0x8020),
+    ]
+    .concat()
 }
 
 fn refused(number: u32, inner: u32, first: u64, second: u64) -> Refusal {
-    Refusal { number, inner, first, second }
+    Refusal {
+        number,
+        inner,
+        first,
+        second,
+    }
 }
 
 #[test]
 fn nothing_is_planned() {
     let planned = plan_list(&SETTINGS, &[]).unwrap();
-    assert_eq!((planned.cost, planned.portal.len(), planned.staging.len()), (0, 0, 0));
-    assert_eq!(planned.certificate, Certificate { version: 1, prices: vec![0], pairs: vec![] });
+    assert_eq!(
+        (planned.cost, planned.portal.len(), planned.staging.len()),
+        (0, 0, 0)
+    );
+    assert_eq!(
+        planned.certificate,
+        Certificate {
+            version: 1,
+            prices: vec![0],
+            pairs: vec![]
+        }
+    );
 }
 
 #[test]
@@ -45,9 +64,16 @@ fn two_moves_are_planned() {
     let planned = plan_list(&SETTINGS, &two_moves()).unwrap();
     assert_eq!((planned.cost, planned.marks), (17, vec![BEGINS, FENCED]));
     assert_eq!((planned.portal.len(), planned.staging.len()), (64, 160));
-    assert_eq!(planned.portal[8..24], [0x80, 0, 1, 0, 0, 0, 0, 0, 0, 0, 1, 0, 0, 0, 0, 0]);
+    assert_eq!(
+        planned.portal[8..24],
+        [0x80, 0, 1, 0, 0, 0, 0, 0, 0, 0, 1, 0, 0, 0, 0, 0]
+    );
     assert_eq!(planned.staging[68], 0x0d);
-    let certificate = Certificate { version: 1, prices: vec![0, 10, 17], pairs: vec![Some((0, 1)), None] };
+    let certificate = Certificate {
+        version: 1,
+        prices: vec![0, 10, 17],
+        pairs: vec![Some((0, 1)), None],
+    };
     assert_eq!(planned.certificate, certificate);
 }
 
@@ -56,25 +82,57 @@ fn an_overlapping_move_is_split_from_its_end() {
     let list = move_bytes(0x1000, 0x1008, 10_240, 0x8000);
     assert_eq!(count_pieces(&SETTINGS, &list), 3);
     let planned = plan_list(&SETTINGS, &list).unwrap();
-    assert_eq!((planned.cost, planned.marks), (20, vec![BEGINS, FENCED, FENCED]));
-    assert_eq!(planned.certificate.pairs, [Some((0, 1)), Some((1, 2)), None]);
-    assert_eq!(planned.staging[..64], move_bytes(0x3000, 0x3008, 2048, 0x8040));
+    assert_eq!(
+        (planned.cost, planned.marks),
+        (20, vec![BEGINS, FENCED, FENCED])
+    );
+    assert_eq!(
+        planned.certificate.pairs,
+        [Some((0, 1)), Some((1, 2)), None]
+    );
+    assert_eq!(
+        planned.staging[..64],
+        move_bytes(0x3000, 0x3008, 2048, 0x8040)
+    );
 }
 
 #[test]
 fn certificates_are_checked() {
-    let list = [move_bytes(0x1000, 0x2000, 64, 0x8000), move_bytes(0x3000, 0x4000, 64, 0x8020)].concat();
+    let list = [
+        move_bytes(0x1000, 0x2000, 64, 0x8000),
+        move_bytes(0x3000, 0x4000, 64, 0x8020),
+    ]
+    .concat();
     let planned = plan_list(&SETTINGS, &list).unwrap();
     let checked = |version, prices: &[u64], pairs: &[Option<(u32, u32)>]| {
-        let certificate = Certificate { version, prices: prices.to_vec(), pairs: pairs.to_vec() };
+        let certificate = Certificate {
+            version,
+            prices: prices.to_vec(),
+            pairs: pairs.to_vec(),
+        };
         check(&SETTINGS, &planned.portal, &planned.staging, &certificate)
     };
     assert_eq!(checked(1, &[0, 10, 14], &[None, None]), Ok(14));
-    assert_eq!(checked(1, &[0, 10, 17], &[Some((0, 1)), None]), Err(refused(62, 0, 0, 0)));
-    assert_eq!(checked(1, &[0, 10, 15], &[None, None]), Err(refused(63, 0, 0, 2)));
-    assert_eq!(checked(1, &[0, 10, 13], &[None, None]), Err(refused(64, 0, 0, 0)));
-    assert_eq!(checked(2, &[0, 10, 14], &[None, None]), Err(refused(65, 0, 0, 0)));
-    assert_eq!(checked(1, &[0, 10], &[None, None]), Err(refused(61, 0, 0, 0)));
+    assert_eq!(
+        checked(1, &[0, 10, 17], &[Some((0, 1)), None]),
+        Err(refused(62, 0, 0, 0))
+    );
+    assert_eq!(
+        checked(1, &[0, 10, 15], &[None, None]),
+        Err(refused(63, 0, 0, 2))
+    );
+    assert_eq!(
+        checked(1, &[0, 10, 13], &[None, None]),
+        Err(refused(64, 0, 0, 0))
+    );
+    assert_eq!(
+        checked(2, &[0, 10, 14], &[None, None]),
+        Err(refused(65, 0, 0, 0))
+    );
+    assert_eq!(
+        checked(1, &[0, 10], &[None, None]),
+        Err(refused(61, 0, 0, 0))
+    );
 }
 
 #[test]
@@ -82,8 +140,14 @@ fn plans_are_judged() {
     let list = two_moves();
     assert_eq!(judge(&SETTINGS, &list, &[BEGINS, FENCED]), Ok(17));
     assert_eq!(judge(&SETTINGS, &list, &[BEGINS, BEGINS]), Ok(20));
-    assert_eq!(judge(&SETTINGS, &list, &[BEGINS, 0]), Err(refused(43, 0, 0, 1)));
-    assert_eq!(judge(&SETTINGS, &list, &[BEGINS]), Err(refused(40, 0, 0, 0)));
+    assert_eq!(
+        judge(&SETTINGS, &list, &[BEGINS, 0]),
+        Err(refused(43, 0, 0, 1))
+    );
+    assert_eq!(
+        judge(&SETTINGS, &list, &[BEGINS]),
+        Err(refused(40, 0, 0, 0))
+    );
     let fenced = [BEGINS + FENCED, FENCED];
     assert_eq!(judge(&SETTINGS, &list, &fenced), Err(refused(42, 0, 0, 0)));
 }
@@ -96,11 +160,20 @@ fn refusals_leave_the_buffers() {
     assert_eq!(short, Err(refused(90, 0, 64, 160)));
     let cut = plan_into(&SETTINGS, &list[..65], &mut portal, &mut staging);
     assert_eq!(cut, Err(refused(1, 0, 0, 0)));
-    let small = Settings { greatest_batch: 1, ..SETTINGS };
-    assert_eq!(plan_into(&small, &list, &mut portal, &mut staging), Err(refused(83, 0, 0, 0)));
+    let small = Settings {
+        greatest_batch: 1,
+        ..SETTINGS
+    };
+    assert_eq!(
+        plan_into(&small, &list, &mut portal, &mut staging),
+        Err(refused(83, 0, 0, 0))
+    );
     assert_eq!(count_pieces(&small, &list), 0);
     assert_eq!((portal, staging), ([0xee; 64], [0xee; 159]));
-    assert_eq!(refused(60, 43, 0, 1).to_string(), "refused 60 for 43, first 0, second 1");
+    assert_eq!(
+        refused(60, 43, 0, 1).to_string(),
+        "refused 60 for 43, first 0, second 1"
+    );
 }
 
 // 4,294,967,295 bytes by eights are more than 65,536 pieces.
@@ -108,7 +181,10 @@ fn refusals_leave_the_buffers() {
 fn too_many_pieces_are_refused() {
     let mut fill = move_bytes(0, 0, u32::MAX, 0x2_0000_0000);
     fill[7] = 0x04;
-    let by_eights = Settings { greatest_transfer: 8, ..SETTINGS };
+    let by_eights = Settings {
+        greatest_transfer: 8,
+        ..SETTINGS
+    };
     assert_eq!(count_pieces(&by_eights, &fill), 65_537);
     assert_eq!(plan_list(&by_eights, &fill), Err(refused(32, 0, 0, 0)));
 }

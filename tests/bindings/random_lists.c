@@ -7,7 +7,7 @@
 
 #include "dsa_planner.h"
 
-enum { MOST = 12, PIECES = 1200 };
+enum { MOST = 12, PIECES = DSA_MOST_PIECES };
 
 static uint64_t seed;
 static uint64_t below(uint64_t n)

@@ -51,10 +51,10 @@ extern "C" {
  *
  * Beside it each call takes a table of prices by size. It counts with version 2 alone: table[s - 2] is the price of a
  * batch of s pieces, greatest_batch - 1 entries in all, and `batch` does not count. With version 1 it is not read: pass
- * any valid address and 0, for example &settings.batch, 0. This library knows version 1; version 2 is refused 83.
+ * any valid address and 0, for example &settings.batch, 0. Another version, or a table of another length, is refused 83.
  */
 struct dsa_settings {
-    uint64_t version;           /* 1 */
+    uint64_t version;           /* 1, or 2 with a table of prices by size */
     uint64_t greatest_batch;    /* most pieces of a batch, 2 to 1,024 */
     uint64_t greatest_transfer; /* most bytes of a piece, 8 to 2^31, a multiple of 8 */
     uint64_t lone;              /* price of a descriptor by itself, at most 1,000,000,000 */

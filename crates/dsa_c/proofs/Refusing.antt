@@ -13,7 +13,11 @@ use Rattle.dsa_planner.specs.Checked.{Checks}
 use Rattle.dsa_c.specs.declared.settings.RawSettings.{RawSettings}
 use Rattle.dsa_c.specs.declared.refusal.RawRefusal.{RawRefusal}
 use Rattle.dsa_c.specs.Raw.{limits_of, AreSettings, refusal_of, no_room}
+use Rattle.dsa_plan.specs.Plan.{Plan}
+use Rattle.dsa_marks.specs.Marks.{plan_of}
+use Rattle.dsa_planner.specs.Judge.{Judges}
 use Rattle.dsa_c.specs.Checking.{RefusesCheck}
+use Rattle.dsa_c.specs.Judging.{RefusesJudge}
 use Rattle.dsa_c.specs.Planning.{IsPlannedFor, Refuses}
 
 -- what planning answers under the settings that the numbers are
@@ -50,3 +54,11 @@ refuses_check s table portal staging l c d fault r is are same (inl memory) valu
 refuses_check s table portal staging l c d fault r is are same (inr refused) value =
     let for_c = subst (λ (x : Contents). Checks portal staging l x (Err fault)) same refused in
     inr (inr (fault, are, subst (λ (x : Limits). Checks portal staging x c (Err fault)) is for_c, value))
+
+-- judging refuses
+pub refuses_judge : (s : RawSettings) (table list marks : List ℕ) (l : Limits) (plan : Plan) (fault : PlanFault) (r : RawRefusal) → l ≡ limits_of s table → AreSettings s table
+    → plan ≡ plan_of marks → (fault ≡ Memory) ⊎ Judges list plan l (Err fault) → r ≡ refusal_of fault → RefusesJudge s table list marks r
+refuses_judge s table list marks l plan fault r is are same (inl memory) value = inr (inl (value ∙ ap refusal_of memory, are))
+refuses_judge s table list marks l plan fault r is are same (inr refused) value =
+    let of_marks = subst (λ (x : Plan). Judges list x l (Err fault)) same refused in
+    inr (inr (fault, are, subst (λ (x : Limits). Judges list (plan_of marks) x (Err fault)) is of_marks, value))

@@ -1,6 +1,7 @@
 -- What crosses to C and back.
-use Rattle.std.specs.Prelude.{◌≡◌, ℕ, List, ◌++◌, drop, length, slice_index_or}
-use Rattle.dsa_plan.specs.Settings.{Limits, AreInLimits, limits}
+use Rattle.std.specs.Prelude.{◌≡◌, ◌⊎◌, if◌then◌else◌, ◌==◌, ℕ, List, ◌++◌, drop, length, slice_index_or}
+use Rattle.dsa_plan.specs.Settings.{BatchPrices, Limits, AreInLimits, limits}
+use Rattle.dsa_plan.specs.Settings.BatchPrices.{SamePrice, BySize}
 use Rattle.dsa_checker.specs.declared.fault.CheckFault.TheVariants.{Plan}
 use Rattle.dsa_planner.specs.declared.fault.PlanFault.{PlanFault}
 use Rattle.dsa_planner.specs.declared.fault.PlanFault.TheVariants.{Entry, Check}
@@ -8,13 +9,17 @@ use Rattle.dsa_planner.specs.Fault.{fault_number, fault_places, legal_number, le
 use Rattle.dsa_c.specs.declared.settings.RawSettings.{RawSettings}
 use Rattle.dsa_c.specs.declared.refusal.RawRefusal.{RawRefusal}
 
--- the settings that these numbers are; the table of prices by size counts with version 2 alone, which is not known yet
+-- what batches cost by these numbers: in version 2 the table tells it by size, and else they all cost the same
+abbrev pub prices_in : RawSettings → List ℕ → BatchPrices
+prices_in r table = if r.version == 2 then BySize table else SamePrice r.batch
+
+-- the settings that these numbers and this table are
 abbrev pub limits_of : RawSettings → List ℕ → Limits
-limits_of r table = limits r.greatest_batch r.greatest_transfer r.lone r.batch r.fence r.staging
+limits_of r table = limits r.greatest_batch r.greatest_transfer r.lone (prices_in r table) r.fence r.staging
 
 -- these numbers are settings: of a known version, and each in its limits
 abbrev pub AreSettings : RawSettings → List ℕ → Type 0
-AreSettings r table = (r.version ≡ 1) × AreInLimits (limits_of r table)
+AreSettings r table = ((r.version ≡ 1) ⊎ (r.version ≡ 2)) × AreInLimits (limits_of r table)
 
 -- a buffer after the items were written at its front
 abbrev pub written : {X : Type 0} → List X → List X → List X

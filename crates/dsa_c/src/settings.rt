@@ -9,7 +9,7 @@ use dsa_plan::{Settings, SettingsFault};
 #[repr(C)]
 #[derive(Clone, Copy)]
 pub struct RawSettings {
-    /// 1.
+    /// 1, or 2 where a table has the prices of batches.
     pub version: u64,
     /// The greatest number of pieces of a batch.
     pub greatest_batch: u64,
@@ -17,7 +17,7 @@ pub struct RawSettings {
     pub greatest_transfer: u64,
     /// The price of a piece by itself.
     pub lone: u64,
-    /// The price of a batch, without its fences.
+    /// The price of a batch, without its fences, in version 1.
     pub batch: u64,
     /// The price of each fence.
     pub fence: u64,
@@ -26,11 +26,21 @@ pub struct RawSettings {
 }
 
 /// The settings of these numbers, where they are of a known version and in their limits. The table has the price of a
-/// batch by its size; it counts with version 2 alone, which is not known yet.
+/// batch by its size; it counts with version 2 alone.
 pub(crate) fn settings_of(raw: &RawSettings, table: &[u64]) -> Result<Settings, SettingsFault>
     ensures { let s = raw.now in let t = table.now in
         MatchResult result (λ l. (l ≡ limits_of s t) × AreSettings s t) (λ _. ¬ AreSettings s t) }
 {
+    if raw.version == 2 {
+        return Settings::with_table(
+            raw.greatest_batch,
+            raw.greatest_transfer,
+            raw.lone,
+            table,
+            raw.fence,
+            raw.staging,
+        );
+    }
     if raw.version != 1 {
         return Err(SettingsFault::Settings);
     }

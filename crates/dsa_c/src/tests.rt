@@ -152,30 +152,32 @@ fn plans_are_judged(rt: HostRuntime) {
     assert_eq!(rt; (refusal.number, refusal.first, refusal.second), (43, 0, 1));
 }
 
-// Another version is no settings; a buffer is a byte too small; there is no room for a third price.
+// Another version is no settings, nor are too few prices by size; a buffer is a byte too small; there is no room for a third price.
 #[test]
 fn refusals_leave_the_buffers(rt: HostRuntime) {
     let list = moves_of(64, 64);
     let (mut portal, mut staging) = ([0xee; 64], [0xee; 159]);
     let (mut planned, mut refusal) = (NOT_PLANNED, NOT_REFUSED);
-    let version_two = RawSettings {
-        version: 2,
-        ..SETTINGS
-    };
-    let code = dsa_plan_list(
-        rt.alloc(),
-        &version_two,
-        &[14, 14, 14],
-        &list,
-        &mut portal,
-        &mut staging,
-        &mut planned,
-        &mut refusal,
-    );
-    assert_eq!(rt;
-        (code, refusal.number, refusal.inner, refusal.first),
-        (83, 83, 0, 0)
-    );
+    for (version, table) in [(3, [14, 14, 14].as_slice()), (2, &[14, 14])] {
+        let other = RawSettings {
+            version,
+            ..SETTINGS
+        };
+        let code = dsa_plan_list(
+            rt.alloc(),
+            &other,
+            table,
+            &list,
+            &mut portal,
+            &mut staging,
+            &mut planned,
+            &mut refusal,
+        );
+        assert_eq!(rt;
+            (code, refusal.number, refusal.inner, refusal.first),
+            (83, 83, 0, 0)
+        );
+    }
     let code = dsa_plan_list(
         rt.alloc(),
         &SETTINGS,

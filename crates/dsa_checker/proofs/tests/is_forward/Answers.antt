@@ -1,4 +1,4 @@
-use Rattle.std.proofs.Common.{ℕ, ◌<◌, ◌≤◌, Some, length, refl, below_more, arith}
+use Rattle.std.proofs.Common.{ℕ, ◌<◌, Some, length, refl, below_more, arith}
 use Rattle.std.proofs.lemmas.Option.{slice_get_within}
 use Rattle.dsa_plan.specs.Chain.{LeadsTo}
 use Rattle.dsa_checker.proofs.tests.is_forward.Goals as goal

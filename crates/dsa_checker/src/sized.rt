@@ -13,7 +13,8 @@ fn last_of_run(pairs: &[Option<(u32, u32)>], piece: usize, reach: usize) -> usiz
     requires { piece < length pairs.now }
     ensures inside { result ≤ reach }
     ensures before { (b : ℕ) → LeadsTo pairs.now piece b → result ≤ b }
-    ensures far { (end : ℕ) → end ≤ reach → ((b : ℕ) → LeadsTo pairs.now piece b → end ≤ b) → end ≤ result }
+    ensures far { (end : ℕ) → end ≤ reach →
+        ((b : ℕ) → LeadsTo pairs.now piece b → end ≤ b) → end ≤ result }
 {
     match pairs[piece] {
         Some((_, second)) => reach.min(second as usize),
@@ -34,7 +35,9 @@ fn first_above(
     requires late { start + 2 ≤ from }
     requires inside { to ≤ length prices.now }
     requires sizes { to ≤ start + 2 + length table.now }
-    ensures { MatchOption result (AreWithin prices.now table.now start from to most) (IsFirstAbove prices.now table.now start from to most) }
+    ensures { MatchOption result
+        (AreWithin prices.now table.now start from to most)
+        (IsFirstAbove prices.now table.now start from to most) }
 {
     for end in from..to {
         if prices[end] > most.saturating_add(table[end - start - 2]) {
@@ -58,7 +61,11 @@ fn first_bad_end(
     requires inside { start < length pairs.now }
     requires count { length prices.now ≡ length pairs.now + 1 }
     requires sizes { length table.now ≤ 1023 }
-    ensures { MatchOption result (StepsHoldFrom (sized_prices lone fence table.now) (length pairs.now) pairs.now prices.now start) (IsFirstBadEnd (sized_prices lone fence table.now) (length pairs.now) pairs.now prices.now start) }
+    ensures { MatchOption result
+        (StepsHoldFrom (sized_prices lone fence table.now) (length pairs.now)
+        pairs.now prices.now start)
+        (IsFirstBadEnd (sized_prices lone fence table.now) (length pairs.now)
+        pairs.now prices.now start) }
 {
     if prices[start + 1] > prices[start].saturating_add(lone) {
         return Some(start + 1);
@@ -91,7 +98,10 @@ pub(crate) fn first_bad_sized_step(
     requires few { length pairs.now ≤ 65536 }
     requires count { length prices.now ≡ length pairs.now + 1 }
     requires sizes { length table.now ≤ 1023 }
-    ensures { MatchOption result (StepsHold (sized_prices lone fence table.now) (length pairs.now) pairs.now prices.now) (λ step. IsFirstBadStep (sized_prices lone fence table.now) (length pairs.now) pairs.now prices.now step.0 step.1) }
+    ensures { MatchOption result
+        (StepsHold (sized_prices lone fence table.now) (length pairs.now) pairs.now prices.now)
+        (λ step. IsFirstBadStep (sized_prices lone fence table.now) (length pairs.now)
+        pairs.now prices.now step.0 step.1) }
 {
     for start in 0..pairs.len() {
         if let Some(end) = first_bad_end(prices, pairs, lone, fence, table, start) {

@@ -79,8 +79,10 @@ fn push_kind(touches: &mut Vec<Touch>, pieces: &[Descriptor], kind: Kind) -> Res
     requires few { length pieces.now ≤ 65536 }
     requires known { All (IsTouchOf (map fields pieces.now)) touches.old.items }
     ensures known { OnOk result (All (IsTouchOf (map fields pieces.now)) touches.new.items) }
-    ensures kept { OnOk result ((t : Touch) → Contains touches.old.items t → Contains touches.new.items t) }
-    ensures all { OnOk result (HasKind kind touches.new.items (map fields pieces.now) (length pieces.now)) }
+    ensures kept { OnOk result
+        ((t : Touch) → Contains touches.old.items t → Contains touches.new.items t) }
+    ensures all { OnOk result
+        (HasKind kind touches.new.items (map fields pieces.now) (length pieces.now)) }
 {
     for piece in 0..pieces.len() {
         let spans = spans_of(&pieces[piece], kind);

@@ -5,6 +5,7 @@ that always submits alone, which has to fail jobs of tests/campaign, and runs te
 
 import os
 import re
+import shutil
 import subprocess
 import sys
 import tempfile
@@ -22,8 +23,10 @@ WRONG = [
 
 
 def copy_tree(tree):
-    tracked = subprocess.run(["git", "ls-files", "-z", "HANDLES", "crates.txt", "crates"], capture_output=True, check=True)
-    subprocess.run(["xargs", "-0", "cp", "--parents", "-t", tree], input=tracked.stdout, check=True)
+    """Copies the crates without what is built, and makes a folder for cases."""
+    shutil.copytree("crates", f"{tree}/crates", ignore=shutil.ignore_patterns("out"))
+    for name in ("crates.txt", "HANDLES"):
+        shutil.copy(name, tree)
     os.mkdir(f"{tree}/cases")
 
 

@@ -60,12 +60,12 @@ has_room list s p (inr (ds, listed, of)) =
     let can : CanBePlanned s (map fields p.pieces) = pieces_can s (map fields ds) (map fields p.pieces) listed.owner of.split of.pieces_are in
     let legal : IsLegal (ConflictAt (map fields p.pieces)) s.greatest_batch (length p.pieces) p.plan = (planned_is_least_and_shown list s p (inr (ds, listed, of))).least.legal in
     let legal_map : IsLegal (ConflictAt (map fields p.pieces)) s.greatest_batch (length (map fields p.pieces)) p.plan =
-    subst (λ (n : ℕ). IsLegal (ConflictAt (map fields p.pieces)) (prices_of s) n p.plan) (sym (length-map p.pieces fields)) legal in
+    subst (λ (n : ℕ). IsLegal (ConflictAt (map fields p.pieces)) s.greatest_batch n p.plan) (sym (length-map p.pieces fields)) legal in
     let emitted : CanBeEmitted s p.plan (map fields p.pieces) = can_emit (ConflictAt (map fields p.pieces)) s (map fields p.pieces) p.plan can legal_map in
     let at : StandsAtPlaces s p.plan p.pieces p.portal p.staging = (emission_at_places s p.plan p.pieces p.portal p.staging emitted).0 (of.portal_is, of.staging_is) in
     let within = batches_within p.plan in
     record {
-      portal = omega (arith, at.portal_length, groups_within (prices_of s) p.plan emitted.shapes, legal.covers);
+      portal = omega (arith, at.portal_length, groups_within s.greatest_batch p.plan emitted.shapes, legal.covers);
       staging = omega (arith, at.staging_length, within.pieces, within.halves, legal.covers);
     }
 

@@ -93,13 +93,13 @@ pub(crate) fn case_of(alloc: Global, list: &List) -> Result<Option<Case>, AllocE
     }))
 }
 
-/// Both settings have the same numbers.
+/// Both settings, of one price for all batches, have the same numbers.
 fn are_settings_same(one: &Settings, other: &Settings) -> bool {
     one.version() == other.version()
         && one.greatest_batch() == other.greatest_batch()
         && one.greatest_transfer() == other.greatest_transfer()
         && one.lone() == other.lone()
-        && one.batch() == other.batch()
+        && one.price(2) == other.price(2)
         && one.fence() == other.fence()
         && one.staging() == other.staging()
 }

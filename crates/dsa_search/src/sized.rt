@@ -270,7 +270,7 @@ fn fill_sizes(
 /// fences, and a group has at most `table.len() + 1` pieces.
 ///
 /// # Errors
-/// Only want of memory.
+/// An allocation failure.
 pub(crate) fn table_by_size(
     alloc: Global,
     pairs: &[Option<(u32, u32)>],

@@ -154,12 +154,19 @@ class Settings:
     greatest_batch: int
     greatest_transfer: int
     lone: int
-    batch: int
+    batch: int | list  # one price for all batches, or a price for each size from 2
     fence: int
     staging: int
 
+    @property
+    def version(self):
+        return 2 if isinstance(self.batch, list) else 1
+
     def group_cost(self, fences):
-        return self.lone if len(fences) == 1 else self.batch + self.fence * sum(fences)
+        if len(fences) == 1:
+            return self.lone
+        price = self.batch[len(fences) - 2] if self.version == 2 else self.batch
+        return price + self.fence * sum(fences)
 
 
 def groups(count):

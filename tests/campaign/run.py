@@ -65,11 +65,12 @@ class Case:
         self.random = random.Random(seed)
         self.large = self.random.random() < 0.1
         self.transfer = 8192 if self.large else self.random.choice([16, 24, 64])
+        greatest_batch = self.random.choice([2, 3, 4, 6, 1024])
         self.settings = Settings(
-            self.random.choice([2, 3, 4, 6, 1024]),
+            greatest_batch,
             self.transfer,
             self.random.choice([0, 5, 10, 10, 20]),
-            self.random.choice([0, 10, 14, 14, 30]),
+            self.batch_prices(greatest_batch - 1),
             self.random.choice([0, 1, 3, 3, 7, 12]),
             STAGING,
         )
@@ -77,6 +78,12 @@ class Case:
         self.memory = bytearray(0x8000 if self.large else 0x1400)
         self.fill_memory()
         self.operations, self.pieces = self.list()
+
+    def batch_prices(self, sizes):
+        """One price for all batches, or a price for each size."""
+        if self.random.random() < 0.6:
+            return self.random.choice([0, 10, 14, 14, 30])
+        return [self.random.choice([0, 10, 14, 16, 20, 30]) for _ in range(sizes)]
 
     def fill_memory(self):
         """Few different bytes, so that regions are often equal."""
@@ -137,7 +144,7 @@ class Case:
         return operations, pieces
 
     def job(self, do, **members):
-        numbers = vars(self.settings) | {"version": 1}
+        numbers = vars(self.settings) | {"version": self.settings.version}
         return {"do": do, "settings": numbers, **members}
 
     def digits(self, operations):
@@ -153,11 +160,13 @@ def plan_and_check(program, case):
     if not cost == prices[-1] == least:
         raise Wrong("the model disagrees with itself")
     portal, staging = model.emission(plan, case.pieces, case.settings)
-    certificate = {"pairs": pairs, "prices": prices, "version": 1}
+    certificate = {"pairs": pairs, "prices": prices, "version": case.settings.version}
     emitted = {"portal": portal.hex(), "staging": staging.hex()}
     expect(program, case.job("plan", list=case.digits(case.operations)),
            compact({"certificate": certificate, "cost": cost, "plan": plan, **emitted}))
     expect(program, case.job("check", **emitted, certificate=certificate), compact({"cost": cost}))
+    other = {**certificate, "version": 3 - certificate["version"]}
+    expect(program, case.job("check", **emitted, certificate=other), "refused 65 Version")
     if prices[-1] > 0:
         lower = {**certificate, "prices": prices[:-1] + [prices[-1] - 1]}
         expect(program, case.job("check", **emitted, certificate=lower), "refused 64 Total")

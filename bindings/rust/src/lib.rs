@@ -25,7 +25,7 @@ pub const FENCED: u8 = 2;
 pub enum BatchPrice<'a> {
     /// One price for all sizes, at most 1,000,000,000.
     Flat(u64),
-    /// The price of a batch of 2, 3, .. `greatest_batch` pieces. The archive of today refuses it: 83.
+    /// The price of a batch of 2, 3, .. `greatest_batch` pieces, each at most 1,000,000,000.
     BySize(&'a [u64]),
 }
 

@@ -69,8 +69,9 @@ pub record IsCertifiedWritten (s : RawSettings) (table list portal new_portal st
   pub marks_is : new_marks ≡ written (marks_of submission.plan) marks
   pub summary_is : summary ≡ summary_of submission
 
--- why nothing is written: as for planning alone; or the certificate or the marks don't fit
+-- why nothing is written: as for planning alone; or the bytes fit, but not the certificate or the marks
 abbrev pub RefusesCertified : RawSettings → List ℕ → List ℕ → ℕ → ℕ → ℕ → ℕ → ℕ → RawRefusal → Type 0
 RefusesCertified s table list portal staging prices pairs marks r =
     Refuses s table list portal staging r
-    ⊎ ((p : Submission) × IsPlannedFor s table list p × (¬ CertificateFitsIn p prices pairs marks) × (r ≡ no_room_for_certificate (length p.pieces)))
+    ⊎ ((p : Submission) × IsPlannedFor s table list p × FitsIn p portal staging × (¬ CertificateFitsIn p prices pairs marks)
+    × (r ≡ no_room_for_certificate (length p.pieces)))

@@ -1,4 +1,4 @@
-use Rattle.std.proofs.Common.{rules, ◌≡◌, ℕ, ◌+◌, ◌<◌, ◌≤◌, List, [], ◌∷◌, length, refl, sym, ap, ◌∙◌, subst, arith}
+use Rattle.std.proofs.Common.{◌≡◌, ℕ, ◌<◌, List, [], ◌∷◌, length, refl, sym, ap, ◌∙◌, subst, arith}
 use Rattle.dsa_plan.specs.Settings.{AreInLimits, ArePrices, BatchPrices, limits}
 use Rattle.dsa_plan.specs.Settings.BatchPrices.{BySize, SamePrice}
 use Rattle.dsa_plan.specs.Kept.{kept_prices}

@@ -22,6 +22,9 @@ for job in examples/*.job tests/jobs/*.job; do
         *) expect 0 "$line" < "$job" ;;
     esac
 done
+# the wrong batches of docs/USING.md
+sed 's/\[false,true\]/[false,false]/' examples/judge.job | expect 1 'refused 43 Unfenced 0 1'
+sed 's/0d000003/0c000003/' examples/check.job | expect 1 'refused 60 Plan 43 Unfenced 0 1'
 head -c 1048575 /dev/zero | tr '\0' ' ' | expect 1 'refused 80 Json'
 echo '{}' | expect 1 'refused 82 Do'
 echo '[' | expect 1 'refused 80 Json'

@@ -22,7 +22,10 @@
  * A caller owes, since no C compiler checks it (undefined behaviour else):
  *   - each pointer is aligned and not NULL, and points to as many items as its length says, which can be read (const) or
  *     written (not const). With length 0 it is not read, and any valid address will do; it may still not be NULL.
- *   - no output of a call overlaps another output or an input of that call.
+ *   - no output of a call overlaps another output or an input of that call. Outputs need not be initialised.
+ *   - the calling thread has 256 KiB of stack free for dsa_check and dsa_judge, and 64 KiB for the other calls.
+ *   - its rattle_alloc, rattle_realloc and rattle_dealloc, where it has its own, return, and may be called by several
+ *     threads at once where calls are.
  *   - nothing else writes to inputs or outputs, or reads outputs, during the call.
  *
  * Units:     lengths of byte arrays and `_len` of results are bytes; lengths of prices, pairs, marks and tables are
@@ -141,7 +144,7 @@ enum dsa_number {
     DSA_VERSION = 65, /* no index */
     /* any call, no index */
     DSA_MEMORY = 73,   /* an allocation failed */
-    DSA_SETTINGS = 83, /* a setting outside its limits, or an unknown version */
+    DSA_SETTINGS = 83, /* a setting outside its limits, an unknown version, or a table of another length */
     /* room in the caller's arrays */
     DSA_NO_ROOM = 90,
     DSA_NO_ROOM_FOR_CERTIFICATE = 91
@@ -150,8 +153,8 @@ enum dsa_number {
 /*
  * How many pieces a list has, to size buffers before planning it: with n the result, DSA_PORTAL_ROOM(n) and
  * DSA_STAGING_ROOM(n) bytes are enough. It looks at sizes alone and allocates nothing. 65,537 for more pieces than may be
- * planned; 0 for settings that are refused (and for an empty list). Where no operation is longer than greatest_transfer
- * the result is list_len / 64.
+ * planned. Where each size is 1 to greatest_transfer and there are at most 65,536 operations, the result is
+ * list_len / 64. 0 says nothing: the settings are refused, or no operation has a byte; dsa_plan_list tells which.
  */
 uint64_t dsa_count_pieces(const struct dsa_settings *settings,
                           const uint64_t *table, size_t table_len,
@@ -161,9 +164,11 @@ uint64_t dsa_count_pieces(const struct dsa_settings *settings,
  * Plans a list: 64 bytes for each operation, in the order in which they are to take effect.
  *
  * Returns 0: portal and staging begin with the bytes that submit the plan of least cost, and planned has their lengths.
- * What stood behind these bytes in the buffers still does; refusal is not written. To run the plan, put the staging bytes
- * at settings->staging; then for each 64 bytes of portal: write them to the work queue's portal, wait until the
- * completion record at the address in their bytes 8..16 has a status, and stop where the status is not 1.
+ * What stood behind these bytes in the buffers still does; refusal is not written. To run the plan, clear the 32 bytes of
+ * every completion record that the list names, and put the staging bytes, which clear those of the batches, at
+ * settings->staging, anew for each run; then for each 64 bytes of portal: write them to the work queue's portal, wait
+ * until the completion record at the address in their bytes 8..16 has a status, and stop where the status is not 1.
+ * The staging area is 96 bytes for each piece from settings->staging on; a list that meets it is refused (33).
  *
  * Returns another number: refusal has it, and nothing else was written. DSA_NO_ROOM: refusal.first and refusal.second
  * are the bytes that portal and staging need.
@@ -193,7 +198,8 @@ uint32_t dsa_plan_list_certified(const struct dsa_settings *settings,
                                  struct dsa_refusal *refusal);
 
 /*
- * Checks bytes to submit, whoever made them, with a certificate of this version, whoever wrote it.
+ * Checks bytes to submit, whoever made them, with a certificate of this version, whoever wrote it. The lengths are those
+ * of the plan, not of buffers: portal_len and staging_len of struct dsa_planned, n + 1 prices and n pairs for n pieces.
  *
  * Returns 0: cost is what the plan costs that the bytes submit; each conflict within a batch has its fence, and no legal
  * plan of these pieces costs less. Returns another number: refusal has it, and nothing else was written.

@@ -103,8 +103,12 @@ int main(int argc, char **argv)
         return 2;
     }
     int file = open(argv[1], O_RDWR);
+    if (file < 0) {
+        perror(argv[1]);
+        return 1;
+    }
     void *page = mmap(NULL, 4096, PROT_WRITE, MAP_SHARED | MAP_POPULATE, file, 0);
-    if (file < 0 || page == MAP_FAILED) {
+    if (page == MAP_FAILED) {
         perror(argv[1]);
         return 1;
     }

@@ -31,7 +31,8 @@ JOBS = [f"examples/{name}.job" for name in ("plan", "check", "judge", "replay", 
     for name in (
         "plan-nothing", "check-nothing", "replay-nothing", "plan-two-pairs", "check-two-pairs", "plan-delta-and-move",
         "run-delta-same-offset-stops", "replay-order-00", "run-two-moves-2", "run-two-moves-64", "judge-unfenced",
-        "check-fence-left-out", "plan-list-of-65-bytes", "check-no-version", "no-do", "nothing",
+        "check-fence-left-out", "plan-list-of-65-bytes", "check-no-version", "no-do", "nothing", "plan-by-size", "check-by-size",
+        "plan-table-too-short",
     )
 ]
 

@@ -20,6 +20,8 @@ static uint8_t list[64 * MOST], portal[64 * PIECES], staging[80 * PIECES], marks
 static uint64_t prices[PIECES + 1];
 static struct dsa_pair pairs[PIECES];
 static struct dsa_settings s;
+static uint64_t table[8]; /* prices by size, which count with version 2 */
+static size_t table_len;
 
 static uint64_t any_address(void) { return 0x1000 * (1 + below(9)) + 64 * below(3); }
 
@@ -62,6 +64,13 @@ static void any_settings(void)
     };
     if (below(40) == 0)
         s.greatest_batch = below(2) ? 1 : 1025;
+    table_len = 0;
+    if (below(3) == 0 && s.greatest_batch <= 6) {
+        s.version = 2;
+        table_len = s.greatest_batch - 1 + (below(30) == 0);
+        for (size_t i = 0; i < table_len; i++)
+            table[i] = below(30);
+    }
 }
 
 static void hex(FILE *f, const uint8_t *bytes, size_t len)
@@ -96,14 +105,18 @@ static void certificate_text(FILE *f, size_t n)
     fprintf(f, "],\"prices\":[");
     for (size_t i = 0; i <= n; i++)
         fprintf(f, "%s%" PRIu64, i == 0 ? "" : ",", prices[i]);
-    fprintf(f, "],\"version\":1}");
+    fprintf(f, "],\"version\":%" PRIu64 "}", s.version);
 }
 
 static void settings_text(FILE *f)
 {
     fprintf(f, "\"settings\":{\"version\":%" PRIu64 ",\"greatest_batch\":%" PRIu64 ",\"greatest_transfer\":%" PRIu64
-               ",\"lone\":%" PRIu64 ",\"batch\":%" PRIu64 ",\"fence\":%" PRIu64 ",\"staging\":%" PRIu64 "}",
-            s.version, s.greatest_batch, s.greatest_transfer, s.lone, s.batch, s.fence, s.staging);
+               ",\"lone\":%" PRIu64 ",\"fence\":%" PRIu64 ",\"staging\":%" PRIu64 ",\"batch\":",
+            s.version, s.greatest_batch, s.greatest_transfer, s.lone, s.fence, s.staging);
+    if (s.version == 1)
+        fprintf(f, "%" PRIu64 "}", s.batch);
+    for (size_t i = 0; i < table_len; i++)
+        fprintf(f, "%s%" PRIu64 "%s", i == 0 ? "[" : ",", table[i], i + 1 == table_len ? "]}" : "");
 }
 
 /* How many indices a refusal's line has. */
@@ -164,7 +177,7 @@ static int plan(const char *folder, uint64_t i, size_t len, struct dsa_planned *
     fprintf(job, "\",");
     settings_text(job);
     fprintf(job, "}");
-    uint32_t code = dsa_plan_list_certified(&s, &s.batch, 0, list, len, portal, sizeof portal, staging, sizeof staging,
+    uint32_t code = dsa_plan_list_certified(&s, table, table_len, list, len, portal, sizeof portal, staging, sizeof staging,
                                             prices, PIECES + 1, pairs, PIECES, marks, PIECES, p, &r);
     if (code == 0) {
         fprintf(line, "{\"certificate\":");
@@ -176,7 +189,7 @@ static int plan(const char *folder, uint64_t i, size_t len, struct dsa_planned *
         fprintf(line, "\",\"staging\":\"");
         hex(line, staging, p->staging_len);
         fprintf(line, "\"}\n");
-        if (p->pieces != dsa_count_pieces(&s, &s.batch, 0, list, len))
+        if (p->pieces != dsa_count_pieces(&s, table, table_len, list, len))
             exit(EXIT_FAILURE);
     } else
         refusal_text(line, &r);
@@ -221,7 +234,7 @@ static void check(const char *folder, uint64_t i, const struct dsa_planned *p)
     fclose(job);
     struct dsa_refusal r;
     uint64_t cost = 0;
-    uint32_t code = dsa_check(&s, &s.batch, 0, portal, p->portal_len, staging, p->staging_len, 1, prices, n + 1, pairs, n,
+    uint32_t code = dsa_check(&s, table, table_len, portal, p->portal_len, staging, p->staging_len, s.version, prices, n + 1, pairs, n,
                               &cost, &r);
     cost_line(folder, i, "check.line", code, cost, &r);
 }
@@ -244,7 +257,7 @@ static void judge(const char *folder, uint64_t i, size_t len)
     fclose(job);
     struct dsa_refusal r;
     uint64_t cost = 0;
-    uint32_t code = dsa_judge(&s, &s.batch, 0, list, len, marks, n, &cost, &r);
+    uint32_t code = dsa_judge(&s, table, table_len, list, len, marks, n, &cost, &r);
     cost_line(folder, i, "judge.line", code, cost, &r);
 }
 

@@ -188,3 +188,21 @@ fn too_many_pieces_are_refused() {
     assert_eq!(count_pieces(&by_eights, &fill), 65_537);
     assert_eq!(plan_list(&by_eights, &fill), Err(refused(32, 0, 0, 0)));
 }
+
+#[test]
+fn prices_by_size() {
+    let settings = Settings {
+        batch: BatchPrice::BySize(&[5, 16, 30]),
+        ..SETTINGS
+    };
+    let planned = plan_list(&settings, &two_moves()).unwrap();
+    assert_eq!(planned.cost, 8); // a batch of two at 5, and its fence at 3
+    let short = Settings {
+        batch: BatchPrice::BySize(&[5, 16]),
+        ..SETTINGS
+    };
+    assert_eq!(
+        plan_list(&short, &two_moves()).unwrap_err(),
+        refused(83, 0, 0, 0)
+    );
+}

@@ -209,3 +209,44 @@ fn refusals_leave_the_buffers(rt: HostRuntime) {
     assert_eq!(rt; (code, refusal.number, refusal.first), (91, 91, 2));
     assert_eq!(rt; (prices, marks, pairs[0].first), ([7, 7], [9, 9], 5));
 }
+
+// The bytes are told to be too many before the certificate is.
+#[test]
+fn bytes_are_told_first(rt: HostRuntime) {
+    let (mut planned, mut refusal) = (NOT_PLANNED, NOT_REFUSED);
+    let code = dsa_plan_list_certified(
+        rt.alloc(),
+        &SETTINGS,
+        &[],
+        &moves_of(64, 64),
+        &mut [0; 64],
+        &mut [0; 159],
+        &mut [7; 2],
+        &mut [NO_PAIR; 1],
+        &mut [9; 1],
+        &mut planned,
+        &mut refusal,
+    );
+    assert_eq!(rt; (code, refusal.first, refusal.second), (90, 64, 160));
+}
+
+// A batch of two costs 5 in the table, and its fence 3.
+#[test]
+fn prices_go_by_size(rt: HostRuntime) {
+    let by_size = RawSettings {
+        version: 2,
+        ..SETTINGS
+    };
+    let (mut planned, mut refusal) = (NOT_PLANNED, NOT_REFUSED);
+    let code = dsa_plan_list(
+        rt.alloc(),
+        &by_size,
+        &[5, 16, 30],
+        &moves_of(64, 64),
+        &mut [0; 64],
+        &mut [0; 160],
+        &mut planned,
+        &mut refusal,
+    );
+    assert_eq!(rt; (code, planned.cost, planned.pieces), (0, 8, 2));
+}

@@ -210,7 +210,7 @@ fn refusals_leave_the_buffers(rt: HostRuntime) {
     assert_eq!(rt; (prices, marks, pairs[0].first), ([7, 7], [9, 9], 5));
 }
 
-// The bytes are told to be too many before the certificate is.
+// Where neither the bytes nor the certificate fit, the refusal names the bytes.
 #[test]
 fn bytes_are_told_first(rt: HostRuntime) {
     let (mut planned, mut refusal) = (NOT_PLANNED, NOT_REFUSED);

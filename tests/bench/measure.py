@@ -14,6 +14,7 @@ import time
 
 RUNS = 5
 PIECES = 65536
+LONGEST = 67108864
 RECORDS = 1 << 50
 MOVE, FILL, COMPARE, DUALCAST = 3, 4, 5, 9
 
@@ -109,6 +110,58 @@ def run_of(engines, size, rounds):
                   image=image(room, rounds))
 
 
+def text_of(job):
+    return json.dumps(job, separators=(',', ':'))
+
+
+def filled(job, place, entry):
+    """The job's text, with as many copies of an entry in the array at the end of `place` as the longest text has room
+    for."""
+    text = text_of(job)
+    at = text.index(place) + len(place)
+    return text[:at] + (entry + ',') * ((LONGEST - len(text)) // (len(entry) + 1)) + text[at:]
+
+
+def fills(size, rounds):
+    """Fills of the same bytes, over and over; their records stand behind."""
+    return [descriptor(FILL, k, 0, size, k).replace(
+        (RECORDS + 32 * k).to_bytes(8, 'little'), (size + 32 * k).to_bytes(8, 'little'))
+        for k in range(rounds)]
+
+
+def longest_replay():
+    """One engine that does 7,500 fills of 512 lines each in order: 3,855,000 events."""
+    rounds, lines = 7500, 512
+    job = job_of('replay', fills(4096 * lines, rounds), 32, 1 << 31, engines=1, trace=[],
+                 image=image(4096 * lines, rounds))
+    events = ','.join('[0,"take",%d],%s[0,"finish",%d]' % (k, '[0,"line",%d],' % k * lines, k)
+                      for k in range(rounds))
+    return text_of(job).replace('"trace":[', '"trace":[' + events)
+
+
+def longest_run():
+    """One engine that does 2,000 fills of 2,048 lines each."""
+    rounds, lines = 2000, 2048
+    return text_of(job_of('run', fills(4096 * lines, rounds), 32, 1 << 31, engines=1,
+                          image=image((16 << 20) - 32 * rounds, rounds)))
+
+
+def longest_check(program):
+    return filled(check_of(job_of('plan', apart(), 1024), program), '"prices":[', '0')
+
+
+# Texts of 64 MiB, the longest that are read: of each kind of job one that has the most to do, or the most to read.
+LONGEST_JOBS = {
+    'longest-plan': lambda program: text_of(job_of('plan', crowded(), 1024)),
+    'longest-judge': lambda program: filled(
+        job_of('judge', apart(), 32, plan=[[False]]), '"plan":[', '[false]'),
+    'longest-check': longest_check,
+    'longest-replay': lambda program: longest_replay(),
+    'longest-run': lambda program: longest_run(),
+    'longest-list': lambda program: text_of(job_of('plan', apart() * 7, 1024)),
+    'longest-array': lambda program: filled({'do': [0]}, '"do":[', '0'),
+}
+
 JOBS = {
     'plan-apart': lambda program: job_of('plan', apart(), 1024),
     'plan-chained': lambda program: job_of('plan', chained(), 1024),
@@ -145,14 +198,17 @@ def same(first, second):
 
 
 def make(name, program, path):
-    """Writes the job of this name."""
+    """Writes the job of this name, the longest ones with blanks behind them."""
     with open(path, 'w', encoding='ascii') as file:
-        json.dump(JOBS[name](program), file, separators=(',', ':'))
+        if name in LONGEST_JOBS:
+            file.write(LONGEST_JOBS[name](program).ljust(LONGEST))
+        else:
+            file.write(text_of(JOBS[name](program)))
 
 
 def main():
     own, other, *wanted = sys.argv[1:]
-    names = [n for n in JOBS if not wanted or any(n.startswith(w) for w in wanted)]
+    names = [n for n in (*JOBS, *LONGEST_JOBS) if not wanted or any(n.startswith(w) for w in wanted)]
     print('| job | dsa, ms | other, ms | ratio | dsa, MiB | other, MiB | answers |')
     print('|---|---|---|---|---|---|---|')
     with tempfile.TemporaryDirectory() as folder:

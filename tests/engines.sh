@@ -1,14 +1,14 @@
 #!/bin/sh
 # Tries bodies of dsa_engines that no clause can refuse, since no proof tells of time: engines that are one thread,
-# engines that keep each other from their lines, engines that ask the gate late, and a run that always says that the gate
-# refused. In each a test has to fail. Each takes about half a minute; the crates below have to be proved (after `rt ci`
-# they are).
+# engines that keep each other from their lines, engines that ask the gate late, and a run that always says that work
+# was out of date. In each a test has to fail. Each takes about half a minute; the crates below have to be proved
+# (after `rt ci` they are).
 set -eu
 cd "$(dirname "$0")/.."
 top=$(pwd)
 copy=$(mktemp -d)
 trap 'rm -rf "$copy"' EXIT
-for patch in one_thread:two_engines_are_at_work_at_once locked_lines:lines_are_worked_outside_the_lock finish_before_its_gate:a_finish_comes_after_its_gate always_shut:any_number_of_engines_leaves_the_same; do
+for patch in one_thread:two_engines_are_at_work_at_once locked_lines:lines_are_worked_outside_the_lock finish_before_its_gate:a_finish_comes_after_its_gate always_stale:any_number_of_engines_leaves_the_same; do
     name=${patch%:*}
     test=${patch#*:}
     rm -rf "$copy/crates"

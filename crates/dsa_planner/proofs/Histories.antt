@@ -1,5 +1,5 @@
 -- A trace has one end, and a run of a list that succeeds leaves what executing the list leaves.
-use Rattle.std.proofs.Common.{◌≡◌, ◌⊎◌, inl, inr, ℕ, suc, ◌≤◌, List, [], ◌∷◌, length, map, take, Some, Result, Ok, Err, refl, sym, ap, subst, ◌∙◌, arith}
+use Rattle.std.proofs.Common.{◌≡◌, ◌⊎◌, inl, inr, ℕ, suc, ◌≤◌, Bool, false, List, [], ◌∷◌, length, map, take, Some, Result, Ok, Err, refl, sym, ap, subst, ◌∙◌, arith}
 use Rattle.std.specs.Prelude.{All, IfOk}
 use Rattle.std.proofs.lemmas.List.{length-map}
 use Rattle.std.proofs.lemmas.List.{take_all}
@@ -32,7 +32,7 @@ use Rattle.dsa_planner.specs.declared.fault.PlanFault.{PlanFault}
 use Rattle.dsa_planner.specs.declared.fault.PlanFault.TheVariants.{NotAStep}
 use Rattle.dsa_planner.specs.Lists.{OrMemory}
 use Rattle.dsa_planner.specs.Planned.{Submission, Plans}
-use Rattle.dsa_planner.specs.Runs.{Left, left_of, ReplaysPieces, RunsPieces, LeavesWhole}
+use Rattle.dsa_planner.specs.Runs.{Left, left_of, OrShut, OverPlanned, ReplaysPieces, RunsPieces, LeavesWhole}
 use Rattle.dsa_planner.specs.Laws.{OneReplayed, HasBrokenOff, OneRun, ReplaysFollowPlans, RunsFollowPlans, PlannedRunsLeaveWhole}
 use Rattle.dsa_planner.proofs.Over.{one_list}
 use Rattle.dsa_planner.proofs.Submissions.{one_planned, planned_is_least_and_shown}
@@ -120,11 +120,26 @@ pub replay_leaves_whole : (bytes : List ℕ) (s : Limits) (m : Memory) (engines 
 replay_leaves_whole bytes s m engines trace p (Ok o) within plans says = run_leaves_whole bytes s m engines trace p (left_of o) within plans says
 replay_leaves_whole bytes s m engines trace p (Err fault) within plans says = tt
 
+-- what is said of an open gate's run is said without the gate
+open_says : (Says : Submission → Result Left PlanFault → Type 0) (bytes : List ℕ) (s : Limits) (m : Memory) (engines : ℕ) (o : Result Left PlanFault) →
+    OverPlanned (λ p o. OrShut false (Says p) o) bytes s m engines o → OverPlanned Says bytes s m engines o
+open_says Says bytes s m engines o (inl refused) = inl refused
+open_says Says bytes s m engines o (inr (p, plans, can, inl says)) = inr (p, plans, can, says)
+open_says Says bytes s m engines o (inr (p, plans, can, inr (may, shut))) = absurd (cc)
+
 -- and so does a run
-pub engines_leave_whole : (bytes : List ℕ) (s : Limits) (m : Memory) (engines : ℕ) (p : Submission) (r : Result Outcome PlanFault) → AreInLimits s → Plans bytes s (Ok p) →
-    OrMemory left_of (RunsPieces m engines p.plan (map fields p.pieces)) r → IfOk r (λ o. LeavesWhole bytes s m (left_of o))
-engines_leave_whole bytes s m engines p (Ok o) within plans (history, outcome) = run_leaves_whole bytes s m engines history p (left_of o) within plans outcome
-engines_leave_whole bytes s m engines p (Err fault) within plans says = tt
+pub engines_leave_whole : (may_refuse : Bool) (bytes : List ℕ) (s : Limits) (m : Memory) (engines : ℕ) (p : Submission) (r : Result Outcome PlanFault) → AreInLimits s → Plans bytes s (Ok p) →
+    OrMemory left_of (OrShut may_refuse (RunsPieces m engines p.plan (map fields p.pieces))) r → IfOk r (λ o. LeavesWhole bytes s m (left_of o))
+engines_leave_whole may_refuse bytes s m engines p (Ok o) within plans (inl (history, outcome)) = run_leaves_whole bytes s m engines history p (left_of o) within plans outcome
+engines_leave_whole may_refuse bytes s m engines p (Ok o) within plans (inr (may, same)) = absurd (cc)
+engines_leave_whole may_refuse bytes s m engines p (Err fault) within plans says = tt
+
+-- a gate that never refuses doesn't shut a run
+pub never_shut : (Says : Submission → Result Left PlanFault → Type 0) (bytes : List ℕ) (s : Limits) (m : Memory) (engines : ℕ) (r : Result Outcome PlanFault) →
+    OrMemory left_of (OverPlanned (λ p o. OrShut false (Says p) o) bytes s m engines) r → OrMemory left_of (OverPlanned Says bytes s m engines) r
+never_shut Says bytes s m engines (Ok o) says = open_says Says bytes s m engines (Ok (left_of o)) says
+never_shut Says bytes s m engines (Err fault) (inl wants) = inl wants
+never_shut Says bytes s m engines (Err fault) (inr says) = inr (open_says Says bytes s m engines (Err fault) says)
 
 -- the history of a run is one of the planned pieces
 pub engines_have_run : (bytes : List ℕ) (s : Limits) (m : Memory) (engines : ℕ) (p : Submission) (r : Result Outcome PlanFault) → Plans bytes s (Ok p) →

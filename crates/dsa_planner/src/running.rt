@@ -8,7 +8,7 @@ ghost use Rattle.dsa_core.specs.Accounts.{most_members};
 ghost use Rattle.dsa_core.specs.Outcomes.{IsOutcomeOf, room_with};
 ghost use Rattle.dsa_planner.specs.Planned.{Plans, Submission};
 ghost use Rattle.dsa_planner.specs.Lists.{OrMemory};
-ghost use Rattle.dsa_planner.specs.Runs.{CanBegin, LeavesWhole, Runs, RunsPieces, left_of};
+ghost use Rattle.dsa_planner.specs.Runs.{CanBegin, LeavesWhole, OrShut, OverPlanned, Runs, RunsPieces, left_of};
 
 use crate::fault::PlanFault;
 use crate::replaying::prepare;
@@ -34,7 +34,8 @@ fn run_pieces<G: Gate + Sync, R: Threads + Wait + Sync>(
     requires few { length pieces.now ≤ 65536 }
     requires legal { IsLegal (ConflictAt (map fields pieces.now)) most_members (length pieces.now) plan.now }
     requires can { CanBegin image.now engines (map fields pieces.now) }
-    ensures told { OrMemory left_of (RunsPieces image.now engines plan.now (map fields pieces.now)) result }
+    ensures told { OrMemory left_of
+        (OrShut G.may_refuse (RunsPieces image.now engines plan.now (map fields pieces.now))) result }
     ensures history { IfOk result (λ o. IsOutcomeOf (room_with image.now plan.now (map fields pieces.now) engines o.history.items) o) }
 {
     let outcome = run(rt, alloc, image, plan, pieces, engines, gate)?;
@@ -51,7 +52,10 @@ pub(crate) fn run_gated<G: Gate + Sync, R: Threads + Wait + Sync>(
     engines: u64,
     gate: &G,
 ) -> Result<Outcome, PlanFault>
-    ensures told { OrMemory left_of (Runs list.now settings.now image.now engines) result }
+    ensures told { OrMemory left_of
+        (OverPlanned (λ p o. OrShut G.may_refuse
+            (RunsPieces image.now engines p.plan (map fields p.pieces)) o)
+        list.now settings.now image.now engines) result }
     ensures history { IfOk result (λ o. (p : Submission) → Plans list.now settings.now (Ok p) → IsOutcomeOf (room_with image.now p.plan (map fields p.pieces) engines o.history.items) o) }
     ensures whole { IfOk result (λ o. LeavesWhole list.now settings.now image.now (left_of o)) }
 {
@@ -73,8 +77,8 @@ pub(crate) fn run_gated<G: Gate + Sync, R: Threads + Wait + Sync>(
 /// # Errors
 /// As [`plan_list`](crate::plan_list()); else [`PlanFault::Engines`]; else [`PlanFault::OutOfImage`] with the first piece
 /// that the image doesn't hold; else [`PlanFault::TooLong`]; all these before the search for a plan.
-/// [`PlanFault::Memory`] where a growth or the start of a thread is refused. [`PlanFault::GateShut`],
-/// [`PlanFault::Stale`] and [`PlanFault::Mixed`] say that the run broke off.
+/// [`PlanFault::Memory`] where a growth or the start of a thread is refused. [`PlanFault::Stale`] and
+/// [`PlanFault::Mixed`] say that the run broke off.
 pub fn run_bytes<R: Threads + Wait + Sync>(
     rt: &R,
     alloc: Global,

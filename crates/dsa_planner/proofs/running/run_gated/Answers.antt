@@ -7,7 +7,7 @@ use Rattle.dsa_plan.specs.Legal.{IsLegal}
 use Rattle.dsa_core.specs.Accounts.{most_members}
 use Rattle.dsa_core.specs.Outcomes.{IsOutcomeOf, room_with}
 use Rattle.dsa_planner.specs.Lists.{OrMemory}
-use Rattle.dsa_planner.specs.Runs.{RunsPieces, left_of}
+use Rattle.dsa_planner.specs.Runs.{OrShut, RunsPieces, left_of}
 use Rattle.dsa_planner.proofs.Refusals.{ready_taken, ready_can, of_submission}
 use Rattle.dsa_planner.proofs.Histories.{engines_leave_whole, engines_have_run}
 use Rattle.dsa_planner.proofs.running.run_gated.Goals as goal
@@ -24,15 +24,15 @@ run_pieces-requires-clause-can g c lifetimes outlives =
 pub returns-clause-told : goal.returns-clause-told
 returns-clause-told g c =
     let r = c.in_ok-ready.ready in
-    ready_taken (λ n plan fs o. RunsPieces c.args.image.now n plan fs o) c.args.list.now c.args.settings.now c.args.image.now c.args.engines r.pieces.items c.deref.result.now
+    ready_taken (λ n plan fs o. OrShut g.G.Gate.may_refuse (RunsPieces c.args.image.now n plan fs) o) c.args.list.now c.args.settings.now c.args.image.now c.args.engines r.pieces.items c.deref.result.now
     r.plan r.engines c.run_pieces.result c.in_ok-ready.ensures.told c.deref.ensures.value c.run_pieces.ensures.told
 
 pub returns-clause-whole : goal.returns-clause-whole
 returns-clause-whole g c =
     let r = c.in_ok-ready.ready in
     let ready = c.in_ok-ready.ensures.told in
-    engines_leave_whole c.args.list.now c.args.settings.now c.args.image.now c.args.engines ready.planned.0 c.run_pieces.result c.in_ok-ready.ensures.limits ready.planned.1
-    (of_submission (λ n plan ds. OrMemory left_of (RunsPieces c.args.image.now n plan (map fields ds)) c.run_pieces.result) c.args.list.now c.args.settings.now
+    engines_leave_whole g.G.Gate.may_refuse c.args.list.now c.args.settings.now c.args.image.now c.args.engines ready.planned.0 c.run_pieces.result c.in_ok-ready.ensures.limits ready.planned.1
+    (of_submission (λ n plan ds. OrMemory left_of (OrShut g.G.Gate.may_refuse (RunsPieces c.args.image.now n plan (map fields ds))) c.run_pieces.result) c.args.list.now c.args.settings.now
     c.args.image.now c.args.engines r.pieces.items c.deref.result.now r.plan r.engines ready c.deref.ensures.value c.run_pieces.ensures.told)
 
 pub returns-clause-history : goal.returns-clause-history

@@ -187,7 +187,25 @@ fault_places (EntryFence group) = group ∷ []
 fault_places (RecordBytes batch) = batch ∷ []
 fault_places (Check fault) = check_places fault
 fault_places (NotAStep event) = event ∷ []
-fault_places _ = []
+fault_places Length = []
+fault_places ImageSize = []
+fault_places TooManyPieces = []
+fault_places PortalLength = []
+fault_places StagingLength = []
+fault_places Shape = []
+fault_places GateShut = []
+fault_places Stale = []
+fault_places Mixed = []
+fault_places Memory = []
+fault_places TooLong = []
+fault_places Incomplete = []
+fault_places Json = []
+fault_places Member = []
+fault_places Do = []
+fault_places Settings = []
+fault_places Hex = []
+fault_places Engines = []
+fault_places JobTooLong = []
 
 -- ---- the causes of the calls below, as refusals
 
@@ -243,12 +261,52 @@ place_text n = codes " " ++ decimal n
 abbrev pub named_text : ℕ → List ℕ → List ℕ
 named_text n name = place_text n ++ codes " " ++ name
 
--- what the refusal tells of the plan or the piece that is refused in its turn: the number and the name of its fault, and
--- of a plan's the indices too
+-- what the refusal tells of a certificate's fault in its turn: of a plan's, the number, the name and the indices
+abbrev pub check_text : CheckFault → List ℕ
+check_text (Plan fault) = named_text (legal_number fault) (legal_name fault) ++ flat_map place_text (legal_places fault)
+check_text Version = []
+check_text Lengths = []
+check_text (Pair i) = []
+check_text (Price i j) = []
+check_text Total = []
+
+-- what the refusal tells of the cause within, of an entry or a certificate
 abbrev pub inner_text : PlanFault → List ℕ
 inner_text (Entry index fault) = named_text (entry_number fault) (entry_name fault)
-inner_text (Check (Plan fault)) = named_text (legal_number fault) (legal_name fault) ++ flat_map place_text (legal_places fault)
-inner_text _ = []
+inner_text (Check fault) = check_text fault
+inner_text Length = []
+inner_text (Field index cause) = []
+inner_text (MixedPasid index) = []
+inner_text (OutOfImage index) = []
+inner_text ImageSize = []
+inner_text (DeltaTooLong index) = []
+inner_text (ExpectedSplit index) = []
+inner_text TooManyPieces = []
+inner_text (StagingMeets index) = []
+inner_text (RowMeetsData index) = []
+inner_text (RowWrap index) = []
+inner_text (OverTransfer index) = []
+inner_text (Legal fault) = []
+inner_text PortalLength = []
+inner_text (BatchFields group) = []
+inner_text StagingLength = []
+inner_text (EntryFence group) = []
+inner_text (RecordBytes batch) = []
+inner_text Shape = []
+inner_text GateShut = []
+inner_text Stale = []
+inner_text Mixed = []
+inner_text Memory = []
+inner_text TooLong = []
+inner_text (NotAStep event) = []
+inner_text Incomplete = []
+inner_text Json = []
+inner_text Member = []
+inner_text Do = []
+inner_text Settings = []
+inner_text Hex = []
+inner_text Engines = []
+inner_text JobTooLong = []
 
 -- `refused`, the number, the name and the indices, with a space before each, what is told of the cause within, and the
 -- end of the line

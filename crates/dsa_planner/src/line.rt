@@ -65,7 +65,29 @@ fn push_places(line: &mut ArrayString<LONGEST_LINE>, fault: PlanFault)
             push_place(line, first as u64);
             push_place(line, second as u64);
         }
-        _ => {}
+        PlanFault::Check(CheckFault::Plan(_))
+        | PlanFault::Check(CheckFault::Version)
+        | PlanFault::Check(CheckFault::Lengths)
+        | PlanFault::Check(CheckFault::Total)
+        | PlanFault::Length
+        | PlanFault::ImageSize
+        | PlanFault::TooManyPieces
+        | PlanFault::PortalLength
+        | PlanFault::StagingLength
+        | PlanFault::Shape
+        | PlanFault::GateShut
+        | PlanFault::Stale
+        | PlanFault::Mixed
+        | PlanFault::Memory
+        | PlanFault::TooLong
+        | PlanFault::Incomplete
+        | PlanFault::Json
+        | PlanFault::Member
+        | PlanFault::Do
+        | PlanFault::Settings
+        | PlanFault::Hex
+        | PlanFault::Engines
+        | PlanFault::JobTooLong => {}
     }
 }
 
@@ -99,7 +121,44 @@ fn push_inner(line: &mut ArrayString<LONGEST_LINE>, fault: PlanFault)
             push_named(line, legal_number(fault), legal_name(fault));
             push_legal(line, fault);
         }
-        _ => {}
+        PlanFault::Check(CheckFault::Version)
+        | PlanFault::Check(CheckFault::Lengths)
+        | PlanFault::Check(CheckFault::Pair(_))
+        | PlanFault::Check(CheckFault::Price(_, _))
+        | PlanFault::Check(CheckFault::Total)
+        | PlanFault::Length
+        | PlanFault::Field(_, _)
+        | PlanFault::MixedPasid(_)
+        | PlanFault::OutOfImage(_)
+        | PlanFault::ImageSize
+        | PlanFault::DeltaTooLong(_)
+        | PlanFault::ExpectedSplit(_)
+        | PlanFault::TooManyPieces
+        | PlanFault::StagingMeets(_)
+        | PlanFault::RowMeetsData(_)
+        | PlanFault::RowWrap(_)
+        | PlanFault::OverTransfer(_)
+        | PlanFault::Legal(_)
+        | PlanFault::PortalLength
+        | PlanFault::BatchFields(_)
+        | PlanFault::StagingLength
+        | PlanFault::EntryFence(_)
+        | PlanFault::RecordBytes(_)
+        | PlanFault::Shape
+        | PlanFault::GateShut
+        | PlanFault::Stale
+        | PlanFault::Mixed
+        | PlanFault::Memory
+        | PlanFault::TooLong
+        | PlanFault::NotAStep(_)
+        | PlanFault::Incomplete
+        | PlanFault::Json
+        | PlanFault::Member
+        | PlanFault::Do
+        | PlanFault::Settings
+        | PlanFault::Hex
+        | PlanFault::Engines
+        | PlanFault::JobTooLong => {}
     }
 }
 

@@ -6,7 +6,11 @@ ghost use Rattle.dsa_checker.specs.Steps.{StepsHold, StepsHoldFrom, IsFirstBadEn
 ghost use Rattle.dsa_plan.specs.Settings.{sized_prices};
 ghost use Rattle.dsa_checker.specs.Sized.{AreWithin, IsFirstAbove};
 
+use crate::held::held_starts;
 use dsa_plan::chain_step;
+
+/// Below so many pieces, or sizes of batches, a walk is as fast as rows of blocks are made.
+const FEW: usize = 96;
 
 /// The last end, `reach` at most, before the chain goes on from this piece.
 fn last_of_run(pairs: &[Option<(u32, u32)>], piece: usize, reach: usize) -> usize
@@ -85,6 +89,27 @@ fn first_bad_end(
     None
 }
 
+/// So many starts, of which all steps hold. This only saves to look at them one by one, and never decides the answer.
+fn starts_passed(
+    prices: &[u64],
+    pairs: &[Option<(u32, u32)>],
+    lone: u64,
+    fence: u64,
+    table: &[u64],
+) -> usize
+    requires forward { GoForward pairs.now }
+    requires few { length pairs.now ≤ 65536 }
+    requires count { length prices.now ≡ length pairs.now + 1 }
+    requires sizes { length table.now ≤ 1023 }
+    ensures { (i : ℕ) → i < result →
+        StepsHoldFrom (sized_prices lone fence table.now) (length pairs.now) pairs.now prices.now i }
+{
+    if pairs.len().min(table.len()) < FEW {
+        return 0;
+    }
+    held_starts(prices, pairs, lone, fence, table)
+}
+
 /// The first start and end whose step is too high, where one piece costs `lone` and a batch of `size` pieces
 /// `table[size - 2]` without its fences.
 pub(crate) fn first_bad_sized_step(
@@ -103,7 +128,7 @@ pub(crate) fn first_bad_sized_step(
         (λ step. IsFirstBadStep (sized_prices lone fence table.now) (length pairs.now)
         pairs.now prices.now step.0 step.1) }
 {
-    for start in 0..pairs.len() {
+    for start in starts_passed(prices, pairs, lone, fence, table)..pairs.len() {
         if let Some(end) = first_bad_end(prices, pairs, lone, fence, table, start) {
             return Some((start, end));
         }

@@ -11,7 +11,7 @@ use Rattle.dsa_plan.proofs.Fences.{price_of-batch}
 use Rattle.dsa_checker.specs.Steps.{StepHolds}
 use Rattle.dsa_checker.specs.Blocks.{place, HasRows, IsFilled, IsRowOf, AreChains}
 use Rattle.dsa_checker.proofs.Led.{step_by_count}
-use Rattle.dsa_checker.proofs.Joined.{last_led, last_joined, last_further, count_one_more, count_none}
+use Rattle.dsa_plan.proofs.Joined.{last_led, last_joined, last_further, count_one_more, count_none}
 
 -- no fence is taken off
 pub less_none : (price fence : ℕ) → price ≡ price - fence * 0

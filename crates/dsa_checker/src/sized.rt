@@ -7,24 +7,10 @@ ghost use Rattle.dsa_plan.specs.Settings.{sized_prices};
 ghost use Rattle.dsa_checker.specs.Sized.{AreWithin, IsFirstAbove};
 
 use crate::held::held_starts;
-use dsa_plan::chain_step;
+use dsa_plan::{chain_step, last_of_run};
 
 /// Below so many pieces, or sizes of batches, a walk is as fast as rows of blocks are made.
 const FEW: usize = 96;
-
-/// The last end, `reach` at most, before the chain goes on from this piece.
-fn last_of_run(pairs: &[Option<(u32, u32)>], piece: usize, reach: usize) -> usize
-    requires { piece < length pairs.now }
-    ensures inside { result ≤ reach }
-    ensures before { (b : ℕ) → LeadsTo pairs.now piece b → result ≤ b }
-    ensures far { (end : ℕ) → end ≤ reach →
-        ((b : ℕ) → LeadsTo pairs.now piece b → end ≤ b) → end ≤ result }
-{
-    match pairs[piece] {
-        Some((_, second)) => reach.min(second as usize),
-        None => reach,
-    }
-}
 
 /// The first end from `from` to before `to` with a price above `most` and that of a batch of the pieces from `start` on. A
 /// sum that is cut off serves as well as the true one, since no price is above it.

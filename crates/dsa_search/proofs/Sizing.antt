@@ -1,15 +1,15 @@
 -- Rows of counts within blocks of pieces, and chains that go on from one piece to the next.
-use Rattle.std.proofs.Common.{ℕ, zero, suc, ◌≡◌, ◌≢◌, ◌+◌, ◌-◌, ◌*◌, ◌/◌, ◌<◌, ◌≤◌, ◌⊎◌, inl, inr, min, List, length, refl, subst, ◌∙◌, slice_index, arith}
+use Rattle.std.proofs.Common.{ℕ, ◌≡◌, ◌≢◌, ◌+◌, ◌-◌, ◌*◌, ◌/◌, ◌<◌, ◌≤◌, ◌⊎◌, inl, inr, min, List, length, refl, ◌∙◌, slice_index, arith}
 use Rattle.std.proofs.lemmas.Bool.{cases_lt, cases_eq}
-use Rattle.dsa_plan.specs.Chain.{Pairs, GoForward, LeadsTo, Reaches, IsLastBelow, HasCountBelow}
+use Rattle.dsa_plan.specs.Chain.{Pairs, GoForward, LeadsTo, IsLastBelow, HasCountBelow}
 use Rattle.dsa_plan.proofs.Chains.{LeadsTo-same}
 use Rattle.std.proofs.Math.Nat.{mul-le-mul_left}
 use Rattle.dsa_plan.specs.Plan.{Prices}
 use Rattle.dsa_plan.proofs.Fences.{price_of-batch}
 use Rattle.dsa_plan.specs.Settings.{greatest_price}
 use Rattle.dsa_search.specs.Filled.{HasOffers}
-use Rattle.dsa_search.proofs.Filling.{last_fits, offers_each}
-use Rattle.dsa_search.proofs.Grouping.{count_one_more, count_none}
+use Rattle.dsa_search.proofs.Filling.{offers_each}
+use Rattle.dsa_plan.proofs.Joined.{last_fits, last_joined, last_led, count_one_more, count_none}
 use Rattle.dsa_plan.specs.Settings.{sized_prices}
 use Rattle.dsa_search.specs.Sized.{past_block, HasRows}
 
@@ -21,24 +21,6 @@ past_block_later x = (omega arith, omega arith)
 pub past_block_same : (x y : ℕ) → x ≤ y → y < past_block x → past_block y ≡ past_block x
 unfolding past_block
 past_block_same x y le lt = let q : y / 64 ≡ x / 64 = omega arith in rw q refl
-
--- a chain goes on from a piece that it reaches as that piece's own chain
-pub Reaches-add : (pairs : Pairs) (i m k x y : ℕ) → Reaches pairs i m x → Reaches pairs x k y → Reaches pairs i (m + k) y
-Reaches-add pairs i m zero x y r here =
-    let none : m + 0 ≡ m = omega arith in
-    rw none (subst (λ (z : ℕ). Reaches pairs i m z) here r)
-Reaches-add pairs i m (suc k) x y r (z, s, step) =
-    let one : m + suc k ≡ suc (m + k) = omega arith in
-    rw one (z, Reaches-add pairs i m k x z r s, step)
-
-pub last_joined : (pairs : Pairs) (i j m k x y : ℕ) → Reaches pairs i m x → IsLastBelow pairs x j k y → IsLastBelow pairs i j (m + k) y
-last_joined pairs i j m k x y r h = record { reached = Reaches-add pairs i m k x y r h.reached; below = h.below; no_more = h.no_more }
-
--- the pair of a piece leads to another: one pair more
-pub last_led : (pairs : Pairs) (x next j k y : ℕ) → LeadsTo pairs x next → IsLastBelow pairs next j k y → IsLastBelow pairs x j (k + 1) y
-last_led pairs x next j k y leads h =
-    let one : k + 1 ≡ 1 + k = omega arith in
-    rw one (last_joined pairs x j 1 k next y (x, refl, leads) h)
 
 module _ (pairs : Pairs) (forward : GoForward pairs) (x : ℕ) (rows lasts : List ℕ) (h : HasRows pairs (x + 1) rows lasts) (inside : x < length pairs) where
   -- the first pair of a piece leads past its block: nothing is counted

@@ -7,8 +7,8 @@ ghost use Rattle.dsa_plan.specs.Settings.{ArePrices};
 ghost use Rattle.dsa_plan.specs.Settings.{sized_prices};
 ghost use Rattle.dsa_search.specs.Sized.{HasRows, past_block};
 
-use crate::table::{UNREACHED, last_of_run, lower};
-use dsa_plan::chain_step;
+use crate::table::{UNREACHED, lower};
+use dsa_plan::{chain_step, last_of_run};
 use std::alloc::{AllocError, Global};
 
 /// How many pieces a block has, and how many counts a row.

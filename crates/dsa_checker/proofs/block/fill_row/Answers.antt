@@ -4,8 +4,7 @@ use Rattle.std.proofs.lemmas.List.{get_or-set_same, get_or-set_other}
 use Rattle.dsa_plan.specs.Chain.{LeadsTo, IsLastBelow}
 use Rattle.dsa_plan.proofs.Chains.{LeadsTo-same, LeadsTo-read, LeadsTo-read_none}
 use Rattle.dsa_checker.specs.Blocks.{place}
-use Rattle.dsa_checker.proofs.Joined.{last_led, count_one_more, count_none}
-use Rattle.dsa_checker.proofs.Led.{last_fits}
+use Rattle.dsa_plan.proofs.Joined.{last_led, count_one_more, count_none, last_fits}
 use Rattle.dsa_checker.proofs.Blocks.{rows_more, less_none}
 use Rattle.dsa_checker.proofs.block.fill_row.Goals.{in_default-via-in-Some+else-second-past, in_default-via-in_default}
 use Rattle.dsa_checker.proofs.block.fill_row.Goals as goal

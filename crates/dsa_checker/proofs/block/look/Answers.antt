@@ -4,7 +4,8 @@ use Rattle.dsa_plan.specs.Plan.{price_of}
 use Rattle.dsa_plan.specs.Settings.{sized_prices}
 use Rattle.dsa_checker.specs.Steps.{StepHolds}
 use Rattle.dsa_checker.specs.Blocks.{place}
-use Rattle.dsa_checker.proofs.Led.{first_step, last_fits}
+use Rattle.dsa_checker.proofs.Led.{first_step}
+use Rattle.dsa_plan.proofs.Joined.{last_fits}
 use Rattle.dsa_checker.proofs.Blocks.{step_by_row}
 use Rattle.dsa_checker.proofs.block.look.Goals as goal
 

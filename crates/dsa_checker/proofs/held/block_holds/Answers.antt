@@ -1,7 +1,7 @@
 use Rattle.std.proofs.Common.{◌≡◌, ◌+◌, ◌-◌, max, inl, inr, length, arith}
 use Rattle.std.proofs.lemmas.Bool.{cases_lt, cases_eq}
 use Rattle.dsa_plan.proofs.Chains.{IsLastBelow-start}
-use Rattle.dsa_checker.proofs.Led.{last_fits}
+use Rattle.dsa_plan.proofs.Joined.{last_fits}
 use Rattle.dsa_checker.proofs.Blocks.{chains_one, chains_others}
 use Rattle.dsa_checker.proofs.held.block_holds.Goals as goal
 

@@ -5,7 +5,8 @@ use Rattle.dsa_plan.specs.Chain.{IsLastBelow}
 use Rattle.dsa_plan.proofs.Chains.{IsLastBelow-start}
 use Rattle.dsa_plan.specs.Settings.{sized_prices}
 use Rattle.dsa_checker.specs.Steps.{StepHolds}
-use Rattle.dsa_checker.proofs.Led.{first_step, last_fits}
+use Rattle.dsa_checker.proofs.Led.{first_step}
+use Rattle.dsa_plan.proofs.Joined.{last_fits}
 use Rattle.dsa_checker.proofs.Runs.{run_breaks, run_holds}
 use Rattle.dsa_checker.proofs.sized.first_bad_end.Goals as goal
 

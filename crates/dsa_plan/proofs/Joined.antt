@@ -1,6 +1,7 @@
 -- Chains that go on from one piece to the next.
 use Rattle.std.proofs.Common.{ℕ, zero, suc, ◌≡◌, ◌+◌, ◌<◌, ◌≤◌, refl, subst, arith}
-use Rattle.dsa_plan.specs.Chain.{Pairs, LeadsTo, Reaches, IsLastBelow, HasCountBelow}
+use Rattle.dsa_plan.specs.Chain.{Pairs, GoForward, LeadsTo, Reaches, IsLastBelow, HasCountBelow}
+use Rattle.dsa_plan.proofs.Together.{Reaches-far}
 
 -- a chain goes on from a piece that it reaches as that piece's own chain
 pub Reaches-add : (pairs : Pairs) (i m k x y : ℕ) → Reaches pairs i m x → Reaches pairs x k y → Reaches pairs i (m + k) y
@@ -31,3 +32,7 @@ module _ (pairs : Pairs) (piece end : ℕ) where
 
   pub count_none : piece < end → ((b : ℕ) → LeadsTo pairs piece b → end ≤ b) → HasCountBelow pairs piece end 0
   count_none lt far = (piece, record { reached = refl; below = lt; no_more = far })
+
+-- what a chain counts fits between its pieces
+pub last_fits : (pairs : Pairs) → GoForward pairs → (start end count piece : ℕ) → IsLastBelow pairs start end count piece → count + start < end
+last_fits pairs forward start end count piece h = omega (arith, Reaches-far pairs forward start count piece h.reached, h.below)

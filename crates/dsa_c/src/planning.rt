@@ -1,12 +1,15 @@
 //! Planning a list into buffers of the caller.
 
-ghost use Rattle.std.specs.Prelude.{◌≡◌, ◌≢◌, ◌<◌, length, MatchResult};
+ghost use Rattle.std.specs.Prelude.{◌≡◌, ◌≢◌, ℕ, ◌<◌, List, length, MatchResult};
 ghost use Rattle.dsa_planner.specs.Planned.{submission_of};
+ghost use Rattle.dsa_c.specs.declared.settings.RawSettings.{RawSettings};
+ghost use Rattle.dsa_c.specs.Raw.{AreSettings, limits_of};
 ghost use Rattle.dsa_c.specs.Planning.{IsPlannedFor, FitsIn, IsWritten, Refuses, summary_of};
 
 use crate::buffer::put;
 use crate::refusal::{RawRefusal, no_room, refusal};
-use crate::settings::{RawSettings, settings_of};
+use crate::settings::{RawSettings, by_size, same_price};
+use dsa_plan::Settings;
 use dsa_planner::{PlanFault, Planned, plan_list};
 use std::alloc::Global;
 
@@ -36,6 +39,85 @@ pub(crate) fn summary(planned: &Planned) -> RawPlanned
     }
 }
 
+/// The planned list under settings that are there, where it is planned and its bytes fit.
+fn plan_under(
+    alloc: Global,
+    settings: &Settings,
+    list: &[u8],
+    portal_room: usize,
+    staging_room: usize,
+) -> Result<Planned, RawRefusal>
+    ensures { (raw : RawSettings) (table : List ℕ) → settings.now ≡ limits_of raw table →
+        AreSettings raw table → MatchResult result
+        (λ p. IsPlannedFor raw table list.now (submission_of p)
+        × FitsIn (submission_of p) portal_room staging_room)
+        (λ r. (0 < r.number) × Refuses raw table list.now portal_room staging_room r) }
+{
+    match plan_list(alloc, list, settings) {
+        Ok(planned) => {
+            let portal_len = planned.emission.portal.len();
+            let staging_len = planned.emission.staging.len();
+            if portal_len <= portal_room && staging_len <= staging_room {
+                Ok(planned)
+            } else {
+                Err(no_room(portal_len, staging_len))
+            }
+        }
+        Err(fault) => Err(refusal(fault)),
+    }
+}
+
+/// The planned list with a price of a batch by its size. It stands apart, since a function clears all places of its own,
+/// and each kind of settings takes 8 KiB.
+#[inline(never)]
+fn plan_by_size(
+    alloc: Global,
+    settings: &RawSettings,
+    table: &[u64],
+    list: &[u8],
+    portal_room: usize,
+    staging_room: usize,
+) -> Result<Planned, RawRefusal>
+    requires { settings.now.version ≡ 2 }
+    ensures { MatchResult result
+        (λ p. IsPlannedFor settings.now table.now list.now (submission_of p)
+        × FitsIn (submission_of p) portal_room staging_room)
+        (λ r. (0 < r.number)
+        × Refuses settings.now table.now list.now portal_room staging_room r) }
+{
+    match &by_size(settings, table) {
+        Ok(checked) => plan_under(alloc, checked, list, portal_room, staging_room),
+        Err(_) => Err(refusal(PlanFault::Settings)),
+    }
+}
+
+/// The planned list with one price for all batches.
+#[inline(never)]
+fn plan_at_one_price(
+    alloc: Global,
+    settings: &RawSettings,
+    table: &[u64],
+    list: &[u8],
+    portal_room: usize,
+    staging_room: usize,
+) -> Result<Planned, RawRefusal>
+    requires { settings.now.version ≡ 1 }
+    ensures { MatchResult result
+        (λ p. IsPlannedFor settings.now table.now list.now (submission_of p)
+        × FitsIn (submission_of p) portal_room staging_room)
+        (λ r. (0 < r.number)
+        × Refuses settings.now table.now list.now portal_room staging_room r) }
+{
+    // Asked before, the compiler knows below that there are settings, and does not copy them.
+    let Ok(_) = same_price(settings) else {
+        return Err(refusal(PlanFault::Settings));
+    };
+    match &same_price(settings) {
+        Ok(checked) => plan_under(alloc, checked, list, portal_room, staging_room),
+        Err(_) => Err(refusal(PlanFault::Settings)),
+    }
+}
+
 /// The planned list, where it is planned and its bytes fit.
 pub(crate) fn plan_for(
     alloc: Global,
@@ -51,21 +133,13 @@ pub(crate) fn plan_for(
         (λ r. (0 < r.number)
         × Refuses settings.now table.now list.now portal_room staging_room r) }
 {
-    let Ok(checked) = settings_of(settings, table) else {
-        return Err(refusal(PlanFault::Settings));
-    };
-    match plan_list(alloc, list, &checked) {
-        Ok(planned) => {
-            let portal_len = planned.emission.portal.len();
-            let staging_len = planned.emission.staging.len();
-            if portal_len <= portal_room && staging_len <= staging_room {
-                Ok(planned)
-            } else {
-                Err(no_room(portal_len, staging_len))
-            }
-        }
-        Err(fault) => Err(refusal(fault)),
+    if settings.version == 1 {
+        return plan_at_one_price(alloc, settings, table, list, portal_room, staging_room);
     }
+    if settings.version == 2 {
+        return plan_by_size(alloc, settings, table, list, portal_room, staging_room);
+    }
+    Err(refusal(PlanFault::Settings))
 }
 
 /// Plans the operations that the bytes of `list` spell, and writes the bytes that submit the plan of least cost to

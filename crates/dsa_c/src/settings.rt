@@ -1,6 +1,6 @@
 //! The settings, as C lays them out.
 
-ghost use Rattle.std.specs.Prelude.{◌≡◌, MatchResult};
+ghost use Rattle.std.specs.Prelude.{◌≡◌, ℕ, List, MatchResult};
 ghost use Rattle.dsa_c.specs.Raw.{limits_of, AreSettings};
 
 use dsa_plan::{Settings, SettingsFault};
@@ -25,25 +25,14 @@ pub struct RawSettings {
     pub staging: u64,
 }
 
-/// The settings of these numbers, where they are of a known version and in their limits. The table has the price of a
-/// batch by its size; it counts with version 2 alone.
-pub(crate) fn settings_of(raw: &RawSettings, table: &[u64]) -> Result<Settings, SettingsFault>
-    ensures { let s = raw.now in let t = table.now in
-        MatchResult result (λ l. (l ≡ limits_of s t) × AreSettings s t) (λ _. ¬ AreSettings s t) }
+/// The settings of numbers of version 1, where they are in their limits.
+// The settings are large: inlined, they are written where the caller lends them from.
+#[inline(always)]
+pub(crate) fn same_price(raw: &RawSettings) -> Result<Settings, SettingsFault>
+    requires { raw.now.version ≡ 1 }
+    ensures { (table : List ℕ) → MatchResult result
+        (λ l. (l ≡ limits_of raw.now table) × AreSettings raw.now table) (λ _. ¬ AreSettings raw.now table) }
 {
-    if raw.version == 2 {
-        return Settings::with_table(
-            raw.greatest_batch,
-            raw.greatest_transfer,
-            raw.lone,
-            table,
-            raw.fence,
-            raw.staging,
-        );
-    }
-    if raw.version != 1 {
-        return Err(SettingsFault::Settings);
-    }
     Settings::new(
         raw.greatest_batch,
         raw.greatest_transfer,
@@ -52,4 +41,36 @@ pub(crate) fn settings_of(raw: &RawSettings, table: &[u64]) -> Result<Settings, 
         raw.fence,
         raw.staging,
     )
+}
+
+/// The settings of numbers of version 2, whose table has the price of a batch by its size, where they are in their limits.
+#[inline(always)]
+pub(crate) fn by_size(raw: &RawSettings, table: &[u64]) -> Result<Settings, SettingsFault>
+    requires { raw.now.version ≡ 2 }
+    ensures { let s = raw.now in let t = table.now in
+        MatchResult result (λ l. (l ≡ limits_of s t) × AreSettings s t) (λ _. ¬ AreSettings s t) }
+{
+    Settings::with_table(
+        raw.greatest_batch,
+        raw.greatest_transfer,
+        raw.lone,
+        table,
+        raw.fence,
+        raw.staging,
+    )
+}
+
+/// The settings of these numbers, where they are of a known version and in their limits. The table has the price of a
+/// batch by its size; it counts with version 2 alone.
+pub(crate) fn settings_of(raw: &RawSettings, table: &[u64]) -> Result<Settings, SettingsFault>
+    ensures { let s = raw.now in let t = table.now in
+        MatchResult result (λ l. (l ≡ limits_of s t) × AreSettings s t) (λ _. ¬ AreSettings s t) }
+{
+    if raw.version == 2 {
+        return by_size(raw, table);
+    }
+    if raw.version != 1 {
+        return Err(SettingsFault::Settings);
+    }
+    same_price(raw)
 }

@@ -1,0 +1,427 @@
+-- The canonical line of fields spells them.
+use Rattle.std.proofs.Common.{◌≡◌, ℕ, zero, suc, ◌+◌, ◌-◌, ◌^◌, ◌<◌, ◌≤◌, Bool, true, false, cond, Option, List, [], ◌∷◌, ◌++◌, Some, None, refl, sym, ap, ◌∙◌, append_assoc, arith}
+use Rattle.std.proofs.lemmas.List.{append-nil}
+use Rattle.std.specs.Prelude.{◌==◌, decimal, codes, bit_and}
+use Rattle.std.proofs.lemmas.Bool.{le-leb, eqb-true, eq-eqb}
+use Rattle.dsa_descriptor.specs.declared.op.Op.{Op}
+use Rattle.dsa_descriptor.specs.declared.op.Op.TheVariants.{Move, Fill, Compare, ComparePattern, ApplyDelta, Dualcast}
+use Rattle.dsa_descriptor.specs.Fields.{Fields}
+use Rattle.dsa_descriptor.specs.Profile.{FieldsFit, HasExpectedBit, IsListed}
+use Rattle.dsa_lines.specs.declared.options.Options.{Options}
+use Rattle.dsa_lines.specs.Words.{Word, words_of}
+use Rattle.dsa_lines.specs.Numbers.{hex, pattern_word}
+use Rattle.dsa_lines.specs.Options.{no_options, or_zero, fields_with, flags_with, carried_mask, carried_flags, checks_result}
+use Rattle.dsa_lines.specs.Grammar.{greatest, after, number_at, pattern_at, size_at, move_at, fill_at, expected_at, compare_region_at, compare_pattern_at, compare_at, delta_at, dualcast_at, op_at, pasid_at, privileged_at, check_at, flags_at, handle_at, option_at, options_at, fields_of, Spells}
+use Rattle.dsa_lines.specs.Text.{op_words, number_option, name_option, option_words, line_words, tail_text, text_of, line_text, spaced}
+use Rattle.dsa_lines.proofs.WordLemmas.{AreWords, is_word, text_words}
+use Rattle.dsa_lines.proofs.NumberLemmas.{hex_word, decimal_word, hex_again, decimal_again, spaced_decimal, pattern_is_word, pattern_again, spaced_pattern}
+use Rattle.dsa_lines.proofs.FlagLemmas.{flags_again, carried_again, carried_fit}
+
+-- ---- numbers and operations
+
+hex_at : (n most : ℕ) (ws : List Word) → n < 2 ^ 64 → n ≤ most → number_at most (hex n ∷ ws) ≡ Some (n, ws)
+hex_at n most ws lt le = rw (hex_again n lt, le-leb _ _ le) refl
+
+decimal_at : (n most : ℕ) (ws : List Word) → n < 2 ^ 64 → n ≤ most → number_at most (decimal n ∷ ws) ≡ Some (n, ws)
+decimal_at n most ws lt le = rw (decimal_again n lt, le-leb _ _ le) refl
+
+pattern_here : (n : ℕ) (ws : List Word) → n < 2 ^ 64 → pattern_at (pattern_word n ∷ ws) ≡ Some (n, ws)
+pattern_here n ws lt = rw (pattern_again n lt) refl
+
+size_again : (n : ℕ) (ws : List Word) → n < 2 ^ 32 → size_at (decimal n ∷ codes "bytes" ∷ ws) ≡ Some (n, ws)
+unfolding size_at
+size_again n ws lt = rw (decimal_at n (greatest 32) (codes "bytes" ∷ ws) (omega arith) (omega arith)) refl
+
+move_again : (src dst size : ℕ) (ws : List Word) → src < 2 ^ 64 → dst < 2 ^ 64 → size < 2 ^ 32
+    → move_at (hex src ∷ codes "->" ∷ hex dst ∷ codes "," ∷ decimal size ∷ codes "bytes" ∷ ws) ≡ Some (Move src dst, size, ws)
+unfolding move_at
+move_again src dst size ws a b c =
+    rw (hex_at src (greatest 64) (codes "->" ∷ hex dst ∷ codes "," ∷ decimal size ∷ codes "bytes" ∷ ws) a (omega arith), hex_at dst (greatest 64) (codes "," ∷ decimal size ∷ codes "bytes" ∷ ws) b (omega arith), size_again size ws c) refl
+
+fill_again : (pattern dst size : ℕ) (ws : List Word) → pattern < 2 ^ 64 → dst < 2 ^ 64 → size < 2 ^ 32
+    → fill_at (hex dst ∷ codes "with" ∷ pattern_word pattern ∷ codes "," ∷ decimal size ∷ codes "bytes" ∷ ws) ≡ Some (Fill pattern dst, size, ws)
+unfolding fill_at
+fill_again pattern dst size ws a b c =
+    let w2 : List Word = codes "," ∷ decimal size ∷ codes "bytes" ∷ ws in
+    let w1 : List Word = codes "with" ∷ pattern_word pattern ∷ w2 in
+    rw (hex_at dst (greatest 64) w1 b (omega arith), pattern_here pattern w2 a, size_again size ws c) refl
+
+expected_again : (expected size : ℕ) (ws : List Word) → expected ≤ 1 → size < 2 ^ 32
+    → expected_at (codes "," ∷ decimal size ∷ codes "bytes" ∷ codes "," ∷ codes "expect" ∷ decimal expected ∷ ws) ≡ Some (size, expected, ws)
+unfolding expected_at
+expected_again expected size ws e c =
+    let w1 : List Word = codes "," ∷ codes "expect" ∷ decimal expected ∷ ws in
+    rw (size_again size w1 c, decimal_at expected 1 ws (omega arith) e) refl
+
+abbrev expected_words : ℕ → ℕ → List Word → List Word
+expected_words expected size ws = codes "," ∷ decimal size ∷ codes "bytes" ∷ codes "," ∷ codes "expect" ∷ decimal expected ∷ ws
+
+region_again : (src src2 expected size : ℕ) (ws : List Word) → src2 < 2 ^ 64 → expected ≤ 1 → size < 2 ^ 32
+    → compare_region_at src (hex src2 ∷ expected_words expected size ws) ≡ Some (Compare src src2 expected, size, ws)
+unfolding compare_region_at
+region_again src src2 expected size ws b e c =
+    rw (hex_at src2 (greatest 64) (expected_words expected size ws) b (omega arith), expected_again expected size ws e c) refl
+
+pattern_compared : (src pattern expected size : ℕ) (ws : List Word) → pattern < 2 ^ 64 → expected ≤ 1 → size < 2 ^ 32
+    → compare_pattern_at src (pattern_word pattern ∷ expected_words expected size ws) ≡ Some (ComparePattern src pattern expected, size, ws)
+unfolding compare_pattern_at
+pattern_compared src pattern expected size ws b e c =
+    rw (pattern_here pattern (expected_words expected size ws) b, expected_again expected size ws e c) refl
+
+compare_again : (src src2 expected size : ℕ) (ws : List Word) → src < 2 ^ 64 → src2 < 2 ^ 64 → expected ≤ 1 → size < 2 ^ 32
+    → compare_at (hex src ∷ codes "with" ∷ hex src2 ∷ expected_words expected size ws) ≡ Some (Compare src src2 expected, size, ws)
+unfolding compare_at
+compare_again src src2 expected size ws a b e c =
+    rw (hex_at src (greatest 64) (codes "with" ∷ hex src2 ∷ expected_words expected size ws) a (omega arith)) (region_again src src2 expected size ws b e c)
+
+compare_pattern_again : (src pattern expected size : ℕ) (ws : List Word) → src < 2 ^ 64 → pattern < 2 ^ 64 → expected ≤ 1 → size < 2 ^ 32
+    → compare_at (hex src ∷ codes "with" ∷ codes "pattern" ∷ pattern_word pattern ∷ expected_words expected size ws) ≡ Some (ComparePattern src pattern expected, size, ws)
+unfolding compare_at
+compare_pattern_again src pattern expected size ws a b e c =
+    rw (hex_at src (greatest 64) (codes "with" ∷ codes "pattern" ∷ pattern_word pattern ∷ expected_words expected size ws) a (omega arith)) (pattern_compared src pattern expected size ws b e c)
+
+delta_again : (delta dst record_size size : ℕ) (ws : List Word) → delta < 2 ^ 64 → dst < 2 ^ 64 → record_size < 2 ^ 32 → size < 2 ^ 32
+    → delta_at (hex delta ∷ codes "," ∷ decimal record_size ∷ codes "bytes" ∷ codes "->" ∷ hex dst ∷ codes "," ∷ decimal size ∷ codes "bytes" ∷ ws) ≡ Some (ApplyDelta delta dst record_size, size, ws)
+unfolding delta_at
+delta_again delta dst record_size size ws a b e c =
+    let w2 : List Word = codes "," ∷ decimal size ∷ codes "bytes" ∷ ws in
+    let w1 : List Word = codes "->" ∷ hex dst ∷ w2 in
+    rw (hex_at delta (greatest 64) (codes "," ∷ decimal record_size ∷ codes "bytes" ∷ w1) a (omega arith), size_again record_size w1 e, hex_at dst (greatest 64) w2 b (omega arith), size_again size ws c) refl
+
+dualcast_again : (src dst dst2 size : ℕ) (ws : List Word) → src < 2 ^ 64 → dst < 2 ^ 64 → dst2 < 2 ^ 64 → size < 2 ^ 32
+    → dualcast_at (hex src ∷ codes "->" ∷ hex dst ∷ codes "and" ∷ hex dst2 ∷ codes "," ∷ decimal size ∷ codes "bytes" ∷ ws) ≡ Some (Dualcast src dst dst2, size, ws)
+unfolding dualcast_at
+dualcast_again src dst dst2 size ws a b e c =
+    let w2 : List Word = codes "," ∷ decimal size ∷ codes "bytes" ∷ ws in
+    let w1 : List Word = codes "and" ∷ hex dst2 ∷ w2 in
+    rw (hex_at src (greatest 64) (codes "->" ∷ hex dst ∷ w1) a (omega arith), hex_at dst (greatest 64) w1 b (omega arith), hex_at dst2 (greatest 64) w2 e (omega arith), size_again size ws c) refl
+
+-- the words of an operation are read
+op_again : (op : Op) (size : ℕ) (ws : List Word) → FieldsFit op → HasExpectedBit op → size < 2 ^ 32 → op_at (op_words op size ++ ws) ≡ Some (op, size, ws)
+unfolding op_at
+op_again (Move src dst) size ws fit bit s = move_again src dst size ws fit.0 fit.1 s
+op_again (Fill pattern dst) size ws fit bit s = fill_again pattern dst size ws fit.0 fit.1 s
+op_again (Compare src src2 expected) size ws fit bit s = compare_again src src2 expected size ws fit.0 fit.1 bit s
+op_again (ComparePattern src pattern expected) size ws fit bit s = compare_pattern_again src pattern expected size ws fit.0 fit.1 bit s
+op_again (ApplyDelta delta dst record_size) size ws fit bit s = delta_again delta dst record_size size ws fit.0 fit.1 fit.2 s
+op_again (Dualcast src dst dst2) size ws fit bit s = dualcast_again src dst dst2 size ws fit.0 fit.1 fit.2 s
+
+-- ---- options
+
+abbrev opts : Option ℕ → Bool → Bool → Option ℕ → Option ℕ → Options
+opts pasid privileged check flags handle = record { pasid = pasid; privileged = privileged; check = check; flags = flags; handle = handle }
+
+-- what stands of an option that is written where it isn't 0
+abbrev some_number : ℕ → Option ℕ
+some_number n = cond (n == 0) None (Some n)
+
+number_back : (b : Bool) (n : ℕ) → (n == 0) ≡ b → or_zero (some_number n) ≡ n
+number_back true n e = let zero_is : n ≡ 0 = eqb-true _ _ e in rw e (sym zero_is)
+number_back false n e = rw e refl
+
+pasid_step : (t n : ℕ) (p k : Bool) (f h : Option ℕ) (ws : List Word) → n < 2 ^ 20
+    → options_at (suc t) (opts None p k f h) (codes "," ∷ codes "pasid" ∷ decimal n ∷ ws) ≡ options_at t (opts (Some n) p k f h) ws
+unfolding options_at option_at pasid_at
+pasid_step t n p k f h ws lt = rw (decimal_at n (greatest 20) ws (omega arith) (omega arith)) refl
+
+privileged_step : (t : ℕ) (n : Option ℕ) (k : Bool) (f h : Option ℕ) (ws : List Word)
+    → options_at (suc t) (opts n false k f h) (codes "," ∷ codes "privileged" ∷ ws) ≡ options_at t (opts n true k f h) ws
+unfolding options_at option_at privileged_at
+privileged_step t n k f h ws = refl
+
+check_step : (t : ℕ) (n : Option ℕ) (p : Bool) (f h : Option ℕ) (ws : List Word)
+    → options_at (suc t) (opts n p false f h) (codes "," ∷ codes "check" ∷ ws) ≡ options_at t (opts n p true f h) ws
+unfolding options_at option_at check_at
+check_step t n p f h ws = refl
+
+flags_step : (t n : ℕ) (m : Option ℕ) (p k : Bool) (h : Option ℕ) (ws : List Word) → n < 2 ^ 16 → bit_and n carried_mask ≡ n
+    → options_at (suc t) (opts m p k None h) (codes "," ∷ codes "flags" ∷ decimal n ∷ ws) ≡ options_at t (opts m p k (Some n) h) ws
+unfolding options_at option_at flags_at
+flags_step t n m p k h ws lt e = rw (decimal_at n (greatest 16) ws (omega arith) (omega arith), eq-eqb (bit_and n carried_mask) n e) refl
+
+handle_step : (t n : ℕ) (m : Option ℕ) (p k : Bool) (f : Option ℕ) (ws : List Word) → n < 2 ^ 16
+    → options_at (suc t) (opts m p k f None) (codes "," ∷ codes "handle" ∷ decimal n ∷ ws) ≡ options_at t (opts m p k f (Some n)) ws
+unfolding options_at option_at handle_at
+handle_step t n m p k f ws lt = rw (decimal_at n (greatest 16) ws (omega arith) (omega arith)) refl
+
+pub over : (t : ℕ) (o : Options) → options_at t o [] ≡ Some o
+unfolding options_at
+over zero o = refl
+over (suc t) o = refl
+
+handle_read : (b : Bool) (t n : ℕ) (m : Option ℕ) (p k : Bool) (f : Option ℕ) → (n == 0) ≡ b → n < 2 ^ 16
+    → options_at (suc t) (opts m p k f None) (number_option (codes "handle") n) ≡ Some (opts m p k f (some_number n))
+handle_read true t n m p k f e lt = rw e (over (suc t) (opts m p k f None))
+handle_read false t n m p k f e lt = rw e (handle_step t n m p k f [] lt ∙ over t (opts m p k f (Some n)))
+
+flags_read : (b : Bool) (t n h : ℕ) (m : Option ℕ) (p k : Bool) → (n == 0) ≡ b → n < 2 ^ 16 → bit_and n carried_mask ≡ n → h < 2 ^ 16
+    → options_at (suc (suc t)) (opts m p k None None) (number_option (codes "flags") n ++ number_option (codes "handle") h)
+    ≡ Some (opts m p k (some_number n) (some_number h))
+flags_read true t n h m p k e lt same lth = rw e (handle_read (h == 0) (suc t) h m p k None refl lth)
+flags_read false t n h m p k e lt same lth =
+    rw e (flags_step (suc t) n m p k None (number_option (codes "handle") h) lt same ∙ handle_read (h == 0) t h m p k (Some n) refl lth)
+
+check_read : (c : Bool) (t n h : ℕ) (m : Option ℕ) (p : Bool) → n < 2 ^ 16 → bit_and n carried_mask ≡ n → h < 2 ^ 16
+    → options_at (suc (suc (suc t))) (opts m p false None None)
+    (name_option (codes "check") c ++ (number_option (codes "flags") n ++ number_option (codes "handle") h))
+    ≡ Some (opts m p c (some_number n) (some_number h))
+check_read true t n h m p lt same lth =
+    check_step (suc (suc t)) m p None None (number_option (codes "flags") n ++ number_option (codes "handle") h)
+    ∙ flags_read (n == 0) t n h m p true refl lt same lth
+check_read false t n h m p lt same lth = flags_read (n == 0) (suc t) n h m p false refl lt same lth
+
+privileged_read : (q c : Bool) (t n h : ℕ) (m : Option ℕ) → n < 2 ^ 16 → bit_and n carried_mask ≡ n → h < 2 ^ 16
+    → options_at (suc (suc (suc (suc t)))) (opts m false false None None)
+    (name_option (codes "privileged") q ++ (name_option (codes "check") c ++ (number_option (codes "flags") n ++ number_option (codes "handle") h)))
+    ≡ Some (opts m q c (some_number n) (some_number h))
+privileged_read true c t n h m lt same lth =
+    privileged_step (suc (suc (suc t))) m false None None (name_option (codes "check") c ++ (number_option (codes "flags") n ++ number_option (codes "handle") h))
+    ∙ check_read c t n h m true lt same lth
+privileged_read false c t n h m lt same lth = check_read c (suc t) n h m false lt same lth
+
+abbrev behind_pasid : Bool → Bool → ℕ → ℕ → List Word
+behind_pasid q c n h = name_option (codes "privileged") q ++ (name_option (codes "check") c ++ (number_option (codes "flags") n ++ number_option (codes "handle") h))
+
+pasid_read : (b : Bool) (id : ℕ) (q c : Bool) (n h : ℕ) → (id == 0) ≡ b → id < 2 ^ 20 → n < 2 ^ 16 → bit_and n carried_mask ≡ n → h < 2 ^ 16
+    → options_at (suc (suc (suc (suc (suc zero))))) no_options (number_option (codes "pasid") id ++ behind_pasid q c n h)
+    ≡ Some (opts (some_number id) q c (some_number n) (some_number h))
+pasid_read true id q c n h e ltid lt same lth = rw e (privileged_read q c (suc zero) n h None lt same lth)
+pasid_read false id q c n h e ltid lt same lth =
+    rw e (pasid_step (suc (suc (suc (suc zero)))) id false false None None (behind_pasid q c n h) ltid ∙ privileged_read q c zero n h (Some id) lt same lth)
+
+-- the options of the canonical line are read
+options_again : (f : Fields) → IsListed f
+    → options_at 5 no_options (option_words f)
+    ≡ Some (opts (some_number f.pasid) f.privileged (checks_result f.flags) (some_number (carried_flags f.flags)) (some_number f.int_handle))
+options_again f listed =
+    pasid_read (f.pasid == 0) f.pasid f.privileged (checks_result f.flags) (carried_flags f.flags) f.int_handle refl
+    listed.pasid_fits (carried_fit f.flags) (carried_again f.flags) listed.int_handle_fits
+
+-- ---- the words of the line
+
+number_are : (b : Bool) (name : Word) (n : ℕ) → (n == 0) ≡ b → is_word name ≡ true → n < 2 ^ 64 → AreWords (number_option name n)
+number_are true name n e w lt = rw e tt
+number_are false name n e w lt = rw e (refl, (w, (decimal_word n lt, tt)))
+
+name_are : (b : Bool) (name : Word) → is_word name ≡ true → AreWords (name_option name b)
+name_are true name w = (refl, (w, tt))
+name_are false name w = tt
+
+are_append : (a b : List Word) → AreWords a → AreWords b → AreWords (a ++ b)
+are_append [] b all more = more
+are_append (w ∷ ws) b all more = (all.0, are_append ws b all.1 more)
+
+options_are : (f : Fields) → IsListed f → AreWords (option_words f)
+options_are f listed =
+    let flags : carried_flags f.flags < 2 ^ 16 = carried_fit f.flags in
+    are_append (number_option (codes "pasid") f.pasid) _ (number_are (f.pasid == 0) (codes "pasid") f.pasid refl refl (omega (arith, listed.pasid_fits)))
+    (are_append (name_option (codes "privileged") f.privileged) _ (name_are f.privileged (codes "privileged") refl)
+    (are_append (name_option (codes "check") (checks_result f.flags)) _ (name_are (checks_result f.flags) (codes "check") refl)
+    (are_append (number_option (codes "flags") (carried_flags f.flags)) _ (number_are (carried_flags f.flags == 0) (codes "flags") (carried_flags f.flags) refl refl (omega arith))
+    (number_are (f.int_handle == 0) (codes "handle") f.int_handle refl refl (omega (arith, listed.int_handle_fits))))))
+
+-- the words of the text of an operation, and of what follows it
+op_text_words : (op : Op) (size : ℕ) (ws : List Word) → FieldsFit op → HasExpectedBit op → size < 2 ^ 32 → AreWords ws
+    → words_of (text_of (op_words op size ++ ws)) ≡ op_words op size ++ ws
+op_text_words (Move src dst) size ws fit bit s all =
+    text_words 109 (111 ∷ 118 ∷ 101 ∷ []) _ refl
+    (hex_word src fit.0, (refl, (hex_word dst fit.1, (refl, (decimal_word size (omega arith), (refl, all))))))
+op_text_words (Fill pattern dst) size ws fit bit s all =
+    text_words 102 (105 ∷ 108 ∷ 108 ∷ []) _ refl
+    (hex_word dst fit.1, (refl, (pattern_is_word pattern, (refl, (decimal_word size (omega arith), (refl, all))))))
+op_text_words (Compare src src2 expected) size ws fit bit s all =
+    text_words 99 (111 ∷ 109 ∷ 112 ∷ 97 ∷ 114 ∷ 101 ∷ []) _ refl
+    (hex_word src fit.0, (refl, (hex_word src2 fit.1, (refl, (decimal_word size (omega arith), (refl, (refl, (refl, (decimal_word expected (omega arith), all)))))))))
+op_text_words (ComparePattern src pattern expected) size ws fit bit s all =
+    text_words 99 (111 ∷ 109 ∷ 112 ∷ 97 ∷ 114 ∷ 101 ∷ []) _ refl
+    (hex_word src fit.0, (refl, (refl, (pattern_is_word pattern, (refl, (decimal_word size (omega arith), (refl, (refl, (refl, (decimal_word expected (omega arith), all))))))))))
+op_text_words (ApplyDelta delta dst record_size) size ws fit bit s all =
+    text_words 100 (101 ∷ 108 ∷ 116 ∷ 97 ∷ []) _ refl
+    (hex_word delta fit.0, (refl, (decimal_word record_size (omega arith), (refl, (refl, (hex_word dst fit.1, (refl, (decimal_word size (omega arith), (refl, all)))))))))
+op_text_words (Dualcast src dst dst2) size ws fit bit s all =
+    text_words 100 (117 ∷ 97 ∷ 108 ∷ 99 ∷ 97 ∷ 115 ∷ 116 ∷ []) _ refl
+    (hex_word src fit.0, (refl, (hex_word dst fit.1, (refl, (hex_word dst2 fit.2, (refl, (decimal_word size (omega arith), (refl, all))))))))
+
+op_words_are : (op : Op) (size : ℕ) (ws : List Word) → FieldsFit op → HasExpectedBit op → size < 2 ^ 32 → AreWords ws → AreWords (op_words op size ++ ws)
+op_words_are (Move src dst) size ws fit bit s all =
+    (refl, (hex_word src fit.0, (refl, (hex_word dst fit.1, (refl, (decimal_word size (omega arith), (refl, all)))))))
+op_words_are (Fill pattern dst) size ws fit bit s all =
+    (refl, (hex_word dst fit.1, (refl, (pattern_is_word pattern, (refl, (decimal_word size (omega arith), (refl, all)))))))
+op_words_are (Compare src src2 expected) size ws fit bit s all =
+    (refl, (hex_word src fit.0, (refl, (hex_word src2 fit.1, (refl, (decimal_word size (omega arith), (refl, (refl, (refl, (decimal_word expected (omega arith), all))))))))))
+op_words_are (ComparePattern src pattern expected) size ws fit bit s all =
+    (refl, (hex_word src fit.0, (refl, (refl, (pattern_is_word pattern, (refl, (decimal_word size (omega arith), (refl, (refl, (refl, (decimal_word expected (omega arith), all)))))))))))
+op_words_are (ApplyDelta delta dst record_size) size ws fit bit s all =
+    (refl, (hex_word delta fit.0, (refl, (decimal_word record_size (omega arith), (refl, (refl, (hex_word dst fit.1, (refl, (decimal_word size (omega arith), (refl, all))))))))))
+op_words_are (Dualcast src dst dst2) size ws fit bit s all =
+    (refl, (hex_word src fit.0, (refl, (hex_word dst fit.1, (refl, (hex_word dst2 fit.2, (refl, (decimal_word size (omega arith), (refl, all)))))))))
+
+-- what follows the operation
+abbrev more_words : Fields → List Word
+more_words f = codes "," ∷ codes "record" ∷ hex f.record_at ∷ option_words f
+
+more_are : (f : Fields) → IsListed f → AreWords (more_words f)
+more_are f listed = (refl, (refl, (hex_word f.record_at listed.record_at_fits, options_are f listed)))
+
+-- the fields that the options stand for are those of the line
+fields_again : (f : Fields) → IsListed f
+    → fields_with f.op f.size f.record_at (opts (some_number f.pasid) f.privileged (checks_result f.flags) (some_number (carried_flags f.flags)) (some_number f.int_handle)) ≡ f
+fields_again f listed =
+    let pasid = number_back (f.pasid == 0) f.pasid refl in
+    let handle = number_back (f.int_handle == 0) f.int_handle refl in
+    let flags : flags_with (or_zero (some_number (carried_flags f.flags))) (checks_result f.flags) ≡ f.flags =
+    ap (λ (n : ℕ). flags_with n (checks_result f.flags)) (number_back (carried_flags f.flags == 0) (carried_flags f.flags) refl)
+    ∙ flags_again f.op f.flags listed.flags_listed listed.flags_fit in
+    λ i. record { pasid = pasid i; privileged = f.privileged; flags = flags i; record_at = f.record_at; size = f.size; int_handle = handle i; op = f.op }
+
+words_spell : (f : Fields) → IsListed f → fields_of (op_words f.op f.size ++ more_words f) ≡ Some f
+unfolding fields_of
+words_spell f listed =
+    rw (
+      op_again f.op f.size (more_words f) listed.op_fits listed.expected_bit listed.size_fits,
+      hex_at f.record_at (greatest 64) (option_words f) listed.record_at_fits (omega (arith, listed.record_at_fits)),
+      options_again f listed,
+    ) (ap Some (fields_again f listed))
+
+-- the canonical line of listed fields spells them
+pub line_spells : (f : Fields) → IsListed f → Spells (line_text f) f
+unfolding line_text
+line_spells f listed =
+    ap fields_of (op_text_words f.op f.size (more_words f) listed.op_fits listed.expected_bit listed.size_fits (more_are f listed))
+    ∙ words_spell f listed
+
+-- ---- the line as a text
+
+tail_append : (a b : List Word) → tail_text (a ++ b) ≡ tail_text a ++ tail_text b
+tail_append [] b = refl
+tail_append (w ∷ ws) b = rw (tail_append ws b) (sym (append_assoc (spaced w) (tail_text ws) (tail_text b)))
+
+text_append : (w : Word) (a b : List Word) → text_of ((w ∷ a) ++ b) ≡ text_of (w ∷ a) ++ tail_text b
+text_append w a b = rw (tail_append a b) (sym (append_assoc w (tail_text a) (tail_text b)))
+
+abbrev has_first : List Word → Bool
+has_first [] = false
+has_first (w ∷ ws) = true
+
+words_append : (ws b : List Word) → has_first ws ≡ true → text_of (ws ++ b) ≡ text_of ws ++ tail_text b
+words_append [] b h = absurd cc
+words_append (w ∷ a) b h = text_append w a b
+
+op_append : (op : Op) (size : ℕ) (b : List Word) → text_of (op_words op size ++ b) ≡ text_of (op_words op size) ++ tail_text b
+op_append (Move src dst) size b = words_append (op_words (Move src dst) size) b refl
+op_append (Fill pattern dst) size b = words_append (op_words (Fill pattern dst) size) b refl
+op_append (Compare src src2 expected) size b = words_append (op_words (Compare src src2 expected) size) b refl
+op_append (ComparePattern src pattern expected) size b = words_append (op_words (ComparePattern src pattern expected) size) b refl
+op_append (ApplyDelta delta dst record_size) size b = words_append (op_words (ApplyDelta delta dst record_size) size) b refl
+op_append (Dualcast src dst dst2) size b = words_append (op_words (Dualcast src dst dst2) size) b refl
+
+five_tails : (a b c d e : List Word) → tail_text (a ++ (b ++ (c ++ (d ++ e)))) ≡ tail_text a ++ (tail_text b ++ (tail_text c ++ (tail_text d ++ tail_text e)))
+five_tails a b c d e = rw (tail_append a (b ++ (c ++ (d ++ e))), tail_append b (c ++ (d ++ e)), tail_append c (d ++ e), tail_append d e) refl
+
+regroup_line : (t r a b c d e : List ℕ) → t ++ (r ++ (a ++ (b ++ (c ++ (d ++ e))))) ≡ ((((((t ++ r) ++ a) ++ b) ++ c) ++ d) ++ e)
+regroup_line t r a b c d e = simp append_assoc
+
+pub line_is : (f : Fields)
+    → line_text f ≡ ((((((text_of (op_words f.op f.size) ++ (codes ", record " ++ hex f.record_at))
+    ++ tail_text (number_option (codes "pasid") f.pasid))
+    ++ tail_text (name_option (codes "privileged") f.privileged))
+    ++ tail_text (name_option (codes "check") (checks_result f.flags)))
+    ++ tail_text (number_option (codes "flags") (carried_flags f.flags)))
+    ++ tail_text (number_option (codes "handle") f.int_handle))
+unfolding line_text
+line_is f =
+    let a : List Word = number_option (codes "pasid") f.pasid in
+    let b : List Word = name_option (codes "privileged") f.privileged in
+    let c : List Word = name_option (codes "check") (checks_result f.flags) in
+    let d : List Word = number_option (codes "flags") (carried_flags f.flags) in
+    let e : List Word = number_option (codes "handle") f.int_handle in
+    let t : List ℕ = text_of (op_words f.op f.size) in
+    let r : List ℕ = codes ", record " ++ hex f.record_at in
+    op_append f.op f.size (more_words f)
+    ∙ ap (λ (s : List ℕ). t ++ (r ++ s)) (five_tails a b c d e)
+    ∙ regroup_line t r (tail_text a) (tail_text b) (tail_text c) (tail_text d) (tail_text e)
+
+regroup : (p a q b u d t : List ℕ) → (p ++ (a ++ (q ++ (b ++ (u ++ d))))) ++ t ≡ p ++ (a ++ (q ++ (b ++ (u ++ (d ++ t)))))
+regroup p a q b u d t = simp append_assoc
+
+pub delta_is : (delta dst record_size size : ℕ) → record_size < 2 ^ 64 → size < 2 ^ 64
+    → text_of (op_words (ApplyDelta delta dst record_size) size)
+    ≡ (codes "delta " ++ (hex delta ++ (codes ", " ++ (decimal record_size ++ (codes " bytes -> " ++ hex dst))))) ++ (codes ", " ++ (decimal size ++ codes " bytes"))
+delta_is delta dst record_size size r s =
+    rw (spaced_decimal record_size r, spaced_decimal size s)
+    (sym (regroup (codes "delta ") (hex delta) (codes ", ") (decimal record_size) (codes " bytes -> ") (hex dst) (codes ", " ++ (decimal size ++ codes " bytes"))))
+
+pub dualcast_is : (src dst dst2 size : ℕ) → size < 2 ^ 64
+    → text_of (op_words (Dualcast src dst dst2) size)
+    ≡ (codes "dualcast " ++ (hex src ++ (codes " -> " ++ (hex dst ++ (codes " and " ++ hex dst2))))) ++ (codes ", " ++ (decimal size ++ codes " bytes"))
+dualcast_is src dst dst2 size s =
+    rw (spaced_decimal size s)
+    (sym (regroup (codes "dualcast ") (hex src) (codes " -> ") (hex dst) (codes " and ") (hex dst2) (codes ", " ++ (decimal size ++ codes " bytes"))))
+
+regroup_fill : (a h b p u d v : List ℕ) → ((a ++ (h ++ b)) ++ p) ++ (u ++ (d ++ v)) ≡ a ++ (h ++ (b ++ (p ++ (u ++ (d ++ v)))))
+regroup_fill a h b p u d v = simp append_assoc
+
+pub fill_is : (pattern dst size : ℕ) → size < 2 ^ 64
+    → text_of (op_words (Fill pattern dst) size)
+    ≡ ((codes "fill " ++ (hex dst ++ codes " with ")) ++ pattern_word pattern) ++ (codes ", " ++ (decimal size ++ codes " bytes"))
+fill_is pattern dst size s =
+    rw (spaced_pattern pattern, spaced_decimal size s)
+    (sym (regroup_fill (codes "fill ") (hex dst) (codes " with ") (pattern_word pattern) (codes ", ") (decimal size) (codes " bytes")))
+
+regroup_compare : (a h b k u d v w e : List ℕ) → ((a ++ (h ++ (b ++ k))) ++ (u ++ (d ++ v))) ++ (w ++ e) ≡ a ++ (h ++ (b ++ (k ++ (u ++ (d ++ (v ++ (w ++ e)))))))
+regroup_compare a h b k u d v w e = simp append_assoc
+
+pub compare_is : (src src2 expected size : ℕ) → expected < 2 ^ 64 → size < 2 ^ 64
+    → text_of (op_words (Compare src src2 expected) size)
+    ≡ ((codes "compare " ++ (hex src ++ (codes " with " ++ hex src2))) ++ (codes ", " ++ (decimal size ++ codes " bytes"))) ++ (codes ", expect " ++ decimal expected)
+compare_is src src2 expected size x s =
+    rw (spaced_decimal size s, spaced_decimal expected x, append-nil (decimal expected))
+    (sym (regroup_compare (codes "compare ") (hex src) (codes " with ") (hex src2) (codes ", ") (decimal size) (codes " bytes") (codes ", expect ") (decimal expected)))
+
+regroup_pattern : (a h b p u d v w e : List ℕ) → (((a ++ (h ++ b)) ++ p) ++ (u ++ (d ++ v))) ++ (w ++ e) ≡ a ++ (h ++ (b ++ (p ++ (u ++ (d ++ (v ++ (w ++ e)))))))
+regroup_pattern a h b p u d v w e = simp append_assoc
+
+pub compare_pattern_is : (src pattern expected size : ℕ) → expected < 2 ^ 64 → size < 2 ^ 64
+    → text_of (op_words (ComparePattern src pattern expected) size)
+    ≡ (((codes "compare " ++ (hex src ++ codes " with pattern ")) ++ pattern_word pattern) ++ (codes ", " ++ (decimal size ++ codes " bytes"))) ++ (codes ", expect " ++ decimal expected)
+compare_pattern_is src pattern expected size x s =
+    rw (spaced_pattern pattern, spaced_decimal size s, spaced_decimal expected x, append-nil (decimal expected))
+    (sym (regroup_pattern (codes "compare ") (hex src) (codes " with pattern ") (pattern_word pattern) (codes ", ") (decimal size) (codes " bytes") (codes ", expect ") (decimal expected)))
+
+pub number_is : (name : Word) (n : ℕ) → spaced name ≡ 32 ∷ name → (n == 0) ≡ false → n < 2 ^ 64
+    → tail_text (number_option name n) ≡ codes ", " ++ (name ++ (codes " " ++ decimal n))
+number_is name n plain e lt = rw (e, plain, spaced_decimal n lt, append-nil (decimal n)) refl
+
+some_turn : (turn : ℕ) (o : Options) (w : Word) (ws : List Word) (behind : List Word) (next : Options × List Word) → turn < 5
+    → after (codes ",") (w ∷ ws) ≡ Some behind → option_at o behind ≡ Some next
+    → options_at (5 - turn) o (w ∷ ws) ≡ options_at (5 - (turn + 1)) next.0 next.1
+unfolding options_at
+some_turn turn o w ws behind next lt e f =
+    let one : 5 - turn ≡ suc (5 - (turn + 1)) = omega arith in
+    rw (one, e, f) refl
+
+pub no_behind : (turn : ℕ) (o : Options) (ws : List Word) → turn < 5 → (ws ≡ [] → ⊥) → after (codes ",") ws ≡ None → options_at (5 - turn) o ws ≡ None
+unfolding options_at
+no_behind turn o [] lt some e = absurd (some refl)
+no_behind turn o (w ∷ ws) lt some e = let one : 5 - turn ≡ suc (5 - (turn + 1)) = omega arith in rw (one, e) refl
+
+pub no_next : (turn : ℕ) (o : Options) (ws behind : List Word) → turn < 5 → after (codes ",") ws ≡ Some behind → option_at o behind ≡ None
+    → options_at (5 - turn) o ws ≡ None
+unfolding options_at
+no_next turn o [] behind lt e f = absurd cc
+no_next turn o (w ∷ ws) behind lt e f = let one : 5 - turn ≡ suc (5 - (turn + 1)) = omega arith in rw (one, e, f) refl
+
+pub next_turn : (turn : ℕ) (o : Options) (ws behind : List Word) (next : Options × List Word) → turn < 5
+    → after (codes ",") ws ≡ Some behind → option_at o behind ≡ Some next
+    → options_at (5 - turn) o ws ≡ options_at (5 - (turn + 1)) next.0 next.1
+next_turn turn o [] behind next lt e f = absurd cc
+next_turn turn o (w ∷ ws) behind next lt e f = some_turn turn o w ws behind next lt e f
+
+pub too_many : (o : Options) (ws : List Word) → (ws ≡ [] → ⊥) → options_at zero o ws ≡ None
+unfolding options_at
+too_many o [] some = absurd (some refl)
+too_many o (w ∷ ws) some = refl
+
+-- each word of the canonical line is one
+pub line_words_are : (f : Fields) → IsListed f → AreWords (line_words f)
+line_words_are f listed = op_words_are f.op f.size (more_words f) listed.op_fits listed.expected_bit listed.size_fits (more_are f listed)

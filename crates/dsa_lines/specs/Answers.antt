@@ -1,0 +1,27 @@
+-- What a reader of a line may answer.
+use Rattle.std.specs.Prelude.{◌≡◌, ◌≢◌, ⊤, ℕ, List, [], Option, Some, None, Result, Ok, Err}
+use Rattle.dsa_descriptor.specs.declared.descriptor.Descriptor.{Descriptor}
+use Rattle.dsa_descriptor.specs.Fields.{Fields}
+use Rattle.dsa_descriptor.specs.Descriptors.{fields}
+use Rattle.dsa_descriptor.specs.Faults.{IsFirstFault}
+use Rattle.dsa_descriptor.specs.Spelling.{spelling}
+use Rattle.dsa_lines.specs.declared.fault.Expected.{Expected}
+use Rattle.dsa_lines.specs.declared.fault.LineFault.{LineFault}
+use Rattle.dsa_lines.specs.declared.fault.LineFault.TheVariants.{Grammar, Field}
+use Rattle.dsa_lines.specs.Words.{Word}
+use Rattle.dsa_lines.specs.Grammar.{fields_of}
+
+-- a place in the line where it spells no fields; else the descriptor with the bytes of the fields, or their first fault
+abbrev pub Answers : Option Fields → Result Descriptor LineFault → Type 0
+Answers None (Ok d) = ⊥
+Answers None (Err (Grammar column what)) = ⊤
+Answers None (Err (Field fault)) = ⊥
+Answers (Some f) (Ok d) = spelling f ≡ spelling (fields d)
+Answers (Some f) (Err (Grammar column what)) = ⊥
+Answers (Some f) (Err (Field fault)) = IsFirstFault (spelling f) fault
+
+-- no words; else the bytes of the fields that they spell, or a place where they spell none
+abbrev pub SpellsLine : List Word → Result (Option (List ℕ)) (ℕ × Expected) → Type 0
+SpellsLine words (Ok None) = words ≡ []
+SpellsLine words (Ok (Some bytes)) = (f : Fields) × (fields_of words ≡ Some f) × (bytes ≡ spelling f)
+SpellsLine words (Err place) = (words ≢ []) × (fields_of words ≡ None)

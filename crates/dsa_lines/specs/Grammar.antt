@@ -1,0 +1,188 @@
+-- The fields that the words of a line spell.
+use Rattle.std.specs.Prelude.{◌≡◌, ℕ, zero, suc, ◌-◌, ◌^◌, ◌==◌, nat_le, true, List, [], ◌∷◌, Option, Some, None, Result, Ok, Err, is_some, option_and_then, bit_and, codes, if◌then◌else◌}
+use Rattle.std.specs.Str.{bytes_eq}
+use Rattle.dsa_descriptor.specs.declared.op.Op.{Op}
+use Rattle.dsa_descriptor.specs.declared.op.Op.TheVariants.{Move, Fill, Compare, ComparePattern, ApplyDelta, Dualcast}
+use Rattle.dsa_descriptor.specs.Fields.{Fields}
+use Rattle.dsa_lines.specs.declared.options.Options.{Options}
+use Rattle.dsa_lines.specs.Words.{Word, words_of}
+use Rattle.dsa_lines.specs.Numbers.{number_of, pattern_of}
+use Rattle.dsa_lines.specs.Options.{no_options, carried_mask, fields_with}
+
+infixl 10 ◌>>=◌
+abbrev pub ◌>>=◌ : {A B : Type 0} → Option A → (A → Option B) → Option B
+o >>= f = option_and_then f o
+
+-- the greatest number of so many bits
+abbrev pub greatest : ℕ → ℕ
+greatest bits = 2 ^ bits - 1
+
+-- the words behind this one
+abbrev pub after : Word → List Word → Option (List Word)
+after word [] = None
+after word (w ∷ ws) = if bytes_eq w word then Some ws else None
+
+-- the words behind a comma and this name
+abbrev pub named : Word → List Word → Option (List Word)
+named name words = after (codes ",") words >>= after name
+
+-- a number of at most this, and the words behind it
+abbrev pub number_at : ℕ → List Word → Option (ℕ × List Word)
+number_at most [] = None
+number_at most (w ∷ ws) = number_of w >>= λ n. if nat_le n most then Some (n, ws) else None
+
+abbrev pub pattern_at : List Word → Option (ℕ × List Word)
+pattern_at [] = None
+pattern_at (w ∷ ws) = pattern_of w >>= λ n. Some (n, ws)
+
+unfoldable pub size_at : List Word → Option (ℕ × List Word)
+size_at words = do
+  size ← number_at (greatest 32) words
+  rest ← after (codes "bytes") size.1
+  Some (size.0, rest)
+
+-- ---- operations, each with its size and the words behind these
+
+unfoldable pub move_at : List Word → Option (Op × ℕ × List Word)
+move_at words = do
+  src ← number_at (greatest 64) words
+  to ← after (codes "->") src.1
+  dst ← number_at (greatest 64) to
+  comma ← after (codes ",") dst.1
+  size ← size_at comma
+  Some (Move src.0 dst.0, size.0, size.1)
+
+unfoldable pub fill_at : List Word → Option (Op × ℕ × List Word)
+fill_at words = do
+  dst ← number_at (greatest 64) words
+  filled ← after (codes "with") dst.1
+  pattern ← pattern_at filled
+  comma ← after (codes ",") pattern.1
+  size ← size_at comma
+  Some (Fill pattern.0 dst.0, size.0, size.1)
+
+-- of a comparison, its size, the expected result, and the words behind these
+unfoldable pub expected_at : List Word → Option (ℕ × ℕ × List Word)
+expected_at words = do
+  comma ← after (codes ",") words
+  size ← size_at comma
+  expect ← named (codes "expect") size.1
+  bit ← number_at 1 expect
+  Some (size.0, bit.0, bit.1)
+
+unfoldable pub compare_region_at : ℕ → List Word → Option (Op × ℕ × List Word)
+compare_region_at src words = do
+  src2 ← number_at (greatest 64) words
+  expected ← expected_at src2.1
+  Some (Compare src src2.0 expected.1, expected.0, expected.2)
+
+unfoldable pub compare_pattern_at : ℕ → List Word → Option (Op × ℕ × List Word)
+compare_pattern_at src words = do
+  pattern ← pattern_at words
+  expected ← expected_at pattern.1
+  Some (ComparePattern src pattern.0 expected.1, expected.0, expected.2)
+
+-- with the pattern behind `pattern`, or with a second region where that word doesn't stand
+abbrev pub compare_other_at : ℕ → List Word → Option (List Word) → Option (Op × ℕ × List Word)
+compare_other_at src words None = compare_region_at src words
+compare_other_at src words (Some rest) = compare_pattern_at src rest
+
+unfoldable pub compare_at : List Word → Option (Op × ℕ × List Word)
+compare_at words = do
+  src ← number_at (greatest 64) words
+  other ← after (codes "with") src.1
+  compare_other_at src.0 other (after (codes "pattern") other)
+
+unfoldable pub delta_at : List Word → Option (Op × ℕ × List Word)
+delta_at words = do
+  delta ← number_at (greatest 64) words
+  comma ← after (codes ",") delta.1
+  record_size ← size_at comma
+  to ← after (codes "->") record_size.1
+  dst ← number_at (greatest 64) to
+  second ← after (codes ",") dst.1
+  size ← size_at second
+  Some (ApplyDelta delta.0 dst.0 record_size.0, size.0, size.1)
+
+unfoldable pub dualcast_at : List Word → Option (Op × ℕ × List Word)
+dualcast_at words = do
+  src ← number_at (greatest 64) words
+  to ← after (codes "->") src.1
+  dst ← number_at (greatest 64) to
+  next ← after (codes "and") dst.1
+  dst2 ← number_at (greatest 64) next
+  comma ← after (codes ",") dst2.1
+  size ← size_at comma
+  Some (Dualcast src.0 dst.0 dst2.0, size.0, size.1)
+
+unfoldable pub op_at : List Word → Option (Op × ℕ × List Word)
+op_at [] = None
+op_at (w ∷ ws) =
+    if bytes_eq w (codes "move") then move_at ws else
+    if bytes_eq w (codes "fill") then fill_at ws else
+    if bytes_eq w (codes "compare") then compare_at ws else
+    if bytes_eq w (codes "delta") then delta_at ws else
+    if bytes_eq w (codes "dualcast") then dualcast_at ws else None
+
+-- ---- options, each at most once and in any order
+
+unfoldable pub pasid_at : Options → List Word → Option (Options × List Word)
+pasid_at o words =
+    if is_some o.pasid then None else
+    (number_at (greatest 20) words >>= λ n. Some (record o { pasid = Some n.0 }, n.1))
+
+unfoldable pub privileged_at : Options → List Word → Option (Options × List Word)
+privileged_at o words = if o.privileged then None else Some (record o { privileged = true }, words)
+
+unfoldable pub check_at : Options → List Word → Option (Options × List Word)
+check_at o words = if o.check then None else Some (record o { check = true }, words)
+
+-- no flag that is refused, required or named
+unfoldable pub flags_at : Options → List Word → Option (Options × List Word)
+flags_at o words =
+    if is_some o.flags then None else
+    (number_at (greatest 16) words >>= λ n.
+    if bit_and n.0 carried_mask == n.0 then Some (record o { flags = Some n.0 }, n.1) else None)
+
+unfoldable pub handle_at : Options → List Word → Option (Options × List Word)
+handle_at o words =
+    if is_some o.handle then None else
+    (number_at (greatest 16) words >>= λ n. Some (record o { handle = Some n.0 }, n.1))
+
+-- one option more, and the words behind it
+unfoldable pub option_at : Options → List Word → Option (Options × List Word)
+option_at o [] = None
+option_at o (w ∷ ws) =
+    if bytes_eq w (codes "pasid") then pasid_at o ws else
+    if bytes_eq w (codes "privileged") then privileged_at o ws else
+    if bytes_eq w (codes "check") then check_at o ws else
+    if bytes_eq w (codes "flags") then flags_at o ws else
+    if bytes_eq w (codes "handle") then handle_at o ws else None
+
+-- so many options more at most, each behind a comma, to the end
+unfoldable pub options_at : ℕ → Options → List Word → Option Options
+options_at most o [] = Some o
+options_at zero o (w ∷ ws) = None
+options_at (suc most) o (w ∷ ws) = do
+  behind ← after (codes ",") (w ∷ ws)
+  next ← option_at o behind
+  options_at most next.0 next.1
+
+-- ---- a line
+
+unfoldable pub fields_of : List Word → Option Fields
+fields_of words = do
+  op ← op_at words
+  behind ← named (codes "record") op.2
+  record_at ← number_at (greatest 64) behind
+  options ← options_at 5 no_options record_at.1
+  Some (fields_with op.0 op.1 record_at.0 options)
+
+-- the line spells these fields
+abbrev pub Spells : List ℕ → Fields → Type 0
+Spells text f = fields_of (words_of text) ≡ Some f
+
+-- What a reader returned, seen by view, is what reading gives.
+abbrev pub Gives : {X Y E : Type 0} → (X → Y) → Result X E → Option Y → Type 0
+Gives view (Ok x) read = read ≡ Some (view x)
+Gives view (Err e) read = read ≡ None

@@ -1,0 +1,46 @@
+-- The options behind the record of a line, and the flags that they stand for.
+use Rattle.std.specs.Prelude.{ℕ, ◌==◌, Bool, true, false, not, Option, Some, None, bit_and, bit_or, if◌then◌else◌}
+use Rattle.dsa_descriptor.specs.declared.op.Op.{Op}
+use Rattle.dsa_descriptor.specs.Fields.{Fields}
+use Rattle.dsa_descriptor.specs.Profile.{required_flags}
+use Rattle.dsa_lines.specs.declared.options.Options.{Options}
+
+-- no option stands yet
+abbrev pub no_options : Options
+no_options = record { pasid = None; privileged = false; check = false; flags = None; handle = None }
+
+-- the flags that are carried and have no name here: 0x0002, 0x0020 and 0x0100 to 0x8000
+abbrev pub carried_mask : ℕ
+carried_mask = 0xff22
+
+-- check result
+abbrev pub check_mask : ℕ
+check_mask = 0x80
+
+abbrev pub or_zero : Option ℕ → ℕ
+or_zero None = 0
+or_zero (Some n) = n
+
+-- the required flags, those under `flags`, and check result under `check`
+abbrev pub flags_with : ℕ → Bool → ℕ
+flags_with carried check = bit_or (bit_or required_flags carried) (if check then check_mask else 0)
+
+-- an option with a number that doesn't stand is 0
+abbrev pub fields_with : Op → ℕ → ℕ → Options → Fields
+fields_with op size record_at o =
+    record {
+      pasid = or_zero o.pasid;
+      privileged = o.privileged;
+      flags = flags_with (or_zero o.flags) o.check;
+      record_at = record_at;
+      size = size;
+      int_handle = or_zero o.handle;
+      op = op;
+    }
+
+-- of the flags of a descriptor, what stands under `flags`, and whether `check` stands
+abbrev pub carried_flags : ℕ → ℕ
+carried_flags flags = bit_and flags carried_mask
+
+abbrev pub checks_result : ℕ → Bool
+checks_result flags = not (bit_and flags check_mask == 0)

@@ -1,0 +1,100 @@
+//! Why a line spells no descriptor.
+
+use crate::words::skip_blanks;
+use dsa_descriptor::FieldFault;
+
+/// What the grammar has at a place of a line.
+#[derive(Clone, Copy, Debug, PartialEq, Eq)]
+pub enum Expected {
+    /// The name of an operation.
+    Operation,
+    /// A number below 2^64.
+    Number,
+    /// A number below 2^32.
+    Size,
+    /// A number below 2^20.
+    Pasid,
+    /// A number below 2^16.
+    Handle,
+    /// A number of flags that are carried and have no name.
+    Flags,
+    /// 0 or 1.
+    Bit,
+    /// The 16 hexadecimal digits of a pattern.
+    Pattern,
+    /// A comma.
+    Comma,
+    /// The word `->`.
+    Arrow,
+    /// The word `with`.
+    With,
+    /// The word `and`.
+    And,
+    /// The word `bytes`.
+    Bytes,
+    /// The word `expect`.
+    Expect,
+    /// The word `record`.
+    Record,
+    /// The name of an option that does not stand before.
+    Option,
+    /// The end of the line.
+    End,
+}
+
+impl Expected {
+    /// The words that tell a reader what is missing.
+    pub fn text(self) -> &'static str {
+        match self {
+            Expected::Operation => "move, fill, compare, delta or dualcast",
+            Expected::Number => "a number below 2^64",
+            Expected::Size => "a number below 2^32",
+            Expected::Pasid => "a number below 2^20",
+            Expected::Handle => "a number below 2^16",
+            Expected::Flags => "flags of 0x0002, 0x0020 and 0x0100 to 0x8000",
+            Expected::Bit => "0 or 1",
+            Expected::Pattern => "16 hexadecimal digits",
+            Expected::Comma => "a comma",
+            Expected::Arrow => "->",
+            Expected::With => "with",
+            Expected::And => "and",
+            Expected::Bytes => "bytes",
+            Expected::Expect => "expect",
+            Expected::Record => "record",
+            Expected::Option =>
+                "an option that does not stand before: pasid, privileged, check, flags or handle",
+            Expected::End => "the end of the line",
+        }
+    }
+}
+
+/// Why a line is none of a descriptor.
+#[derive(Clone, Copy, Debug, PartialEq, Eq)]
+pub enum LineFault {
+    /// The line leaves the grammar at this column, from 1 on, where this was expected.
+    Grammar(usize, Expected),
+    /// The fields that it spells are no listed descriptor.
+    Field(FieldFault),
+}
+
+/// Where reading stopped: so many bytes before the end of the line, where this was expected.
+#[derive(Clone, Copy, Debug)]
+pub(crate) struct Stop {
+    pub(crate) left: usize,
+    pub(crate) expected: Expected,
+}
+
+impl Stop {
+    /// A stop at the next word of the text.
+    pub(crate) fn at(text: &[u8], expected: Expected) -> Stop {
+        Stop {
+            left: skip_blanks(text).len(),
+            expected,
+        }
+    }
+
+    /// The column of the line, from 1 on.
+    pub(crate) fn column(self, line: &[u8]) -> usize {
+        line.len().saturating_sub(self.left).saturating_add(1)
+    }
+}

@@ -1,0 +1,18 @@
+//! Laws of lines.
+
+ghost use Rattle.std.specs.Prelude.{◌≡◌, List, ℕ};
+ghost use Rattle.dsa_descriptor.specs.Fields.{Fields};
+ghost use Rattle.dsa_descriptor.specs.Profile.{IsListed};
+ghost use Rattle.dsa_lines.specs.Grammar.{Spells};
+ghost use Rattle.dsa_lines.specs.Text.{line_text};
+
+/// A line spells one set of fields at most.
+pub fn spells_one()
+    ensures { (text : List ℕ) (f g : Fields) → Spells text f → Spells text g → f ≡ g }
+{}
+
+/// The canonical line of listed fields spells them.
+#[tactic(auto, using(crate::proofs::RoundTrip::line_spells))]
+pub fn canonical_line_spells()
+    ensures { (f : Fields) → IsListed f → Spells (line_text f) f }
+{}

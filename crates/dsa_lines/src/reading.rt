@@ -1,0 +1,137 @@
+//! Reading a line, word by word.
+
+ghost use Rattle.std.specs.Prelude.{◌≡◌, ◌<◌, ◌≤◌, ◌^◌, IfOk, Ok};
+ghost use Rattle.dsa_lines.specs.Words.{words_of};
+ghost use Rattle.dsa_lines.specs.Grammar.{Gives, after, named, number_at, pattern_at, fields_of, Spells};
+ghost use Rattle.dsa_lines.specs.Views.{view};
+ghost use Rattle.dsa_lines.specs.Text.{line_text};
+ghost use Rattle.dsa_lines.specs.Answers.{Answers, SpellsLine};
+ghost use Rattle.dsa_descriptor.specs.declared.descriptor.Descriptor.{Descriptor};
+ghost use Rattle.dsa_descriptor.specs.Descriptors.{fields};
+
+use crate::fault::{Expected, LineFault, Stop};
+use crate::line::Line;
+use crate::numbers::{number_of, pattern_of};
+use crate::operations::op_at;
+use crate::options::options_at;
+use crate::words::{is_over, next_word};
+use dsa_descriptor::Descriptor;
+
+/// What stands behind this word.
+pub(crate) fn after<'a>(text: &'a [u8], word: &[u8], expected: Expected) -> Result<&'a [u8], Stop>
+    ensures { Gives (λ x. words_of x.now) result (after word.now (words_of text.now)) }
+{
+    let Some((first, rest)) = next_word(text) else {
+        return Err(Stop::at(text, expected));
+    };
+    if first == word {
+        Ok(rest)
+    } else {
+        Err(Stop::at(text, expected))
+    }
+}
+
+/// What stands behind a comma and this name.
+pub(crate) fn named<'a>(text: &'a [u8], name: &[u8], expected: Expected) -> Result<&'a [u8], Stop>
+    ensures { Gives (λ x. words_of x.now) result (named name.now (words_of text.now)) }
+{
+    let rest = after(text, b",", Expected::Comma)?;
+    after(rest, name, expected)
+}
+
+/// A number of at most this, and what stands behind it.
+pub(crate) fn number_at(text: &[u8], most: u64, expected: Expected) -> Result<(u64, &[u8]), Stop>
+    ensures value { Gives (λ x. (x.0, words_of x.1.now)) result (number_at most (words_of text.now)) }
+    ensures bound { IfOk result (λ x. x.0 ≤ most) }
+{
+    let Some((word, rest)) = next_word(text) else {
+        return Err(Stop::at(text, expected));
+    };
+    let Some(number) = number_of(word) else {
+        return Err(Stop::at(text, expected));
+    };
+    if number <= most {
+        Ok((number, rest))
+    } else {
+        Err(Stop::at(text, expected))
+    }
+}
+
+/// A pattern, and what stands behind it.
+pub(crate) fn pattern_at(text: &[u8]) -> Result<(u64, &[u8]), Stop>
+    ensures { Gives (λ x. (x.0, words_of x.1.now)) result (pattern_at (words_of text.now)) }
+{
+    let Some((word, rest)) = next_word(text) else {
+        return Err(Stop::at(text, Expected::Pattern));
+    };
+    let Some(pattern) = pattern_of(word) else {
+        return Err(Stop::at(text, Expected::Pattern));
+    };
+    Ok((pattern, rest))
+}
+
+/// The fields that the line spells, if it is one of the grammar.
+#[tactic(auto, unfolding(crate::specs::Grammar::fields_of))]
+pub(crate) fn read_line(text: &[u8]) -> Result<Line, Stop>
+    ensures gives { Gives view result (fields_of (words_of text.now)) }
+    ensures small { IfOk result (λ line. (line.pasid < 2 ^ 20) × (line.flags < 2 ^ 16)) }
+{
+    let (op, size, rest) = op_at(text)?;
+    let rest = named(rest, b"record", Expected::Record)?;
+    let (record_at, rest) = number_at(rest, u64::MAX, Expected::Number)?;
+    let options = options_at(rest)?;
+    Ok(Line {
+        pasid: options.pasid_or_zero(),
+        privileged: options.privileged,
+        flags: options.flag_bits(),
+        record_at,
+        size,
+        int_handle: options.handle_or_zero(),
+        op,
+    })
+}
+
+/// The 64 bytes of the fields that a line spells, which may be no listed descriptor; none where it has no words.
+///
+/// # Errors
+/// The column, from 1 on, where the line leaves the grammar, and what was expected there.
+pub fn line_bytes(text: &[u8]) -> Result<Option<[u8; 64]>, (usize, Expected)>
+    ensures { SpellsLine (words_of text.now) result }
+{
+    if is_over(text) {
+        return Ok(None);
+    }
+    match read_line(text) {
+        Ok(line) => Ok(Some(line.bytes())),
+        Err(stop) => Err((stop.column(text), stop.expected)),
+    }
+}
+
+fn descriptor_of(text: &[u8]) -> Result<Descriptor, LineFault>
+    ensures gives { Answers (fields_of (words_of text.now)) result }
+    ensures only { (d : Descriptor) → Spells text.now (fields d) → result ≡ Ok d }
+{
+    let line = match read_line(text) {
+        Ok(line) => line,
+        Err(stop) => return Err(LineFault::Grammar(stop.column(text), stop.expected)),
+    };
+    match Descriptor::read(&line.bytes()) {
+        Ok(d) => Ok(d),
+        Err(fault) => Err(LineFault::Field(fault)),
+    }
+}
+
+/// The descriptor that a line spells.
+///
+/// # Errors
+/// Where the line leaves the grammar, or the first fault of the bytes of its fields.
+pub fn parse_line(text: &[u8]) -> Result<Descriptor, LineFault>
+    // A descriptor with the bytes of the fields that the line spells, their first fault, or that it spells none.
+    ensures gives { Answers (fields_of (words_of text.now)) result }
+    // What the line spells is read.
+    ensures only { (d : Descriptor) → Spells text.now (fields d) → result ≡ Ok d }
+    // The canonical line is read back.
+    ensures again { (d : Descriptor) → text.now ≡ line_text (fields d) → result ≡ Ok d }
+{
+    descriptor_of(text)
+}

@@ -1,0 +1,78 @@
+//! The words of a line.
+
+ghost use Rattle.std.specs.Prelude.{◌≡◌, ◌≤◌, ◌↔◌, length, [], false, IsTrue};
+ghost use Rattle.dsa_lines.specs.Words.{is_in_word, is_blank, begins_blank, word_len, words_of};
+ghost use Rattle.dsa_lines.specs.Views.{first_word};
+
+fn is_blank(byte: u8) -> bool
+    ensures { result ≡ is_blank byte }
+{
+    byte == b' ' || byte == b'\t' || byte == b'\r' || byte == b'\n'
+}
+
+fn is_in_word(byte: u8) -> bool
+    ensures { result ≡ is_in_word byte }
+{
+    !(is_blank(byte) || byte == b',' || byte == b'#')
+}
+
+/// The text without the blanks that it begins with.
+#[tactic(auto, unfolding(crate::specs::Words::words_of))]
+pub(crate) fn skip_blanks(text: &[u8]) -> &[u8]
+    ensures words { words_of result.now ≡ words_of text.now }
+    ensures start { begins_blank result.now ≡ false }
+{
+    let mut rest = text;
+    while let [first, after @ ..] = rest {
+        if !is_blank(*first) {
+            return rest;
+        }
+        rest = after;
+    }
+    rest
+}
+
+/// How many bytes the word at the front has.
+fn word_len(text: &[u8]) -> usize
+    ensures value { result ≡ word_len text.now }
+    ensures bound { result ≤ length text.now }
+{
+    let mut len: usize = 0;
+    let mut rest = text;
+    while let [first, after @ ..] = rest {
+        if !is_in_word(*first) {
+            return len;
+        }
+        len += 1;
+        rest = after;
+    }
+    len
+}
+
+/// The first word of the text, and what follows it.
+pub(crate) fn next_word(text: &[u8]) -> Option<(&[u8], &[u8])>
+    ensures { words_of text.now ≡ first_word result }
+{
+    let text = skip_blanks(text);
+    if text.is_empty() {
+        return None;
+    }
+    let first = text[0];
+    if first == b'#' {
+        return None;
+    }
+    if first == b',' {
+        return Some(text.split_at(1));
+    }
+    Some(text.split_at(word_len(text)))
+}
+
+/// Whether no word stands in the text.
+pub(crate) fn is_over(text: &[u8]) -> bool
+    ensures { IsTrue result ↔ (words_of text.now ≡ []) }
+{
+    match next_word(text) {
+        Some(_) => false,
+        None => true,
+    }
+}

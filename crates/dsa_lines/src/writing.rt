@@ -1,0 +1,225 @@
+//! Writing a line.
+
+ghost use Rattle.std.specs.Prelude.{◌≡◌, ◌++◌, ◌∷◌, ℕ, IfOk, OnOk, codes, decimal, string_bytes};
+ghost use Rattle.dsa_descriptor.specs.declared.op.Op.TheVariants.{Move, Fill, Compare, ComparePattern, ApplyDelta, Dualcast};
+ghost use Rattle.dsa_descriptor.specs.Descriptors.{fields};
+ghost use Rattle.dsa_lines.specs.Numbers.{hex, pattern_word};
+ghost use Rattle.dsa_lines.specs.Options.{carried_flags, checks_result};
+ghost use Rattle.dsa_lines.specs.Text.{text_of, tail_text, spaced, op_words, number_option, name_option, line_text};
+
+use dsa_descriptor::{Descriptor, Op};
+use std::alloc::{AllocError, Global};
+
+fn move_text(alloc: Global, src: u64, dst: u64, size: u32) -> Result<String, AllocError>
+    ensures { IfOk result (λ s. string_bytes s ≡ text_of (op_words (Move src dst) size)) }
+{
+    format!(in alloc; "move 0x{src:x} -> 0x{dst:x}, {size} bytes")
+}
+
+/// The 16 digits of a pattern, the lowest byte first.
+fn pattern_text(alloc: Global, pattern: u64) -> Result<String, AllocError>
+    ensures { IfOk result (λ s. string_bytes s ≡ pattern_word pattern) }
+{
+    hex::encode(alloc, pattern.to_le_bytes())
+}
+
+/// Writes a pattern.
+fn push_pattern(alloc: Global, line: &mut String, pattern: u64) -> Result<(), AllocError>
+    ensures { OnOk result (string_bytes line.new ≡ string_bytes line.old ++ pattern_word pattern) }
+{
+    let text = pattern_text(alloc, pattern)?;
+    line.push_str(&text)
+}
+
+/// Writes a size behind a comma.
+fn push_size(alloc: Global, line: &mut String, size: u32) -> Result<(), AllocError>
+    ensures { OnOk result (string_bytes line.new ≡ string_bytes line.old ++ (codes ", " ++ (decimal size ++ codes " bytes"))) }
+{
+    let text = format!(in alloc; ", {size} bytes")?;
+    line.push_str(&text)
+}
+
+/// Writes the expected result of a comparison.
+fn push_expected(alloc: Global, line: &mut String, expected: u8) -> Result<(), AllocError>
+    ensures { OnOk result (string_bytes line.new ≡ string_bytes line.old ++ (codes ", expect " ++ decimal expected)) }
+{
+    let text = format!(in alloc; ", expect {expected}")?;
+    line.push_str(&text)
+}
+
+fn fill_front(alloc: Global, dst: u64) -> Result<String, AllocError>
+    ensures { IfOk result (λ s. string_bytes s ≡ codes "fill " ++ (hex dst ++ codes " with ")) }
+{
+    format!(in alloc; "fill 0x{dst:x} with ")
+}
+
+fn fill_text(alloc: Global, pattern: u64, dst: u64, size: u32) -> Result<String, AllocError>
+    ensures { IfOk result (λ s. string_bytes s ≡ text_of (op_words (Fill pattern dst) size)) }
+{
+    let mut line = fill_front(alloc, dst)?;
+    push_pattern(alloc, &mut line, pattern)?;
+    push_size(alloc, &mut line, size)?;
+    Ok(line)
+}
+
+fn compare_front(alloc: Global, src: u64, src2: u64) -> Result<String, AllocError>
+    ensures { IfOk result (λ s. string_bytes s ≡ codes "compare " ++ (hex src ++ (codes " with " ++ hex src2))) }
+{
+    format!(in alloc; "compare 0x{src:x} with 0x{src2:x}")
+}
+
+fn compare_text(
+    alloc: Global,
+    src: u64,
+    src2: u64,
+    expected: u8,
+    size: u32,
+) -> Result<String, AllocError>
+    ensures { IfOk result (λ s. string_bytes s ≡ text_of (op_words (Compare src src2 expected) size)) }
+{
+    let mut line = compare_front(alloc, src, src2)?;
+    push_size(alloc, &mut line, size)?;
+    push_expected(alloc, &mut line, expected)?;
+    Ok(line)
+}
+
+fn compare_pattern_front(alloc: Global, src: u64) -> Result<String, AllocError>
+    ensures { IfOk result (λ s. string_bytes s ≡ codes "compare " ++ (hex src ++ codes " with pattern ")) }
+{
+    format!(in alloc; "compare 0x{src:x} with pattern ")
+}
+
+fn compare_pattern_text(
+    alloc: Global,
+    src: u64,
+    pattern: u64,
+    expected: u8,
+    size: u32,
+) -> Result<String, AllocError>
+    ensures { IfOk result (λ s. string_bytes s ≡ text_of (op_words (ComparePattern src pattern expected) size)) }
+{
+    let mut line = compare_pattern_front(alloc, src)?;
+    push_pattern(alloc, &mut line, pattern)?;
+    push_size(alloc, &mut line, size)?;
+    push_expected(alloc, &mut line, expected)?;
+    Ok(line)
+}
+
+fn delta_front(alloc: Global, delta: u64, dst: u64, record_size: u32) -> Result<String, AllocError>
+    ensures { IfOk result (λ s. string_bytes s ≡ codes "delta " ++ (hex delta ++ (codes ", " ++ (decimal record_size ++ (codes " bytes -> " ++ hex dst))))) }
+{
+    format!(in alloc; "delta 0x{delta:x}, {record_size} bytes -> 0x{dst:x}")
+}
+
+fn delta_text(
+    alloc: Global,
+    delta: u64,
+    dst: u64,
+    record_size: u32,
+    size: u32,
+) -> Result<String, AllocError>
+    ensures { IfOk result (λ s. string_bytes s ≡ text_of (op_words (ApplyDelta delta dst record_size) size)) }
+{
+    let mut line = delta_front(alloc, delta, dst, record_size)?;
+    push_size(alloc, &mut line, size)?;
+    Ok(line)
+}
+
+fn dualcast_front(alloc: Global, src: u64, dst: u64, dst2: u64) -> Result<String, AllocError>
+    ensures { IfOk result (λ s. string_bytes s ≡ codes "dualcast " ++ (hex src ++ (codes " -> " ++ (hex dst ++ (codes " and " ++ hex dst2))))) }
+{
+    format!(in alloc; "dualcast 0x{src:x} -> 0x{dst:x} and 0x{dst2:x}")
+}
+
+fn dualcast_text(
+    alloc: Global,
+    src: u64,
+    dst: u64,
+    dst2: u64,
+    size: u32,
+) -> Result<String, AllocError>
+    ensures { IfOk result (λ s. string_bytes s ≡ text_of (op_words (Dualcast src dst dst2) size)) }
+{
+    let mut line = dualcast_front(alloc, src, dst, dst2)?;
+    push_size(alloc, &mut line, size)?;
+    Ok(line)
+}
+
+/// The operation and its size, as the line of a descriptor begins.
+pub fn op_text(alloc: Global, op: &Op, size: u32) -> Result<String, AllocError>
+    ensures { IfOk result (λ s. string_bytes s ≡ text_of (op_words op.now size)) }
+{
+    match *op {
+        Op::Move { src, dst } => move_text(alloc, src, dst, size),
+        Op::Fill { pattern, dst } => fill_text(alloc, pattern, dst, size),
+        Op::Compare {
+            src,
+            src2,
+            expected,
+        } => compare_text(alloc, src, src2, expected, size),
+        Op::ComparePattern {
+            src,
+            pattern,
+            expected,
+        } => compare_pattern_text(alloc, src, pattern, expected, size),
+        Op::ApplyDelta {
+            delta,
+            dst,
+            record_size,
+        } => delta_text(alloc, delta, dst, record_size, size),
+        Op::Dualcast { src, dst, dst2 } => dualcast_text(alloc, src, dst, dst2, size),
+    }
+}
+
+/// Writes the address of the record.
+fn push_record(alloc: Global, line: &mut String, record_at: u64) -> Result<(), AllocError>
+    ensures { OnOk result (string_bytes line.new ≡ string_bytes line.old ++ (codes ", record " ++ hex record_at)) }
+{
+    let text = format!(in alloc; ", record 0x{record_at:x}")?;
+    line.push_str(&text)
+}
+
+/// An option and its number.
+fn number_text(alloc: Global, name: &str, number: u32) -> Result<String, AllocError>
+    ensures { IfOk result (λ s. string_bytes s ≡ codes ", " ++ (name.now ++ (codes " " ++ decimal number))) }
+{
+    format!(in alloc; ", {name} {number}")
+}
+
+/// Writes an option and its number, where that is not 0.
+fn push_number(alloc: Global, line: &mut String, name: &str, number: u32) -> Result<(), AllocError>
+    requires { spaced name.now ≡ 32 ∷ name.now }
+    ensures { OnOk result (string_bytes line.new ≡ string_bytes line.old ++ tail_text (number_option name.now number)) }
+{
+    if number == 0 {
+        return Ok(());
+    }
+    let text = number_text(alloc, name, number)?;
+    line.push_str(&text)
+}
+
+/// Writes an option that is a name alone, where it stands.
+fn push_name(alloc: Global, line: &mut String, name: &str, stands: bool) -> Result<(), AllocError>
+    requires { spaced name.now ≡ 32 ∷ name.now }
+    ensures { OnOk result (string_bytes line.new ≡ string_bytes line.old ++ tail_text (name_option name.now stands)) }
+{
+    if !stands {
+        return Ok(());
+    }
+    let text = format!(in alloc; ", {name}")?;
+    line.push_str(&text)
+}
+
+/// The canonical line of a descriptor, with no newline.
+pub fn line_of(alloc: Global, d: &Descriptor) -> Result<String, AllocError>
+    ensures { IfOk result (λ s. string_bytes s ≡ line_text (fields d.now)) }
+{
+    let mut line = op_text(alloc, &d.op, d.size)?;
+    push_record(alloc, &mut line, d.record_at)?;
+    push_number(alloc, &mut line, "pasid", d.pasid)?;
+    push_name(alloc, &mut line, "privileged", d.privileged)?;
+    push_name(alloc, &mut line, "check", d.flags.0 & 0x80 != 0)?;
+    push_number(alloc, &mut line, "flags", d.flags.0 & 0xff22)?;
+    push_number(alloc, &mut line, "handle", u32::from(d.int_handle))?;
+    Ok(line)
+}

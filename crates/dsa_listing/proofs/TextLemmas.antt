@@ -1,0 +1,156 @@
+-- The lines of a text, and the operations of its lines.
+use Rattle.std.proofs.Common.{◌≡◌, ℕ, suc, ◌+◌, ◌-◌, ◌<◌, ◌≤◌, Bool, true, false, cond, Option, Some, None, List, [], ◌∷◌, ◌++◌, length, get_or, take, drop, refl, sym, ap, ◌∙◌, append_assoc, arith}
+use Rattle.std.specs.Prelude.{map, not, ◌==◌, ◌&&◌}
+use Rattle.std.specs.List.{AllByRecursion, flat_map}
+use Rattle.std.proofs.lemmas.Bool.{eqb-true}
+use Rattle.std.proofs.Math.Seq.{take-length}
+use Rattle.std.proofs.lemmas.List.{append-nil, map-append, take_more}
+use Rattle.dsa_descriptor.specs.declared.descriptor.Descriptor.{Descriptor}
+use Rattle.dsa_descriptor.specs.Descriptors.{fields}
+use Rattle.dsa_descriptor.specs.Fields.{Fields}
+use Rattle.dsa_descriptor.specs.Profile.{IsListed}
+use Rattle.dsa_descriptor.specs.Lists.{list_spelling}
+use Rattle.dsa_descriptor.specs.Spelling.{spelling}
+use Rattle.dsa_lines.specs.Words.{Word, words_of}
+use Rattle.dsa_lines.specs.Grammar.{op_at, fields_of, Spells, ◌>>=◌}
+use Rattle.dsa_lines.specs.Text.{line_text}
+use Rattle.dsa_lines.proofs.WordLemmas.{both}
+use Rattle.dsa_lines.proofs.RoundTrip.{line_spells}
+use Rattle.dsa_listing.specs.Texts.{with_byte, lines_of, line_fields, with_fields, all_fields, TextSpells, text_line, list_text, line_len, lines_behind}
+use Rattle.dsa_listing.proofs.LineLemmas.{is_line, canonical_is_line}
+
+-- ---- lines
+
+len_by : (b : Bool) (c : ℕ) (cs : List ℕ) → (c == 10) ≡ b
+    → lines_of cs ≡ take (line_len cs) cs ∷ lines_behind (drop (line_len cs) cs)
+    → lines_of (c ∷ cs) ≡ take (line_len (c ∷ cs)) (c ∷ cs) ∷ lines_behind (drop (line_len (c ∷ cs)) (c ∷ cs))
+unfolding lines_of
+len_by true c cs e so_far = rw e refl
+len_by false c cs e so_far = rw e (ap (with_byte c) so_far)
+
+-- the first line, and those behind its newline
+pub lines_at : (text : List ℕ) → lines_of text ≡ take (line_len text) text ∷ lines_behind (drop (line_len text) text)
+unfolding lines_of
+lines_at [] = refl
+lines_at (c ∷ cs) = len_by (c == 10) c cs refl (lines_at cs)
+
+line_by : (b : Bool) (c : ℕ) (cs rest : List ℕ) → (c == 10) ≡ b → (not (c == 10) && is_line cs) ≡ true
+    → lines_of (cs ++ (10 ∷ rest)) ≡ cs ∷ lines_of rest → lines_of (c ∷ (cs ++ (10 ∷ rest))) ≡ (c ∷ cs) ∷ lines_of rest
+unfolding lines_of
+line_by true c cs rest e p so_far = let no : false ≡ true = rw e at p in absurd cc
+line_by false c cs rest e p so_far = rw e (ap (with_byte c) so_far)
+
+-- a line and a newline stand first
+line_first : (line rest : List ℕ) → is_line line ≡ true → lines_of (line ++ (10 ∷ rest)) ≡ line ∷ lines_of rest
+unfolding lines_of
+line_first [] rest e = refl
+line_first (c ∷ cs) rest e = line_by (c == 10) c cs rest refl e (line_first cs rest (both (not (c == 10)) (is_line cs) e).1)
+
+-- ---- operations
+
+pub spelt_line : (words : List Word) (f : Fields) → fields_of words ≡ Some f → line_fields words ≡ Some (f ∷ [])
+unfolding fields_of op_at
+spelt_line [] f e = absurd cc
+spelt_line (w ∷ ws) f e = rw e refl
+
+next_line : (f : Fields) (fs : List Fields) → IsListed f → all_fields (lines_of (list_text fs)) ≡ Some fs
+    → all_fields (lines_of (line_text f ++ (10 ∷ list_text fs))) ≡ Some (f ∷ fs)
+unfolding all_fields
+next_line f fs listed so_far =
+    ap all_fields (line_first (line_text f) (list_text fs) (canonical_is_line f listed))
+    ∙ rw (spelt_line (words_of (line_text f)) f (line_spells f listed), so_far) refl
+
+-- the canonical text of listed fields spells them
+pub text_spells : (fs : List Fields) → AllByRecursion IsListed fs → TextSpells (list_text fs) fs
+unfolding list_text lines_of all_fields words_of
+text_spells [] all = refl
+text_spells (f ∷ fs) all =
+    ap (λ (t : List ℕ). all_fields (lines_of t)) (append_assoc (line_text f) (10 ∷ []) (list_text fs))
+    ∙ next_line f fs all.0 (text_spells fs all.1)
+
+-- ---- for the loops
+
+pub spelling_append : (fs gs : List Fields) → list_spelling (fs ++ gs) ≡ list_spelling fs ++ list_spelling gs
+spelling_append [] gs = refl
+spelling_append (f ∷ fs) gs = rw (spelling_append fs gs) (sym (append_assoc (spelling f) (list_spelling fs) (list_spelling gs)))
+
+pub with_more : (fs gs : List Fields) (o : Option (List Fields)) → with_fields fs (with_fields gs o) ≡ with_fields (fs ++ gs) o
+with_more fs gs None = refl
+with_more fs gs (Some more) = ap Some (sym (append_assoc fs gs more))
+
+pub all_listed : (ds : List Descriptor) → AllByRecursion IsListed (map fields ds)
+all_listed [] = tt
+all_listed (d ∷ ds) = (d.listed, all_listed ds)
+
+-- a line behind those before, and what its lines that are left spell
+pub gathers_more : (done here : List Fields) (lines : List (List ℕ)) (line : List ℕ) (all : Option (List Fields))
+    → all ≡ with_fields done (all_fields (line ∷ lines)) → line_fields (words_of line) ≡ Some here
+    → all ≡ with_fields (done ++ here) (all_fields lines)
+unfolding all_fields
+gathers_more done here lines line all e f =
+    e ∙ ap (λ (o : Option (List Fields)). with_fields done (o >>= λ h. with_fields h (all_fields lines))) f ∙ with_more done here (all_fields lines)
+
+pub gathers_none : (done : List Fields) (lines : List (List ℕ)) (line : List ℕ) (all : Option (List Fields))
+    → all ≡ with_fields done (all_fields (line ∷ lines)) → line_fields (words_of line) ≡ None → all ≡ None
+unfolding all_fields
+gathers_none done lines line all e f = e ∙ ap (λ (o : Option (List Fields)). with_fields done (o >>= λ h. with_fields h (all_fields lines))) f
+
+pub gathers_end : (done : List Fields) (all : Option (List Fields)) → all ≡ with_fields done (all_fields []) → all ≡ Some done
+unfolding all_fields
+gathers_end done all e = e ∙ ap Some (append-nil done)
+
+text_append : (fs gs : List Fields) → list_text (fs ++ gs) ≡ list_text fs ++ list_text gs
+unfolding list_text
+text_append [] gs = refl
+text_append (f ∷ fs) gs = rw (text_append fs gs) (sym (append_assoc (text_line f) (list_text fs) (list_text gs)))
+
+one_text : (f : Fields) → list_text (f ∷ []) ≡ text_line f
+unfolding list_text
+one_text f = append-nil (text_line f)
+
+-- the text of one descriptor more
+pub text_more : (ds : List Descriptor) (i : ℕ) (d : Descriptor) → i < length ds → d ≡ get_or ds i d
+    → list_text (map fields (take (i + 1) ds)) ≡ list_text (map fields (take i ds)) ++ text_line (fields d)
+text_more ds i d lt e =
+    ap (λ (l : List Descriptor). list_text (map fields l)) (take_more ds i d lt)
+    ∙ ap list_text (map-append fields (take i ds) (get_or ds i d ∷ []))
+    ∙ text_append (map fields (take i ds)) (fields (get_or ds i d) ∷ [])
+    ∙ ap (λ (t : List ℕ). list_text (map fields (take i ds)) ++ t) (one_text (fields (get_or ds i d)) ∙ ap (λ (x : Descriptor). text_line (fields x)) (sym e))
+
+pub no_text : list_text [] ≡ []
+unfolding list_text
+no_text = refl
+
+pub with_none : (o : Option (List Fields)) → o ≡ with_fields [] o
+with_none None = refl
+with_none (Some more) = refl
+
+behind_newline : (back : List ℕ) → 1 ≤ length back → lines_behind back ≡ lines_of (take (length back - 1) (drop 1 back))
+behind_newline [] lt = absurd (omega arith)
+behind_newline (c ∷ cs) lt = ap lines_of (sym (whole cs))
+  where
+    whole : (xs : List ℕ) → take (suc (length xs) - 1) xs ≡ xs
+    whole xs = let e : suc (length xs) - 1 ≡ length xs = omega arith in rw e (take-length xs)
+
+-- the first line, as it was split off
+pub first_line : (rest line back : List ℕ) (n : ℕ) → n ≡ line_len rest → line ≡ take n rest → back ≡ drop n rest → lines_of rest ≡ line ∷ lines_behind back
+first_line rest line back n e f g =
+    lines_at rest
+    ∙ rw (← e) (ap (λ (l : List ℕ). l ∷ lines_behind (drop n rest)) (sym f) ∙ ap (λ (b : List ℕ). line ∷ lines_behind b) (sym g))
+
+-- the line before a newline, and the lines behind it
+pub more_lines : (rest line back : List ℕ) (n : ℕ) → n ≡ line_len rest → line ≡ take n rest → back ≡ drop n rest → 1 ≤ length back
+    → lines_of rest ≡ line ∷ lines_of (take (length back - 1) (drop 1 back))
+more_lines rest line back n e f g lt = first_line rest line back n e f g ∙ ap (λ (ls : List (List ℕ)). line ∷ ls) (behind_newline back lt)
+
+no_lines : (back : List ℕ) → length back < 1 → lines_behind back ≡ []
+no_lines [] lt = refl
+no_lines (c ∷ cs) lt = absurd (omega arith)
+
+-- the last line
+pub last_line : (rest line back : List ℕ) (n : ℕ) → n ≡ line_len rest → line ≡ take n rest → back ≡ drop n rest → length back < 1
+    → lines_of rest ≡ line ∷ []
+last_line rest line back n e f g lt = first_line rest line back n e f g ∙ ap (λ (ls : List (List ℕ)). line ∷ ls) (no_lines back lt)
+
+pub text_is_read : (ds : List Descriptor) (text : List ℕ) → text ≡ list_text (map fields ds) → all_fields (lines_of text) ≡ Some (map fields ds)
+text_is_read ds text e = ap (λ (t : List ℕ). all_fields (lines_of t)) e ∙ text_spells (map fields ds) (all_listed ds)

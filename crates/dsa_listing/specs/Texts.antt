@@ -1,0 +1,54 @@
+-- The operations that a text spells, and the canonical text of a list.
+use Rattle.std.specs.Prelude.{◌≡◌, ℕ, suc, ◌==◌, List, [], ◌∷◌, ◌++◌, Option, Some, None, if◌then◌else◌}
+use Rattle.dsa_descriptor.specs.Fields.{Fields}
+use Rattle.dsa_lines.specs.Words.{Word, words_of}
+use Rattle.dsa_lines.specs.Grammar.{fields_of, ◌>>=◌}
+use Rattle.dsa_lines.specs.Text.{line_text}
+
+abbrev pub with_byte : ℕ → List (List ℕ) → List (List ℕ)
+with_byte c [] = (c ∷ []) ∷ []
+with_byte c (line ∷ lines) = (c ∷ line) ∷ lines
+
+-- the lines of a text: what stands before, between and behind its newlines
+unfoldable pub lines_of : List ℕ → List (List ℕ)
+lines_of [] = [] ∷ []
+lines_of (c ∷ cs) = if c == 10 then [] ∷ lines_of cs else with_byte c (lines_of cs)
+
+-- a line has one operation, or no words
+abbrev pub line_fields : List Word → Option (List Fields)
+line_fields [] = Some []
+line_fields (w ∷ ws) = fields_of (w ∷ ws) >>= λ f. Some (f ∷ [])
+
+abbrev pub with_fields : List Fields → Option (List Fields) → Option (List Fields)
+with_fields fs None = None
+with_fields fs (Some more) = Some (fs ++ more)
+
+-- the operations of the lines, if each that has words is of the grammar
+unfoldable pub all_fields : List (List ℕ) → Option (List Fields)
+all_fields [] = Some []
+all_fields (line ∷ lines) = line_fields (words_of line) >>= λ here. with_fields here (all_fields lines)
+
+-- the text spells these operations
+abbrev pub TextSpells : List ℕ → List Fields → Type 0
+TextSpells text fs = all_fields (lines_of text) ≡ Some fs
+
+-- the canonical line and a newline
+abbrev pub text_line : Fields → List ℕ
+text_line f = line_text f ++ 10 ∷ []
+
+-- the canonical text
+unfoldable pub list_text : List Fields → List ℕ
+list_text [] = []
+list_text (f ∷ fs) = text_line f ++ list_text fs
+
+-- ---- for private clauses
+
+-- how many bytes stand before the first newline
+abbrev pub line_len : List ℕ → ℕ
+line_len [] = 0
+line_len (c ∷ cs) = if c == 10 then 0 else suc (line_len cs)
+
+-- the lines behind a newline
+abbrev pub lines_behind : List ℕ → List (List ℕ)
+lines_behind [] = []
+lines_behind (c ∷ cs) = lines_of cs

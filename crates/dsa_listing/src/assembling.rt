@@ -1,0 +1,107 @@
+//! The bytes of a list, from its text.
+
+ghost use Rattle.std.specs.Prelude.{◌≡◌, ◌++◌, List, map, MatchResult};
+ghost use Rattle.dsa_descriptor.specs.declared.descriptor.Descriptor.{Descriptor};
+ghost use Rattle.dsa_descriptor.specs.Descriptors.{fields};
+ghost use Rattle.dsa_descriptor.specs.Lists.{list_spelling, HaveOneOwner};
+ghost use Rattle.dsa_lines.specs.Words.{words_of};
+ghost use Rattle.dsa_listing.specs.declared.fault.TextFault.TheVariants.{Memory};
+ghost use Rattle.dsa_listing.specs.Texts.{all_fields, line_fields, lines_of, list_text};
+ghost use Rattle.dsa_listing.specs.Answers.{Assembles, Gathers, IsTextFault, Pushes};
+
+use crate::fault::TextFault;
+use crate::lines::line_len;
+use dsa_descriptor::{ListFault, read_list};
+use dsa_lines::{LineFault, line_bytes};
+use std::alloc::Global;
+
+/// Writes the bytes at the end.
+fn push_entry(bytes: &mut Vec<u8>, entry: &[u8; 64]) -> Result<(), TextFault>
+    ensures { MatchResult result (λ _. bytes.new.items ≡ bytes.old.items ++ entry.now) (λ fault. fault ≡ Memory) }
+{
+    match bytes.extend_from_slice(entry) {
+        Ok(()) => Ok(()),
+        Err(_) => Err(TextFault::Memory),
+    }
+}
+
+/// Writes the bytes of the line's operation at the end, where the line has words.
+fn push_line(bytes: &mut Vec<u8>, line: &[u8], number: usize) -> Result<(), TextFault>
+    ensures { Pushes bytes.old.items bytes.new.items (line_fields (words_of line.now)) result }
+{
+    match line_bytes(line) {
+        Ok(None) => Ok(()),
+        Ok(Some(entry)) => push_entry(bytes, &entry),
+        Err((column, expected)) => Err(TextFault::Grammar(number, column, expected)),
+    }
+}
+
+/// The bytes of the operations that the lines spell, listed or not.
+fn bytes_of(alloc: Global, text: &[u8]) -> Result<Vec<u8>, TextFault>
+    ensures { Gathers (λ bytes. bytes.items) (all_fields (lines_of text.now)) result }
+{
+    let mut bytes = Vec::new(alloc);
+    let mut rest = text;
+    let mut number: usize = 1;
+    'lines: loop {
+        let (line, behind) = rest.split_at(line_len(rest));
+        push_line(&mut bytes, line, number)?;
+        let [_newline, next @ ..] = behind else {
+            return Ok(bytes);
+        };
+        rest = next;
+        number = number.saturating_add(1);
+    }
+}
+
+/// The number of the line, from 1 on, that has the operation of this index.
+fn line_of_operation(text: &[u8], index: usize) -> usize {
+    let mut rest = text;
+    let mut number: usize = 1;
+    let mut before: usize = 0;
+    'lines: loop {
+        let (line, behind) = rest.split_at(line_len(rest));
+        if let Ok(Some(_)) = line_bytes(line) {
+            if before == index {
+                return number;
+            }
+            before = before.saturating_add(1);
+        }
+        let [_newline, next @ ..] = behind else {
+            return number;
+        };
+        rest = next;
+        number = number.saturating_add(1);
+    }
+}
+
+/// The fault of a list, with the line of the operation that it names.
+fn text_fault(text: &[u8], fault: ListFault) -> TextFault
+    ensures { IsTextFault fault result }
+{
+    match fault {
+        ListFault::Length => TextFault::List(1, fault),
+        ListFault::Field(index, _) | ListFault::MixedPasid(index) => {
+            TextFault::List(line_of_operation(text, index), fault)
+        }
+        ListFault::Memory => TextFault::Memory,
+    }
+}
+
+/// The bytes of the list that a text spells, 64 for each of its lines that has words.
+///
+/// # Errors
+/// The first line that leaves the grammar; else the first fault of the bytes as a list, as [`read_list`] tells it;
+/// [`TextFault::Memory`] where a growth is refused.
+pub fn assemble(alloc: Global, text: &[u8]) -> Result<Vec<u8>, TextFault>
+    ensures told { Assembles (λ bytes. bytes.items) (all_fields (lines_of text.now)) result }
+    // The text of a list is read back.
+    ensures again { (ds : List Descriptor) → HaveOneOwner (map fields ds) → text.now ≡ list_text (map fields ds)
+        → MatchResult result (λ bytes. bytes.items ≡ list_spelling (map fields ds)) (λ fault. fault ≡ Memory) }
+{
+    let bytes = bytes_of(alloc, text)?;
+    if let Err(fault) = read_list(alloc, bytes.as_slice()) {
+        return Err(text_fault(text, fault));
+    }
+    Ok(bytes)
+}

@@ -1,0 +1,18 @@
+//! Laws of texts.
+
+ghost use Rattle.std.specs.Prelude.{◌≡◌, List, ℕ};
+ghost use Rattle.std.specs.List.{AllByRecursion};
+ghost use Rattle.dsa_descriptor.specs.Fields.{Fields};
+ghost use Rattle.dsa_descriptor.specs.Profile.{IsListed};
+ghost use Rattle.dsa_listing.specs.Texts.{TextSpells, list_text};
+
+/// A text spells one list of fields at most.
+pub fn text_spells_one()
+    ensures { (text : List ℕ) (fs gs : List Fields) → TextSpells text fs → TextSpells text gs → fs ≡ gs }
+{}
+
+/// The canonical text of listed fields spells them.
+#[tactic(auto, using(crate::proofs::TextLemmas::text_spells))]
+pub fn canonical_text_spells()
+    ensures { (fs : List Fields) → AllByRecursion IsListed fs → TextSpells (list_text fs) fs }
+{}

@@ -1,0 +1,16 @@
+//! Whole texts: a list of descriptors as lines, and back.
+#![tactic(auto)]
+
+mod assembling;
+mod disassembling;
+mod fault;
+mod laws;
+mod lines;
+
+pub use assembling::assemble;
+pub use disassembling::disassemble;
+pub use fault::TextFault;
+pub use laws::{canonical_text_spells, text_spells_one};
+
+#[cfg(test)]
+mod tests;

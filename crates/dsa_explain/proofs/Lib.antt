@@ -1,0 +1,4 @@
+pub mod Reached
+pub mod Needed
+pub mod Singles
+pub mod Laid

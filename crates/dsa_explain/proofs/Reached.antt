@@ -1,0 +1,124 @@
+-- What the search for a fence's reason finds.
+use Rattle.std.proofs.Common.{◌≡◌, ℕ, ◌+◌, ◌-◌, ◌<◌, ◌≤◌, inl, inr, true, List, length, get_or, Some, sym, ap, ◌∙◌, subst, slice_get, arith}
+use Rattle.std.specs.Prelude.{map}
+use Rattle.std.proofs.lemmas.Bool.{cases_eq, cases_lt}
+use Rattle.dsa_descriptor.specs.declared.descriptor.Descriptor.{Descriptor}
+use Rattle.dsa_descriptor.specs.declared.span.Span.{Span}
+use Rattle.dsa_descriptor.specs.Descriptors.{fields}
+use Rattle.dsa_descriptor.specs.Fields.{Fields}
+use Rattle.dsa_descriptor.specs.Spans.{InSome}
+use Rattle.dsa_ranges.specs.Ranges.{read_spans, written_spans, SpansConflict, ConflictAt}
+use Rattle.dsa_ranges.proofs.Places.{fields_at}
+use Rattle.dsa_plan.specs.Plan.{Group}
+use Rattle.dsa_plan.specs.Legal.{IsFenced}
+use Rattle.dsa_hazards.specs.declared.HazardKind.{HazardKind}
+use Rattle.dsa_hazards.specs.declared.HazardKind.TheVariants.{ReadAfterWrite, WriteAfterRead, WriteAfterWrite}
+use Rattle.dsa_hazards.specs.declared.Hazard.{Hazard}
+use Rattle.dsa_hazards.specs.Hazards.{IsHazard}
+use Rattle.dsa_explain.specs.declared.reason.Reason.{Reason}
+use Rattle.dsa_explain.specs.Reasons.{NeedsFence, IsHazardOf, IsReason, IsReached, FindsNone, FindsEarlier, IsOpen}
+
+-- what was found of the spans of the descriptors at two places
+pub hazard_seen : (ds : List Descriptor) (i j : ℕ) (d e : Descriptor) (r w r' w' : List Span) (h : Hazard) → i < length ds → j < length ds
+    → d ≡ get_or ds i d → e ≡ get_or ds j e → r ≡ read_spans (fields d) → w ≡ written_spans (fields d) → r' ≡ read_spans (fields e) → w' ≡ written_spans (fields e)
+    → IsHazard r w r' w' h.address h.kind → IsHazardOf (map fields ds) i j h
+hazard_seen ds i j d e r w r' w' h i_within j_within i_is j_is p q p' q' is =
+    record {
+      earlier = fields d;
+      later = fields e;
+      earlier_is = fields_at ds i d i_within i_is;
+      later_is = fields_at ds j e j_within j_is;
+      hazard = rw (p, q, p', q') at is;
+    }
+
+-- a hazard is a conflict
+hazard_meets : (r w r' w' : List Span) (address : ℕ) (kind : HazardKind) → IsHazard r w r' w' address kind → SpansConflict r w r' w'
+hazard_meets r w r' w' address ReadAfterWrite (here, there) = inl (address, here, inl there)
+hazard_meets r w r' w' address WriteAfterRead (here, there) = inr (address, there, inl here)
+hazard_meets r w r' w' address WriteAfterWrite (here, there) = inl (address, here, inr there)
+
+pub hazard_conflicts : (fs : List Fields) (a b : ℕ) (h : Hazard) → IsHazardOf fs a b h → ConflictAt fs a b
+hazard_conflicts fs a b h is = (
+  is.earlier,
+  is.later,
+  is.earlier_is,
+  is.later_is,
+  hazard_meets (read_spans is.earlier) (written_spans is.earlier) (read_spans is.later) (written_spans is.later) h.address h.kind is.hazard,
+)
+
+-- ---- the inner loop, which has come from `at` down to i
+
+pub none_past_fence : (P : ℕ → Type 0) (start : ℕ) (group : Group) (at j : ℕ) → j < at → IsFenced start group j → (P j → ⊥)
+    → ((x : ℕ) → j < x → x < at → P x → ⊥) → (x : ℕ) → IsReached start group at x → P x → ⊥
+none_past_fence P start group at j lt fenced here later x reached p =
+    elim (cases_lt x j) [
+      | inl below ↦ reached.open_between j below lt fenced
+      | inr above ↦
+          elim (cases_eq x j) [
+            | inl same ↦ here (subst P same p)
+            | inr other ↦ later x (omega arith) reached.before p
+          ]
+    ]
+
+pub open_more : (start : ℕ) (group : Group) (i at : ℕ) → 0 < i → (IsFenced start group (i - 1) → ⊥)
+    → ((k : ℕ) → i ≤ k → k < at → IsFenced start group k → ⊥) → (k : ℕ) → i - 1 ≤ k → k < at → IsFenced start group k → ⊥
+open_more start group i at lt here later k le below fenced =
+    elim (cases_eq k (i - 1)) [
+      | inl same ↦ here (subst (IsFenced start group) same fenced)
+      | inr other ↦ later k (omega arith) below fenced
+    ]
+
+pub apart_more : (P : ℕ → Type 0) (i at : ℕ) → 0 < i → (P (i - 1) → ⊥) → ((x : ℕ) → i ≤ x → x < at → P x → ⊥)
+    → (x : ℕ) → i - 1 ≤ x → x < at → P x → ⊥
+apart_more P i at lt here later x le below p =
+    elim (cases_eq x (i - 1)) [
+      | inl same ↦ here (subst P same p)
+      | inr other ↦ later x (omega arith) below p
+    ]
+
+-- ---- the outer loop
+
+pub reason_found : (fs : List Fields) (start : ℕ) (group : Group) (at end : ℕ) (r : Reason) → IsFenced start group at → at ≤ r.later → r.later < end
+    → end ≤ start + length group → IsOpen start group at end → FindsEarlier fs start group at r.later r.earlier r.hazard → IsReason fs start group at r
+reason_found fs start group at end r fenced from before within open_here (reached, hazard) =
+    record {
+      needs = record {
+        conflicts = record {
+          starts = reached.begun;
+          ordered = omega (arith, reached.before);
+          ends = omega arith;
+          conflict = hazard_conflicts fs r.earlier r.later r.hazard hazard;
+        };
+        before = reached.before;
+        behind = from;
+        alone = λ other after up_to other_fenced.
+            elim (cases_lt other at) [
+              | inl below ↦ absurd (reached.open_between other after below other_fenced)
+              | inr above ↦
+                  elim (cases_eq other at) [
+                    | inl same ↦ same
+                    | inr more ↦ absurd (open_here other (omega arith) (omega arith) other_fenced)
+                  ]
+            ];
+      };
+      hazard = hazard;
+    }
+
+pub no_reason : (fs : List Fields) (start : ℕ) (group : Group) (at end : ℕ) → at < end → (end < start + length group → IsFenced start group end)
+    → ((b : ℕ) → at ≤ b → b < end → FindsNone fs start group at b) → (a b : ℕ) → NeedsFence (ConflictAt fs) start group at a b → ⊥
+no_reason fs start group at end lt closed none a b needs =
+    elim (cases_lt b end) [
+      | inl below ↦
+          none b needs.behind below a
+          (record {
+            begun = needs.conflicts.starts;
+            before = needs.before;
+            open_between = λ other after before fenced.
+                let same : other ≡ at = needs.alone other after (omega (arith, needs.behind)) fenced in omega arith;
+          })
+          needs.conflicts.conflict
+      | inr above ↦
+          let inside : end < start + length group = omega (arith, needs.conflicts.ends) in
+          let same : end ≡ at = needs.alone end (omega (arith, needs.before)) above (closed inside) in
+          omega arith
+    ]

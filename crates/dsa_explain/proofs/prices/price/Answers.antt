@@ -1,0 +1,7 @@
+use Rattle.std.proofs.Common.{arith}
+use Rattle.dsa_plan.proofs.Fences.{fewer_fences}
+use Rattle.dsa_explain.proofs.prices.price.Goals as goal
+
+pub group_price-requires-clause-less : goal.group_price-requires-clause-less
+group_price-requires-clause-less c =
+    omega (arith, c.fence_count-fences.ensures, c.len-size.ensures, fewer_fences c.args.group.now c.requires.shape.begins)

@@ -1,0 +1,4 @@
+pub mod Reasons
+pub mod Told
+pub mod Cells
+pub mod Laws

@@ -1,0 +1,48 @@
+-- Why a piece is fenced. `C a b` says that the pieces a and b conflict.
+use Rattle.std.specs.Prelude.{ℕ, ◌≡◌, ◌+◌, ◌<◌, ◌≤◌, List, length, slice_get, Some}
+use Rattle.dsa_descriptor.specs.Fields.{Fields}
+use Rattle.dsa_ranges.specs.Ranges.{read_spans, written_spans, ConflictAt}
+use Rattle.dsa_plan.specs.Plan.{Group}
+use Rattle.dsa_plan.specs.Legal.{IsFenced, ConflictsWithin}
+use Rattle.dsa_hazards.specs.declared.Hazard.{Hazard}
+use Rattle.dsa_hazards.specs.Hazards.{IsHazard}
+use Rattle.dsa_explain.specs.declared.reason.Reason.{Reason}
+
+-- in a group that begins with piece `start`, the pieces a and b conflict, and of all fences the one at piece k alone
+-- stands between them
+pub record NeedsFence (C : ℕ → ℕ → Type 0) (start : ℕ) (group : Group) (k a b : ℕ) : Type 0 where
+  pub conflicts : ConflictsWithin C start (start + length group) a b
+  pub before : a < k
+  pub behind : k ≤ b
+  pub alone : (other : ℕ) → a < other → other ≤ b → IsFenced start group other → other ≡ k
+
+-- at the hazard's address the earlier of two pieces and the later one do what makes the later wait
+pub record IsHazardOf (pieces : List Fields) (a b : ℕ) (h : Hazard) : Type 0 where
+  pub earlier : Fields
+  pub later : Fields
+  pub earlier_is : slice_get pieces a ≡ Some earlier
+  pub later_is : slice_get pieces b ≡ Some later
+  pub hazard : IsHazard (read_spans earlier) (written_spans earlier) (read_spans later) (written_spans later) h.address h.kind
+
+-- the two pieces need the fence at piece k, and the hazard is theirs
+pub record IsReason (pieces : List Fields) (start : ℕ) (group : Group) (k : ℕ) (r : Reason) : Type 0 where
+  pub needs : NeedsFence (ConflictAt pieces) start group k r.earlier r.later
+  pub hazard : IsHazardOf pieces r.earlier r.later r.hazard
+
+-- ---- for private clauses
+
+-- piece x of the group stands before piece k, with no fence after it and before k
+pub record IsReached (start : ℕ) (group : Group) (k x : ℕ) : Type 0 where
+  pub begun : start ≤ x
+  pub before : x < k
+  pub open_between : (other : ℕ) → x < other → other < k → ¬ IsFenced start group other
+
+abbrev pub FindsNone : List Fields → ℕ → Group → ℕ → ℕ → Type 0
+FindsNone pieces start group k later = (x : ℕ) → IsReached start group k x → ¬ ConflictAt pieces x later
+
+abbrev pub FindsEarlier : List Fields → ℕ → Group → ℕ → ℕ → ℕ → Hazard → Type 0
+FindsEarlier pieces start group k later x h = IsReached start group k x × IsHazardOf pieces x later h
+
+-- no piece after k and before `end` is fenced
+abbrev pub IsOpen : ℕ → Group → ℕ → ℕ → Type 0
+IsOpen start group k end = (other : ℕ) → k < other → other < end → ¬ IsFenced start group other

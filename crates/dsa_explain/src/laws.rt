@@ -1,0 +1,21 @@
+//! Laws of explanations.
+
+ghost use Rattle.dsa_explain.specs.Laws.{PlannedFencesAreNeeded, LeastPlansSave, CellsArePiecesAndFences};
+
+use dsa_plan::Conflicts;
+
+/// Each fence of a plan that planning answers separates a conflict of the fenced piece with an earlier one, which no
+/// other fence separates.
+pub fn planned_fences_are_needed()
+    ensures { PlannedFencesAreNeeded }
+{}
+
+/// A least plan costs at most what its pieces cost one by one.
+pub fn least_plans_save<C: Conflicts>()
+    ensures { LeastPlansSave C.conflict }
+{}
+
+/// A picture has a box for each piece and a bar for each fence.
+pub fn cells_are_pieces_and_fences()
+    ensures { CellsArePiecesAndFences }
+{}

@@ -19,8 +19,8 @@ returns-in-Some c =
         open_between = λ other after before. h.open_here other (omega arith) before;
       },
       hazard_seen c.args.pieces.now (c.loop-i.i - 1) c.args.later c.index-pieces-i.result c.index-pieces-later.result c.touched.result.reads.items c.touched.result.writes.items
-      c.touched-waiting.result.reads.items c.touched-waiting.result.writes.items c.in-Some.hazard first second c.index-pieces-i.is c.index-pieces-later.is
-      c.touched.ensures.reads c.touched.ensures.writes c.touched-waiting.ensures.reads c.touched-waiting.ensures.writes c.in-Some.ensures,
+          c.touched-waiting.result.reads.items c.touched-waiting.result.writes.items c.in-Some.hazard first second c.index-pieces-i.is c.index-pieces-later.is
+          c.touched.ensures.reads c.touched.ensures.writes c.touched-waiting.ensures.reads c.touched-waiting.ensures.writes c.in-Some.ensures,
     )
 
 pub returns-then-fences-i : goal.returns-then-fences-i
@@ -30,8 +30,8 @@ returns-then-fences-i c =
     let second : c.args.later < length c.args.pieces.now = omega (arith, c.requires.within, c.requires.known) in
     let flagged : c.loop-i.i - 1 - c.args.start < length c.args.fences.now = omega (arith, h.before, c.loop-i-test.true, c.requires.behind, c.requires.within) in
     let seen = conflict_seen c.args.pieces.now (c.loop-i.i - 1) c.args.later c.index-pieces-i.result c.index-pieces-later.result c.touched.result.reads.items c.touched.result.writes.items
-        c.touched-waiting.result.reads.items c.touched-waiting.result.writes.items first second c.index-pieces-i.is c.index-pieces-later.is
-        c.touched.ensures.reads c.touched.ensures.writes c.touched-waiting.ensures.reads c.touched-waiting.ensures.writes in
+    c.touched-waiting.result.reads.items c.touched-waiting.result.writes.items first second c.index-pieces-i.is c.index-pieces-later.is
+    c.touched.ensures.reads c.touched.ensures.writes c.touched-waiting.ensures.reads c.touched-waiting.ensures.writes in
     none_past_fence (λ (x : ℕ). ConflictAt (map fields c.args.pieces.now) x c.args.later) c.args.start c.args.fences.now c.args.at (c.loop-i.i - 1)
     (omega (arith, h.before, c.loop-i-test.true))
     (omega (arith, c.loop-i-test.true), slice_get-get_or c.args.fences.now (c.loop-i.i - 1 - c.args.start) false flagged ∙ ap Some c.if-fences-i.true)
@@ -45,8 +45,8 @@ loop-i-preserved c =
     let second : c.args.later < length c.args.pieces.now = omega (arith, c.requires.within, c.requires.known) in
     let flagged : c.loop-i.i - 1 - c.args.start < length c.args.fences.now = omega (arith, h.before, c.loop-i-test.true, c.requires.behind, c.requires.within) in
     let seen = conflict_seen c.args.pieces.now (c.loop-i.i - 1) c.args.later c.index-pieces-i.result c.index-pieces-later.result c.touched.result.reads.items c.touched.result.writes.items
-        c.touched-waiting.result.reads.items c.touched-waiting.result.writes.items first second c.index-pieces-i.is c.index-pieces-later.is
-        c.touched.ensures.reads c.touched.ensures.writes c.touched-waiting.ensures.reads c.touched-waiting.ensures.writes in
+    c.touched-waiting.result.reads.items c.touched-waiting.result.writes.items first second c.index-pieces-i.is c.index-pieces-later.is
+    c.touched.ensures.reads c.touched.ensures.writes c.touched-waiting.ensures.reads c.touched-waiting.ensures.writes in
     record {
       begun = omega (arith, c.loop-i-test.true);
       before = omega (arith, h.before);

@@ -1,0 +1,73 @@
+//! All that is told of a plan.
+
+ghost use Rattle.std.specs.Prelude.{◌≡◌, ◌≤◌, ◌*◌, IfOk, length, map};
+ghost use Rattle.dsa_plan.specs.Plan.{group_cost, plan_cost};
+ghost use Rattle.dsa_plan.specs.Settings.{prices_of};
+ghost use Rattle.dsa_explain.specs.Told.{group_costs};
+ghost use Rattle.dsa_explain.specs.Cells.{cells_from};
+
+use crate::cells::{Cell, lay_out};
+use crate::fences::{Fence, fences_of};
+use crate::prices::{Prices, price_plan};
+use dsa_descriptor::Descriptor;
+use dsa_plan::{LegalFault, Plan, Settings, is_legal};
+use std::alloc::{AllocError, Global};
+
+/// The most pieces of a plan that is explained.
+pub const MOST_PIECES: usize = 65_536;
+
+/// What is told of a plan.
+#[derive(Debug, Drop)]
+pub struct Explanation {
+    /// What its groups cost, and what its pieces cost one by one.
+    pub prices: Prices,
+    /// Its fences, in order, each with the conflict that it separates.
+    pub fences: Vec<Fence>,
+    /// Where its pieces and fences stand in a picture.
+    pub cells: Vec<Cell>,
+}
+
+/// Why a plan is not explained.
+#[derive(Clone, Copy, Debug, PartialEq, Eq)]
+pub enum ExplainFault {
+    /// There are more than [`MOST_PIECES`] pieces.
+    TooManyPieces,
+    /// The plan is not legal for the pieces.
+    Legal(LegalFault),
+    /// A growth of memory was refused.
+    Memory,
+}
+
+impl From<AllocError> for ExplainFault {
+    fn from(_error: AllocError) -> ExplainFault {
+        ExplainFault::Memory
+    }
+}
+
+/// What is told of a legal plan of the pieces.
+pub fn explain(
+    alloc: Global,
+    plan: &Plan,
+    pieces: &[Descriptor],
+    settings: &Settings,
+) -> Result<Explanation, ExplainFault>
+    ensures groups { IfOk result (λ told. group_costs told.prices.groups.items ≡ map (group_cost (prices_of settings.now)) plan.now) }
+    ensures cost { IfOk result (λ told. told.prices.cost ≡ plan_cost (prices_of settings.now) plan.now) }
+    ensures lone { IfOk result (λ told. told.prices.lone ≡ settings.now.lone * length pieces.now) }
+    ensures cells { IfOk result (λ told. told.cells.items ≡ cells_from 0 plan.now) }
+{
+    if pieces.len() > MOST_PIECES {
+        return Err(ExplainFault::TooManyPieces);
+    }
+    if let Err(fault) = is_legal(plan, pieces, settings) {
+        return Err(ExplainFault::Legal(fault));
+    }
+    let prices = price_plan(alloc, plan, pieces.len(), settings)?;
+    let fences = fences_of(alloc, plan, pieces)?;
+    let cells = lay_out(alloc, plan)?;
+    Ok(Explanation {
+        prices,
+        fences,
+        cells,
+    })
+}

@@ -1,0 +1,58 @@
+//! The fences of a plan, each with the conflict that it separates.
+
+ghost use Rattle.std.specs.Prelude.{◌≡◌, ◌+◌, ◌≤◌, length};
+ghost use Rattle.dsa_plan.specs.Plan.{piece_count};
+
+use crate::reason::{Reason, reason_of};
+use dsa_descriptor::Descriptor;
+use dsa_plan::{Group, Plan};
+use std::alloc::{AllocError, Global};
+
+/// A fence.
+#[derive(Clone, Copy, Debug, PartialEq, Eq)]
+pub struct Fence {
+    /// The piece that it stands before.
+    pub piece: usize,
+    /// The conflict that it alone separates; none where no conflict needs it.
+    pub reason: Option<Reason>,
+}
+
+/// Writes the fences of a group at the end.
+fn push_fences(
+    fences: &mut Vec<Fence>,
+    group: &Group,
+    pieces: &[Descriptor],
+    start: usize,
+) -> Result<(), AllocError>
+    requires known { start + length group.now ≤ length pieces.now }
+    requires few { length pieces.now ≤ 65536 }
+{
+    let flags = group.fences();
+    for (column, fenced) in flags.iter().enumerate() {
+        if *fenced {
+            fences.push(Fence {
+                piece: start + column,
+                reason: reason_of(flags, pieces, start, start + column),
+            })?;
+        }
+    }
+    Ok(())
+}
+
+/// The fences of a plan, in order.
+pub fn fences_of(
+    alloc: Global,
+    plan: &Plan,
+    pieces: &[Descriptor],
+) -> Result<Vec<Fence>, AllocError>
+    requires all { piece_count plan.now ≡ length pieces.now }
+    requires few { length pieces.now ≤ 65536 }
+{
+    let mut fences = Vec::new(alloc);
+    let mut start: usize = 0;
+    for group in plan.groups() {
+        push_fences(&mut fences, group, pieces, start)?;
+        start += group.len();
+    }
+    Ok(fences)
+}

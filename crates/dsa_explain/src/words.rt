@@ -1,0 +1,162 @@
+//! The words of an explanation.
+
+use crate::explanation::Explanation;
+use crate::fences::Fence;
+use crate::prices::{GroupPrice, Prices};
+use dsa_descriptor::Descriptor;
+use dsa_hazards::HazardKind;
+use dsa_lines::op_text;
+use dsa_plan::Settings;
+use std::alloc::{AllocError, Global};
+
+/// Of which operation a piece is, where that was split.
+#[derive(Clone, Copy, Debug, PartialEq, Eq)]
+pub struct Origin {
+    /// The index of the operation.
+    pub operation: usize,
+    /// Which of its pieces this is, from 1 on.
+    pub piece: usize,
+    /// How many pieces it has.
+    pub pieces: usize,
+}
+
+/// The name of a kind of hazard.
+pub fn kind_text(kind: HazardKind) -> &'static str {
+    match kind {
+        HazardKind::ReadAfterWrite => "read after write",
+        HazardKind::WriteAfterRead => "write after read",
+        HazardKind::WriteAfterWrite => "write after write",
+    }
+}
+
+/// What is told of a group: its size, its fences and the epochs that they part it into, and its cost.
+pub fn group_text(alloc: Global, number: usize, group: &GroupPrice) -> Result<String, AllocError> {
+    let (size, fences, cost) = (group.size, group.fences, group.cost);
+    if size == 1 {
+        return format!(in alloc; "group {number}: lone submission, cost {cost}");
+    }
+    let epochs = fences.saturating_add(1);
+    let ends = if fences == 1 { "" } else { "s" };
+    let many = if epochs == 1 { "" } else { "s" };
+    let front = format!(in alloc; "group {number}: batch of {size}, {fences} fence{ends}, ")?;
+    let back = format!(in alloc; "{epochs} epoch{many}, cost {cost}")?;
+    let mut text = front;
+    text.push_str(&back)?;
+    Ok(text)
+}
+
+/// What is told of a fence: the two pieces of the conflict that it separates, the address and the kind of hazard.
+pub fn fence_text(alloc: Global, fence: &Fence) -> Result<String, AllocError> {
+    let Some(reason) = fence.reason else {
+        return String::from_str(alloc, "no conflict needs it");
+    };
+    let (earlier, later) = (reason.earlier, reason.later);
+    let kind = kind_text(reason.hazard.kind);
+    let address = reason.hazard.address;
+    format!(in alloc; "{later} after {earlier}, {kind} at 0x{address:x}")
+}
+
+/// What is told of a piece: what it does, and of a split operation which of its pieces it is.
+pub fn piece_text(
+    alloc: Global,
+    d: &Descriptor,
+    origin: Option<Origin>,
+) -> Result<String, AllocError> {
+    let mut text = op_text(alloc, &d.op, d.size)?;
+    if let Some(origin) = origin {
+        if origin.pieces > 1 {
+            let (operation, piece, pieces) = (origin.operation, origin.piece, origin.pieces);
+            let part = format!(in alloc; " (operation {operation}, piece {piece} of {pieces})")?;
+            text.push_str(&part)?;
+        }
+    }
+    Ok(text)
+}
+
+/// What is told of the costs: those of the plan, of as many lone submissions, and what is saved.
+pub fn cost_text(alloc: Global, prices: &Prices, pieces: usize) -> Result<String, AllocError> {
+    let (cost, lone) = (prices.cost, prices.lone);
+    let ends = if pieces == 1 { "" } else { "s" };
+    let front = format!(in alloc; "cost {cost}; {pieces} lone submission{ends} cost {lone}, ")?;
+    let mut text = front;
+    if cost <= lone {
+        let saved = lone - cost;
+        text.push_str(&format!(in alloc; "saved {saved}")?)?;
+    } else {
+        let lost = cost - lone;
+        text.push_str(&format!(in alloc; "{lost} less")?)?;
+    }
+    Ok(text)
+}
+
+/// Writes a line with spaces before it.
+fn push_line(text: &mut String, before: &str, line: &str) -> Result<(), AllocError> {
+    text.push_str(before)?;
+    text.push_str(line)?;
+    text.push_str("\n")
+}
+
+/// Writes what is told of the group that begins with a piece.
+fn push_group(
+    alloc: Global,
+    text: &mut String,
+    told: &Explanation,
+    row: usize,
+) -> Result<(), AllocError> {
+    let Some(group) = told.prices.groups.get(row) else {
+        return Ok(());
+    };
+    push_line(text, "", &group_text(alloc, row, group)?)
+}
+
+/// Writes what is told of a fence.
+fn push_fence(
+    alloc: Global,
+    text: &mut String,
+    fence: Option<&Fence>,
+    price: u64,
+) -> Result<(), AllocError> {
+    let Some(fence) = fence else {
+        return Ok(());
+    };
+    let words = fence_text(alloc, fence)?;
+    let line = format!(in alloc; "-- fence, cost {price}: {words}")?;
+    push_line(text, "  ", &line)
+}
+
+/// The explanation of a plan in words: a line for each group, fence and piece, and one for the costs.
+pub fn explanation_text(
+    alloc: Global,
+    told: &Explanation,
+    pieces: &[Descriptor],
+    origins: &[Origin],
+    settings: &Settings,
+) -> Result<String, AllocError> {
+    let mut text = String::new(alloc);
+    let mut next_fence: usize = 0;
+    for (index, cell) in told.cells.iter().enumerate() {
+        if cell.column == 0 {
+            push_group(alloc, &mut text, told, cell.row)?;
+        }
+        if cell.fenced {
+            push_fence(
+                alloc,
+                &mut text,
+                told.fences.get(next_fence),
+                settings.fence(),
+            )?;
+            next_fence = next_fence.saturating_add(1);
+        }
+        if let Some(d) = pieces.get(index) {
+            let words = piece_text(alloc, d, origins.get(index).copied())?;
+            let line = format!(in alloc; "{index}: {words}")?;
+            push_line(&mut text, "  ", &line)?;
+        }
+    }
+    push_line(
+        &mut text,
+        "",
+        &cost_text(alloc, &told.prices, pieces.len())?,
+    )?;
+    Ok(text)
+}

@@ -1,0 +1,156 @@
+//! `explain`: what the plan of a text or a job does, in words or as a picture.
+
+use crate::answer::Answer;
+use crate::job::{Job, job_of};
+use dsa_cert::Certificate;
+use dsa_descriptor::{Descriptor, read_list};
+use dsa_explain::{MOST_ROWS, Origin, draw, explain, explanation_text};
+use dsa_listing::assemble;
+use dsa_plan::{Plan, Settings, read_emission};
+use dsa_planner::{PlanFault, check_bytes, judge_bytes, plan_list};
+use dsa_splitter::pieces;
+use std::alloc::{AllocError, Global};
+
+/// Of which operation each piece is.
+fn origins_of(
+    alloc: Global,
+    operations: &[Descriptor],
+    settings: &Settings,
+) -> Result<Vec<Origin>, AllocError> {
+    let mut origins = Vec::new(alloc);
+    for (operation, d) in operations.iter().enumerate() {
+        let count = match pieces(alloc, [*d].as_slice(), settings) {
+            Ok(pieces) => pieces.len(),
+            Err(_) => 1,
+        };
+        for piece in 0..count {
+            origins.push(Origin {
+                operation,
+                piece: piece.saturating_add(1),
+                pieces: count,
+            })?;
+        }
+    }
+    Ok(origins)
+}
+
+/// The answer of a plan of pieces.
+fn answer_plan(
+    alloc: Global,
+    plan: &Plan,
+    pieces: &[Descriptor],
+    origins: &[Origin],
+    settings: &Settings,
+    drawn: bool,
+) -> Result<Answer, AllocError> {
+    let told = match explain(alloc, plan, pieces, settings) {
+        Ok(told) => told,
+        Err(fault) => return Answer::explain_fault(alloc, fault),
+    };
+    if !drawn {
+        let text = explanation_text(alloc, &told, pieces, origins, settings)?;
+        return Ok(Answer::done(text));
+    }
+    let groups = plan.groups().len();
+    if groups > MOST_ROWS {
+        let line = format!(in alloc; "refused 91 Picture: {groups} groups, and 1024 at most\n")?;
+        return Ok(Answer::refused(line));
+    }
+    Ok(Answer::done(draw(alloc, &told, pieces, origins)?))
+}
+
+/// The answer of the plan of a list.
+fn answer_list(
+    alloc: Global,
+    list: &[u8],
+    settings: &Settings,
+    drawn: bool,
+) -> Result<Answer, AllocError> {
+    let planned = match plan_list(alloc, list, settings) {
+        Ok(planned) => planned,
+        Err(fault) => return Answer::fault(alloc, fault),
+    };
+    let operations = match read_list(alloc, list) {
+        Ok(operations) => operations,
+        Err(fault) => return Answer::fault(alloc, PlanFault::from(fault)),
+    };
+    let origins = origins_of(alloc, &operations, settings)?;
+    answer_plan(alloc, &planned.plan, &planned.pieces, &origins, settings, drawn)
+}
+
+/// The answer of a plan that is judged.
+fn answer_judge(
+    alloc: Global,
+    list: &[u8],
+    plan: &Plan,
+    settings: &Settings,
+    drawn: bool,
+) -> Result<Answer, AllocError> {
+    if let Err(fault) = judge_bytes(alloc, list, plan, settings) {
+        return Answer::fault(alloc, fault);
+    }
+    match read_list(alloc, list) {
+        Ok(pieces) => answer_plan(alloc, plan, &pieces, [].as_slice(), settings, drawn),
+        Err(fault) => Answer::fault(alloc, PlanFault::from(fault)),
+    }
+}
+
+/// The answer of a plan that is checked.
+fn answer_check(
+    alloc: Global,
+    portal: &[u8],
+    staging: &[u8],
+    certificate: &Certificate,
+    settings: &Settings,
+    drawn: bool,
+) -> Result<Answer, AllocError> {
+    if let Err(fault) = check_bytes(alloc, portal, staging, settings, certificate) {
+        return Answer::fault(alloc, fault);
+    }
+    match read_emission(alloc, portal, staging, settings) {
+        Ok((plan, pieces)) => answer_plan(alloc, &plan, &pieces, [].as_slice(), settings, drawn),
+        Err(fault) => Answer::fault(alloc, PlanFault::from(fault)),
+    }
+}
+
+/// The answer of a job.
+fn answer_job(alloc: Global, text: &[u8], drawn: bool) -> Result<Answer, AllocError> {
+    match job_of(alloc, text) {
+        Ok(Job::Plan(list, settings)) => answer_list(alloc, &list, &settings, drawn),
+        Ok(Job::Judge(list, plan, settings)) => {
+            answer_judge(alloc, &list, &plan, &settings, drawn)
+        }
+        Ok(Job::Check(portal, staging, certificate, settings)) => {
+            answer_check(alloc, &portal, &staging, &certificate, &settings, drawn)
+        }
+        Err(fault) => Answer::fault(alloc, fault),
+    }
+}
+
+/// The answer of a text of operations.
+fn answer_text(
+    alloc: Global,
+    text: &[u8],
+    settings: &Settings,
+    drawn: bool,
+) -> Result<Answer, AllocError> {
+    match assemble(alloc, text) {
+        Ok(list) => answer_list(alloc, &list, settings, drawn),
+        Err(fault) => Answer::text_fault(alloc, fault),
+    }
+}
+
+/// What a plan does and why, of a job, which begins with a brace, or of a text of operations under the settings; a
+/// picture where it is to be drawn.
+pub fn explain_input(
+    alloc: Global,
+    text: &[u8],
+    settings: &Settings,
+    drawn: bool,
+) -> Result<Answer, AllocError> {
+    if text.trim_ascii().first().copied() == Some(b'{') {
+        answer_job(alloc, text, drawn)
+    } else {
+        answer_text(alloc, text, settings, drawn)
+    }
+}

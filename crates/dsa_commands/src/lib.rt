@@ -1,0 +1,21 @@
+//! What each command of the program `dsa_text` answers: a text and a status.
+#![tactic(auto)]
+
+mod answer;
+mod assembling;
+mod bytes;
+mod disassembling;
+mod explaining;
+mod job;
+mod numbers;
+mod settings;
+
+pub use answer::Answer;
+pub use assembling::{assemble_job, assemble_list};
+pub use disassembling::{disassemble_list, disassemble_portal, disassemble_staging};
+pub use explaining::explain_input;
+pub use numbers::number_of;
+pub use settings::{SettingsWords, settings_of};
+
+#[cfg(test)]
+mod tests;

@@ -32,7 +32,8 @@ pub(crate) fn batches(alloc: Global, count: usize, size: usize) -> Result<Plan, 
 /// The plan is legal for the pieces, which the image holds.
 pub(crate) fn can_run(image: &Image, plan: &Plan, pieces: &[Descriptor]) -> bool
     ensures few { IsTrue result → length pieces.now ≤ 65536 }
-    ensures legal { IsTrue result → IsLegal (ConflictAt (map fields pieces.now)) most_members (length pieces.now) plan.now }
+    ensures legal { IsTrue result →
+        IsLegal (ConflictAt (map fields pieces.now)) most_members (length pieces.now) plan.now }
     ensures holds { IsTrue result → All (HoldsRanges image.now) (map fields pieces.now) }
 {
     if pieces.len() > 65536 {

@@ -30,8 +30,8 @@ pub struct RawSettings {
 #[inline(always)]
 pub(crate) fn same_price(raw: &RawSettings) -> Result<Settings, SettingsFault>
     requires { raw.now.version ≡ 1 }
-    ensures { (table : List ℕ) → MatchResult result
-        (λ l. (l ≡ limits_of raw.now table) × AreSettings raw.now table) (λ _. ¬ AreSettings raw.now table) }
+    ensures { (table : List ℕ) → MatchResult result (λ l. (l ≡ limits_of raw.now table) ×
+        AreSettings raw.now table) (λ _. ¬ AreSettings raw.now table) }
 {
     Settings::new(
         raw.greatest_batch,

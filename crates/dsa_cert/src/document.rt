@@ -55,7 +55,8 @@ fn pair_json(alloc: Global, pair: Option<(u32, u32)>) -> Result<Value, AllocErro
 /// array with null or two numbers below 2^32 for each piece, an array of whole numbers, and a whole number.
 pub fn read_json(alloc: Global, value: &Value) -> Result<Certificate, CertFault>
     ensures found { IfOk result (λ c. Documents (view value.now) (contents c)) }
-    ensures only { (c : Contents) → Documents (view value.now) c → MatchResult result (λ d. contents d ≡ c) (λ fault. fault ≡ CertFault.Memory) }
+    ensures only { (c : Contents) → Documents (view value.now) c →
+        MatchResult result (λ d. contents d ≡ c) (λ fault. fault ≡ CertFault.Memory) }
 {
     if !has_names(value, &["pairs", "prices", "version"]) {
         return Err(CertFault::Shape);
@@ -81,7 +82,8 @@ pub fn read_json(alloc: Global, value: &Value) -> Result<Certificate, CertFault>
 
 /// The prices that a value spells, an array of whole numbers; none where it spells none.
 pub fn prices_of(alloc: Global, value: &Value) -> Result<Option<Vec<u64>>, AllocError>
-    ensures { IfOk result (λ prices. ReadsPrices (view value.now) (option_map (λ v. v.items) prices)) }
+    ensures { IfOk result
+        (λ prices. ReadsPrices (view value.now) (option_map (λ v. v.items) prices)) }
 {
     let Some(items) = value.as_array() else {
         return Ok(None);

@@ -9,8 +9,8 @@ use serde_json::{Map, Value};
 
 /// Whether the value is an object with members of these names in this order, and no other member.
 pub fn has_names(value: &Value, names: &[&str]) -> bool
-    ensures { IsTrue result ↔
-        (option_map member_names (as_object (view value.now)) ≡ Some (map (λ name. name.now) names.now)) }
+    ensures { IsTrue result ↔ (option_map member_names
+        (as_object (view value.now)) ≡ Some (map (λ name. name.now) names.now)) }
 {
     match value.as_object() {
         Some(members) => are_named(members, names),

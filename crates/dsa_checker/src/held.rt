@@ -107,8 +107,8 @@ pub(crate) fn held_starts(
     requires count { length prices.now ≡ length pairs.now + 1 }
     requires sizes { length table.now ≤ 1023 }
     ensures inside { result ≤ length pairs.now }
-    ensures held { (i : ℕ) → i < result →
-        StepsHoldFrom (sized_prices lone fence table.now) (length pairs.now) pairs.now prices.now i }
+    ensures held { (i : ℕ) → i < result → StepsHoldFrom
+        (sized_prices lone fence table.now) (length pairs.now) pairs.now prices.now i }
 {
     let limit = u64::MAX - greatest(table);
     let mut block = Block::new();

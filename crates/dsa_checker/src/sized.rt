@@ -87,8 +87,8 @@ fn starts_passed(
     requires few { length pairs.now ≤ 65536 }
     requires count { length prices.now ≡ length pairs.now + 1 }
     requires sizes { length table.now ≤ 1023 }
-    ensures { (i : ℕ) → i < result →
-        StepsHoldFrom (sized_prices lone fence table.now) (length pairs.now) pairs.now prices.now i }
+    ensures { (i : ℕ) → i < result → StepsHoldFrom
+        (sized_prices lone fence table.now) (length pairs.now) pairs.now prices.now i }
 {
     if pairs.len().min(table.len()) < FEW {
         return 0;

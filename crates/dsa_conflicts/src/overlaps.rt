@@ -64,7 +64,8 @@ fn note_from(
     requires bound { place < length touches.now }
     requires sorted { IsNonDecreasingBy (λ t. t.span.first) touches.now }
     requires known { All (λ t. t.piece < length lasts.old) touches.now }
-    ensures { IfSome result (λ left. Notes (ClashFrom touches.now window place (length touches.now)) lasts.old lasts.new) }
+    ensures { IfSome result (λ left.
+        Notes (ClashFrom touches.now window place (length touches.now)) lasts.old lasts.new) }
 {
     let here = touches[place];
     let mut left = budget;
@@ -86,7 +87,8 @@ fn note_from(
 pub(crate) fn note_all(lasts: &mut [Option<u32>], touches: &[Touch], window: u32) -> bool
     requires sorted { IsNonDecreasingBy (λ t. t.span.first) touches.now }
     requires known { All (λ t. t.piece < length lasts.old) touches.now }
-    ensures { IsTrue result → Notes (ClashAmong touches.now window (length touches.now)) lasts.old lasts.new }
+    ensures { IsTrue result →
+        Notes (ClashAmong touches.now window (length touches.now)) lasts.old lasts.new }
 {
     let mut left = touches
         .len()

@@ -62,7 +62,8 @@ fn push_touches(
     piece: u32,
     access: Access,
 ) -> Result<(), AllocError>
-    ensures { OnOk result (touches.new.items ≡ touches.old.items ++ map (touch piece access) spans.now) }
+    ensures { OnOk result (touches.new.items ≡ touches.old.items ++
+        map (touch piece access) spans.now) }
 {
     for span in spans {
         touches.push(Touch {
@@ -96,7 +97,8 @@ pub(crate) fn touches_of(alloc: Global, pieces: &[Descriptor]) -> Result<Vec<Tou
     requires { length pieces.now ≤ 65536 }
     ensures sorted { IfOk result (λ touches. IsNonDecreasingBy (λ t. t.span.first) touches.items) }
     ensures known { IfOk result (λ touches. All (IsTouchOf (map fields pieces.now)) touches.items) }
-    ensures all { IfOk result (λ touches. HasTouches touches.items (map fields pieces.now) (length pieces.now)) }
+    ensures all { IfOk result
+        (λ touches. HasTouches touches.items (map fields pieces.now) (length pieces.now)) }
 {
     // Most pieces touch three spans. Each kind has a run of its own, since a stable sort merges runs.
     let mut touches = Vec::with_capacity(alloc, 3 * pieces.len())?;

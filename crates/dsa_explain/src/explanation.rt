@@ -51,8 +51,10 @@ pub fn explain(
     pieces: &[Descriptor],
     settings: &Settings,
 ) -> Result<Explanation, ExplainFault>
-    ensures groups { IfOk result (λ told. group_costs told.prices.groups.items ≡ map (group_cost (prices_of settings.now)) plan.now) }
-    ensures cost { IfOk result (λ told. told.prices.cost ≡ plan_cost (prices_of settings.now) plan.now) }
+    ensures groups { IfOk result (λ told.
+        group_costs told.prices.groups.items ≡ map (group_cost (prices_of settings.now)) plan.now) }
+    ensures cost { IfOk result
+        (λ told. told.prices.cost ≡ plan_cost (prices_of settings.now) plan.now) }
     ensures lone { IfOk result (λ told. told.prices.lone ≡ settings.now.lone * length pieces.now) }
     ensures cells { IfOk result (λ told. told.cells.items ≡ cells_from 0 plan.now) }
 {

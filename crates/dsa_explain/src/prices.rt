@@ -62,7 +62,8 @@ fn group_prices(
 ) -> Result<Vec<GroupPrice>, AllocError>
     requires pieces { piece_count plan.now ≤ 65536 }
     requires shapes { HasGroupShapes settings.now.greatest_batch plan.now }
-    ensures { IfOk result (λ groups. group_costs groups.items ≡ map (group_cost (prices_of settings.now)) plan.now) }
+    ensures { IfOk result
+        (λ groups. group_costs groups.items ≡ map (group_cost (prices_of settings.now)) plan.now) }
 {
     let mut groups = Vec::with_capacity(alloc, plan.groups().len())?;
     for group in plan.groups() {
@@ -81,7 +82,8 @@ pub fn price_plan(
     requires all { piece_count plan.now ≡ pieces }
     requires few { pieces ≤ 65536 }
     requires shapes { HasGroupShapes settings.now.greatest_batch plan.now }
-    ensures groups { IfOk result (λ told. group_costs told.groups.items ≡ map (group_cost (prices_of settings.now)) plan.now) }
+    ensures groups { IfOk result (λ told.
+        group_costs told.groups.items ≡ map (group_cost (prices_of settings.now)) plan.now) }
     ensures cost { IfOk result (λ told. told.cost ≡ plan_cost (prices_of settings.now) plan.now) }
     ensures lone { IfOk result (λ told. told.lone ≡ settings.now.lone * pieces) }
 {

@@ -30,7 +30,8 @@ pub struct Hazard {
 
 /// The first address that lies in both spans.
 fn shared(first: Span, second: Span) -> Option<u64>
-    ensures { MatchOption result ((a : ℕ) → InSpan first a → InSpan second a → ⊥) (λ a. InSpan first a × InSpan second a) }
+    ensures { MatchOption result ((a : ℕ) →
+        InSpan first a → InSpan second a → ⊥) (λ a. InSpan first a × InSpan second a) }
 {
     if meets(first, second) {
         Some(first.first.max(second.first))
@@ -41,7 +42,8 @@ fn shared(first: Span, second: Span) -> Option<u64>
 
 /// An address that lies in the span and in one of the spans.
 fn shared_with(span: Span, spans: &[Span]) -> Option<u64>
-    ensures { MatchOption result (AreApartFrom span spans.now) (λ a. InSpan span a × InSome spans.now a) }
+    ensures { MatchOption result (AreApartFrom span spans.now) (λ a. InSpan span a ×
+        InSome spans.now a) }
 {
     for other in spans {
         if let Some(address) = shared(span, *other) {
@@ -53,7 +55,8 @@ fn shared_with(span: Span, spans: &[Span]) -> Option<u64>
 
 /// An address that lies in one of each.
 fn shared_by(first: &[Span], second: &[Span]) -> Option<u64>
-    ensures { MatchOption result (AreApart first.now second.now) (λ a. InSome first.now a × InSome second.now a) }
+    ensures { MatchOption result (AreApart first.now second.now) (λ a. InSome first.now a ×
+        InSome second.now a) }
 {
     for span in first {
         if let Some(address) = shared_with(*span, second) {
@@ -65,9 +68,9 @@ fn shared_by(first: &[Span], second: &[Span]) -> Option<u64>
 
 /// Where the two conflict, where they do: an address that one writes and the other reads or writes.
 pub fn find_hazard(earlier: &Touched, later: &Touched) -> Option<Hazard>
-    ensures { MatchOption result
-        (¬ SpansConflict earlier.now.reads.items earlier.now.writes.items later.now.reads.items later.now.writes.items)
-        (λ m. IsHazard earlier.now.reads.items earlier.now.writes.items later.now.reads.items later.now.writes.items m.address m.kind) }
+    ensures { MatchOption result (¬ SpansConflict earlier.now.reads.items earlier.now.writes.items
+        later.now.reads.items later.now.writes.items) (λ m. IsHazard earlier.now.reads.items
+        earlier.now.writes.items later.now.reads.items later.now.writes.items m.address m.kind) }
 {
     if let Some(address) = shared_by(&earlier.writes, &later.reads) {
         return Some(Hazard {

@@ -59,7 +59,8 @@ fn expected_at(text: &[u8]) -> Result<(u32, u8, &[u8]), Stop>
 /// A comparison with a second region.
 #[tactic(auto, unfolding(crate::specs::Grammar::compare_region_at))]
 fn compare_region_at(src: u64, text: &[u8]) -> Result<(Op, u32, &[u8]), Stop>
-    ensures { Gives (λ x. (x.0, x.1, words_of x.2.now)) result (compare_region_at src (words_of text.now)) }
+    ensures { Gives
+        (λ x. (x.0, x.1, words_of x.2.now)) result (compare_region_at src (words_of text.now)) }
 {
     let (src2, rest) = number_at(text, u64::MAX, Expected::Number)?;
     let (size, expected, rest) = expected_at(rest)?;
@@ -74,7 +75,8 @@ fn compare_region_at(src: u64, text: &[u8]) -> Result<(Op, u32, &[u8]), Stop>
 /// A comparison with a pattern, behind the word `pattern`.
 #[tactic(auto, unfolding(crate::specs::Grammar::compare_pattern_at))]
 fn compare_pattern_at(src: u64, text: &[u8]) -> Result<(Op, u32, &[u8]), Stop>
-    ensures { Gives (λ x. (x.0, x.1, words_of x.2.now)) result (compare_pattern_at src (words_of text.now)) }
+    ensures { Gives
+        (λ x. (x.0, x.1, words_of x.2.now)) result (compare_pattern_at src (words_of text.now)) }
 {
     let (pattern, rest) = pattern_at(text)?;
     let (size, expected, rest) = expected_at(rest)?;

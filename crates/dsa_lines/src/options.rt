@@ -91,7 +91,8 @@ impl Options {
 /// The PASID behind its name; `name` is the text from its name on, where a second one is reported.
 #[tactic(auto, unfolding(crate::specs::Grammar::pasid_at))]
 fn pasid_at<'a>(options: Options, name: &[u8], text: &'a [u8]) -> Result<(Options, &'a [u8]), Stop>
-    ensures value { Gives (λ x. (x.0, words_of x.1.now)) result (pasid_at options (words_of text.now)) }
+    ensures value { Gives
+        (λ x. (x.0, words_of x.1.now)) result (pasid_at options (words_of text.now)) }
     ensures small { IfOk result (λ x. or_zero x.0.pasid < 2 ^ 20) }
 {
     if options.pasid.is_some() {
@@ -112,7 +113,8 @@ fn privileged_at<'a>(
     name: &[u8],
     text: &'a [u8],
 ) -> Result<(Options, &'a [u8]), Stop>
-    ensures value { Gives (λ x. (x.0, words_of x.1.now)) result (privileged_at options (words_of text.now)) }
+    ensures value { Gives
+        (λ x. (x.0, words_of x.1.now)) result (privileged_at options (words_of text.now)) }
     ensures same { IfOk result (λ x. x.0.pasid ≡ options.pasid) }
 {
     if options.privileged {
@@ -128,7 +130,8 @@ fn privileged_at<'a>(
 /// Check result behind its name.
 #[tactic(auto, unfolding(crate::specs::Grammar::check_at))]
 fn check_at<'a>(options: Options, name: &[u8], text: &'a [u8]) -> Result<(Options, &'a [u8]), Stop>
-    ensures value { Gives (λ x. (x.0, words_of x.1.now)) result (check_at options (words_of text.now)) }
+    ensures value { Gives
+        (λ x. (x.0, words_of x.1.now)) result (check_at options (words_of text.now)) }
     ensures same { IfOk result (λ x. x.0.pasid ≡ options.pasid) }
 {
     if options.check {
@@ -144,7 +147,8 @@ fn check_at<'a>(options: Options, name: &[u8], text: &'a [u8]) -> Result<(Option
 /// The carried flags behind their name.
 #[tactic(auto, unfolding(crate::specs::Grammar::flags_at))]
 fn flags_at<'a>(options: Options, name: &[u8], text: &'a [u8]) -> Result<(Options, &'a [u8]), Stop>
-    ensures value { Gives (λ x. (x.0, words_of x.1.now)) result (flags_at options (words_of text.now)) }
+    ensures value { Gives
+        (λ x. (x.0, words_of x.1.now)) result (flags_at options (words_of text.now)) }
     ensures same { IfOk result (λ x. x.0.pasid ≡ options.pasid) }
 {
     if options.flags.is_some() {
@@ -164,7 +168,8 @@ fn flags_at<'a>(options: Options, name: &[u8], text: &'a [u8]) -> Result<(Option
 /// The interrupt handle behind its name.
 #[tactic(auto, unfolding(crate::specs::Grammar::handle_at))]
 fn handle_at<'a>(options: Options, name: &[u8], text: &'a [u8]) -> Result<(Options, &'a [u8]), Stop>
-    ensures value { Gives (λ x. (x.0, words_of x.1.now)) result (handle_at options (words_of text.now)) }
+    ensures value { Gives
+        (λ x. (x.0, words_of x.1.now)) result (handle_at options (words_of text.now)) }
     ensures same { IfOk result (λ x. x.0.pasid ≡ options.pasid) }
 {
     if options.handle.is_some() {
@@ -181,7 +186,8 @@ fn handle_at<'a>(options: Options, name: &[u8], text: &'a [u8]) -> Result<(Optio
 /// One option more, and what stands behind it.
 #[tactic(auto, unfolding(crate::specs::Grammar::option_at))]
 fn option_at(options: Options, text: &[u8]) -> Result<(Options, &[u8]), Stop>
-    ensures value { Gives (λ x. (x.0, words_of x.1.now)) result (option_at options (words_of text.now)) }
+    ensures value { Gives
+        (λ x. (x.0, words_of x.1.now)) result (option_at options (words_of text.now)) }
     ensures small { IfOk result (λ x. or_zero options.pasid < 2 ^ 20 → or_zero x.0.pasid < 2 ^ 20) }
 {
     let Some((word, rest)) = next_word(text) else {

@@ -41,7 +41,8 @@ pub(crate) fn named<'a>(text: &'a [u8], name: &[u8], expected: Expected) -> Resu
 
 /// A number of at most this, and what stands behind it.
 pub(crate) fn number_at(text: &[u8], most: u64, expected: Expected) -> Result<(u64, &[u8]), Stop>
-    ensures value { Gives (λ x. (x.0, words_of x.1.now)) result (number_at most (words_of text.now)) }
+    ensures value { Gives
+        (λ x. (x.0, words_of x.1.now)) result (number_at most (words_of text.now)) }
     ensures bound { IfOk result (λ x. x.0 ≤ most) }
 {
     let Some((word, rest)) = next_word(text) else {

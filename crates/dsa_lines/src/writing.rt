@@ -33,7 +33,8 @@ fn push_pattern(alloc: Global, line: &mut String, pattern: u64) -> Result<(), Al
 
 /// Writes a size behind a comma.
 fn push_size(alloc: Global, line: &mut String, size: u32) -> Result<(), AllocError>
-    ensures { OnOk result (string_bytes line.new ≡ string_bytes line.old ++ (codes ", " ++ (decimal size ++ codes " bytes"))) }
+    ensures { OnOk result (string_bytes line.new ≡ string_bytes line.old ++
+        (codes ", " ++ (decimal size ++ codes " bytes"))) }
 {
     let text = format!(in alloc; ", {size} bytes")?;
     line.push_str(&text)
@@ -41,7 +42,8 @@ fn push_size(alloc: Global, line: &mut String, size: u32) -> Result<(), AllocErr
 
 /// Writes the expected result of a comparison.
 fn push_expected(alloc: Global, line: &mut String, expected: u8) -> Result<(), AllocError>
-    ensures { OnOk result (string_bytes line.new ≡ string_bytes line.old ++ (codes ", expect " ++ decimal expected)) }
+    ensures { OnOk result (string_bytes line.new ≡ string_bytes line.old ++
+        (codes ", expect " ++ decimal expected)) }
 {
     let text = format!(in alloc; ", expect {expected}")?;
     line.push_str(&text)
@@ -63,7 +65,8 @@ fn fill_text(alloc: Global, pattern: u64, dst: u64, size: u32) -> Result<String,
 }
 
 fn compare_front(alloc: Global, src: u64, src2: u64) -> Result<String, AllocError>
-    ensures { IfOk result (λ s. string_bytes s ≡ codes "compare " ++ (hex src ++ (codes " with " ++ hex src2))) }
+    ensures { IfOk result (λ s. string_bytes s ≡ codes "compare " ++
+        (hex src ++ (codes " with " ++ hex src2))) }
 {
     format!(in alloc; "compare 0x{src:x} with 0x{src2:x}")
 }
@@ -75,7 +78,8 @@ fn compare_text(
     expected: u8,
     size: u32,
 ) -> Result<String, AllocError>
-    ensures { IfOk result (λ s. string_bytes s ≡ text_of (op_words (Compare src src2 expected) size)) }
+    ensures { IfOk result
+        (λ s. string_bytes s ≡ text_of (op_words (Compare src src2 expected) size)) }
 {
     let mut line = compare_front(alloc, src, src2)?;
     push_size(alloc, &mut line, size)?;
@@ -84,7 +88,8 @@ fn compare_text(
 }
 
 fn compare_pattern_front(alloc: Global, src: u64) -> Result<String, AllocError>
-    ensures { IfOk result (λ s. string_bytes s ≡ codes "compare " ++ (hex src ++ codes " with pattern ")) }
+    ensures { IfOk result (λ s. string_bytes s ≡ codes "compare " ++
+        (hex src ++ codes " with pattern ")) }
 {
     format!(in alloc; "compare 0x{src:x} with pattern ")
 }
@@ -96,7 +101,8 @@ fn compare_pattern_text(
     expected: u8,
     size: u32,
 ) -> Result<String, AllocError>
-    ensures { IfOk result (λ s. string_bytes s ≡ text_of (op_words (ComparePattern src pattern expected) size)) }
+    ensures { IfOk result
+        (λ s. string_bytes s ≡ text_of (op_words (ComparePattern src pattern expected) size)) }
 {
     let mut line = compare_pattern_front(alloc, src)?;
     push_pattern(alloc, &mut line, pattern)?;
@@ -106,7 +112,8 @@ fn compare_pattern_text(
 }
 
 fn delta_front(alloc: Global, delta: u64, dst: u64, record_size: u32) -> Result<String, AllocError>
-    ensures { IfOk result (λ s. string_bytes s ≡ codes "delta " ++ (hex delta ++ (codes ", " ++ (decimal record_size ++ (codes " bytes -> " ++ hex dst))))) }
+    ensures { IfOk result (λ s. string_bytes s ≡ codes "delta " ++
+        (hex delta ++ (codes ", " ++ (decimal record_size ++ (codes " bytes -> " ++ hex dst))))) }
 {
     format!(in alloc; "delta 0x{delta:x}, {record_size} bytes -> 0x{dst:x}")
 }
@@ -118,7 +125,8 @@ fn delta_text(
     record_size: u32,
     size: u32,
 ) -> Result<String, AllocError>
-    ensures { IfOk result (λ s. string_bytes s ≡ text_of (op_words (ApplyDelta delta dst record_size) size)) }
+    ensures { IfOk result
+        (λ s. string_bytes s ≡ text_of (op_words (ApplyDelta delta dst record_size) size)) }
 {
     let mut line = delta_front(alloc, delta, dst, record_size)?;
     push_size(alloc, &mut line, size)?;
@@ -126,7 +134,8 @@ fn delta_text(
 }
 
 fn dualcast_front(alloc: Global, src: u64, dst: u64, dst2: u64) -> Result<String, AllocError>
-    ensures { IfOk result (λ s. string_bytes s ≡ codes "dualcast " ++ (hex src ++ (codes " -> " ++ (hex dst ++ (codes " and " ++ hex dst2))))) }
+    ensures { IfOk result (λ s. string_bytes s ≡ codes "dualcast " ++
+        (hex src ++ (codes " -> " ++ (hex dst ++ (codes " and " ++ hex dst2))))) }
 {
     format!(in alloc; "dualcast 0x{src:x} -> 0x{dst:x} and 0x{dst2:x}")
 }
@@ -173,7 +182,8 @@ pub fn op_text(alloc: Global, op: &Op, size: u32) -> Result<String, AllocError>
 
 /// Writes the address of the record.
 fn push_record(alloc: Global, line: &mut String, record_at: u64) -> Result<(), AllocError>
-    ensures { OnOk result (string_bytes line.new ≡ string_bytes line.old ++ (codes ", record " ++ hex record_at)) }
+    ensures { OnOk result (string_bytes line.new ≡ string_bytes line.old ++
+        (codes ", record " ++ hex record_at)) }
 {
     let text = format!(in alloc; ", record 0x{record_at:x}")?;
     line.push_str(&text)
@@ -181,7 +191,8 @@ fn push_record(alloc: Global, line: &mut String, record_at: u64) -> Result<(), A
 
 /// An option and its number.
 fn number_text(alloc: Global, name: &str, number: u32) -> Result<String, AllocError>
-    ensures { IfOk result (λ s. string_bytes s ≡ codes ", " ++ (name.now ++ (codes " " ++ decimal number))) }
+    ensures { IfOk result (λ s. string_bytes s ≡ codes ", " ++
+        (name.now ++ (codes " " ++ decimal number))) }
 {
     format!(in alloc; ", {name} {number}")
 }
@@ -189,7 +200,8 @@ fn number_text(alloc: Global, name: &str, number: u32) -> Result<String, AllocEr
 /// Writes an option and its number, where that is not 0.
 fn push_number(alloc: Global, line: &mut String, name: &str, number: u32) -> Result<(), AllocError>
     requires { spaced name.now ≡ 32 ∷ name.now }
-    ensures { OnOk result (string_bytes line.new ≡ string_bytes line.old ++ tail_text (number_option name.now number)) }
+    ensures { OnOk result (string_bytes line.new ≡ string_bytes line.old ++
+        tail_text (number_option name.now number)) }
 {
     if number == 0 {
         return Ok(());
@@ -201,7 +213,8 @@ fn push_number(alloc: Global, line: &mut String, name: &str, number: u32) -> Res
 /// Writes an option that is a name alone, where it stands.
 fn push_name(alloc: Global, line: &mut String, name: &str, stands: bool) -> Result<(), AllocError>
     requires { spaced name.now ≡ 32 ∷ name.now }
-    ensures { OnOk result (string_bytes line.new ≡ string_bytes line.old ++ tail_text (name_option name.now stands)) }
+    ensures { OnOk result (string_bytes line.new ≡ string_bytes line.old ++
+        tail_text (name_option name.now stands)) }
 {
     if !stands {
         return Ok(());

@@ -17,7 +17,8 @@ use std::alloc::Global;
 
 /// Writes the bytes at the end.
 fn push_entry(bytes: &mut Vec<u8>, entry: &[u8; 64]) -> Result<(), TextFault>
-    ensures { MatchResult result (λ _. bytes.new.items ≡ bytes.old.items ++ entry.now) (λ fault. fault ≡ Memory) }
+    ensures { MatchResult result (λ _. bytes.new.items ≡ bytes.old.items ++
+        entry.now) (λ fault. fault ≡ Memory) }
 {
     match bytes.extend_from_slice(entry) {
         Ok(()) => Ok(()),
@@ -96,8 +97,9 @@ fn text_fault(text: &[u8], fault: ListFault) -> TextFault
 pub fn assemble(alloc: Global, text: &[u8]) -> Result<Vec<u8>, TextFault>
     ensures told { Assembles (λ bytes. bytes.items) (all_fields (lines_of text.now)) result }
     // The text of a list is read back.
-    ensures again { (ds : List Descriptor) → HaveOneOwner (map fields ds) → text.now ≡ list_text (map fields ds)
-        → MatchResult result (λ bytes. bytes.items ≡ list_spelling (map fields ds)) (λ fault. fault ≡ Memory) }
+    ensures again { (ds : List Descriptor) →
+        HaveOneOwner (map fields ds) → text.now ≡ list_text (map fields ds) → MatchResult result
+        (λ bytes. bytes.items ≡ list_spelling (map fields ds)) (λ fault. fault ≡ Memory) }
 {
     let bytes = bytes_of(alloc, text)?;
     if let Err(fault) = read_list(alloc, bytes.as_slice()) {

@@ -14,7 +14,8 @@ use std::alloc::{AllocError, Global};
 
 /// Writes the canonical line of a descriptor and a newline.
 fn push_line(alloc: Global, text: &mut String, d: &Descriptor) -> Result<(), AllocError>
-    ensures { OnOk result (string_bytes text.new ≡ string_bytes text.old ++ text_line (fields d.now)) }
+    ensures { OnOk result (string_bytes text.new ≡ string_bytes text.old ++
+        text_line (fields d.now)) }
 {
     let line = line_of(alloc, d)?;
     text.push_str(&line)?;
@@ -37,10 +38,14 @@ pub fn text_of_list(alloc: Global, list: &[Descriptor]) -> Result<String, AllocE
 /// # Errors
 /// Those of [`read_list`], and [`ListFault::Memory`] where a growth is refused.
 pub fn disassemble(alloc: Global, bytes: &[u8]) -> Result<String, ListFault>
-    ensures told { IfOk result (λ text. (ds : List Descriptor) × (bytes.now ≡ list_spelling (map fields ds)) × HaveOneOwner (map fields ds) × (string_bytes text ≡ list_text (map fields ds))) }
-    ensures only { (ds : List Descriptor) → bytes.now ≡ list_spelling (map fields ds) → HaveOneOwner (map fields ds)
-        → MatchResult result (λ text. string_bytes text ≡ list_text (map fields ds)) (λ fault. fault ≡ Memory) }
-    ensures refused { (fault : ListFault) → fault ≢ Memory → IsFirstListFault bytes.now fault → result ≡ Err fault }
+    ensures told { IfOk result (λ text. (ds : List Descriptor) ×
+        (bytes.now ≡ list_spelling (map fields ds)) ×
+        HaveOneOwner (map fields ds) × (string_bytes text ≡ list_text (map fields ds))) }
+    ensures only { (ds : List Descriptor) → bytes.now ≡ list_spelling (map fields ds) →
+        HaveOneOwner (map fields ds) → MatchResult result
+        (λ text. string_bytes text ≡ list_text (map fields ds)) (λ fault. fault ≡ Memory) }
+    ensures refused { (fault : ListFault) →
+        fault ≢ Memory → IsFirstListFault bytes.now fault → result ≡ Err fault }
 {
     let list = read_list(alloc, bytes)?;
     match text_of_list(alloc, &list) {

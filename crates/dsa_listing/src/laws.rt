@@ -8,7 +8,8 @@ ghost use Rattle.dsa_listing.specs.Texts.{TextSpells, list_text};
 
 /// A text spells one list of fields at most.
 pub fn text_spells_one()
-    ensures { (text : List ℕ) (fs gs : List Fields) → TextSpells text fs → TextSpells text gs → fs ≡ gs }
+    ensures { (text : List ℕ) (fs gs : List Fields) →
+        TextSpells text fs → TextSpells text gs → fs ≡ gs }
 {}
 
 /// The canonical text of listed fields spells them.

@@ -33,11 +33,16 @@ pub fn check_bytes(
     settings: &Settings,
     certificate: &Certificate,
 ) -> Result<u64, PlanFault>
-    ensures told { OrMemory (λ cost. cost) (Checks portal.now staging.now settings.now (contents certificate.now)) result }
+    ensures told { OrMemory (λ cost. cost)
+        (Checks portal.now staging.now settings.now (contents certificate.now)) result }
     // What it answers is the one outcome, but for want of memory.
-    ensures only { (outcome : Result ℕ PlanFault) → Checks portal.now staging.now settings.now (contents certificate.now) outcome → IsOrMemory (λ cost. cost) outcome result }
+    ensures only { (outcome : Result ℕ PlanFault) →
+        Checks portal.now staging.now settings.now (contents certificate.now) outcome →
+        IsOrMemory (λ cost. cost) outcome result }
     // Where it answers, no legal plan of these pieces costs less, whoever wrote the certificate.
-    ensures least { (plan : Plan) (ds : List Descriptor) → IsEmission settings.now portal.now staging.now plan ds → IsOk result → IsLeast (ConflictAt (map fields ds)) (prices_of settings.now) (length ds) plan }
+    ensures least { (plan : Plan) (ds : List Descriptor) →
+        IsEmission settings.now portal.now staging.now plan ds → IsOk result →
+        IsLeast (ConflictAt (map fields ds)) (prices_of settings.now) (length ds) plan }
 {
     let (plan, pieces) = read_emission(alloc, portal, staging, settings)?;
     check_plan(&pieces, settings, &plan, certificate)
@@ -51,7 +56,8 @@ fn check_plan(
     certificate: &Certificate,
 ) -> Result<u64, PlanFault>
     requires { length pieces.now ≤ 65536 }
-    ensures { ChecksPlan settings.now (map fields pieces.now) plan.now (contents certificate.now) result }
+    ensures { ChecksPlan settings.now
+        (map fields pieces.now) plan.now (contents certificate.now) result }
 {
     match check(pieces, settings, plan, certificate) {
         Ok(cost) => Ok(cost),

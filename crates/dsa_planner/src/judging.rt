@@ -25,7 +25,8 @@ pub fn judge_bytes(
 ) -> Result<u64, PlanFault>
     ensures told { OrMemory (λ cost. cost) (Judges list.now plan.now settings.now) result }
     // What it answers is the one outcome, but for want of memory.
-    ensures only { (outcome : Result ℕ PlanFault) → Judges list.now plan.now settings.now outcome → IsOrMemory (λ cost. cost) outcome result }
+    ensures only { (outcome : Result ℕ PlanFault) →
+        Judges list.now plan.now settings.now outcome → IsOrMemory (λ cost. cost) outcome result }
 {
     let pieces = read_list(alloc, list)?;
     judge(&pieces, plan, settings)

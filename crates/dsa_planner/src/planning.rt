@@ -91,13 +91,18 @@ fn plan_pieces(
 pub fn plan_list(alloc: Global, list: &[u8], settings: &Settings) -> Result<Planned, PlanFault>
     ensures told { OrMemory submission_of (Plans list.now settings.now) result }
     // What it answers is the one outcome, but for want of memory.
-    ensures only { (outcome : Result Submission PlanFault) → Plans list.now settings.now outcome → IsOrMemory submission_of outcome result }
+    ensures only { (outcome : Result Submission PlanFault) →
+        Plans list.now settings.now outcome → IsOrMemory submission_of outcome result }
     // The plan is legal, and no legal plan of the pieces costs less.
-    ensures least { IfOk result (λ p. IsLeast (ConflictAt (map fields p.pieces.items)) (prices_of settings.now) (length p.pieces.items) p.plan) }
+    ensures least { IfOk result (λ p. IsLeast (ConflictAt (map fields p.pieces.items))
+        (prices_of settings.now) (length p.pieces.items) p.plan) }
     // The certificate is good for the cost.
-    ensures good { IfOk result (λ p. IsGood (ConflictAt (map fields p.pieces.items)) (prices_of settings.now) (length p.pieces.items) p.certificate.prices.items p.certificate.pairs.items p.cost) }
+    ensures good { IfOk result
+        (λ p. IsGood (ConflictAt (map fields p.pieces.items)) (prices_of settings.now)
+        (length p.pieces.items) p.certificate.prices.items p.certificate.pairs.items p.cost) }
     // Checking the emission with the certificate answers the cost.
-    ensures shown { IfOk result (λ p. Checks p.emission.portal.items p.emission.staging.items settings.now (contents p.certificate) (Ok p.cost)) }
+    ensures shown { IfOk result (λ p. Checks p.emission.portal.items
+        p.emission.staging.items settings.now (contents p.certificate) (Ok p.cost)) }
 {
     let pieces = pieces_of(alloc, list, settings)?;
     let planned = plan_pieces(alloc, pieces, settings)?;

@@ -57,7 +57,8 @@ fn chosen_plan(
 ) -> Result<Plan, AllocError>
     requires { length pieces.now ≤ 65536 }
     ensures chosen { IfOk result (λ plan. IsPlanOf settings.now pieces.now plan) }
-    ensures legal { IfOk result (λ plan. IsLegal (ConflictAt (map fields pieces.now)) most_members (length pieces.now) plan) }
+    ensures legal { IfOk result (λ plan.
+        IsLegal (ConflictAt (map fields pieces.now)) most_members (length pieces.now) plan) }
 {
     // Its clause says that the settings are within their limits.
     let _greatest = settings.greatest_batch();
@@ -82,7 +83,8 @@ pub(crate) fn prepare(
         (λ r. IsReady list.now settings.now image.now engines r.pieces.items r.plan r.engines)
         (λ fault. (fault ≡ Memory) ⊎ RefusesRun list.now settings.now image.now engines fault) }
     ensures few { IfOk result (λ r. length r.pieces.items ≤ 65536) }
-    ensures legal { IfOk result (λ r. IsLegal (ConflictAt (map fields r.pieces.items)) most_members (length r.pieces.items) r.plan) }
+    ensures legal { IfOk result (λ r. IsLegal
+        (ConflictAt (map fields r.pieces.items)) most_members (length r.pieces.items) r.plan) }
     ensures limits { AreInLimits settings.now }
 {
     // Its clause says that the settings are within their limits.
@@ -107,9 +109,11 @@ fn replay_pieces(
     trace: &[Event],
 ) -> Result<Outcome, PlanFault>
     requires few { length pieces.now ≤ 65536 }
-    requires legal { IsLegal (ConflictAt (map fields pieces.now)) most_members (length pieces.now) plan.now }
+    requires legal { IsLegal
+        (ConflictAt (map fields pieces.now)) most_members (length pieces.now) plan.now }
     requires can { CanBegin image.now engines (map fields pieces.now) }
-    ensures told { OrMemory left_of (ReplaysPieces image.now engines trace.now plan.now (map fields pieces.now)) result }
+    ensures told { OrMemory left_of
+        (ReplaysPieces image.now engines trace.now plan.now (map fields pieces.now)) result }
     ensures history { IfOk result (λ o. o.history.items ≡ trace.now) }
 {
     let outcome = replay(alloc, image, plan, pieces, engines, trace)?;
@@ -131,9 +135,12 @@ pub fn replay_bytes(
     engines: u64,
     trace: &[Event],
 ) -> Result<Outcome, PlanFault>
-    ensures told { OrMemory left_of (Replays list.now settings.now image.now engines trace.now) result }
+    ensures told { OrMemory left_of
+        (Replays list.now settings.now image.now engines trace.now) result }
     // What it answers is the one outcome, but for want of memory.
-    ensures only { (outcome : Result Left PlanFault) → Replays list.now settings.now image.now engines trace.now outcome → IsOrMemory left_of outcome result }
+    ensures only { (outcome : Result Left PlanFault) →
+        Replays list.now settings.now image.now engines trace.now outcome →
+        IsOrMemory left_of outcome result }
     // The trace is the history.
     ensures history { IfOk result (λ o. o.history.items ≡ trace.now) }
     // Where each listed operation succeeds, what is left is the memory of executing the list in order.

@@ -32,11 +32,13 @@ fn run_pieces<G: Gate + Sync, R: Threads + Wait + Sync>(
     gate: &G,
 ) -> Result<Outcome, PlanFault>
     requires few { length pieces.now ≤ 65536 }
-    requires legal { IsLegal (ConflictAt (map fields pieces.now)) most_members (length pieces.now) plan.now }
+    requires legal { IsLegal
+        (ConflictAt (map fields pieces.now)) most_members (length pieces.now) plan.now }
     requires can { CanBegin image.now engines (map fields pieces.now) }
-    ensures told { OrMemory left_of
-        (OrShut G.may_refuse (RunsPieces image.now engines plan.now (map fields pieces.now))) result }
-    ensures history { IfOk result (λ o. IsOutcomeOf (room_with image.now plan.now (map fields pieces.now) engines o.history.items) o) }
+    ensures told { OrMemory left_of (OrShut G.may_refuse
+        (RunsPieces image.now engines plan.now (map fields pieces.now))) result }
+    ensures history { IfOk result (λ o. IsOutcomeOf
+        (room_with image.now plan.now (map fields pieces.now) engines o.history.items) o) }
 {
     let outcome = run(rt, alloc, image, plan, pieces, engines, gate)?;
     Ok(outcome)
@@ -56,7 +58,8 @@ pub(crate) fn run_gated<G: Gate + Sync, R: Threads + Wait + Sync>(
         (OverPlanned (λ p o. OrShut G.may_refuse
             (RunsPieces image.now engines p.plan (map fields p.pieces)) o)
         list.now settings.now image.now engines) result }
-    ensures history { IfOk result (λ o. (p : Submission) → Plans list.now settings.now (Ok p) → IsOutcomeOf (room_with image.now p.plan (map fields p.pieces) engines o.history.items) o) }
+    ensures history { IfOk result (λ o. (p : Submission) → Plans list.now settings.now (Ok p) →
+        IsOutcomeOf (room_with image.now p.plan (map fields p.pieces) engines o.history.items) o) }
     ensures whole { IfOk result (λ o. LeavesWhole list.now settings.now image.now (left_of o)) }
 {
     let ready = prepare(alloc, list, settings, image, engines)?;
@@ -89,7 +92,8 @@ pub fn run_bytes<R: Threads + Wait + Sync>(
 ) -> Result<Outcome, PlanFault>
     ensures told { OrMemory left_of (Runs list.now settings.now image.now engines) result }
     // The history is a complete run of the planned pieces, and the rest is what it leaves.
-    ensures history { IfOk result (λ o. (p : Submission) → Plans list.now settings.now (Ok p) → IsOutcomeOf (room_with image.now p.plan (map fields p.pieces) engines o.history.items) o) }
+    ensures history { IfOk result (λ o. (p : Submission) → Plans list.now settings.now (Ok p) →
+        IsOutcomeOf (room_with image.now p.plan (map fields p.pieces) engines o.history.items) o) }
     // Where each listed operation succeeds, what is left is the memory of executing the list in order.
     ensures whole { IfOk result (λ o. LeavesWhole list.now settings.now image.now (left_of o)) }
 {

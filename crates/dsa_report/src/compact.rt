@@ -24,7 +24,8 @@ pub(crate) fn push_number(line: &mut Vec<u8>, number: u64) -> Result<(), AllocEr
 
 /// Adds the array of the prices.
 pub(crate) fn push_prices(line: &mut Vec<u8>, prices: &[u64]) -> Result<(), AllocError>
-    ensures { OnOk result (line.new.items ≡ line.old.items ++ compact_text (prices_value prices.now)) }
+    ensures { OnOk result (line.new.items ≡ line.old.items ++
+        compact_text (prices_value prices.now)) }
 {
     let Some((first, rest)) = prices.split_first() else {
         return line.extend_from_slice(b"[]");
@@ -56,7 +57,8 @@ fn push_pair(line: &mut Vec<u8>, pair: Option<(u32, u32)>) -> Result<(), AllocEr
 
 /// Adds the array of the pairs.
 pub(crate) fn push_pairs(line: &mut Vec<u8>, pairs: &[Option<(u32, u32)>]) -> Result<(), AllocError>
-    ensures { OnOk result (line.new.items ≡ line.old.items ++ compact_text (pairs_value pairs.now)) }
+    ensures { OnOk result (line.new.items ≡ line.old.items ++
+        compact_text (pairs_value pairs.now)) }
 {
     let Some((first, rest)) = pairs.split_first() else {
         return line.extend_from_slice(b"[]");
@@ -84,7 +86,8 @@ fn push_fence(line: &mut Vec<u8>, fence: bool) -> Result<(), AllocError>
 
 /// Adds the array of a group's truth values.
 fn push_group(line: &mut Vec<u8>, group: &Group) -> Result<(), AllocError>
-    ensures { OnOk result (line.new.items ≡ line.old.items ++ compact_text (group_value group.now)) }
+    ensures { OnOk result (line.new.items ≡ line.old.items ++
+        compact_text (group_value group.now)) }
 {
     let Some((first, rest)) = group.fences().split_first() else {
         return line.extend_from_slice(b"[]");
@@ -118,7 +121,8 @@ pub(crate) fn push_plan(line: &mut Vec<u8>, plan: &Plan) -> Result<(), AllocErro
 
 /// Adds the array of batch records, each a string of its digits.
 pub(crate) fn push_records(line: &mut Vec<u8>, records: &[[u8; 32]]) -> Result<(), AllocError>
-    ensures { OnOk result (line.new.items ≡ line.old.items ++ compact_text (records_value records.now)) }
+    ensures { OnOk result (line.new.items ≡ line.old.items ++
+        compact_text (records_value records.now)) }
 {
     let Some((first, rest)) = records.split_first() else {
         return line.extend_from_slice(b"[]");

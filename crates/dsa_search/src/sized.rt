@@ -30,8 +30,10 @@ fn copy_counts(rows: &mut [u8], to: usize, from: usize, count: usize)
     requires inside { from + count ≤ length rows.old }
     requires small { (k : ℕ) → k < count → slice_index rows.old (from + k) ≤ 64 }
     ensures count { length rows.new ≡ length rows.old }
-    ensures inside { (k : ℕ) → k < count → slice_index rows.new (to + k) ≡ slice_index rows.old (from + k) + 1 }
-    ensures outside { (k : ℕ) → (k < to) ⊎ (to + count ≤ k) → slice_index rows.new k ≡ slice_index rows.old k }
+    ensures inside { (k : ℕ) →
+        k < count → slice_index rows.new (to + k) ≡ slice_index rows.old (from + k) + 1 }
+    ensures outside { (k : ℕ) →
+        (k < to) ⊎ (to + count ≤ k) → slice_index rows.new k ≡ slice_index rows.old k }
 {
     for k in 0..count {
         rows[to + k] = rows[from + k] + 1;
@@ -93,8 +95,11 @@ fn lower_row(
     requires fence { fence ≤ 1000000000 }
     requires small { cost ≤ 1000000000000000 }
     ensures count { length costs.new ≡ length costs.old }
-    ensures inside { (k : ℕ) → from ≤ k → k < to → slice_index costs.new k ≡ min (slice_index costs.old k) (cost + slice_index table.now (k - start - 2) + fence * slice_index rows.now (at + (k - from))) }
-    ensures outside { (k : ℕ) → (k < from) ⊎ (to ≤ k) → slice_index costs.new k ≡ slice_index costs.old k }
+    ensures inside { (k : ℕ) → from ≤ k → k < to →
+        slice_index costs.new k ≡ min (slice_index costs.old k) (cost + slice_index table.now
+        (k - start - 2) + fence * slice_index rows.now (at + (k - from))) }
+    ensures outside { (k : ℕ) →
+        (k < from) ⊎ (to ≤ k) → slice_index costs.new k ≡ slice_index costs.old k }
 {
     for end in from..to {
         let fences = u64::from(rows[at + (end - from)]);
@@ -112,8 +117,10 @@ fn lower_run(costs: &mut [u64], table: &[u64], start: usize, from: usize, to: us
     requires prices { ArePrices table.now }
     requires small { cost ≤ 1000000000000000 }
     ensures count { length costs.new ≡ length costs.old }
-    ensures inside { (k : ℕ) → from ≤ k → k < to → slice_index costs.new k ≡ min (slice_index costs.old k) (cost + slice_index table.now (k - start - 2)) }
-    ensures outside { (k : ℕ) → (k < from) ⊎ (to ≤ k) → slice_index costs.new k ≡ slice_index costs.old k }
+    ensures inside { (k : ℕ) → from ≤ k → k < to → slice_index costs.new k ≡ min
+        (slice_index costs.old k) (cost + slice_index table.now (k - start - 2)) }
+    ensures outside { (k : ℕ) →
+        (k < from) ⊎ (to ≤ k) → slice_index costs.new k ≡ slice_index costs.old k }
 {
     for end in from..to {
         let sum = cost + table[end - start - 2];
@@ -144,12 +151,16 @@ fn offer_row(
     requires late { start + 2 ≤ end }
     requires chain { IsLastBelow pairs.now start end chain.1 chain.0 }
     requires near { end ≤ past_block chain.0 }
-    requires within { end < past_reach (sized_prices lone fence table.now) (length pairs.now) start }
+    requires within { end < past_reach
+        (sized_prices lone fence table.now) (length pairs.now) start }
     requires table { HasOffers (sized_prices lone fence table.now) pairs.now start end costs.old }
     ensures further { end < result.2 }
-    ensures within { result.2 ≤ past_reach (sized_prices lone fence table.now) (length pairs.now) start }
-    ensures table { HasOffers (sized_prices lone fence table.now) pairs.now start result.2 costs.new }
-    ensures chain { result.2 < past_reach (sized_prices lone fence table.now) (length pairs.now) start → IsLastBelow pairs.now start result.2 result.1 result.0 }
+    ensures within { result.2 ≤ past_reach
+        (sized_prices lone fence table.now) (length pairs.now) start }
+    ensures table { HasOffers
+        (sized_prices lone fence table.now) pairs.now start result.2 costs.new }
+    ensures chain { result.2 < past_reach (sized_prices lone fence table.now)
+        (length pairs.now) start → IsLastBelow pairs.now start result.2 result.1 result.0 }
 {
     let (piece, fences) = chain;
     let reach = pairs.len().min(start + table.len() + 1);
@@ -185,11 +196,14 @@ fn offer_run(
     requires fence { fence ≤ 1000000000 }
     requires late { start + 2 ≤ end }
     requires chain { IsLastBelow pairs.now start end chain.1 chain.0 }
-    requires within { end < past_reach (sized_prices lone fence table.now) (length pairs.now) start }
+    requires within { end < past_reach
+        (sized_prices lone fence table.now) (length pairs.now) start }
     requires table { HasOffers (sized_prices lone fence table.now) pairs.now start end costs.old }
     ensures further { end < result.2 }
-    ensures within { result.2 ≤ past_reach (sized_prices lone fence table.now) (length pairs.now) start }
-    ensures table { HasOffers (sized_prices lone fence table.now) pairs.now start result.2 costs.new }
+    ensures within { result.2 ≤ past_reach
+        (sized_prices lone fence table.now) (length pairs.now) start }
+    ensures table { HasOffers
+        (sized_prices lone fence table.now) pairs.now start result.2 costs.new }
     ensures chain { IsLastBelow pairs.now start result.2 result.1 result.0 }
 {
     let (piece, fences) = chain;
@@ -220,8 +234,10 @@ fn offer_sizes(
     requires fence { fence ≤ 1000000000 }
     requires lone { lone ≤ 1000000000 }
     requires inside { start < length pairs.now }
-    requires table { HasOffers (sized_prices lone fence table.now) pairs.now start (start + 1) costs.old }
-    ensures { HasOffers (sized_prices lone fence table.now) pairs.now (start + 1) (start + 2) costs.new }
+    requires table { HasOffers
+        (sized_prices lone fence table.now) pairs.now start (start + 1) costs.old }
+    ensures { HasOffers
+        (sized_prices lone fence table.now) pairs.now (start + 1) (start + 2) costs.new }
 {
     let cost = costs[start] + lone;
     lower(costs, start + 1, start + 2, cost);
@@ -284,7 +300,8 @@ pub(crate) fn table_by_size(
     requires prices { ArePrices table.now }
     requires fence { fence ≤ 1000000000 }
     requires lone { lone ≤ 1000000000 }
-    ensures { IfOk result (λ costs. IsFilled (sized_prices lone fence table.now) pairs.now costs.items) }
+    ensures { IfOk result
+        (λ costs. IsFilled (sized_prices lone fence table.now) pairs.now costs.items) }
 {
     let mut rows = vec![in alloc; 0u8; BLOCK * pairs.len()]?;
     let mut lasts = vec![in alloc; 0u32; pairs.len()]?;

@@ -3,13 +3,14 @@
 //! region that repeats it); `apart` and `chained` plan moves that don't conflict, or each of which reads what the one before
 //! wrote; `check` checks the certificates of such plans, and `judge` judges a plan in batches of 32; `conflicts` finds the
 //! last conflicts of short and long lists of several shapes, and searches their plans; `split` splits one move into 65,536
-//! pieces; `replay` replays traces of 4,000,122 events; `run` runs large and small pieces by threads. Where it names none
+//! pieces; `list` plans short lists whole, from bytes to bytes; `replay` replays traces of 4,000,122 events; `run` runs large and small pieces by threads. Where it names none
 //! nothing is measured or printed.
 #![tactic(auto)]
 
 mod batches;
 mod checking;
 mod finding;
+mod listing;
 mod operation;
 mod planning;
 mod replaying;
@@ -19,6 +20,7 @@ mod working;
 
 use crate::checking::{measure_checks, measure_judgements};
 use crate::finding::measure_conflicts;
+use crate::listing::measure_lists;
 use crate::operation::operation;
 use crate::planning::measure_plans;
 use crate::replaying::measure_replays;
@@ -47,6 +49,7 @@ fn main(rt: HostRuntime) -> io::Result<()> {
         "judge" => measure_judgements(&rt),
         "conflicts" => measure_conflicts(&rt),
         "split" => measure_split(&rt),
+        "list" => measure_lists(&rt),
         "replay" => measure_replays(&rt),
         "run" => measure_runs(&rt),
         _ => Ok(()),

@@ -56,7 +56,7 @@ pub(crate) fn run_gated<G: Gate + Sync, R: Threads + Wait + Sync>(
 ) -> Result<Outcome, PlanFault>
     ensures told { OrMemory left_of
         (OverPlanned (λ p o. OrShut G.may_refuse
-            (RunsPieces image.now engines p.plan (map fields p.pieces)) o)
+        (RunsPieces image.now engines p.plan (map fields p.pieces)) o)
         list.now settings.now image.now engines) result }
     ensures history { IfOk result (λ o. (p : Submission) → Plans list.now settings.now (Ok p) →
         IsOutcomeOf (room_with image.now p.plan (map fields p.pieces) engines o.history.items) o) }

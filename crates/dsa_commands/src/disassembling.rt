@@ -39,7 +39,12 @@ pub fn disassemble_list(alloc: Global, hex: &[u8]) -> Result<Answer, AllocError>
 }
 
 /// Writes the line of the descriptor that an entry spells.
-fn push_entry(alloc: Global, text: &mut String, entry: &[u8; 64], index: usize) -> Result<(), Stop> {
+fn push_entry(
+    alloc: Global,
+    text: &mut String,
+    entry: &[u8; 64],
+    index: usize,
+) -> Result<(), Stop> {
     match Descriptor::read(entry) {
         Ok(d) => {
             text.push_str(&line_of(alloc, &d)?)?;
@@ -83,7 +88,12 @@ fn portal_text(alloc: Global, bytes: &[u8]) -> Result<String, Stop> {
 }
 
 /// Writes the line of a piece of a staging area, `fence` before it where it carries the fence.
-fn push_piece(alloc: Global, text: &mut String, entry: &[u8; 64], index: usize) -> Result<(), Stop> {
+fn push_piece(
+    alloc: Global,
+    text: &mut String,
+    entry: &[u8; 64],
+    index: usize,
+) -> Result<(), Stop> {
     let mut entry = *entry;
     if entry[4] % 2 == 1 {
         entry[4] -= 1;

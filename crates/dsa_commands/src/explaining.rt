@@ -75,7 +75,14 @@ fn answer_list(
         Err(fault) => return Answer::fault(alloc, PlanFault::from(fault)),
     };
     let origins = origins_of(alloc, &operations, settings)?;
-    answer_plan(alloc, &planned.plan, &planned.pieces, &origins, settings, drawn)
+    answer_plan(
+        alloc,
+        &planned.plan,
+        &planned.pieces,
+        &origins,
+        settings,
+        drawn,
+    )
 }
 
 /// The answer of a plan that is judged.

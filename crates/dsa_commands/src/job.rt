@@ -28,12 +28,25 @@ fn settings_with(
     let [greatest_batch, greatest_transfer, lone, fence, staging] = *numbers;
     match (version, price, table) {
         (1, Some(price), _) => {
-            let made = Settings::new(greatest_batch, greatest_transfer, lone, price, fence, staging)?;
+            let made = Settings::new(
+                greatest_batch,
+                greatest_transfer,
+                lone,
+                price,
+                fence,
+                staging,
+            )?;
             Ok(made)
         }
         (2, _, Some(table)) => {
-            let made =
-                Settings::with_table(greatest_batch, greatest_transfer, lone, table, fence, staging)?;
+            let made = Settings::with_table(
+                greatest_batch,
+                greatest_transfer,
+                lone,
+                table,
+                fence,
+                staging,
+            )?;
             Ok(made)
         }
         (1, None, _) | (2, _, None) => Err(PlanFault::Member),

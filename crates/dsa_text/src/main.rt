@@ -1,0 +1,170 @@
+//! Descriptors as text: `assemble`, `disassemble` and `explain`, from standard input to standard output.
+#![tactic(auto)]
+
+use clap::{Arg, ArgAction, ArgMatches, Command};
+use dsa_commands::{
+    Answer, SettingsWords, assemble_job, assemble_list, disassemble_list, disassemble_portal,
+    disassemble_staging, explain_input, number_of, settings_of,
+};
+use dsa_plan::Settings;
+use dsa_planner::PlanFault;
+use dsa_report::{Stop, read_text, write_line};
+use std::alloc::{AllocError, Global};
+use std::io;
+use std::process::ExitCode;
+
+/// An option with a value.
+fn value<'a>(alloc: Global, name: &'a str, default: &'a str, help: &'a str) -> Arg<'a> {
+    Arg::new(alloc, name)
+        .long(name)
+        .value_name("N")
+        .action(ArgAction::Set)
+        .default_value(default)
+        .help(help)
+}
+
+/// An option without one.
+fn flag<'a>(alloc: Global, name: &'a str, help: &'a str) -> Arg<'a> {
+    Arg::new(alloc, name)
+        .long(name)
+        .action(ArgAction::SetTrue)
+        .help(help)
+}
+
+/// The command with the options of the settings.
+fn with_settings<'a>(alloc: Global, command: Command<'a>) -> Result<Command<'a>, AllocError> {
+    let batches = Arg::new(alloc, "batches")
+        .long("batches")
+        .value_name("N,N,..")
+        .action(ArgAction::Set)
+        .help("prices of batches by their size, from 2 pieces on, in place of --batch");
+    command
+        .arg(value(
+            alloc,
+            "greatest-batch",
+            "32",
+            "most pieces of a batch, 2 to 1024",
+        ))?
+        .arg(value(
+            alloc,
+            "greatest-transfer",
+            "2097152",
+            "most bytes of a piece",
+        ))?
+        .arg(value(alloc, "lone", "10", "price of a piece by itself"))?
+        .arg(value(alloc, "batch", "14", "price of a batch"))?
+        .arg(batches)?
+        .arg(value(alloc, "fence", "3", "price of a fence in a batch"))?
+        .arg(value(alloc, "staging", "0x10000", "address of the staging area"))
+}
+
+/// The commands and their options.
+fn commands<'a>(alloc: Global) -> Result<Command<'a>, AllocError> {
+    let assemble = Command::new(alloc, "assemble")
+        .about("Reads lines of operations, and writes their list in hexadecimal")
+        .arg(flag(alloc, "job", "write a whole job to plan the list"))?;
+    let disassemble = Command::new(alloc, "disassemble")
+        .about("Reads a list in hexadecimal, and writes its lines")
+        .arg(flag(alloc, "portal", "read the entries of a portal"))?
+        .arg(flag(alloc, "staging", "read a staging area").conflicts_with("portal")?)?
+        .arg(value(alloc, "at", "0x10000", "address of the staging area"))?;
+    let explain = Command::new(alloc, "explain")
+        .about("Reads lines or a job to plan, judge or check, and tells what the plan does and why")
+        .arg(flag(alloc, "svg", "draw the plan"))?;
+    Command::new(alloc, "dsa_text")
+        .about("Descriptors of the data streaming accelerator as text")
+        .subcommand_required(true)
+        .subcommand(with_settings(alloc, assemble)?)?
+        .subcommand(disassemble)?
+        .subcommand(with_settings(alloc, explain)?)
+}
+
+/// The value of an option.
+fn word<'a>(matches: &ArgMatches<'a>, name: &str) -> &'a str {
+    match matches.get_str(name) {
+        Some(word) => word,
+        None => "",
+    }
+}
+
+/// The settings of the options.
+fn settings_in(alloc: Global, matches: &ArgMatches<'_>) -> Result<Option<Settings>, AllocError> {
+    let words = SettingsWords {
+        greatest_batch: word(matches, "greatest-batch"),
+        greatest_transfer: word(matches, "greatest-transfer"),
+        lone: word(matches, "lone"),
+        batch: word(matches, "batch"),
+        batches: matches.get_str("batches"),
+        fence: word(matches, "fence"),
+        staging: word(matches, "staging"),
+    };
+    settings_of(alloc, &words)
+}
+
+/// What `assemble` answers.
+fn assemble(alloc: Global, matches: &ArgMatches<'_>, text: &[u8]) -> Result<Answer, AllocError> {
+    let Some(settings) = settings_in(alloc, matches)? else {
+        return Answer::fault(alloc, PlanFault::Settings);
+    };
+    if matches.get_flag("job") {
+        assemble_job(alloc, text, &settings)
+    } else {
+        assemble_list(alloc, text)
+    }
+}
+
+/// What `disassemble` answers.
+fn disassemble(alloc: Global, matches: &ArgMatches<'_>, text: &[u8]) -> Result<Answer, AllocError> {
+    let Some(at) = number_of(word(matches, "at")) else {
+        return Answer::fault(alloc, PlanFault::Settings);
+    };
+    if matches.get_flag("portal") {
+        disassemble_portal(alloc, text)
+    } else if matches.get_flag("staging") {
+        disassemble_staging(alloc, text, at)
+    } else {
+        disassemble_list(alloc, text)
+    }
+}
+
+/// What `explain` answers.
+fn explain(alloc: Global, matches: &ArgMatches<'_>, text: &[u8]) -> Result<Answer, AllocError> {
+    let Some(settings) = settings_in(alloc, matches)? else {
+        return Answer::fault(alloc, PlanFault::Settings);
+    };
+    explain_input(alloc, text, &settings, matches.get_flag("svg"))
+}
+
+/// What the command of the matches answers.
+fn answer(alloc: Global, matches: &ArgMatches<'_>, text: &[u8]) -> Result<Answer, AllocError> {
+    match matches.subcommand() {
+        Some(("assemble", options)) => assemble(alloc, options, text),
+        Some(("disassemble", options)) => disassemble(alloc, options, text),
+        Some((_, options)) => explain(alloc, options, text),
+        None => Answer::fault(alloc, PlanFault::Do),
+    }
+}
+
+/// Runs one command. The status is 0 for an answer and 1 for a refusal, which is one line; 2 where reading or writing
+/// failed, and for arguments that are none, whose message goes to standard error.
+fn main(rt: HostRuntime) -> anyhow::Result<ExitCode> {
+    let alloc = rt.alloc();
+    let words: Vec<String> = std::env::args(&rt)?.collect(alloc)?;
+    let matches = match commands(alloc)?.try_get_matches_from(words.as_slice()) {
+        Ok(matches) => matches,
+        Err(error) => {
+            error.print(&rt)?;
+            return Ok(ExitCode::from(error.exit_code() as u8));
+        }
+    };
+    let answer = match read_text(alloc, &mut rt.reader()) {
+        Ok(text) => answer(alloc, &matches, &text)?,
+        Err(Stop::Refusal(fault)) => Answer::fault(alloc, fault)?,
+        Err(Stop::Fault) => return Ok(ExitCode::from(2)),
+    };
+    if write_line(&mut io::writer(&rt), answer.text.as_bytes()) {
+        Ok(ExitCode::from(answer.status))
+    } else {
+        Ok(ExitCode::from(2))
+    }
+}

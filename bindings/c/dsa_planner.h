@@ -21,7 +21,7 @@
  *
  * A caller owes, since no C compiler checks it (undefined behaviour else):
  *   - each pointer is aligned and not NULL, and points to as many items as its length says, which can be read (const) or
- *     written (not const). With length 0 it is not read, and any valid address will do; it may still not be NULL.
+ *     written (not const). With length 0 it is not read, and any aligned non-null address will do.
  *   - no output of a call overlaps another output or an input of that call. Outputs need not be initialised.
  *   - the calling thread has 256 KiB of stack free for dsa_check and dsa_judge, and 64 KiB for the other calls.
  *   - its rattle_alloc, rattle_realloc and rattle_dealloc, where it has its own, return, and may be called by several
@@ -52,9 +52,10 @@ extern "C" {
 /*
  * The limits of the device and of its work queue, and what submissions cost.
  *
- * Beside it each call takes a table of prices by size. It counts with version 2 alone: table[s - 2] is the price of a
- * batch of s pieces, greatest_batch - 1 entries in all, and `batch` does not count. With version 1 it is not read: pass
- * any valid address and 0, for example &settings.batch, 0. Another version, or a table of another length, is refused 83.
+ * Beside it each call takes a table of prices by size. It is used only with version 2: table[s - 2] is the price of a
+ * batch of s pieces, greatest_batch - 1 entries in all, each at most 1,000,000,000, and `batch` is not used. A table of
+ * the wrong length, or with a greater price, is refused 83, and so is any other version. With version 1 the table is not
+ * read: pass any valid address and 0, for example &settings.batch, 0.
  */
 struct dsa_settings {
     uint64_t version;           /* 1, or 2 with a table of prices by size */
@@ -164,11 +165,12 @@ uint64_t dsa_count_pieces(const struct dsa_settings *settings,
  * Plans a list: 64 bytes for each operation, in the order in which they are to take effect.
  *
  * Returns 0: portal and staging begin with the bytes that submit the plan of least cost, and planned has their lengths.
- * What stood behind these bytes in the buffers still does; refusal is not written. To run the plan, clear the 32 bytes of
- * every completion record that the list names, and put the staging bytes, which clear those of the batches, at
- * settings->staging, anew for each run; then for each 64 bytes of portal: write them to the work queue's portal, wait
- * until the completion record at the address in their bytes 8..16 has a status, and stop where the status is not 1.
- * The staging area is 96 bytes for each piece from settings->staging on; a list that meets it is refused (33).
+ * The rest of each buffer is unchanged; refusal is not written. To run the plan, clear the completion records of all
+ * pieces (32 bytes for each piece of an operation, one after another from its record address on), and put the staging
+ * bytes, which clear the records of the batches, at settings->staging, anew for each run; then for each 64 bytes of
+ * portal: write them to the work queue's portal, wait until the completion record at the address in their bytes 8..16
+ * has a status, and stop where the status is not 1. The staging area is 96 bytes for each piece from settings->staging
+ * on; a list that meets it is refused (33).
  *
  * Returns another number: refusal has it, and nothing else was written. DSA_NO_ROOM: refusal.first and refusal.second
  * are the bytes that portal and staging need.

@@ -1,4 +1,4 @@
--- What is told of groups.
+-- What the groups of an explanation cost.
 use Rattle.std.specs.Prelude.{ℕ, List, map}
 use Rattle.dsa_explain.specs.declared.prices.GroupPrice.{GroupPrice}
 

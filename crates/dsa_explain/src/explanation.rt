@@ -1,4 +1,4 @@
-//! All that is told of a plan.
+//! The explanation of a plan.
 
 ghost use Rattle.std.specs.Prelude.{◌≡◌, ◌≤◌, ◌*◌, IfOk, length, map};
 ghost use Rattle.dsa_plan.specs.Plan.{group_cost, plan_cost};
@@ -16,7 +16,7 @@ use std::alloc::{AllocError, Global};
 /// The most pieces of a plan that is explained.
 pub const MOST_PIECES: usize = 65_536;
 
-/// What is told of a plan.
+/// What a plan costs, why its fences stand, and where its pieces stand in a picture.
 #[derive(Debug, Drop)]
 pub struct Explanation {
     /// What its groups cost, and what its pieces cost one by one.
@@ -44,7 +44,7 @@ impl From<AllocError> for ExplainFault {
     }
 }
 
-/// What is told of a legal plan of the pieces.
+/// The explanation of a legal plan of the pieces.
 pub fn explain(
     alloc: Global,
     plan: &Plan,

@@ -29,7 +29,7 @@ pub fn kind_text(kind: HazardKind) -> &'static str {
     }
 }
 
-/// What is told of a group: its size, its fences and the epochs that they part it into, and its cost.
+/// The line of a group: its size, its fences and the epochs that they part it into, and its cost.
 pub fn group_text(alloc: Global, number: usize, group: &GroupPrice) -> Result<String, AllocError> {
     let (size, fences, cost) = (group.size, group.fences, group.cost);
     if size == 1 {
@@ -45,7 +45,7 @@ pub fn group_text(alloc: Global, number: usize, group: &GroupPrice) -> Result<St
     Ok(text)
 }
 
-/// What is told of a fence: the two pieces of the conflict that it separates, the address and the kind of hazard.
+/// The line of a fence: the two pieces of the conflict that it separates, the address and the kind of hazard.
 pub fn fence_text(alloc: Global, fence: &Fence) -> Result<String, AllocError> {
     let Some(reason) = fence.reason else {
         return String::from_str(alloc, "no conflict needs it");
@@ -56,7 +56,7 @@ pub fn fence_text(alloc: Global, fence: &Fence) -> Result<String, AllocError> {
     format!(in alloc; "{later} after {earlier}, {kind} at 0x{address:x}")
 }
 
-/// What is told of a piece: what it does, and of a split operation which of its pieces it is.
+/// The line of a piece: what it does, and of a split operation which of its pieces it is.
 pub fn piece_text(
     alloc: Global,
     d: &Descriptor,
@@ -73,7 +73,7 @@ pub fn piece_text(
     Ok(text)
 }
 
-/// What is told of the costs: those of the plan, of as many lone submissions, and what is saved.
+/// The line of the costs: those of the plan, of as many lone submissions, and what is saved.
 pub fn cost_text(alloc: Global, prices: &Prices, pieces: usize) -> Result<String, AllocError> {
     let (cost, lone) = (prices.cost, prices.lone);
     let ends = if pieces == 1 { "" } else { "s" };
@@ -96,7 +96,7 @@ fn push_line(text: &mut String, before: &str, line: &str) -> Result<(), AllocErr
     text.push_str("\n")
 }
 
-/// Writes what is told of the group that begins with a piece.
+/// Writes the line of the group that begins with a piece.
 fn push_group(
     alloc: Global,
     text: &mut String,
@@ -109,7 +109,7 @@ fn push_group(
     push_line(text, "", &group_text(alloc, row, group)?)
 }
 
-/// Writes what is told of a fence.
+/// Writes the line of a fence.
 fn push_fence(
     alloc: Global,
     text: &mut String,

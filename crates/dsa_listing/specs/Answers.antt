@@ -16,7 +16,7 @@ pub record IsListing (bytes : List ℕ) : Type 0 where
   pub one_owner : HaveOneOwner (map fields operations)
 
 -- of a text that spells no operations, a place where it leaves the grammar; else the bytes of the operations, where
--- these are a list, or their first fault as a list; or want of memory
+-- these are a list, or their first fault as a list; or that memory ran out
 abbrev pub Assembles : {X : Type 0} → (X → List ℕ) → Option (List Fields) → Result X TextFault → Type 0
 Assembles shown None (Ok bytes) = ⊥
 Assembles shown None (Err (Grammar line column what)) = ⊤
@@ -29,7 +29,7 @@ Assembles shown (Some fs) (Err Memory) = ⊤
 
 -- ---- for private clauses
 
--- a fault of a list with some line, or want of memory
+-- a fault of a list with some line, or that memory ran out
 abbrev pub IsTextFault : ListFault → TextFault → Type 0
 IsTextFault fault (Grammar line column what) = ⊥
 IsTextFault fault (Listed line listed) = (listed ≡ fault) × (fault ≢ ListMemory)

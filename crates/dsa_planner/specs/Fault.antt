@@ -261,7 +261,7 @@ place_text n = codes " " ++ decimal n
 abbrev pub named_text : ℕ → List ℕ → List ℕ
 named_text n name = place_text n ++ codes " " ++ name
 
--- what the refusal tells of a certificate's fault in its turn: of a plan's, the number, the name and the indices
+-- what the refusal reports of a certificate's fault: of a plan's within it, the number, the name and the indices
 abbrev pub check_text : CheckFault → List ℕ
 check_text (Plan fault) = named_text (legal_number fault) (legal_name fault) ++ flat_map place_text (legal_places fault)
 check_text Version = []
@@ -270,7 +270,7 @@ check_text (Pair i) = []
 check_text (Price i j) = []
 check_text Total = []
 
--- what the refusal tells of the cause within, of an entry or a certificate
+-- what the refusal reports of the cause within, of an entry or a certificate
 abbrev pub inner_text : PlanFault → List ℕ
 inner_text (Entry index fault) = named_text (entry_number fault) (entry_name fault)
 inner_text (Check fault) = check_text fault

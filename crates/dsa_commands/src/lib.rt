@@ -16,6 +16,3 @@ pub use disassembling::{disassemble_list, disassemble_portal, disassemble_stagin
 pub use explaining::explain_input;
 pub use numbers::number_of;
 pub use settings::{SettingsWords, settings_of};
-
-#[cfg(test)]
-mod tests;

@@ -113,7 +113,8 @@ pub struct Certificate {
     pub version: u64,
     /// The least cost of the first 0, 1, .. pieces.
     pub prices: Vec<u64>,
-    /// For each piece the pair of conflicting pieces that its chain goes on with, if any.
+    /// For each piece the pair of conflicting pieces that its chain goes on with, if any. [`check`] reads a pair of two
+    /// times `u32::MAX` as none.
     pub pairs: Vec<Option<(u32, u32)>>,
 }
 
@@ -225,7 +226,7 @@ pub fn plan_list(settings: &Settings, list: &[u8]) -> Result<Planned, Refusal> {
 }
 
 /// What the bytes of a portal and a staging area cost, where each conflict within a batch has its fence and the
-/// certificate shows that no legal plan of their pieces costs less.
+/// certificate shows that no legal plan of their pieces costs less. It needs 256 KiB of stack.
 pub fn check(
     settings: &Settings,
     portal: &[u8],
@@ -261,7 +262,7 @@ pub fn check(
 }
 
 /// What a plan of the caller's costs, a mark for each descriptor of the list, where it is within the limits and each
-/// conflict within a batch has its fence. No descriptor is split.
+/// conflict within a batch has its fence. No descriptor is split. It needs 256 KiB of stack.
 pub fn judge(settings: &Settings, list: &[u8], marks: &[u8]) -> Result<u64, Refusal> {
     let (raw, table) = settings.raw();
     let (mut cost, mut refusal) = (0, Refusal::default());

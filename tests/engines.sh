@@ -13,8 +13,8 @@ for patch in one_thread:two_engines_are_at_work_at_once locked_lines:lines_are_w
     test=${patch#*:}
     rm -rf "$copy/crates"
     mkdir -p "$copy/crates"
-    grep -E '^(dsa_descriptor|dsa_ranges|dsa_image|dsa_plan|dsa_core|dsa_engines):' crates.txt > "$copy/crates.txt"
-    for crate in dsa_descriptor dsa_ranges dsa_image dsa_plan dsa_core dsa_engines; do
+    grep -E '^(dsa_descriptor|dsa_ranges|dsa_image|dsa_settings|dsa_legal|dsa_emission|dsa_plan|dsa_core|dsa_engines):' crates.txt > "$copy/crates.txt"
+    for crate in dsa_descriptor dsa_ranges dsa_image dsa_settings dsa_legal dsa_emission dsa_plan dsa_core dsa_engines; do
         cp -a "crates/$crate" "$copy/crates/"
     done
     cp HANDLES "$copy/"

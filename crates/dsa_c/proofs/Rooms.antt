@@ -18,8 +18,8 @@ use Rattle.dsa_plan.specs.Settings.{Limits, prices_of}
 use Rattle.dsa_plan.specs.Legal.{IsLegal}
 use Rattle.dsa_plan.specs.Emission.{is_batch, batched, batch_count, batched_count, CanBeEmitted}
 use Rattle.dsa_plan.specs.EmissionLaws.{StandsAtPlaces}
-use Rattle.dsa_plan.proofs.AtPlaces.{emission_at_places}
-use Rattle.dsa_plan.proofs.Places.{batch_yes, groups_within}
+use Rattle.dsa_emission.proofs.AtPlaces.{emission_at_places}
+use Rattle.dsa_emission.proofs.Places.{batch_yes, groups_within}
 use Rattle.dsa_splitter.specs.Rules.{piece_total}
 use Rattle.dsa_splitter.proofs.Walks.{length_all}
 use Rattle.dsa_planner.specs.Planned.{Submission, Plans, CanBePlanned}

@@ -5,7 +5,7 @@ ghost use Rattle.std.specs.Prelude.{◌≡◌, ◌++◌, IfOk};
 ghost use Rattle.dsa_marks.specs.Marks.{mark, group_marks, marks_of, begins_group, is_fenced, plan_of};
 ghost use Rattle.dsa_marks.specs.Laws.{MarksSpellPlans, PlansSpellMarks};
 
-use dsa_plan::{Group, Plan};
+use dsa_settings::{Group, Plan};
 use std::alloc::{AllocError, Global};
 
 /// The mark of a piece that begins a group.

@@ -1,7 +1,7 @@
 //! Marks typed by hand.
 
 use crate::{marks_of, plan_of};
-use dsa_plan::{Group, Plan};
+use dsa_settings::{Group, Plan};
 use std::rt::HostRuntime;
 use std::test::Fail;
 

@@ -10,10 +10,10 @@ use Rattle.dsa_plan.specs.Plan.{Plan, plan_cost}
 use Rattle.dsa_plan.specs.Legal.{IsLegal, IsLeast}
 use Rattle.dsa_plan.specs.Certificate.{IsGood}
 use Rattle.dsa_plan.specs.EmissionFaults.{IsEmission, IsFirstEmissionFault}
-use Rattle.dsa_plan.specs.declared.emission_fault.EmissionFault.{EmissionFault}
-use Rattle.dsa_plan.specs.declared.emission_fault.EmissionFault.TheVariants.{PortalLength, StagingLength, BatchFields, EntryFence, Entry, RecordBytes, Memory as EmissionMemory}
-use Rattle.dsa_plan.proofs.OneFault.{one_fault, none_to_tell}
-use Rattle.dsa_plan.proofs.Told.{one_emission}
+use Rattle.dsa_emission.specs.declared.emission_fault.EmissionFault.{EmissionFault}
+use Rattle.dsa_emission.specs.declared.emission_fault.EmissionFault.TheVariants.{PortalLength, StagingLength, BatchFields, EntryFence, Entry, RecordBytes, Memory as EmissionMemory}
+use Rattle.dsa_emission.proofs.OneFault.{one_fault, none_to_tell}
+use Rattle.dsa_emission.proofs.Told.{one_emission}
 use Rattle.dsa_plan.proofs.Costs.{yes_means_least}
 use Rattle.dsa_cert.specs.Document.{Contents}
 use Rattle.dsa_checker.specs.declared.fault.CheckFault.{CheckFault}

@@ -9,8 +9,8 @@ use Rattle.dsa_plan.specs.Plan.{Plan, plan_cost}
 use Rattle.dsa_plan.specs.Legal.{IsLegal}
 use Rattle.dsa_plan.specs.Certificate.{IsGood}
 use Rattle.dsa_plan.specs.EmissionFaults.{IsEmission, IsFirstEmissionFault}
-use Rattle.dsa_plan.specs.declared.emission_fault.EmissionFault.{EmissionFault}
-use Rattle.dsa_plan.specs.declared.emission_fault.EmissionFault.TheVariants.{Memory as EmissionMemory}
+use Rattle.dsa_emission.specs.declared.emission_fault.EmissionFault.{EmissionFault}
+use Rattle.dsa_emission.specs.declared.emission_fault.EmissionFault.TheVariants.{Memory as EmissionMemory}
 use Rattle.dsa_cert.specs.Document.{Contents}
 use Rattle.dsa_checker.specs.Checked.{IsFirstCheckFault}
 use Rattle.dsa_planner.specs.declared.fault.PlanFault.{PlanFault}

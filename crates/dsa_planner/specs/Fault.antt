@@ -5,12 +5,12 @@ use Rattle.dsa_descriptor.specs.declared.fault.FieldFault.TheVariants.{Opcode, F
 use Rattle.dsa_descriptor.specs.declared.fault.ListFault.{ListFault}
 use Rattle.dsa_descriptor.specs.declared.fault.ListFault.TheVariants.{Length as ListLength, Field as ListField, MixedPasid as ListMixed, Memory as ListMemory}
 use Rattle.dsa_descriptor.specs.Faults.{number}
-use Rattle.dsa_plan.specs.declared.legal.LegalFault.{LegalFault}
-use Rattle.dsa_plan.specs.declared.legal.LegalFault.TheVariants.{Count, GroupSize, FirstFence, Unfenced}
-use Rattle.dsa_plan.specs.declared.emission_fault.EntryFault.{EntryFault}
-use Rattle.dsa_plan.specs.declared.emission_fault.EntryFault.TheVariants.{Field as EntryField, OverTransfer as EntryOver, MixedPasid as EntryMixed, StagingMeets as EntryMeets}
-use Rattle.dsa_plan.specs.declared.emission_fault.EmissionFault.{EmissionFault}
-use Rattle.dsa_plan.specs.declared.emission_fault.EmissionFault.TheVariants.{PortalLength as WrongPortal, StagingLength as WrongStaging, BatchFields as WrongBatch, EntryFence as WrongFence, Entry as WrongEntry, RecordBytes as WrongRecord, Memory as EmissionMemory}
+use Rattle.dsa_legal.specs.declared.legal.LegalFault.{LegalFault}
+use Rattle.dsa_legal.specs.declared.legal.LegalFault.TheVariants.{Count, GroupSize, FirstFence, Unfenced}
+use Rattle.dsa_emission.specs.declared.emission_fault.EntryFault.{EntryFault}
+use Rattle.dsa_emission.specs.declared.emission_fault.EntryFault.TheVariants.{Field as EntryField, OverTransfer as EntryOver, MixedPasid as EntryMixed, StagingMeets as EntryMeets}
+use Rattle.dsa_emission.specs.declared.emission_fault.EmissionFault.{EmissionFault}
+use Rattle.dsa_emission.specs.declared.emission_fault.EmissionFault.TheVariants.{PortalLength as WrongPortal, StagingLength as WrongStaging, BatchFields as WrongBatch, EntryFence as WrongFence, Entry as WrongEntry, RecordBytes as WrongRecord, Memory as EmissionMemory}
 use Rattle.dsa_splitter.specs.declared.fault.SplitFault.{SplitFault}
 use Rattle.dsa_splitter.specs.declared.fault.SplitFault.TheVariants.{DeltaTooLong as SplitDelta, ExpectedSplit as SplitExpected, TooManyPieces as SplitMany, StagingMeets as SplitStaging, RowMeetsData as SplitRow, RowWrap as SplitWrap, Memory as SplitMemory}
 use Rattle.dsa_core.specs.declared.fault.CoreFault.{CoreFault}

@@ -1,0 +1,11 @@
+pub mod Emitted
+pub mod Places
+pub mod Told
+pub mod AtPlaces
+pub mod Shapes
+pub mod ReadBack
+pub mod Spelt
+pub mod SamePlaces
+pub mod Recovered
+pub mod NoFault
+pub mod OneFault

@@ -1,0 +1,188 @@
+use Rattle.std.proofs.Common.{ℕ, ◌≡◌, ◌-◌, ◌*◌, ◌<◌, inl, inr, List, length, take, drop, sym, ap, subst, ◌∙◌}
+use Rattle.std.specs.Prelude.{◌⊎◌}
+use Rattle.std.proofs.lemmas.List.{take_rest}
+use Rattle.std.proofs.lemmas.Result.{err_from_is_err_and}
+use Rattle.dsa_descriptor.specs.declared.descriptor.Descriptor.{Descriptor}
+use Rattle.dsa_descriptor.specs.Lists.{entries}
+use Rattle.dsa_descriptor.specs.Spans.{span}
+use Rattle.dsa_emission.specs.declared.demands.Demands.{Demands}
+use Rattle.dsa_emission.specs.declared.place.Place.{Place}
+use Rattle.dsa_emission.specs.declared.emission_fault.EmissionFault.{EmissionFault}
+use Rattle.dsa_emission.specs.declared.emission_fault.EmissionFault.TheVariants.{PortalLength, StagingLength, BatchFields, EntryFence, Entry, RecordBytes, Memory}
+use Rattle.dsa_settings.specs.Plan.{Plan}
+use Rattle.dsa_settings.specs.Settings.{Limits}
+use Rattle.dsa_emission.specs.EmissionFaults.{told_end, piece_bytes, owner_at, owner_of, demands_of, IsRightAt, HasLengths, IsFirstLengthFault, IsFirstPortalFault, HasBatches, HasZeroRecord, records_of, IsRead, IsEmission, IsFirstEmissionFault}
+use Rattle.dsa_emission.proofs.NoFault.{memory_alone, emission_is_sound}
+use Rattle.dsa_emission.proofs.OneFault.{told_or_memory, none_to_tell}
+use Rattle.dsa_emission.proofs.Recovered.{recovered}
+use Rattle.dsa_emission.proofs.Told.{one_emission}
+use Rattle.dsa_emission.proofs.reading.read_emission.Goals as goal
+
+-- the batches, by what was found
+right_batches : (s : Limits) (portal staging owner : List ℕ) (es st : List (List ℕ)) → es ≡ entries portal → st ≡ entries staging → HasLengths portal staging → owner ≡ owner_at (piece_bytes es st 0 0) →
+    ((number : ℕ) → number < length es → IsRightAt s es owner number) → HasBatches s portal staging
+right_batches s portal staging owner es st p q lengths o right =
+    let whose : owner ≡ owner_of portal staging = o ∙ ap (λ (z : List (List ℕ)). owner_at (piece_bytes z st 0 0)) p ∙ ap (λ (z : List (List ℕ)). owner_at (piece_bytes (entries portal) z 0 0)) q in
+    record {
+      lengths = lengths;
+      right = subst (λ (z : List (List ℕ)). (number : ℕ) → number < length z → IsRightAt s z (owner_of portal staging) number) p
+          (subst (λ (o : List ℕ). (number : ℕ) → number < length es → IsRightAt s es o number) whose right);
+    }
+
+-- the demands, as they were made
+demands_are : (s : Limits) (owner : List ℕ) (es st : List (List ℕ)) (end : Place) (first greatest : ℕ) → owner ≡ owner_at (piece_bytes es st 0 0) → end ≡ told_end es → first ≡ s.staging → greatest ≡ s.greatest_transfer →
+    ◌≡◌ {A = Demands} (record { owner = owner; area = span first (96 * end.start); greatest = greatest }) (demands_of s es st)
+demands_are s owner es st end first greatest o e f g i = record { owner = o i; area = span (f i) (96 * (e i).start); greatest = g i }
+
+read_whole : (s : Limits) (portal staging : List ℕ) (demands : Demands) (es st : List (List ℕ)) (plan : Plan) (ds : List Descriptor) → es ≡ entries portal → st ≡ entries staging → demands ≡ demands_of s es st →
+    IsRead demands es st (length es) plan ds → IsRead (demands_of s (entries portal) (entries staging)) (entries portal) (entries staging) (length (entries portal)) plan ds
+read_whole s portal staging demands es st plan ds p q d read =
+    subst (λ (z : List (List ℕ)). IsRead (demands_of s (entries portal) z) (entries portal) z (length (entries portal)) plan ds) q
+    (subst (λ (z : List (List ℕ)). IsRead (demands_of s z st) z st (length z) plan ds) p (subst (λ (z : Demands). IsRead z es st (length es) plan ds) d read))
+
+-- the records, as the code cuts them out
+records_are : (portal staging : List ℕ) (end : Place) → end ≡ told_end (entries portal) → take (length staging - 64 * end.batched) (drop (64 * end.batched) staging) ≡ records_of portal staging
+records_are portal staging end e = take_rest staging (64 * end.batched) ∙ ap (λ (p : Place). drop (64 * p.batched) staging) e
+
+-- what was read, by what was found
+whole_read : (s : Limits) (portal staging owner : List ℕ) (es st : List (List ℕ)) (end : Place) (first greatest : ℕ) (plan : Plan) (ds : List Descriptor) → es ≡ entries portal → st ≡ entries staging →
+    (end ≡ told_end (entries portal)) × HasLengths portal staging → owner ≡ owner_at (piece_bytes es st 0 0) → ((number : ℕ) → number < length es → IsRightAt s es owner number) → first ≡ s.staging → greatest ≡ s.greatest_transfer →
+    IsRead (record { owner = owner; area = span first (96 * end.start); greatest = greatest }) es st (length es) plan ds →
+    HasBatches s portal staging × IsRead (demands_of s (entries portal) (entries staging)) (entries portal) (entries staging) (length (entries portal)) plan ds
+whole_read s portal staging owner es st end first greatest plan ds p q e o right f g read = (
+  right_batches s portal staging owner es st p q e.1 o right,
+  read_whole s portal staging (record { owner = owner; area = span first (96 * end.start); greatest = greatest }) es st plan ds p q
+      (demands_are s owner es st end first greatest o (e.0 ∙ ap told_end (sym p)) f g) read,
+)
+
+-- ---- the faults that the steps tell
+
+length_fault : (s : Limits) (portal staging : List ℕ) (fault : EmissionFault) → IsFirstLengthFault portal staging fault → IsFirstEmissionFault s portal staging fault
+length_fault s portal staging PortalLength h = h
+length_fault s portal staging StagingLength h = h
+length_fault s portal staging (BatchFields g) h = absurd h
+length_fault s portal staging (EntryFence g) h = absurd h
+length_fault s portal staging (Entry q f) h = absurd h
+length_fault s portal staging (RecordBytes b) h = absurd h
+length_fault s portal staging Memory h = absurd h
+
+-- the entries of batches before a place are right, and that one isn't
+abbrev WrongAt : Limits → List (List ℕ) → List ℕ → ℕ → Type 0
+WrongAt s es owner number = (number < length es) × ((g : ℕ) → g < number → IsRightAt s es owner g) × ¬ IsRightAt s es owner number
+
+batch_fault : (s : Limits) (portal staging owner : List ℕ) (es st : List (List ℕ)) (number : ℕ) → es ≡ entries portal → st ≡ entries staging → HasLengths portal staging → owner ≡ owner_at (piece_bytes es st 0 0) →
+    WrongAt s es owner number → IsFirstEmissionFault s portal staging (BatchFields number)
+batch_fault s portal staging owner es st number p q lengths o wrong =
+    let whose : owner ≡ owner_of portal staging = o ∙ ap (λ (z : List (List ℕ)). owner_at (piece_bytes z st 0 0)) p ∙ ap (λ (z : List (List ℕ)). owner_at (piece_bytes (entries portal) z 0 0)) q in
+    let there : WrongAt s (entries portal) (owner_of portal staging) number = subst (λ (z : List (List ℕ)). WrongAt s z (owner_of portal staging) number) p (subst (λ (o : List ℕ). WrongAt s es o number) whose wrong) in
+    (lengths, there.0, there.1, there.2)
+
+portal_fault : (s : Limits) (portal staging : List ℕ) (fault : EmissionFault) → HasBatches s portal staging → IsFirstPortalFault (demands_of s (entries portal) (entries staging)) (entries portal) (entries staging) fault → IsFirstEmissionFault s portal staging fault
+portal_fault s portal staging PortalLength batches f = absurd f.stands
+portal_fault s portal staging StagingLength batches f = absurd f.stands
+portal_fault s portal staging (BatchFields g) batches f = absurd f.stands
+portal_fault s portal staging (EntryFence g) batches f = (batches, f)
+portal_fault s portal staging (Entry q e) batches f = (batches, f)
+portal_fault s portal staging (RecordBytes b) batches f = absurd f.stands
+portal_fault s portal staging Memory batches f = absurd f.stands
+
+fault_there : (s : Limits) (portal staging : List ℕ) (demands : Demands) (es st : List (List ℕ)) (fault : EmissionFault) → es ≡ entries portal → st ≡ entries staging → demands ≡ demands_of s es st →
+    IsFirstPortalFault demands es st fault → IsFirstPortalFault (demands_of s (entries portal) (entries staging)) (entries portal) (entries staging) fault
+fault_there s portal staging demands es st fault p q d f =
+    subst (λ (z : List (List ℕ)). IsFirstPortalFault (demands_of s (entries portal) z) (entries portal) z fault) q
+    (subst (λ (z : List (List ℕ)). IsFirstPortalFault (demands_of s z st) z st fault) p (subst (λ (z : Demands). IsFirstPortalFault z es st fault) d f))
+
+pub returns-in_err-end-clause-only : goal.returns-in_err-end-clause-only
+returns-in_err-end-clause-only c = λ plan ds m.
+    let p = err_from_is_err_and c.from_residual.result c.from_residual.ensures.1 in
+    let none : c.in_err-end.field-0.0 ≡ Memory =
+    memory_alone c.args.settings.now c.args.portal.now c.args.staging.now c.in_err-end.field-0.0 (emission_is_sound c.args.settings.now c.args.portal.now c.args.staging.now plan ds m)
+    (length_fault c.args.settings.now c.args.portal.now c.args.staging.now c.in_err-end.field-0.0 c.in_err-end.ensures.err.1) in
+    rw (p.1, p.2) none
+
+pub returns-in-Some-clause-only : goal.returns-in-Some-clause-only
+returns-in-Some-clause-only c = λ plan ds m.
+    memory_alone c.args.settings.now c.args.portal.now c.args.staging.now (BatchFields c.in-Some.number) (emission_is_sound c.args.settings.now c.args.portal.now c.args.staging.now plan ds m)
+    (batch_fault c.args.settings.now c.args.portal.now c.args.staging.now c.first_owner-owner.result c.as_chunks.result.0.now c.as_chunks-2.result.0.now c.in-Some.number c.as_chunks.ensures.front c.as_chunks-2.ensures.front
+    c.in_ok-end.ensures.ok.1 c.first_owner-owner.ensures c.in-Some.ensures)
+
+-- what reading the groups told
+read_fault : (s : Limits) (portal staging : List ℕ) (demands : Demands) (es st : List (List ℕ)) (fault : EmissionFault) → es ≡ entries portal → st ≡ entries staging → demands ≡ demands_of s es st →
+    HasBatches s portal staging → ((fault ≡ Memory) ⊎ IsFirstPortalFault demands es st fault) → IsFirstEmissionFault s portal staging fault
+read_fault s portal staging demands es st fault p q d batches (inl none) = subst (IsFirstEmissionFault s portal staging) (sym none) batches
+read_fault s portal staging demands es st fault p q d batches (inr f) = portal_fault s portal staging fault batches (fault_there s portal staging demands es st fault p q d f)
+
+group_fault : (c : goal.After-from_residual-in_err-read) → IsFirstEmissionFault c.args.settings.now c.args.portal.now c.args.staging.now c.in_err-read.field-0.0
+group_fault c =
+    let s = c.args.settings.now in
+    let portal = c.args.portal.now in
+    let staging = c.args.staging.now in
+    let demands : Demands = record { owner = c.first_owner-owner.result; area = span c.staging.result (96 * c.in_ok-end.end.start); greatest = c.greatest_transfer.result } in
+    let are : demands ≡ demands_of s c.as_chunks.result.0.now c.as_chunks-2.result.0.now = demands_are s c.first_owner-owner.result c.as_chunks.result.0.now c.as_chunks-2.result.0.now c.in_ok-end.end c.staging.result c.greatest_transfer.result
+    c.first_owner-owner.ensures (c.in_ok-end.ensures.ok.0 ∙ ap told_end (sym c.as_chunks.ensures.front)) c.staging.ensures.value c.greatest_transfer.ensures.value in
+    let batches : HasBatches s portal staging = right_batches s portal staging c.first_owner-owner.result c.as_chunks.result.0.now c.as_chunks-2.result.0.now c.as_chunks.ensures.front c.as_chunks-2.ensures.front
+    c.in_ok-end.ensures.ok.1 c.first_owner-owner.ensures c.in_default.ensures in
+    read_fault s portal staging demands c.as_chunks.result.0.now c.as_chunks-2.result.0.now c.in_err-read.field-0.0 c.as_chunks.ensures.front c.as_chunks-2.ensures.front are batches c.in_err-read.ensures.err
+
+pub returns-in_err-read-clause-only : goal.returns-in_err-read-clause-only
+returns-in_err-read-clause-only c = λ plan ds m.
+    let p = err_from_is_err_and c.from_residual-in_err-read.result c.from_residual-in_err-read.ensures.1 in
+    let none : c.in_err-read.field-0.0 ≡ Memory =
+    memory_alone c.args.settings.now c.args.portal.now c.args.staging.now c.in_err-read.field-0.0 (emission_is_sound c.args.settings.now c.args.portal.now c.args.staging.now plan ds m) (group_fault c) in
+    rw (p.1, p.2) none
+
+pub returns-in_err-read-clause-refused : goal.returns-in_err-read-clause-refused
+returns-in_err-read-clause-refused c = λ fault other first.
+    let p = err_from_is_err_and c.from_residual-in_err-read.result c.from_residual-in_err-read.ensures.1 in
+    rw (p.1, p.2) (told_or_memory c.args.settings.now c.args.portal.now c.args.staging.now c.in_err-read.field-0.0 fault other (group_fault c) first)
+
+record_fault : (c : goal.After-drop-read-in-Some-wrong_record) → IsFirstEmissionFault c.args.settings.now c.args.portal.now c.args.staging.now (RecordBytes c.in-Some-wrong_record.batch)
+record_fault c =
+    let read = whole_read c.args.settings.now c.args.portal.now c.args.staging.now c.first_owner-owner.result c.as_chunks.result.0.now c.as_chunks-2.result.0.now c.in_ok-end.end c.staging.result c.greatest_transfer.result
+    c.in_ok-read.read.0 c.in_ok-read.read.1.items c.as_chunks.ensures.front c.as_chunks-2.ensures.front c.in_ok-end.ensures.ok c.first_owner-owner.ensures c.in_default.ensures c.staging.ensures.value c.greatest_transfer.ensures.value
+    c.in_ok-read.ensures.ok in
+    let cut = records_are c.args.portal.now c.args.staging.now c.in_ok-end.end c.in_ok-end.ensures.ok.0 in
+    let wrong = c.in-Some-wrong_record.ensures in (
+      record { batches = read.0; sound = read.1.sound },
+      subst (λ (p : Place). c.in-Some-wrong_record.batch < p.batches) c.in_ok-end.ensures.ok.0 wrong.0,
+      subst (λ (bytes : List ℕ). (b : ℕ) → b < c.in-Some-wrong_record.batch → HasZeroRecord bytes b) cut wrong.1,
+      subst (λ (bytes : List ℕ). ¬ HasZeroRecord bytes c.in-Some-wrong_record.batch) cut wrong.2,
+    )
+
+pub returns-in-Some-wrong_record-clause-fault : goal.returns-in-Some-wrong_record-clause-fault
+returns-in-Some-wrong_record-clause-fault c = record_fault c
+
+pub returns-in-Some-wrong_record-clause-refused : goal.returns-in-Some-wrong_record-clause-refused
+returns-in-Some-wrong_record-clause-refused c = λ fault other first.
+    told_or_memory c.args.settings.now c.args.portal.now c.args.staging.now (RecordBytes c.in-Some-wrong_record.batch) fault other (record_fault c) first
+
+pub returns-in-Some-wrong_record-clause-only : goal.returns-in-Some-wrong_record-clause-only
+returns-in-Some-wrong_record-clause-only c = λ plan ds m.
+    memory_alone c.args.settings.now c.args.portal.now c.args.staging.now (RecordBytes c.in-Some-wrong_record.batch) (emission_is_sound c.args.settings.now c.args.portal.now c.args.staging.now plan ds m) (record_fault c)
+
+found : (c : goal.In_default-wrong_record) → IsEmission c.args.settings.now c.args.portal.now c.args.staging.now c.in_ok-read.read.0 c.in_ok-read.read.1.items
+found c =
+    let read = whole_read c.args.settings.now c.args.portal.now c.args.staging.now c.first_owner-owner.result c.as_chunks.result.0.now c.as_chunks-2.result.0.now c.in_ok-end.end c.staging.result c.greatest_transfer.result
+    c.in_ok-read.read.0 c.in_ok-read.read.1.items c.as_chunks.ensures.front c.as_chunks-2.ensures.front c.in_ok-end.ensures.ok c.first_owner-owner.ensures c.in_default.ensures c.staging.ensures.value c.greatest_transfer.ensures.value
+    c.in_ok-read.ensures.ok in
+    let cut = records_are c.args.portal.now c.args.staging.now c.in_ok-end.end c.in_ok-end.ensures.ok.0 in
+    recovered c.args.settings.now c.args.portal.now c.args.staging.now c.in_ok-read.read.0 c.in_ok-read.read.1.items
+    (record {
+      limits = c.staging.ensures.limits;
+      batches = read.0;
+      read = read.1;
+      zeros = subst (λ (p : Place). (b : ℕ) → b < p.batches → HasZeroRecord (records_of c.args.portal.now c.args.staging.now) b) c.in_ok-end.ensures.ok.0
+          (subst (λ (bytes : List ℕ). (b : ℕ) → b < c.in_ok-end.end.batches → HasZeroRecord bytes b) cut c.in_default-wrong_record.ensures);
+    })
+
+pub returns-clause-found : goal.returns-clause-found
+returns-clause-found c = found c
+
+pub returns-clause-only : goal.returns-clause-only
+returns-clause-only c = λ plan ds m.
+    let f = found c in
+    one_emission c.args.settings.now c.in_ok-read.read.0 plan c.in_ok-read.read.1.items ds f.can_be m.can_be (sym f.portal_is ∙ m.portal_is) (sym f.staging_is ∙ m.staging_is)
+
+pub returns-clause-refused : goal.returns-clause-refused
+returns-clause-refused c = λ fault other first.
+    none_to_tell c.args.settings.now c.args.portal.now c.args.staging.now c.in_ok-read.read.0 c.in_ok-read.read.1.items fault (found c) other first

@@ -1,0 +1,69 @@
+use Rattle.std.proofs.Common.{ℕ, ◌≡◌, ◌+◌, ◌<◌, ◌≤◌, ◌++◌, inl, inr, Bool, true, false, cond, List, [], length, sym, ap, subst, ◌∙◌, arith}
+use Rattle.std.specs.Prelude.{slice_index_or, ◌⊎◌}
+use Rattle.std.proofs.lemmas.Result.{err_from_is_err_and}
+use Rattle.dsa_descriptor.specs.declared.descriptor.Descriptor.{Descriptor}
+use Rattle.dsa_descriptor.specs.Places.{u32_at}
+use Rattle.dsa_emission.specs.declared.demands.Demands.{Demands}
+use Rattle.dsa_emission.specs.declared.emission_fault.EmissionFault.{EmissionFault}
+use Rattle.dsa_emission.specs.declared.emission_fault.EmissionFault.TheVariants.{Memory}
+use Rattle.dsa_emission.specs.declared.place.Place.{Place}
+use Rattle.dsa_settings.specs.Plan.{Plan}
+use Rattle.dsa_emission.specs.EmissionFaults.{is_batch_entry, told_size, told_place, told_after, told_end, bytes_at, IsFirstGroupFault, IsFirstPortalFault, IsGroupRead, IsRead}
+use Rattle.dsa_emission.proofs.Shapes.{told_place-next, sized_more, batched_more, placed_more}
+use Rattle.dsa_emission.proofs.ReadBack.{read_more}
+use Rattle.dsa_emission.proofs.reading.read_groups.Goals as goal
+
+pub read_group-requires-clause-few : goal.read_group-requires-clause-few
+read_group-requires-clause-few c =
+    omega (arith, ap (λ (p : Place). p.start) c.loop-number.invariant.placed, sized_more c.args.all.now c.loop-number.number c.loop-number-test.true, c.requires.few)
+
+-- a batch has all its pieces in the staging area
+inside : (b : Bool) (count before total size : ℕ) → before + cond b count 0 ≤ total → total ≤ size → b ≡ true → before + cond b count 1 ≤ size
+inside true count before total size room le is = omega arith
+inside false count before total size room le is = absurd cc
+
+pub read_group-requires-clause-inside : goal.read_group-requires-clause-inside
+read_group-requires-clause-inside c =
+    let es = c.args.all.now in
+    let n = c.loop-number.number in
+    let e = slice_index_or es n [] in
+    λ is. subst (λ (p : Place). p.batched + told_size e ≤ length c.args.staged.now) (sym c.loop-number.invariant.placed)
+    (inside (is_batch_entry e) (u32_at 32 e) (told_place es n).batched (told_end es).batched (length c.args.staged.now) (batched_more es n c.loop-number-test.true) c.requires.inside is)
+
+-- a fault of one group, behind those that were read
+group_fault : (demands : Demands) (es staged : List (List ℕ)) (n : ℕ) (place : Place) (plan : Plan) (ds : List Descriptor) (fault : EmissionFault) → n < length es → place ≡ told_place es n → IsRead demands es staged n plan ds →
+    ((fault ≡ Memory) ⊎ IsFirstGroupFault demands (bytes_at staged place (slice_index_or es n [])) n place.start (told_size (slice_index_or es n [])) fault) →
+    (fault ≡ Memory) ⊎ IsFirstPortalFault demands es staged fault
+group_fault demands es staged n place plan ds fault lt e read (inl none) = inl none
+group_fault demands es staged n place plan ds fault lt e read (inr here) = inr (record {
+  number = n;
+  inside = lt;
+  before = read.sound;
+  stands = subst (λ (p : Place). IsFirstGroupFault demands (bytes_at staged p (slice_index_or es n [])) n p.start (told_size (slice_index_or es n [])) fault) e here;
+})
+
+pub returns-in_err-group-clause-err : goal.returns-in_err-group-clause-err
+returns-in_err-group-clause-err c =
+    let p = err_from_is_err_and c.from_residual-in_err-group.result c.from_residual-in_err-group.ensures.1 in
+    rw (p.1, p.2) (group_fault c.args.demands.now c.args.all.now c.args.staged.now c.loop-number.number c.loop-number.place c.loop-number.groups.items c.loop-number.pieces.items c.in_err-group.field-0.0
+    c.loop-number-test.true c.loop-number.invariant.placed c.loop-number.invariant.read c.in_err-group.ensures.err)
+
+batch_two : (e : List ℕ) → 0 < told_size e → is_batch_entry e ≡ true → 1 ≤ u32_at 32 e
+batch_two e some is = subst (λ (b : Bool). 0 < cond b (u32_at 32 e) 1) is some
+
+pub loop-number-preserved : goal.loop-number-preserved
+loop-number-preserved c =
+    let es = c.args.all.now in
+    let n = c.loop-number.number in
+    let e = slice_index_or es n [] in
+    let more = placed_more c.loop-number.place c.after_entry-place.result e c.after_entry-place.ensures (batch_two e (c.requires.sized n c.loop-number-test.true)) c.loop-number.invariant.batches c.loop-number.invariant.batched in
+    let (new, added, here) = c.in_ok-group.ensures.ok in
+    record {
+      placed = c.after_entry-place.ensures ∙ ap (λ (p : Place). told_after p e) c.loop-number.invariant.placed ∙ sym (told_place-next es n c.loop-number-test.true);
+      batched = more.0;
+      batches = more.1;
+      read = subst (λ (ds : List Descriptor). IsRead c.args.demands.now es c.args.staged.now (n + 1) c.push.new.self.items ds) (sym added)
+          (subst (λ (plan : Plan). IsRead c.args.demands.now es c.args.staged.now (n + 1) plan (c.loop-number.pieces.items ++ new)) (sym c.in_ok-push.ensures.items)
+          (read_more c.args.demands.now es c.args.staged.now n c.loop-number.groups.items c.loop-number.pieces.items c.in_ok-group.group new c.loop-number-test.true c.loop-number.invariant.read
+          (subst (λ (p : Place). IsGroupRead c.args.demands.now (bytes_at c.args.staged.now p e) (told_size e) c.in_ok-group.group new) c.loop-number.invariant.placed here)));
+    }

@@ -1,0 +1,104 @@
+-- The bytes that submit a plan: entries for the portal, and a staging area that the batch descriptors point to.
+use Rattle.std.specs.Prelude.{ℕ, zero, suc, ◌≡◌, ◌+◌, ◌*◌, ◌≤◌, Bool, List, [], ◌++◌, All, length, take, drop, replicate, count_by, sum_by, nat_lt, slice_index_or, if◌then◌else◌}
+use Rattle.std.specs.Int.{w32, w64, to_le_bytes}
+use Rattle.std.specs.List.{flat_map, zip}
+use Rattle.dsa_descriptor.specs.declared.span.Span.{Span}
+use Rattle.dsa_descriptor.specs.Fields.{Fields}
+use Rattle.dsa_descriptor.specs.Lists.{list_spelling, HaveOneOwner}
+use Rattle.dsa_descriptor.specs.Spans.{span, InSpan}
+use Rattle.dsa_descriptor.specs.Spelling.{spelling}
+use Rattle.dsa_ranges.specs.Ranges.{Touches}
+use Rattle.dsa_emission.specs.declared.place.Place.{Place}
+use Rattle.dsa_settings.specs.Plan.{Group, Plan, piece_count, start_of}
+use Rattle.dsa_settings.specs.Shapes.{HasGroupShapes}
+use Rattle.dsa_settings.specs.Settings.{Limits}
+
+-- a group of more than one piece is submitted as a batch
+abbrev pub is_batch : Group → Bool
+is_batch group = nat_lt 1 (length group)
+
+-- the number of its pieces that are in a batch
+abbrev pub batched : Group → ℕ
+batched group = if is_batch group then length group else 0
+
+-- of a plan: the number of its batches, and of the pieces in them
+abbrev pub batch_count : Plan → ℕ
+batch_count plan = count_by is_batch plan
+
+abbrev pub batched_count : Plan → ℕ
+batched_count plan = sum_by batched plan
+
+-- what stands before the group of that number: pieces, batches, and pieces in batches
+abbrev pub place_of : Plan → ℕ → Place
+place_of plan number =
+    record {
+      start = start_of plan number;
+      batches = batch_count (take number plan);
+      batched = batched_count (take number plan);
+    }
+
+-- what stands before the group after that one
+abbrev pub place_after : Place → Group → Place
+place_after place group =
+    record {
+      start = place.start + length group;
+      batches = place.batches + (if is_batch group then 1 else 0);
+      batched = place.batched + batched group;
+    }
+
+-- the flag 0x0001, fence, is added where it is asked for; no listed descriptor has it
+abbrev pub with_fence : Bool → Fields → Fields
+with_fence fence f = record f { flags = f.flags + (if fence then 0x0001 else 0) }
+
+-- the 64 bytes of a batch descriptor: the PASID and privilege, the flags 0x00000c and the operation code 0x01, the
+-- address of its completion record, that of its descriptors, and how many they are (specification 341204, batch
+-- descriptor; places and codes of linux/idxd.h)
+unfoldable pub batch_spelling : List ℕ → ℕ → ℕ → ℕ → List ℕ
+batch_spelling owner record_at list_at count =
+    owner ++ to_le_bytes w32 0x0100000c ++ to_le_bytes w64 record_at ++ to_le_bytes w64 list_at ++ replicate 8 0 ++ to_le_bytes w32 count ++ replicate 28 0
+
+-- the entry of a group: its piece, or a batch descriptor whose descriptors and record stand in the staging area, the
+-- records behind the descriptors of all `total` pieces in batches
+abbrev pub portal_entry : Limits → ℕ → Place → Group → List Fields → List ℕ
+portal_entry s total place group pieces =
+    if is_batch group
+    then batch_spelling (take 4 (list_spelling pieces)) (s.staging + 64 * total + 32 * place.batches) (s.staging + 64 * place.batched) (length group)
+    else list_spelling (take (length group) (drop place.start pieces))
+
+-- the descriptors of a batch, each fenced where the group says so
+abbrev pub fenced_spelling : Group → List Fields → List ℕ
+fenced_spelling group pieces = flat_map (λ p. spelling (with_fence p.0 p.1)) (zip group pieces)
+
+-- what a group has in the staging area
+abbrev pub staged : Place → Group → List Fields → List ℕ
+staged place group pieces = if is_batch group then fenced_spelling group (drop place.start pieces) else []
+
+-- the parts of the numbers below n, one after another
+abbrev pub joined : (ℕ → List ℕ) → ℕ → List ℕ
+joined part zero = []
+joined part (suc n) = joined part n ++ part n
+
+-- one entry for each group
+abbrev pub portal_bytes : Limits → Plan → List Fields → List ℕ
+portal_bytes s plan pieces =
+    joined (λ number. portal_entry s (batched_count plan) (place_of plan number) (slice_index_or plan number []) pieces) (length plan)
+
+-- the descriptors of each batch, and then 32 zero bytes for the completion record of each (this project's choice)
+abbrev pub staging_bytes : Plan → List Fields → List ℕ
+staging_bytes plan pieces =
+    joined (λ number. staged (place_of plan number) (slice_index_or plan number []) pieces) (length plan) ++ replicate (32 * batch_count plan) 0
+
+-- the bytes of the staging area that pieces may need, whatever their groups are: each has 64 for its descriptor and
+-- 32 for a record (this project's choice)
+abbrev pub staging_span : Limits → List Fields → Span
+staging_span s pieces = span s.staging (96 * length pieces)
+
+-- what a plan and its pieces need to be emitted: shapes of groups, one owner, no piece longer than it may be, and none
+-- that reads or writes the staging area
+pub record CanBeEmitted (s : Limits) (plan : Plan) (pieces : List Fields) : Type 0 where
+  pub covers : piece_count plan ≡ length pieces
+  pub few : length pieces ≤ 65536
+  pub shapes : HasGroupShapes s.greatest_batch plan
+  pub one_owner : HaveOneOwner pieces
+  pub short : All (λ d. d.size ≤ s.greatest_transfer) pieces
+  pub clear : All (λ d. (address : ℕ) → InSpan (staging_span s pieces) address → ¬ Touches d address) pieces

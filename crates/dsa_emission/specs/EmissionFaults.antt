@@ -1,0 +1,254 @@
+-- What the bytes of an emission tell, and why bytes are no emission.
+use Rattle.std.specs.Prelude.{ℕ, ◌≡◌, ◌≢◌, ◌+◌, ◌-◌, ◌*◌, ◌%◌, ◌<◌, ◌≤◌, Bool, true, false, List, [], ◌∷◌, Some, All, length, take, drop, map, count_by, sum_by, slice_get, slice_index, slice_index_or, slice_set, ◌==◌, if◌then◌else◌}
+use Rattle.dsa_descriptor.specs.declared.descriptor.Descriptor.{Descriptor}
+use Rattle.dsa_descriptor.specs.Descriptors.{fields}
+use Rattle.dsa_descriptor.specs.Faults.{AreZero, IsFirstFault}
+use Rattle.dsa_descriptor.specs.Fields.{Fields}
+use Rattle.dsa_descriptor.specs.Lists.{entries}
+use Rattle.dsa_descriptor.specs.Places.{u32_at, pasid_at, privileged_at}
+use Rattle.dsa_descriptor.specs.Spans.{span, InSpan}
+use Rattle.dsa_descriptor.specs.Spelling.{spelling}
+use Rattle.dsa_ranges.specs.Ranges.{Touches}
+use Rattle.dsa_emission.specs.declared.place.Place.{Place}
+use Rattle.dsa_emission.specs.declared.demands.Demands.{Demands}
+use Rattle.dsa_emission.specs.declared.emission_fault.EntryFault.{EntryFault}
+use Rattle.dsa_emission.specs.declared.emission_fault.EntryFault.TheVariants.{Field, OverTransfer, MixedPasid, StagingMeets}
+use Rattle.dsa_emission.specs.declared.emission_fault.EmissionFault.{EmissionFault}
+use Rattle.dsa_emission.specs.declared.emission_fault.EmissionFault.TheVariants.{PortalLength, StagingLength, BatchFields, EntryFence, Entry, RecordBytes, Memory}
+use Rattle.dsa_settings.specs.Plan.{Group, Plan}
+use Rattle.dsa_settings.specs.Settings.{Limits}
+use Rattle.dsa_emission.specs.Emission.{batch_spelling, portal_bytes, staging_bytes, CanBeEmitted}
+
+-- ---- what entries tell
+
+-- an entry of the portal is that of a batch where its operation code is 0x01 (linux/idxd.h)
+abbrev pub is_batch_entry : List ℕ → Bool
+is_batch_entry entry = slice_index entry 7 == 1
+
+-- how many pieces the entry submits, and how many of them are in a batch
+abbrev pub told_size : List ℕ → ℕ
+told_size entry = if is_batch_entry entry then u32_at 32 entry else 1
+
+abbrev pub told_batched : List ℕ → ℕ
+told_batched entry = if is_batch_entry entry then u32_at 32 entry else 0
+
+-- by the entries of the portal, what stands before the one of that number
+abbrev pub told_place : List (List ℕ) → ℕ → Place
+told_place es number =
+    record {
+      start = sum_by told_size (take number es);
+      batches = count_by is_batch_entry (take number es);
+      batched = sum_by told_batched (take number es);
+    }
+
+-- what stands after the entry
+abbrev pub told_after : Place → List ℕ → Place
+told_after place entry =
+    record {
+      start = place.start + told_size entry;
+      batches = place.batches + (if is_batch_entry entry then 1 else 0);
+      batched = place.batched + told_batched entry;
+    }
+
+-- what stands in all entries
+abbrev pub told_end : List (List ℕ) → Place
+told_end es = told_place es (length es)
+
+-- piece k of the group with this entry: in the staging area behind those of earlier batches, or the entry itself
+abbrev pub bytes_at : List (List ℕ) → Place → List ℕ → ℕ → List ℕ
+bytes_at staged place entry k = if is_batch_entry entry then slice_index_or staged (place.batched + k) [] else entry
+
+-- piece k of the group of that number
+abbrev pub piece_bytes : List (List ℕ) → List (List ℕ) → ℕ → ℕ → List ℕ
+piece_bytes es staged number k = bytes_at staged (told_place es number) (slice_index_or es number []) k
+
+-- the PASID and the privilege stand in bytes 0 to 3
+abbrev pub owner_at : List ℕ → List ℕ
+owner_at bytes = slice_index bytes 0 ∷ slice_index bytes 1 ∷ slice_index bytes 2 ∷ slice_index bytes 3 ∷ []
+
+-- what each piece has to meet: the owner of the first, the greatest size, and the staging area of 96 bytes for each
+abbrev pub demands_of : Limits → List (List ℕ) → List (List ℕ) → Demands
+demands_of s es staged =
+    record {
+      owner = owner_at (piece_bytes es staged 0 0);
+      area = span s.staging (96 * (told_end es).start);
+      greatest = s.greatest_transfer;
+    }
+
+-- ---- one piece
+
+-- the flag 0x0001 is set
+abbrev pub is_fenced : List ℕ → Bool
+is_fenced bytes = slice_index bytes 4 % 2 == 1
+
+-- the bytes with that flag cleared
+abbrev pub unfenced : List ℕ → List ℕ
+unfenced bytes = slice_set bytes 4 (slice_index bytes 4 - slice_index bytes 4 % 2)
+
+-- without the fence, the bytes are the descriptor's
+abbrev pub Spells : List ℕ → Descriptor → Type 0
+Spells bytes d = unfenced bytes ≡ spelling (fields d)
+
+-- the PASID and the privilege are those of the owner
+abbrev pub IsOwned : Demands → Fields → Type 0
+IsOwned demands f = (f.pasid ≡ pasid_at demands.owner) × (f.privileged ≡ privileged_at demands.owner)
+
+-- no piece is too long, of another owner, or touches the staging area
+pub record IsFit (demands : Demands) (f : Fields) : Type 0 where
+  pub short : f.size ≤ demands.greatest
+  pub owned : IsOwned demands f
+  pub clear : (address : ℕ) → InSpan demands.area address → ¬ Touches f address
+
+-- the first fault of the bytes of a piece: of its fields, then its size, its owner, and the staging area
+abbrev pub IsFirstEntryFault : Demands → List ℕ → EntryFault → Type 0
+IsFirstEntryFault demands bytes (Field fault) = IsFirstFault (unfenced bytes) fault
+IsFirstEntryFault demands bytes OverTransfer = (d : Descriptor) × Spells bytes d × (demands.greatest < d.size)
+IsFirstEntryFault demands bytes MixedPasid = (d : Descriptor) × Spells bytes d × (d.size ≤ demands.greatest) × ¬ IsOwned demands (fields d)
+IsFirstEntryFault demands bytes StagingMeets =
+    (d : Descriptor) × Spells bytes d × (d.size ≤ demands.greatest) × IsOwned demands (fields d) ×
+    ((address : ℕ) × InSpan demands.area address × Touches (fields d) address)
+
+-- ---- one group, by the bytes of its pieces
+
+-- piece k is a descriptor that is fit, and fenced only behind the first
+pub record IsSoundPiece (demands : Demands) (bytes : ℕ → List ℕ) (k : ℕ) : Type 0 where
+  pub first_unfenced : k ≡ 0 → is_fenced (bytes k) ≡ false
+  pub piece : Descriptor
+  pub spelt : Spells (bytes k) piece
+  pub fit : IsFit demands (fields piece)
+
+-- piece k is the first that is not sound, with its fault, though it is no first piece with a fence
+pub record IsFirstPieceFault (demands : Demands) (bytes : ℕ → List ℕ) (k : ℕ) (fault : EntryFault) : Type 0 where
+  pub before : (j : ℕ) → j < k → IsSoundPiece demands bytes j
+  pub first_unfenced : k ≡ 0 → is_fenced (bytes k) ≡ false
+  pub stands : IsFirstEntryFault demands (bytes k) fault
+
+-- the fault is the first in the group of that number, which begins with piece `start`
+abbrev pub IsFirstGroupFault : Demands → (ℕ → List ℕ) → ℕ → ℕ → ℕ → EmissionFault → Type 0
+IsFirstGroupFault demands bytes number start size (EntryFence g) = (g ≡ number) × (0 < size) × (is_fenced (bytes 0) ≡ true)
+IsFirstGroupFault demands bytes number start size (Entry q fault) =
+    (k : ℕ) × (q ≡ start + k) × (k < size) × IsFirstPieceFault demands bytes k fault
+IsFirstGroupFault demands bytes number start size PortalLength = ⊥
+IsFirstGroupFault demands bytes number start size StagingLength = ⊥
+IsFirstGroupFault demands bytes number start size (BatchFields group) = ⊥
+IsFirstGroupFault demands bytes number start size (RecordBytes batch) = ⊥
+IsFirstGroupFault demands bytes number start size Memory = ⊥
+
+-- ---- the whole
+
+-- the staging area has 64 bytes for each piece in a batch and 32 for each batch, and there are at most 65,536 pieces
+pub record HasStagingLength (es : List (List ℕ)) (staging : List ℕ) : Type 0 where
+  pub long : length staging ≡ 64 * (told_end es).batched + 32 * (told_end es).batches
+  pub few : (told_end es).start ≤ 65536
+
+-- where the entry is that of a batch, it has from 2 pieces to as many as a batch may have, and the bytes of its place
+pub record IsBatchAt (s : Limits) (owner : List ℕ) (total : ℕ) (place : Place) (entry : List ℕ) : Type 0 where
+  pub least : 2 ≤ u32_at 32 entry
+  pub most : u32_at 32 entry ≤ s.greatest_batch
+  pub bytes : entry ≡ batch_spelling owner (s.staging + 64 * total + 32 * place.batches) (s.staging + 64 * place.batched) (u32_at 32 entry)
+
+abbrev pub IsRightAt : Limits → List (List ℕ) → List ℕ → ℕ → Type 0
+IsRightAt s es owner number =
+    is_batch_entry (slice_index_or es number []) ≡ true →
+    IsBatchAt s owner (told_end es).batched (told_place es number) (slice_index_or es number [])
+
+-- the lengths are right
+pub record HasLengths (portal staging : List ℕ) : Type 0 where
+  pub whole : length portal % 64 ≡ 0
+  pub staged : HasStagingLength (entries portal) staging
+
+-- they are not: first that of the portal, then that of the staging area
+abbrev pub IsFirstLengthFault : List ℕ → List ℕ → EmissionFault → Type 0
+IsFirstLengthFault portal staging PortalLength = length portal % 64 ≢ 0
+IsFirstLengthFault portal staging StagingLength = (length portal % 64 ≡ 0) × ¬ HasStagingLength (entries portal) staging
+IsFirstLengthFault portal staging (BatchFields group) = ⊥
+IsFirstLengthFault portal staging (EntryFence group) = ⊥
+IsFirstLengthFault portal staging (Entry index cause) = ⊥
+IsFirstLengthFault portal staging (RecordBytes batch) = ⊥
+IsFirstLengthFault portal staging Memory = ⊥
+
+abbrev pub owner_of : List ℕ → List ℕ → List ℕ
+owner_of portal staging = owner_at (piece_bytes (entries portal) (entries staging) 0 0)
+
+-- the lengths and the entries of all batches are right
+pub record HasBatches (s : Limits) (portal staging : List ℕ) : Type 0 where
+  pub lengths : HasLengths portal staging
+  pub right : (number : ℕ) → number < length (entries portal) → IsRightAt s (entries portal) (owner_of portal staging) number
+
+-- each piece of that group is sound
+abbrev pub IsSoundGroup : Demands → List (List ℕ) → List (List ℕ) → ℕ → Type 0
+IsSoundGroup demands es staged number =
+    (k : ℕ) → k < told_size (slice_index_or es number []) → IsSoundPiece demands (piece_bytes es staged number) k
+
+-- so are those of the groups before one, in which the fault is the first
+pub record IsFirstPortalFault (demands : Demands) (es staged : List (List ℕ)) (fault : EmissionFault) : Type 0 where
+  pub number : ℕ
+  pub inside : number < length es
+  pub before : (g : ℕ) → g < number → IsSoundGroup demands es staged g
+  pub stands :
+      IsFirstGroupFault demands (piece_bytes es staged number) number (told_place es number).start
+      (told_size (slice_index_or es number [])) fault
+
+-- the batches are right, and so is each piece
+pub record HasPieces (s : Limits) (portal staging : List ℕ) : Type 0 where
+  pub batches : HasBatches s portal staging
+  pub sound : (g : ℕ) → g < length (entries portal) → IsSoundGroup (demands_of s (entries portal) (entries staging)) (entries portal) (entries staging) g
+
+-- behind the descriptors of the staging area, the 32 record bytes of that batch are zero
+abbrev pub HasZeroRecord : List ℕ → ℕ → Type 0
+HasZeroRecord records batch = AreZero (take 32 (drop (32 * batch) records))
+
+abbrev pub records_of : List ℕ → List ℕ → List ℕ
+records_of portal staging = drop (64 * (told_end (entries portal)).batched) staging
+
+-- the fault stands in the bytes, and none before it, in this order: the length of the portal and that of the staging
+-- area, the entries of batches, the pieces in order, the records of batches. Want of memory is told once the entries
+-- of batches are right (this project's choice)
+abbrev pub IsFirstEmissionFault : Limits → List ℕ → List ℕ → EmissionFault → Type 0
+IsFirstEmissionFault s portal staging PortalLength = IsFirstLengthFault portal staging PortalLength
+IsFirstEmissionFault s portal staging StagingLength = IsFirstLengthFault portal staging StagingLength
+IsFirstEmissionFault s portal staging (BatchFields number) =
+    HasLengths portal staging × (number < length (entries portal)) ×
+    ((g : ℕ) → g < number → IsRightAt s (entries portal) (owner_of portal staging) g) ×
+    ¬ IsRightAt s (entries portal) (owner_of portal staging) number
+IsFirstEmissionFault s portal staging (EntryFence number) =
+    HasBatches s portal staging ×
+    IsFirstPortalFault (demands_of s (entries portal) (entries staging)) (entries portal) (entries staging) (EntryFence number)
+IsFirstEmissionFault s portal staging (Entry q fault) =
+    HasBatches s portal staging ×
+    IsFirstPortalFault (demands_of s (entries portal) (entries staging)) (entries portal) (entries staging) (Entry q fault)
+IsFirstEmissionFault s portal staging (RecordBytes batch) =
+    HasPieces s portal staging × (batch < (told_end (entries portal)).batches) ×
+    ((b : ℕ) → b < batch → HasZeroRecord (records_of portal staging) b) × ¬ HasZeroRecord (records_of portal staging) batch
+IsFirstEmissionFault s portal staging Memory = HasBatches s portal staging
+
+-- the bytes are the emission of a plan and its pieces, which can be emitted
+pub record IsEmission (s : Limits) (portal staging : List ℕ) (plan : Plan) (ds : List Descriptor) : Type 0 where
+  pub can_be : CanBeEmitted s plan (map fields ds)
+  pub portal_is : portal ≡ portal_bytes s plan (map fields ds)
+  pub staging_is : staging ≡ staging_bytes plan (map fields ds)
+
+-- ---- what was read
+
+-- a group and its pieces are what these bytes tell, so far: each fence, and each descriptor, which is fit
+pub record IsGroupRead (demands : Demands) (bytes : ℕ → List ℕ) (size : ℕ) (group : Group) (ds : List Descriptor) : Type 0 where
+  pub fences : length group ≡ size
+  pub pieces : length ds ≡ size
+  pub first_unfenced : is_fenced (bytes 0) ≡ false
+  pub each :
+      (k : ℕ) (fence : Bool) (d : Descriptor) → slice_get group k ≡ Some fence → slice_get ds k ≡ Some d →
+      (fence ≡ is_fenced (bytes k)) × Spells (bytes k) d
+  pub fit : All (IsFit demands) (map fields ds)
+
+-- a plan and its pieces are what that many entries tell
+pub record IsRead (demands : Demands) (es staged : List (List ℕ)) (count : ℕ) (plan : Plan) (ds : List Descriptor) : Type 0 where
+  pub groups : length plan ≡ count
+  pub pieces : length ds ≡ (told_place es count).start
+  pub sizes : (number : ℕ) (group : Group) → slice_get plan number ≡ Some group → length group ≡ told_size (slice_index_or es number [])
+  pub each :
+      (number : ℕ) (group : Group) (k : ℕ) (fence : Bool) (d : Descriptor) → slice_get plan number ≡ Some group →
+      slice_get group k ≡ Some fence → slice_get ds ((told_place es number).start + k) ≡ Some d →
+      (fence ≡ is_fenced (piece_bytes es staged number k)) × Spells (piece_bytes es staged number k) d
+  pub firsts : (number : ℕ) → number < count → is_fenced (piece_bytes es staged number 0) ≡ false
+  pub fit : All (IsFit demands) (map fields ds)
+  pub sound : (number : ℕ) → number < count → IsSoundGroup demands es staged number

@@ -1,0 +1,203 @@
+//! Reading back the bytes that submit a plan.
+
+ghost use Rattle.std.specs.Prelude.{◌≡◌, ◌≢◌, ℕ, true, ◌+◌, ◌*◌, ◌<◌, ◌≤◌, ◌⊎◌, ◌↔◌, ◌++◌, List, [], length, slice_index_or, IsTrue, IfOk, IfErr, MatchResult, Bool};
+ghost use Rattle.dsa_descriptor.specs.declared.descriptor.Descriptor.{Descriptor};
+ghost use Rattle.dsa_descriptor.specs.Descriptors.{fields};
+ghost use Rattle.dsa_descriptor.specs.Spans.{InSpan};
+ghost use Rattle.dsa_ranges.specs.Ranges.{Touches};
+ghost use Rattle.dsa_emission.specs.declared.emission_fault.EmissionFault.{EmissionFault};
+ghost use Rattle.dsa_emission.specs.declared.emission_fault.EmissionFault.TheVariants.{Memory};
+ghost use Rattle.dsa_emission.specs.EmissionFaults.{is_batch_entry, told_size, bytes_at, is_fenced, unfenced, Spells, IsOwned, IsFit, IsFirstEntryFault, IsFirstGroupFault, IsFirstPortalFault, IsGroupRead, IsRead, told_end, IsEmission, IsFirstEmissionFault};
+
+use crate::demands::Demands;
+use crate::emission_fault::{EmissionFault, EntryFault};
+use crate::place::Place;
+use crate::portal::{
+    after_entry, end_of_portal, first_owner, is_batch_entry, told_size, wrong_batch, wrong_record,
+};
+use dsa_descriptor::{Descriptor, Span};
+use dsa_ranges::{meets_some, touched};
+use dsa_settings::{Group, Plan, Settings};
+use std::alloc::Global;
+
+/// Whether the descriptor has the fence.
+fn is_fenced(bytes: &[u8; 64]) -> bool
+    ensures { result ≡ is_fenced bytes.now }
+{
+    bytes[4] % 2 == 1
+}
+
+/// The bytes without the fence.
+fn unfenced(bytes: &[u8; 64]) -> [u8; 64]
+    ensures { result ≡ unfenced bytes.now }
+{
+    let mut plain = *bytes;
+    plain[4] -= bytes[4] % 2;
+    plain
+}
+
+/// Whether the descriptor has the PASID and the privilege of these bytes.
+#[tactic(auto, unfolding(dsa_descriptor::specs::Places::u32_at))]
+fn is_owned(piece: &Descriptor, demands: &Demands) -> bool
+    ensures { IsTrue result ↔ IsOwned demands.now (fields piece.now) }
+{
+    let word = u32::from_le_bytes(demands.owner);
+    piece.pasid == word % (1 << 20) && piece.privileged == (word >> 31 == 1)
+}
+
+/// Whether the descriptor reads or writes an address of the area.
+fn touches(piece: &Descriptor, area: Span) -> bool
+    ensures { IsTrue result ↔
+        ((address : ℕ) × InSpan area address × Touches (fields piece.now) address) }
+{
+    let touched = touched(piece);
+    if meets_some(area, &touched.reads) {
+        return true;
+    }
+    meets_some(area, &touched.writes)
+}
+
+/// The piece that the bytes spell, fenced or not, if it meets the demands.
+fn read_piece(bytes: &[u8; 64], demands: &Demands) -> Result<Descriptor, EntryFault>
+    ensures found { IfOk result (λ piece. Spells bytes.now piece ×
+        IsFit demands.now (fields piece)) }
+    ensures fault { IfErr result (IsFirstEntryFault demands.now bytes.now) }
+{
+    let piece = Descriptor::read(&unfenced(bytes))?;
+    if u64::from(piece.size) > demands.greatest {
+        return Err(EntryFault::OverTransfer);
+    }
+    if !is_owned(&piece, demands) {
+        return Err(EntryFault::MixedPasid);
+    }
+    if touches(&piece, demands.area) {
+        return Err(EntryFault::StagingMeets);
+    }
+    Ok(piece)
+}
+
+/// The bytes of piece `k` of the group with this entry.
+fn piece_bytes<'a>(
+    staged: &'a [[u8; 64]],
+    place: Place,
+    entry: &'a [u8; 64],
+    k: usize,
+) -> &'a [u8; 64]
+    requires { is_batch_entry entry.now ≡ true → place.batched + k < length staged.now }
+    ensures { result.now ≡ bytes_at staged.now place entry.now k }
+{
+    if is_batch_entry(entry) {
+        &staged[place.batched + k]
+    } else {
+        entry
+    }
+}
+
+/// Reads the group with this entry, and adds its pieces.
+fn read_group(
+    alloc: Global,
+    pieces: &mut Vec<Descriptor>,
+    number: usize,
+    place: Place,
+    entry: &[u8; 64],
+    staged: &[[u8; 64]],
+    demands: &Demands,
+) -> Result<Group, EmissionFault>
+    requires nonempty { 0 < told_size entry.now }
+    requires few { place.start + told_size entry.now ≤ 65536 }
+    requires inside { is_batch_entry entry.now ≡ true →
+        place.batched + told_size entry.now ≤ length staged.now }
+    ensures ok { IfOk result (λ group. (ds : List Descriptor) ×
+        (pieces.new.items ≡ pieces.old.items ++ ds) × IsGroupRead demands.now
+        (bytes_at staged.now place entry.now) (told_size entry.now) group ds) }
+    ensures err { IfErr result (λ fault. (fault ≡ Memory) ⊎ IsFirstGroupFault demands.now
+        (bytes_at staged.now place entry.now) number place.start (told_size entry.now) fault) }
+{
+    if is_fenced(piece_bytes(staged, place, entry, 0)) {
+        return Err(EmissionFault::EntryFence(number));
+    }
+    let size = told_size(entry);
+    let mut fences = Vec::with_capacity(alloc, size)?;
+    for k in 0..size {
+        let bytes = piece_bytes(staged, place, entry, k);
+        let piece = match read_piece(bytes, demands) {
+            Ok(piece) => piece,
+            Err(fault) => return Err(EmissionFault::Entry(place.start + k, fault)),
+        };
+        fences.push(is_fenced(bytes))?;
+        pieces.push(piece)?;
+    }
+    Ok(Group::new(fences))
+}
+
+/// The plan and the pieces that right entries tell.
+fn read_groups(
+    alloc: Global,
+    all: &[[u8; 64]],
+    staged: &[[u8; 64]],
+    demands: &Demands,
+) -> Result<(Plan, Vec<Descriptor>), EmissionFault>
+    requires few { (told_end all.now).start ≤ 65536 }
+    requires inside { (told_end all.now).batched ≤ length staged.now }
+    requires sized { (g : ℕ) → g < length all.now → 0 < told_size (slice_index_or all.now g []) }
+    ensures ok { IfOk result
+        (λ read. IsRead demands.now all.now staged.now (length all.now) read.0 read.1.items) }
+    ensures err { IfErr result (λ fault. (fault ≡ Memory) ⊎
+        IsFirstPortalFault demands.now all.now staged.now fault) }
+{
+    let mut groups = Vec::with_capacity(alloc, all.len())?;
+    let mut pieces = Vec::new(alloc);
+    let mut place = Place::default();
+    for (number, entry) in all.iter().enumerate() {
+        let group = read_group(alloc, &mut pieces, number, place, entry, staged, demands)?;
+        groups.push(group)?;
+        place = after_entry(place, entry);
+    }
+    Ok((Plan::new(groups), pieces))
+}
+
+/// The plan and the pieces that these bytes submit: exactly where the bytes are what [`emit`](crate::emit) makes of a
+/// plan and pieces, they are read again.
+///
+/// # Errors
+/// The first of these: [`EmissionFault::PortalLength`]; [`EmissionFault::StagingLength`]; for the least group
+/// [`EmissionFault::BatchFields`]; for the least piece [`EmissionFault::EntryFence`], or else
+/// [`EmissionFault::Entry`] with its first fault; for the least batch [`EmissionFault::RecordBytes`]. Once the entries
+/// of batches are right, [`EmissionFault::Memory`] comes where a growth is refused, before the faults not yet found.
+pub fn read_emission(
+    alloc: Global,
+    portal: &[u8],
+    staging: &[u8],
+    settings: &Settings,
+) -> Result<(Plan, Vec<Descriptor>), EmissionFault>
+    ensures found { IfOk result
+        (λ read. IsEmission settings.now portal.now staging.now read.0 read.1.items) }
+    ensures only { (plan : List (List Bool)) (ds : List Descriptor) →
+        IsEmission settings.now portal.now staging.now plan ds → MatchResult result
+        (λ read. (read.0 ≡ plan) × (read.1.items ≡ ds)) (λ fault. fault ≡ Memory) }
+    ensures fault { IfErr result (IsFirstEmissionFault settings.now portal.now staging.now) }
+    ensures refused { (fault : EmissionFault) →
+        fault ≢ Memory → IsFirstEmissionFault settings.now portal.now staging.now fault →
+        MatchResult result (λ _. ⊥) (λ told. (told ≡ fault) ⊎ (told ≡ Memory)) }
+{
+    let end = end_of_portal(portal, staging)?;
+    let (all, _) = portal.as_chunks::<64>();
+    let (staged, _) = staging.as_chunks::<64>();
+    let owner = first_owner(all, staged);
+    if let Some(number) = wrong_batch(all, end.batched, &owner, settings) {
+        return Err(EmissionFault::BatchFields(number));
+    }
+    let demands = Demands {
+        owner,
+        area: Span {
+            first: settings.staging(),
+            len: 96 * end.start as u64,
+        },
+        greatest: settings.greatest_transfer(),
+    };
+    let read = read_groups(alloc, all, staged, &demands)?;
+    if let Some(batch) = wrong_record(&staging[64 * end.batched..], end.batches) {
+        return Err(EmissionFault::RecordBytes(batch));
+    }
+    Ok(read)
+}

@@ -1,0 +1,2 @@
+pub mod LegalFaults
+pub mod Sweeps

@@ -1,0 +1,8 @@
+//! Conflicts between pieces, as laws speak of them.
+
+ghost use Rattle.std.specs.Prelude.{ℕ};
+
+/// Which pieces conflict, by their numbers.
+pub trait Conflicts {
+    ghost conflict: { ℕ → ℕ → Type 0 };
+}

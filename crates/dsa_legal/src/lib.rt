@@ -1,0 +1,9 @@
+//! Which plans are legal for a list of pieces, and why one is not.
+#![tactic(auto)]
+
+mod conflicts;
+mod legal;
+mod sweep;
+
+pub use conflicts::Conflicts;
+pub use legal::{LegalFault, is_legal};

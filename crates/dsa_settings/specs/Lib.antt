@@ -1,0 +1,5 @@
+pub mod Plan
+pub mod Settings
+pub mod Kept
+pub mod Legal
+pub mod Shapes

@@ -3,3 +3,4 @@ pub mod Settings
 pub mod Kept
 pub mod Legal
 pub mod Shapes
+pub mod Stretches

@@ -1,4 +1,2 @@
-pub mod Objects
-pub mod Names
-pub mod Arrays
+pub mod Pairs
 pub mod OneDocument

@@ -1,26 +1,10 @@
 -- A value is the document of one certificate at most.
-use Rattle.std.proofs.Common.{◌≡◌, ℕ, List, [], ◌∷◌, map, codes, Option, Some, None, option_and_then, refl, sym, ap}
+use Rattle.std.proofs.Common.{◌≡◌, ℕ, [], ◌∷◌, codes, Option, Some, None, refl, ap}
 use Rattle.std.proofs.lemmas.Option.{same_Some}
-use Rattle.serde_json.specs.Data.{Data, unsigned, number}
-use Rattle.serde_json.specs.Find.{get, as_number, as_u64, as_array}
-use Rattle.dsa_cert.specs.Spelled.{whole, array_of}
-use Rattle.dsa_cert.specs.Document.{Contents, pair_value, pairs_value, prices_value, document}
-use Rattle.dsa_cert.proofs.Arrays.{same_items}
-
--- lists that are spelled alike are one, where items are
-pub same_from_map : {Y : Type 0} (spelling : Y → Data) → ((x y : Y) → spelling x ≡ spelling y → x ≡ y) → (xs ys : List Y) → map spelling xs ≡ map spelling ys → xs ≡ ys
-same_from_map spelling one [] [] e = refl
-same_from_map spelling one [] (y ∷ ys) e = cc
-same_from_map spelling one (x ∷ xs) [] e = cc
-same_from_map spelling one (x ∷ xs) (y ∷ ys) e =
-    let first = one x y cc in
-    let rest = same_from_map spelling one xs ys cc in cc
-
-pub same_array : {Y : Type 0} (spelling : Y → Data) → ((x y : Y) → spelling x ≡ spelling y → x ≡ y) → (xs ys : List Y) → array_of (map spelling xs) ≡ array_of (map spelling ys) → xs ≡ ys
-same_array spelling one xs ys e = same_from_map spelling one xs ys (same_items (map spelling xs) (map spelling ys) cc)
-
-pub same_whole : (m n : ℕ) → whole m ≡ whole n → m ≡ n
-same_whole m n e = cc
+use Rattle.serde_json.specs.Find.{get}
+use Rattle.dsa_json.specs.Spelled.{whole}
+use Rattle.dsa_cert.specs.Document.{Contents, pair_value, document}
+use Rattle.dsa_json.proofs.Arrays.{same_items, same_array, same_whole}
 
 same_pair : (p q : Option (ℕ × ℕ)) → pair_value p ≡ pair_value q → p ≡ q
 same_pair None None e = refl

@@ -1,3 +1,3 @@
-pub mod Spelled
+pub use Rattle.dsa_json.specs.Spelled
 pub mod Document
 pub mod Certificates

@@ -3,11 +3,9 @@
 
 mod certificate;
 mod document;
-mod members;
 
 pub use certificate::{CertFault, Certificate};
 pub use document::{prices_of, read_json, write_json};
-pub use members::{has_names, number_at, text_at};
 
 #[cfg(test)]
 mod tests;

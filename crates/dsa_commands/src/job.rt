@@ -1,7 +1,8 @@
 //! Reading a job whose plan is explained.
 
 use crate::bytes::bytes_of;
-use dsa_cert::{CertFault, Certificate, has_names, number_at, prices_of, read_json, text_at};
+use dsa_cert::{CertFault, Certificate, prices_of, read_json};
+use dsa_json::{has_names, number_at, text_at};
 use dsa_plan::{Group, Plan, Settings};
 use dsa_planner::PlanFault;
 use serde_json::Value;

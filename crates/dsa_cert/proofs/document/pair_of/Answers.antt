@@ -1,6 +1,6 @@
 use Rattle.std.proofs.Common.{length, rules, arith}
 use Rattle.serde_json.specs.View.{view}
-use Rattle.dsa_cert.proofs.Arrays.{no_pair}
+use Rattle.dsa_cert.proofs.Pairs.{no_pair}
 use Rattle.dsa_cert.proofs.document.pair_of.Goals as goal
 
 pub returns-in_default-as_slice : goal.returns-in_default-as_slice

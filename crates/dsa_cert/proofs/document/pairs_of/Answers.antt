@@ -1,7 +1,7 @@
 use Rattle.std.proofs.Common.{rules}
 use Rattle.serde_json.specs.View.{view}
 use Rattle.dsa_cert.specs.Document.{PairFits, pair_value}
-use Rattle.dsa_cert.proofs.Arrays.{array_apart}
+use Rattle.dsa_json.proofs.Arrays.{array_apart}
 use Rattle.dsa_cert.proofs.document.pairs_of.Goals as goal
 
 pub returns-in_default-pair_of : goal.returns-in_default-pair_of

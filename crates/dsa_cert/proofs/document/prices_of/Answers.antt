@@ -2,8 +2,8 @@ use Rattle.std.proofs.Common.{rules, ap, ℕ}
 use Rattle.std.specs.Prelude.{⊤, option_and_then}
 use Rattle.serde_json.specs.Find.{as_number, as_u64}
 use Rattle.serde_json.specs.View.{view}
-use Rattle.dsa_cert.specs.Spelled.{whole}
-use Rattle.dsa_cert.proofs.Arrays.{array_apart}
+use Rattle.dsa_json.specs.Spelled.{whole}
+use Rattle.dsa_json.proofs.Arrays.{array_apart}
 use Rattle.dsa_cert.proofs.document.prices_of.Goals as goal
 
 pub returns-in_default-as_u64 : goal.returns-in_default-as_u64

@@ -1,13 +1,12 @@
 -- Reading an array whose items each spell something.
-use Rattle.std.proofs.Common.{◌≡◌, ◌≢◌, ℕ, zero, suc, ◌<◌, List, [], ◌∷◌, length, map, get_or, Option, Some, None, Bool, refl, sym, ap, ◌∙◌, arith}
+use Rattle.std.proofs.Common.{◌≡◌, ◌≢◌, ℕ, zero, suc, ◌<◌, List, [], ◌∷◌, length, map, get_or, Some, Bool, refl, sym, ap, ◌∙◌, arith}
 use Rattle.std.specs.Prelude.{All}
 use Rattle.serde_json.specs.Data.{Data, null, boolean, number, string, array, object, Items}
 use Rattle.serde_json.specs.Find.{as_array, as_bool}
 use Rattle.serde_json.specs.View.{view, items_of, items_view}
 use Rattle.serde_json.specs.declared.value.Value.{Value}
 use Rattle.std.proofs.lemmas.List.{length-map}
-use Rattle.dsa_cert.specs.Spelled.{whole, array_of}
-use Rattle.dsa_cert.specs.Document.{PairFits, pair_value}
+use Rattle.dsa_json.specs.Spelled.{whole, array_of}
 
 -- the items of an array are one list
 pub same_items : (xs ys : List Data) → items_of xs ≡ items_of ys → xs ≡ ys
@@ -61,7 +60,17 @@ two_items d vs a b is e =
     let same : map view vs ≡ a ∷ b ∷ [] = same_items (map view vs) (a ∷ b ∷ []) cc in
     sym (length-map vs view) ∙ ap length same
 
--- an array with another number of items spells no pair
-pub no_pair : (d : Data) (vs : List Value) → as_array d ≡ Some (items_view vs) → (length vs ≡ 2 → ⊥) → (pair : Option (ℕ × ℕ)) → PairFits pair → d ≡ pair_value pair → ⊥
-no_pair d vs is other None fits e = let found = ap as_array e in cc
-no_pair d vs is other (Some pair) fits e = other (two_items d vs (whole pair.0) (whole pair.1) is e)
+-- lists that are spelled alike are one, where items are
+pub same_from_map : {Y : Type 0} (spelling : Y → Data) → ((x y : Y) → spelling x ≡ spelling y → x ≡ y) → (xs ys : List Y) → map spelling xs ≡ map spelling ys → xs ≡ ys
+same_from_map spelling one [] [] e = refl
+same_from_map spelling one [] (y ∷ ys) e = cc
+same_from_map spelling one (x ∷ xs) [] e = cc
+same_from_map spelling one (x ∷ xs) (y ∷ ys) e =
+    let first = one x y cc in
+    let rest = same_from_map spelling one xs ys cc in cc
+
+pub same_array : {Y : Type 0} (spelling : Y → Data) → ((x y : Y) → spelling x ≡ spelling y → x ≡ y) → (xs ys : List Y) → array_of (map spelling xs) ≡ array_of (map spelling ys) → xs ≡ ys
+same_array spelling one xs ys e = same_from_map spelling one xs ys (same_items (map spelling xs) (map spelling ys) cc)
+
+pub same_whole : (m n : ℕ) → whole m ≡ whole n → m ≡ n
+same_whole m n e = cc

@@ -1,0 +1,6 @@
+//! Values of JSON: how they spell numbers, arrays and objects, and readers of the members of an object.
+#![tactic(auto)]
+
+mod members;
+
+pub use members::{has_names, number_at, text_at};

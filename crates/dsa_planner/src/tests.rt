@@ -16,6 +16,8 @@ use std::test::Fail;
 use std::thread;
 use std::time::Duration;
 
+mod rows;
+
 /// The bytes of a move with its record's address.
 fn move_bytes(src: u64, dst: u64, size: u32, record_at: u64) -> [u8; 64] {
     let mut bytes = [0; 64];

@@ -1,3 +1,4 @@
 pub mod Emission
 pub mod EmissionLaws
 pub mod EmissionFaults
+pub mod Causes

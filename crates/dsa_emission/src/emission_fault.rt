@@ -1,10 +1,11 @@
 //! Why bytes are no emission.
 
-ghost use Rattle.std.specs.Prelude.{◌≡◌};
+ghost use Rattle.std.specs.Prelude.{◌≡◌, ◌≤◌, length};
 ghost use Rattle.dsa_emission.specs.declared.emission_fault.EmissionFault.TheVariants.{Memory};
 ghost use Rattle.dsa_emission.specs.declared.emission_fault.EntryFault.TheVariants.{Field};
+ghost use Rattle.dsa_emission.specs.Causes.{entry_number, entry_name, emission_is_memory, emission_number, emission_name, emission_indices, emission_entry};
 
-use dsa_descriptor::FieldFault;
+use dsa_descriptor::{FieldFault, Indices};
 use std::alloc::{AllocError, AllocFailed};
 
 /// Why the bytes of one piece are refused.
@@ -18,6 +19,33 @@ pub enum EntryFault {
     MixedPasid,
     /// The staging area meets a range of the piece.
     StagingMeets,
+}
+
+impl EntryFault {
+    /// The number of the refusal.
+    pub fn number(self) -> u8
+        ensures { result ≡ entry_number self }
+    {
+        match self {
+            EntryFault::Field(fault) => fault.number(),
+            EntryFault::OverTransfer => 37,
+            EntryFault::MixedPasid => 12,
+            EntryFault::StagingMeets => 33,
+        }
+    }
+
+    /// The name of the refusal.
+    pub fn name(self) -> &'static str
+        ensures value { result.now ≡ entry_name self }
+        ensures short { length result.now ≤ 16 }
+    {
+        match self {
+            EntryFault::Field(fault) => fault.name(),
+            EntryFault::OverTransfer => "OverTransfer",
+            EntryFault::MixedPasid => "MixedPasid",
+            EntryFault::StagingMeets => "StagingMeets",
+        }
+    }
 }
 
 impl From<FieldFault> for EntryFault {
@@ -45,6 +73,84 @@ pub enum EmissionFault {
     RecordBytes(usize),
     /// There is no memory for the plan or its pieces.
     Memory,
+}
+
+impl EmissionFault {
+    /// Whether an allocation failed.
+    pub fn is_memory(self) -> bool
+        ensures { result ≡ emission_is_memory self }
+    {
+        match self {
+            EmissionFault::Memory => true,
+            EmissionFault::PortalLength
+            | EmissionFault::StagingLength
+            | EmissionFault::BatchFields(_)
+            | EmissionFault::EntryFence(_)
+            | EmissionFault::Entry(_, _)
+            | EmissionFault::RecordBytes(_) => false,
+        }
+    }
+
+    /// The number of the refusal.
+    pub fn number(self) -> u8
+        ensures { result ≡ emission_number self }
+    {
+        match self {
+            EmissionFault::PortalLength => 44,
+            EmissionFault::BatchFields(_) => 45,
+            EmissionFault::StagingLength => 46,
+            EmissionFault::Entry(_, _) => 47,
+            EmissionFault::EntryFence(_) => 48,
+            EmissionFault::RecordBytes(_) => 49,
+            EmissionFault::Memory => 73,
+        }
+    }
+
+    /// The name of the refusal.
+    pub fn name(self) -> &'static str
+        ensures value { result.now ≡ emission_name self }
+        ensures short { length result.now ≤ 16 }
+    {
+        match self {
+            EmissionFault::PortalLength => "PortalLength",
+            EmissionFault::BatchFields(_) => "BatchFields",
+            EmissionFault::StagingLength => "StagingLength",
+            EmissionFault::Entry(_, _) => "Entry",
+            EmissionFault::EntryFence(_) => "EntryFence",
+            EmissionFault::RecordBytes(_) => "RecordBytes",
+            EmissionFault::Memory => "Memory",
+        }
+    }
+
+    /// The indices that the refusal names.
+    pub fn indices(self) -> Indices
+        ensures { result ≡ emission_indices self }
+    {
+        match self {
+            EmissionFault::BatchFields(index)
+            | EmissionFault::Entry(index, _)
+            | EmissionFault::EntryFence(index)
+            | EmissionFault::RecordBytes(index) => Indices::One(index as u64),
+            EmissionFault::PortalLength | EmissionFault::StagingLength | EmissionFault::Memory => {
+                Indices::Empty
+            }
+        }
+    }
+
+    /// The fault of the piece that is refused, if it is one.
+    pub fn entry(self) -> Option<EntryFault>
+        ensures { result ≡ emission_entry self }
+    {
+        match self {
+            EmissionFault::Entry(_, fault) => Some(fault),
+            EmissionFault::PortalLength
+            | EmissionFault::StagingLength
+            | EmissionFault::BatchFields(_)
+            | EmissionFault::EntryFence(_)
+            | EmissionFault::RecordBytes(_)
+            | EmissionFault::Memory => None,
+        }
+    }
 }
 
 impl From<AllocError> for EmissionFault {

@@ -1,2 +1,3 @@
 pub mod LegalFaults
 pub mod Sweeps
+pub mod Causes

@@ -7,12 +7,13 @@ ghost use Rattle.dsa_legal.specs.declared.legal.LegalFault.{LegalFault};
 ghost use Rattle.dsa_settings.specs.Legal.{IsLegal, HasGroupSize, BeginsUnfenced};
 ghost use Rattle.dsa_settings.specs.Shapes.{HasGroupShapes};
 ghost use Rattle.dsa_legal.specs.LegalFaults.{IsShapeFault, HasNoUnfenced, IsLastUnfenced, IsFencedWithin, IsFirstUnfencedWithin, IsFencedThroughout, IsFirstUnfenced, IsFirstLegalFault};
+ghost use Rattle.dsa_legal.specs.Causes.{legal_number, legal_name, legal_indices};
 ghost use Rattle.dsa_settings.specs.Plan.{piece_count};
 ghost use Rattle.dsa_settings.specs.Settings.{prices_of};
 
 use crate::sweep::{Access, ROOM, is_seen_fenced};
 use arrayvec::ArrayVec;
-use dsa_descriptor::Descriptor;
+use dsa_descriptor::{Descriptor, Indices};
 use dsa_ranges::{in_conflict, touched};
 use dsa_settings::{Group, Plan, Settings};
 
@@ -30,6 +31,46 @@ pub enum LegalFault {
     FirstFence(usize),
     /// The two pieces conflict and are in one group, and no piece after the first and up to the second is fenced.
     Unfenced(usize, usize),
+}
+
+impl LegalFault {
+    /// The number of the refusal.
+    pub fn number(self) -> u8
+        ensures { result ≡ legal_number self }
+    {
+        match self {
+            LegalFault::Count => 40,
+            LegalFault::GroupSize(_) => 41,
+            LegalFault::FirstFence(_) => 42,
+            LegalFault::Unfenced(_, _) => 43,
+        }
+    }
+
+    /// The name of the refusal.
+    pub fn name(self) -> &'static str
+        ensures value { result.now ≡ legal_name self }
+        ensures short { length result.now ≤ 16 }
+    {
+        match self {
+            LegalFault::Count => "Count",
+            LegalFault::GroupSize(_) => "GroupSize",
+            LegalFault::FirstFence(_) => "FirstFence",
+            LegalFault::Unfenced(_, _) => "Unfenced",
+        }
+    }
+
+    /// The indices that the refusal names.
+    pub fn indices(self) -> Indices
+        ensures { result ≡ legal_indices self }
+    {
+        match self {
+            LegalFault::Count => Indices::Empty,
+            LegalFault::GroupSize(group) | LegalFault::FirstFence(group) => {
+                Indices::One(group as u64)
+            }
+            LegalFault::Unfenced(first, second) => Indices::Two(first as u64, second as u64),
+        }
+    }
 }
 
 /// Whether the groups have so many pieces together.

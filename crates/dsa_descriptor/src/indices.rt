@@ -1,0 +1,12 @@
+//! The indices that a refusal names.
+
+/// The indices that a refusal names, in their order.
+#[derive(Clone, Copy, Debug, PartialEq, Eq)]
+pub enum Indices {
+    /// None.
+    Empty,
+    /// One.
+    One(u64),
+    /// Two.
+    Two(u64, u64),
+}

@@ -1,12 +1,11 @@
 -- What crosses to C and back.
-use Rattle.std.specs.Prelude.{◌≡◌, ◌⊎◌, if◌then◌else◌, ◌==◌, ℕ, List, [], ◌++◌, drop, length, slice_index_or}
+use Rattle.std.specs.Prelude.{◌≡◌, ◌⊎◌, if◌then◌else◌, ◌==◌, ℕ, List, [], ◌++◌, drop, length, slice_index_or, Option, Some, None}
 use Rattle.dsa_plan.specs.Settings.{BatchPrices, Limits, AreInLimits, limits}
 use Rattle.dsa_plan.specs.Settings.BatchPrices.{SamePrice, BySize}
-use Rattle.dsa_checker.specs.declared.fault.CheckFault.{CheckFault}
-use Rattle.dsa_checker.specs.declared.fault.CheckFault.TheVariants.{Plan, Version, Lengths, Pair, Price, Total}
+use Rattle.dsa_descriptor.specs.Causes.{index_list}
 use Rattle.dsa_planner.specs.declared.fault.PlanFault.{PlanFault}
-use Rattle.dsa_planner.specs.declared.fault.PlanFault.TheVariants.{Length, Field, MixedPasid, OutOfImage, ImageSize, DeltaTooLong, ExpectedSplit, TooManyPieces, StagingMeets, RowMeetsData, RowWrap, OverTransfer, Legal, PortalLength, BatchFields, StagingLength, Entry, EntryFence, RecordBytes, Shape, Check, GateShut, Stale, Mixed, Memory, TooLong, NotAStep, Incomplete, Json, Member, Do, Settings, Hex, Engines, JobTooLong}
-use Rattle.dsa_planner.specs.Fault.{fault_number, fault_places, legal_number, legal_places, entry_number}
+use Rattle.dsa_planner.specs.declared.fault.InnerFault.{InnerFault}
+use Rattle.dsa_planner.specs.Fault.{fault_number, fault_indices, fault_inner, inner_number, inner_indices}
 use Rattle.dsa_c.specs.declared.settings.RawSettings.{RawSettings}
 use Rattle.dsa_c.specs.declared.refusal.RawRefusal.{RawRefusal}
 
@@ -26,102 +25,19 @@ AreSettings r table = ((r.version ≡ 1) ⊎ (r.version ≡ 2)) × AreInLimits (
 abbrev pub written : {X : Type 0} → List X → List X → List X
 written items old = items ++ drop (length items) old
 
--- the number of a plan's fault, which a certificate's fault has in it, else 0; and the indices that it names
-abbrev pub check_inner : CheckFault → ℕ
-check_inner (Plan fault) = legal_number fault
-check_inner Version = 0
-check_inner Lengths = 0
-check_inner (Pair i) = 0
-check_inner (Price i j) = 0
-check_inner Total = 0
+-- the number of the cause within, of a piece or a plan that is refused in its turn, else 0
+abbrev pub inner_of : Option InnerFault → ℕ
+inner_of None = 0
+inner_of (Some cause) = inner_number cause
 
-abbrev pub check_inner_places : CheckFault → List ℕ
-check_inner_places (Plan fault) = legal_places fault
-check_inner_places Version = []
-check_inner_places Lengths = []
-check_inner_places (Pair i) = []
-check_inner_places (Price i j) = []
-check_inner_places Total = []
+-- the indices that it names
+abbrev pub inner_places : Option InnerFault → List ℕ
+inner_places None = []
+inner_places (Some cause) = index_list (inner_indices cause)
 
--- the number of the cause within, of a piece's fault or a plan's, else 0
-abbrev pub inner_of : PlanFault → ℕ
-inner_of (Entry index fault) = entry_number fault
-inner_of (Check fault) = check_inner fault
-inner_of Length = 0
-inner_of (Field index cause) = 0
-inner_of (MixedPasid index) = 0
-inner_of (OutOfImage index) = 0
-inner_of ImageSize = 0
-inner_of (DeltaTooLong index) = 0
-inner_of (ExpectedSplit index) = 0
-inner_of TooManyPieces = 0
-inner_of (StagingMeets index) = 0
-inner_of (RowMeetsData index) = 0
-inner_of (RowWrap index) = 0
-inner_of (OverTransfer index) = 0
-inner_of (Legal fault) = 0
-inner_of PortalLength = 0
-inner_of (BatchFields group) = 0
-inner_of StagingLength = 0
-inner_of (EntryFence group) = 0
-inner_of (RecordBytes batch) = 0
-inner_of Shape = 0
-inner_of GateShut = 0
-inner_of Stale = 0
-inner_of Mixed = 0
-inner_of Memory = 0
-inner_of TooLong = 0
-inner_of (NotAStep event) = 0
-inner_of Incomplete = 0
-inner_of Json = 0
-inner_of Member = 0
-inner_of Do = 0
-inner_of Settings = 0
-inner_of Hex = 0
-inner_of Engines = 0
-inner_of JobTooLong = 0
-
--- the indices that a plan's fault within names
-abbrev pub inner_places : PlanFault → List ℕ
-inner_places (Check fault) = check_inner_places fault
-inner_places Length = []
-inner_places (Field index cause) = []
-inner_places (MixedPasid index) = []
-inner_places (OutOfImage index) = []
-inner_places ImageSize = []
-inner_places (DeltaTooLong index) = []
-inner_places (ExpectedSplit index) = []
-inner_places TooManyPieces = []
-inner_places (StagingMeets index) = []
-inner_places (RowMeetsData index) = []
-inner_places (RowWrap index) = []
-inner_places (OverTransfer index) = []
-inner_places (Legal fault) = []
-inner_places PortalLength = []
-inner_places (BatchFields group) = []
-inner_places StagingLength = []
-inner_places (Entry index fault) = []
-inner_places (EntryFence group) = []
-inner_places (RecordBytes batch) = []
-inner_places Shape = []
-inner_places GateShut = []
-inner_places Stale = []
-inner_places Mixed = []
-inner_places Memory = []
-inner_places TooLong = []
-inner_places (NotAStep event) = []
-inner_places Incomplete = []
-inner_places Json = []
-inner_places Member = []
-inner_places Do = []
-inner_places Settings = []
-inner_places Hex = []
-inner_places Engines = []
-inner_places JobTooLong = []
-
--- all indices that a refusal names; of a plan that is refused in its turn, those of its fault
+-- all indices that a refusal names, and behind them those of the cause within
 abbrev pub all_places : PlanFault → List ℕ
-all_places fault = fault_places fault ++ inner_places fault
+all_places fault = index_list (fault_indices fault) ++ inner_places (fault_inner fault)
 
 -- these are the first two numbers of the list, with 0 for each that is missing
 abbrev pub ArePlaces : List ℕ → ℕ × ℕ → Type 0
@@ -132,7 +48,7 @@ abbrev pub refusal_of : PlanFault → RawRefusal
 refusal_of fault =
     record {
       number = fault_number fault;
-      inner = inner_of fault;
+      inner = inner_of (fault_inner fault);
       first = slice_index_or (all_places fault) 0 0;
       second = slice_index_or (all_places fault) 1 0;
     }

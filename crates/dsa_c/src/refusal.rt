@@ -1,11 +1,11 @@
 //! Refusals, as C lays them out.
 
 ghost use Rattle.std.specs.Prelude.{◌≡◌, ◌<◌};
-ghost use Rattle.dsa_planner.specs.Fault.{legal_number, legal_places, entry_number};
+ghost use Rattle.dsa_descriptor.specs.Causes.{index_list};
+ghost use Rattle.dsa_planner.specs.Fault.{fault_inner};
 ghost use Rattle.dsa_c.specs.Raw.{refusal_of, no_room, no_room_for_certificate, inner_of, ArePlaces, all_places};
 
-use dsa_checker::CheckFault;
-use dsa_plan::{EntryFault, LegalFault};
+use dsa_descriptor::Indices;
 use dsa_planner::PlanFault;
 
 /// The number of the refusal of buffers that are too small for the bytes to submit.
@@ -68,130 +68,36 @@ pub(crate) fn no_room_for_certificate(pieces: usize) -> RawRefusal
 
 // The number of the cause within, else 0.
 fn inner(fault: PlanFault) -> u32
-    ensures { result ≡ inner_of fault }
+    ensures { result ≡ inner_of (fault_inner fault) }
 {
-    match fault {
-        PlanFault::Entry(_, cause) => entry_number(cause),
-        PlanFault::Check(CheckFault::Plan(cause)) => legal_number(cause),
-        PlanFault::Check(CheckFault::Lengths)
-        | PlanFault::Check(CheckFault::Pair(_))
-        | PlanFault::Check(CheckFault::Price(_, _))
-        | PlanFault::Check(CheckFault::Total)
-        | PlanFault::Check(CheckFault::Version)
-        | PlanFault::Length
-        | PlanFault::Field(_, _)
-        | PlanFault::MixedPasid(_)
-        | PlanFault::OutOfImage(_)
-        | PlanFault::ImageSize
-        | PlanFault::DeltaTooLong(_)
-        | PlanFault::ExpectedSplit(_)
-        | PlanFault::TooManyPieces
-        | PlanFault::StagingMeets(_)
-        | PlanFault::RowMeetsData(_)
-        | PlanFault::RowWrap(_)
-        | PlanFault::OverTransfer(_)
-        | PlanFault::Legal(_)
-        | PlanFault::PortalLength
-        | PlanFault::BatchFields(_)
-        | PlanFault::StagingLength
-        | PlanFault::EntryFence(_)
-        | PlanFault::RecordBytes(_)
-        | PlanFault::Shape
-        | PlanFault::GateShut
-        | PlanFault::Stale
-        | PlanFault::Mixed
-        | PlanFault::Memory
-        | PlanFault::TooLong
-        | PlanFault::NotAStep(_)
-        | PlanFault::Incomplete
-        | PlanFault::Json
-        | PlanFault::Member
-        | PlanFault::Do
-        | PlanFault::Settings
-        | PlanFault::Hex
-        | PlanFault::Engines
-        | PlanFault::JobTooLong => 0,
+    match fault.inner() {
+        Some(cause) => u32::from(cause.number()),
+        None => 0,
     }
 }
 
-// The number of the fault of a piece that was read back.
-fn entry_number(fault: EntryFault) -> u32
-    ensures { result ≡ entry_number fault }
-{
-    match fault {
-        EntryFault::Field(cause) => u32::from(cause.number()),
-        EntryFault::OverTransfer => 37,
-        EntryFault::MixedPasid => 12,
-        EntryFault::StagingMeets => 33,
-    }
-}
-
-// The number of a plan's fault.
-fn legal_number(fault: LegalFault) -> u32
-    ensures { result ≡ legal_number fault }
-{
-    match fault {
-        LegalFault::Count => 40,
-        LegalFault::GroupSize(_) => 41,
-        LegalFault::FirstFence(_) => 42,
-        LegalFault::Unfenced(_, _) => 43,
-    }
-}
-
-// The indices that the cause names, the first two, with 0 for each that is missing.
+// The first two indices that the cause and the cause within name, with 0 for each that is missing.
 fn places(fault: PlanFault) -> (u64, u64)
     ensures { ArePlaces (all_places fault) result }
 {
-    match fault {
-        PlanFault::Field(index, _)
-        | PlanFault::MixedPasid(index)
-        | PlanFault::OutOfImage(index)
-        | PlanFault::DeltaTooLong(index)
-        | PlanFault::ExpectedSplit(index)
-        | PlanFault::StagingMeets(index)
-        | PlanFault::RowMeetsData(index)
-        | PlanFault::RowWrap(index)
-        | PlanFault::OverTransfer(index)
-        | PlanFault::BatchFields(index)
-        | PlanFault::Entry(index, _)
-        | PlanFault::EntryFence(index)
-        | PlanFault::RecordBytes(index)
-        | PlanFault::NotAStep(index)
-        | PlanFault::Check(CheckFault::Pair(index)) => (index as u64, 0),
-        PlanFault::Legal(cause) | PlanFault::Check(CheckFault::Plan(cause)) => legal_places(cause),
-        PlanFault::Check(CheckFault::Price(first, second)) => (first as u64, second as u64),
-        PlanFault::Check(CheckFault::Lengths)
-        | PlanFault::Check(CheckFault::Total)
-        | PlanFault::Check(CheckFault::Version)
-        | PlanFault::Length
-        | PlanFault::ImageSize
-        | PlanFault::TooManyPieces
-        | PlanFault::PortalLength
-        | PlanFault::StagingLength
-        | PlanFault::Shape
-        | PlanFault::GateShut
-        | PlanFault::Stale
-        | PlanFault::Mixed
-        | PlanFault::Memory
-        | PlanFault::TooLong
-        | PlanFault::Incomplete
-        | PlanFault::Json
-        | PlanFault::Member
-        | PlanFault::Do
-        | PlanFault::Settings
-        | PlanFault::Hex
-        | PlanFault::Engines
-        | PlanFault::JobTooLong => (0, 0),
+    let (first, second) = match fault.inner() {
+        Some(cause) => first_two(cause.indices()),
+        None => (0, 0),
+    };
+    match fault.indices() {
+        Indices::Empty => (first, second),
+        Indices::One(index) => (index, first),
+        Indices::Two(index, next) => (index, next),
     }
 }
 
-// The indices that a plan's fault names, with 0 for each that is missing.
-fn legal_places(fault: LegalFault) -> (u64, u64)
-    ensures { ArePlaces (legal_places fault) result }
+// These indices, with 0 for each that is missing.
+fn first_two(indices: Indices) -> (u64, u64)
+    ensures { ArePlaces (index_list indices) result }
 {
-    match fault {
-        LegalFault::Count => (0, 0),
-        LegalFault::GroupSize(group) | LegalFault::FirstFence(group) => (group as u64, 0),
-        LegalFault::Unfenced(first, second) => (first as u64, second as u64),
+    match indices {
+        Indices::Empty => (0, 0),
+        Indices::One(first) => (first, 0),
+        Indices::Two(first, second) => (first, second),
     }
 }

@@ -1,5 +1,5 @@
 -- Checking has one outcome.
-use Rattle.std.proofs.Common.{◌≡◌, inl, inr, ℕ, List, length, map, Result, Ok, Err, IsOk, sym, ap, subst, ◌∙◌}
+use Rattle.std.proofs.Common.{◌≡◌, inl, inr, if◌then◌else◌, Bool, true, false, ℕ, List, length, map, Result, Ok, Err, IsOk, refl, sym, ap, subst, ◌∙◌}
 use Rattle.std.proofs.lemmas.List.{length-map}
 use Rattle.dsa_descriptor.specs.declared.descriptor.Descriptor.{Descriptor}
 use Rattle.dsa_descriptor.specs.Fields.{Fields}
@@ -11,7 +11,7 @@ use Rattle.dsa_plan.specs.Legal.{IsLegal, IsLeast}
 use Rattle.dsa_plan.specs.Certificate.{IsGood}
 use Rattle.dsa_plan.specs.EmissionFaults.{IsEmission, IsFirstEmissionFault}
 use Rattle.dsa_emission.specs.declared.emission_fault.EmissionFault.{EmissionFault}
-use Rattle.dsa_emission.specs.declared.emission_fault.EmissionFault.TheVariants.{PortalLength, StagingLength, BatchFields, EntryFence, Entry, RecordBytes, Memory as EmissionMemory}
+use Rattle.dsa_emission.specs.Causes.{emission_is_memory}
 use Rattle.dsa_emission.proofs.OneFault.{one_fault, none_to_tell}
 use Rattle.dsa_emission.proofs.Told.{one_emission}
 use Rattle.dsa_plan.proofs.Costs.{yes_means_least}
@@ -20,7 +20,7 @@ use Rattle.dsa_checker.specs.declared.fault.CheckFault.{CheckFault}
 use Rattle.dsa_checker.specs.Checked.{IsFirstCheckFault}
 use Rattle.dsa_checker.proofs.Answered.{yes_has_no_fault, one_check_fault}
 use Rattle.dsa_planner.specs.declared.fault.PlanFault.{PlanFault}
-use Rattle.dsa_planner.specs.declared.fault.PlanFault.TheVariants.{Check}
+use Rattle.dsa_planner.specs.declared.fault.PlanFault.TheVariants.{Emission, Check, Memory}
 use Rattle.dsa_planner.specs.Fault.{emission_cause}
 use Rattle.dsa_planner.specs.Lists.{OrMemory}
 use Rattle.dsa_planner.specs.Checked.{IsShownLeast, ChecksPlan, Checks}
@@ -29,13 +29,11 @@ use Rattle.dsa_planner.specs.Laws.{OneChecked}
 -- the bytes were refused
 pub bytes_refused : (portal staging : List ℕ) (s : Limits) (c : Contents) (cause : EmissionFault) (fault : PlanFault) → fault ≡ emission_cause cause → IsFirstEmissionFault s portal staging cause
     → OrMemory {X = ℕ} {Y = ℕ} (λ cost. cost) (Checks portal staging s c) (Err fault)
-bytes_refused portal staging s c PortalLength fault is first = inr (inl (PortalLength, (λ e. cc), first, ap Err is))
-bytes_refused portal staging s c StagingLength fault is first = inr (inl (StagingLength, (λ e. cc), first, ap Err is))
-bytes_refused portal staging s c (BatchFields g) fault is first = inr (inl (BatchFields g, (λ e. cc), first, ap Err is))
-bytes_refused portal staging s c (EntryFence g) fault is first = inr (inl (EntryFence g, (λ e. cc), first, ap Err is))
-bytes_refused portal staging s c (Entry q f) fault is first = inr (inl (Entry q f, (λ e. cc), first, ap Err is))
-bytes_refused portal staging s c (RecordBytes b) fault is first = inr (inl (RecordBytes b, (λ e. cc), first, ap Err is))
-bytes_refused portal staging s c EmissionMemory fault is first = inl is
+bytes_refused portal staging s c cause fault is first = go (emission_is_memory cause) refl is
+  where
+    go : (b : Bool) → emission_is_memory cause ≡ b → fault ≡ (if b then Memory else Emission cause) → OrMemory {X = ℕ} {Y = ℕ} (λ cost. cost) (Checks portal staging s c) (Err fault)
+    go true e same = inl same
+    go false e same = inr (inl (cause, (λ f. let g = ap emission_is_memory f in cc), first, ap Err same))
 
 -- what a yes says, in the checker's words
 held_of : (s : Limits) (fs : List Fields) (plan : Plan) (c : Contents) (cost : ℕ) → IsShownLeast s fs plan c cost
@@ -49,13 +47,10 @@ not_both s fs plan c cost f h first = yes_has_no_fault (ConflictAt fs) (prices_o
 -- a plan of pieces and a certificate have one outcome
 one_plan_checked : (s : Limits) (fs : List Fields) (plan : Plan) (c : Contents) (o p : Result ℕ PlanFault) → ChecksPlan s fs plan c o → ChecksPlan s fs plan c p → o ≡ p
 one_plan_checked s fs plan c (Ok cost) (Ok cost') h k = ap Ok (h.is_cost ∙ sym k.is_cost)
-one_plan_checked s fs plan c (Ok cost) (Err (Check f)) h k = absurd (not_both s fs plan c cost f h k)
-one_plan_checked s fs plan c (Ok cost) (Err _) h k = absurd k
-one_plan_checked s fs plan c (Err (Check f)) (Ok cost) h k = absurd (not_both s fs plan c cost f k h)
-one_plan_checked s fs plan c (Err (Check f)) (Err (Check g)) h k =
-    ap (λ (x : CheckFault). Err (Check x)) (one_check_fault (ConflictAt fs) (prices_of s) (version_of s) (length fs) plan c f g h k)
-one_plan_checked s fs plan c (Err (Check f)) (Err _) h k = absurd k
-one_plan_checked s fs plan c (Err _) p h k = absurd h
+one_plan_checked s fs plan c (Ok cost) (Err cause) h (f, is, first) = absurd (not_both s fs plan c cost f h first)
+one_plan_checked s fs plan c (Err cause) (Ok cost) (f, is, first) k = absurd (not_both s fs plan c cost f k first)
+one_plan_checked s fs plan c (Err cause) (Err other) (f, is, first) (g, is', first') =
+    ap Err (is ∙ ap Check (one_check_fault (ConflictAt fs) (prices_of s) (version_of s) (length fs) plan c f g first first') ∙ sym is')
 
 -- bytes are the emission of one plan and its pieces
 same_emission : (s : Limits) (portal staging : List ℕ) (plan plan' : Plan) (ds ds' : List Descriptor) → IsEmission s portal staging plan ds → IsEmission s portal staging plan' ds'
@@ -65,7 +60,7 @@ same_emission s portal staging plan plan' ds ds' e e' =
 
 pub one_checked : OneChecked
 one_checked portal staging s c o p (inl (f, nf, first, is)) (inl (g, ng, first', is')) =
-    is ∙ ap (λ (x : EmissionFault). Err (emission_cause x)) (one_fault s portal staging f g nf ng first first') ∙ sym is'
+    is ∙ ap (λ (x : EmissionFault). Err (Emission x)) (one_fault s portal staging f g nf ng first first') ∙ sym is'
 one_checked portal staging s c o p (inl (f, nf, first, is)) (inr (plan, ds, emission, checks)) = absurd (none_to_tell s portal staging plan ds f emission nf first)
 one_checked portal staging s c o p (inr (plan, ds, emission, checks)) (inl (g, ng, first', is')) = absurd (none_to_tell s portal staging plan ds g emission ng first')
 one_checked portal staging s c o p (inr (plan, ds, emission, checks)) (inr (plan', ds', emission', checks')) =

@@ -18,6 +18,7 @@ use Rattle.dsa_splitter.proofs.Wholes.{list_can_split}
 use Rattle.dsa_ranges.specs.Ranges.{ConflictAt}
 use Rattle.dsa_core.specs.declared.outcome.Outcome.{Outcome}
 use Rattle.dsa_core.specs.declared.event.Event.{Event}
+use Rattle.dsa_core.specs.declared.fault.CoreFault.TheVariants.{NotAStep}
 use Rattle.dsa_core.specs.StopPoint.{AllSucceed}
 use Rattle.dsa_core.specs.BatchRecords.{batch_records}
 use Rattle.dsa_core.specs.Stretches.{stretch_of}
@@ -29,7 +30,7 @@ use Rattle.dsa_core.proofs.PieceRunLaws.{every_run_is_in_order}
 use Rattle.dsa_core.proofs.OneReplay.{none_refused, one_refused}
 use Rattle.dsa_core.proofs.StopPoint.{stop_points_agree}
 use Rattle.dsa_planner.specs.declared.fault.PlanFault.{PlanFault}
-use Rattle.dsa_planner.specs.declared.fault.PlanFault.TheVariants.{NotAStep}
+use Rattle.dsa_planner.specs.declared.fault.PlanFault.TheVariants.{Core}
 use Rattle.dsa_planner.specs.Lists.{OrMemory}
 use Rattle.dsa_planner.specs.Planned.{Submission, Plans}
 use Rattle.dsa_planner.specs.Runs.{Left, left_of, OrShut, OverPlanned, ReplaysPieces, RunsPieces, LeavesWhole}
@@ -68,7 +69,7 @@ module _ (m : Memory) (engines : ℕ) (trace : List Event) (plan : Plan) (pieces
   over_or_no_step left fault out (inr (is, cut)) = over_or_not (room_with m plan pieces engines trace) out.over cut
 
   one_end_fault : (f g : PlanFault) → ReplaysPieces m engines trace plan pieces (Err f) → ReplaysPieces m engines trace plan pieces (Err g) → f ≡ g
-  one_end_fault f g (inl (k, is, first)) (inl (j, is', first')) = is ∙ ap NotAStep (one_refused m plan pieces engines trace k j first first') ∙ sym is'
+  one_end_fault f g (inl (k, is, first)) (inl (j, is', first')) = is ∙ ap (λ (n : ℕ). Core (NotAStep n)) (one_refused m plan pieces engines trace k j first first') ∙ sym is'
   one_end_fault f g (inl (k, is, first)) (inr (is', cut)) = absurd (unfinished_refuses_none m plan pieces engines trace k cut first)
   one_end_fault f g (inr (is, cut)) (inl (k, is', first)) = absurd (unfinished_refuses_none m plan pieces engines trace k cut first)
   one_end_fault f g (inr (is, cut)) (inr (is', cut')) = is ∙ sym is'

@@ -1,5 +1,5 @@
 -- Judging has one outcome.
-use Rattle.std.proofs.Common.{◌≡◌, inl, inr, ℕ, List, length, map, Result, Ok, Err, refl, sym, ap, subst, ◌∙◌, arith}
+use Rattle.std.proofs.Common.{◌≡◌, inl, inr, ℕ, List, length, map, Result, Ok, Err, sym, ap, subst, ◌∙◌, arith}
 use Rattle.std.proofs.lemmas.Bool.{cases_lt}
 use Rattle.dsa_descriptor.specs.declared.descriptor.Descriptor.{Descriptor}
 use Rattle.dsa_descriptor.specs.Fields.{Fields}
@@ -9,7 +9,7 @@ use Rattle.dsa_plan.specs.Settings.{Limits}
 use Rattle.dsa_plan.specs.Plan.{Plan}
 use Rattle.dsa_legal.proofs.Judged.{legal_no_fault, one_fault}
 use Rattle.dsa_planner.specs.declared.fault.PlanFault.{PlanFault}
-use Rattle.dsa_planner.specs.declared.fault.PlanFault.TheVariants.{TooManyPieces, OverTransfer, Legal}
+use Rattle.dsa_planner.specs.declared.fault.PlanFault.TheVariants.{OverTransfer, Legal}
 use Rattle.dsa_planner.specs.Lists.{IsListOf, OrMemory}
 use Rattle.dsa_planner.specs.Judge.{FitTransfer, IsFirstOver, JudgesPieces, Judges}
 use Rattle.dsa_planner.specs.Laws.{OneJudged}
@@ -32,29 +32,31 @@ one_over greatest fs i j p q =
       ]
     ]
 
+-- pieces that are judged have no cause to refuse them
+judged_or_not : (fs : List Fields) (plan : Plan) (s : Limits) (cost : ℕ) (cause : PlanFault) → JudgesPieces fs plan s (Ok cost) → JudgesPieces fs plan s (Err cause) → ⊥
+judged_or_not fs plan s cost cause h (inl (is, many)) = let few = h.0 in omega arith
+judged_or_not fs plan s cost cause h (inr (inl (i, is, few, over))) = none_over s.greatest_transfer fs i h.1 over
+judged_or_not fs plan s cost cause h (inr (inr (fault, is, few, fit, first))) = legal_no_fault (ConflictAt fs) s.greatest_batch (length fs) plan fault h.2 first
+
+-- and else one
+one_cause : (fs : List Fields) (plan : Plan) (s : Limits) (cause other : PlanFault) → JudgesPieces fs plan s (Err cause) → JudgesPieces fs plan s (Err other) → cause ≡ other
+one_cause fs plan s cause other (inl (is, many)) (inl (is', many')) = is ∙ sym is'
+one_cause fs plan s cause other (inl (is, many)) (inr (inl (i, is', few, over))) = absurd (omega arith)
+one_cause fs plan s cause other (inl (is, many)) (inr (inr (fault, is', few, fit, first))) = absurd (omega arith)
+one_cause fs plan s cause other (inr (inl (i, is, few, over))) (inl (is', many)) = absurd (omega arith)
+one_cause fs plan s cause other (inr (inl (i, is, few, over))) (inr (inl (j, is', few', over'))) = is ∙ ap OverTransfer (one_over s.greatest_transfer fs i j over over') ∙ sym is'
+one_cause fs plan s cause other (inr (inl (i, is, few, over))) (inr (inr (fault, is', few', fit, first))) = absurd (none_over s.greatest_transfer fs i fit over)
+one_cause fs plan s cause other (inr (inr (fault, is, few, fit, first))) (inl (is', many)) = absurd (omega arith)
+one_cause fs plan s cause other (inr (inr (fault, is, few, fit, first))) (inr (inl (j, is', few', over))) = absurd (none_over s.greatest_transfer fs j fit over)
+one_cause fs plan s cause other (inr (inr (fault, is, few, fit, first))) (inr (inr (fault', is', few', fit', first'))) =
+    is ∙ ap Legal (one_fault (ConflictAt fs) s.greatest_batch (length fs) plan fault fault' first first') ∙ sym is'
+
 -- pieces have one outcome
 one_judged_pieces : (fs : List Fields) (plan : Plan) (s : Limits) (o p : Result ℕ PlanFault) → JudgesPieces fs plan s o → JudgesPieces fs plan s p → o ≡ p
 one_judged_pieces fs plan s (Ok cost) (Ok cost') h k = ap Ok (h.3 ∙ sym k.3)
-one_judged_pieces fs plan s (Ok cost) (Err TooManyPieces) h k = let few = h.0 in absurd (omega arith)
-one_judged_pieces fs plan s (Ok cost) (Err (OverTransfer i)) h k = absurd (none_over s.greatest_transfer fs i h.1 k.1)
-one_judged_pieces fs plan s (Ok cost) (Err (Legal fault)) h k = absurd (legal_no_fault (ConflictAt fs) s.greatest_batch (length fs) plan fault h.2 k.2)
-one_judged_pieces fs plan s (Ok cost) (Err _) h k = absurd k
-one_judged_pieces fs plan s (Err TooManyPieces) (Ok cost') h k = let few = k.0 in absurd (omega arith)
-one_judged_pieces fs plan s (Err TooManyPieces) (Err TooManyPieces) h k = refl
-one_judged_pieces fs plan s (Err TooManyPieces) (Err (OverTransfer i)) h k = let few = k.0 in absurd (omega arith)
-one_judged_pieces fs plan s (Err TooManyPieces) (Err (Legal fault)) h k = let few = k.0 in absurd (omega arith)
-one_judged_pieces fs plan s (Err TooManyPieces) (Err _) h k = absurd k
-one_judged_pieces fs plan s (Err (OverTransfer i)) (Ok cost') h k = absurd (none_over s.greatest_transfer fs i k.1 h.1)
-one_judged_pieces fs plan s (Err (OverTransfer i)) (Err TooManyPieces) h k = let few = h.0 in absurd (omega arith)
-one_judged_pieces fs plan s (Err (OverTransfer i)) (Err (OverTransfer j)) h k = ap (λ n. Err (OverTransfer n)) (one_over s.greatest_transfer fs i j h.1 k.1)
-one_judged_pieces fs plan s (Err (OverTransfer i)) (Err (Legal fault)) h k = absurd (none_over s.greatest_transfer fs i k.1 h.1)
-one_judged_pieces fs plan s (Err (OverTransfer i)) (Err _) h k = absurd k
-one_judged_pieces fs plan s (Err (Legal fault)) (Ok cost') h k = absurd (legal_no_fault (ConflictAt fs) s.greatest_batch (length fs) plan fault k.2 h.2)
-one_judged_pieces fs plan s (Err (Legal fault)) (Err TooManyPieces) h k = let few = h.0 in absurd (omega arith)
-one_judged_pieces fs plan s (Err (Legal fault)) (Err (OverTransfer j)) h k = absurd (none_over s.greatest_transfer fs j h.1 k.1)
-one_judged_pieces fs plan s (Err (Legal fault)) (Err (Legal fault')) h k = ap (λ f. Err (Legal f)) (one_fault (ConflictAt fs) s.greatest_batch (length fs) plan fault fault' h.2 k.2)
-one_judged_pieces fs plan s (Err (Legal fault)) (Err _) h k = absurd k
-one_judged_pieces fs plan s (Err _) p h k = absurd h
+one_judged_pieces fs plan s (Ok cost) (Err cause) h k = absurd (judged_or_not fs plan s cost cause h k)
+one_judged_pieces fs plan s (Err cause) (Ok cost) h k = absurd (judged_or_not fs plan s cost cause k h)
+one_judged_pieces fs plan s (Err cause) (Err other) h k = ap Err (one_cause fs plan s cause other h k)
 
 pub one_judged : OneJudged
 one_judged bytes plan s = one_over_list (λ fs o. JudgesPieces fs plan s o) (λ fs o p. one_judged_pieces fs plan s o p) bytes

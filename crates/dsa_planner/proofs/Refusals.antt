@@ -16,7 +16,7 @@ use Rattle.dsa_core.specs.declared.outcome.Outcome.{Outcome}
 use Rattle.dsa_core.specs.Accounts.{most_members}
 use Rattle.dsa_core.proofs.Stretches.{legal_with_more}
 use Rattle.dsa_planner.specs.declared.fault.PlanFault.{PlanFault}
-use Rattle.dsa_planner.specs.declared.fault.PlanFault.TheVariants.{OutOfImage, Engines, TooLong, Memory as NoMemory}
+use Rattle.dsa_planner.specs.declared.fault.PlanFault.TheVariants.{OutOfImage, Memory as NoMemory}
 use Rattle.dsa_planner.specs.Lists.{OrMemory}
 use Rattle.dsa_planner.specs.Planned.{Submission, Plans, ArePiecesOf, IsPlanOf}
 use Rattle.dsa_planner.specs.Runs.{CanBegin, IsFirstBeginFault, RefusesRun, OverPlanned, IsPlanned, IsReady, Left, left_of}
@@ -27,25 +27,20 @@ use Rattle.dsa_planner.proofs.Submissions.{one_planned, same_pieces, whole_submi
 -- ---- whether a run can begin
 
 can_or_fault : (m : Memory) (engines : ℕ) (pieces : List Fields) (fault : PlanFault) → CanBegin m engines pieces → IsFirstBeginFault m engines pieces fault → ⊥
-can_or_fault m engines pieces Engines can fault = fault can.are_engines
-can_or_fault m engines pieces (OutOfImage i) can fault = none_outside m pieces i can.holds fault.1
-can_or_fault m engines pieces TooLong can fault = let few = can.few_events in let many = fault.2 in omega arith
-can_or_fault m engines pieces _ can fault = fault
+can_or_fault m engines pieces fault can (inl (is, none)) = none can.are_engines
+can_or_fault m engines pieces fault can (inr (inl (i, is, some, outside))) = none_outside m pieces i can.holds outside
+can_or_fault m engines pieces fault can (inr (inr (is, some, holds, many))) = let few = can.few_events in omega arith
 
 one_begin_fault : (m : Memory) (engines : ℕ) (pieces : List Fields) (f g : PlanFault) → IsFirstBeginFault m engines pieces f → IsFirstBeginFault m engines pieces g → f ≡ g
-one_begin_fault m engines pieces Engines Engines p q = refl
-one_begin_fault m engines pieces Engines (OutOfImage j) p q = absurd (p q.0)
-one_begin_fault m engines pieces Engines TooLong p q = absurd (p q.0)
-one_begin_fault m engines pieces Engines _ p q = absurd q
-one_begin_fault m engines pieces (OutOfImage i) Engines p q = absurd (q p.0)
-one_begin_fault m engines pieces (OutOfImage i) (OutOfImage j) p q = ap OutOfImage (first_is_one m pieces i j p.1 q.1)
-one_begin_fault m engines pieces (OutOfImage i) TooLong p q = absurd (none_outside m pieces i q.1 p.1)
-one_begin_fault m engines pieces (OutOfImage i) _ p q = absurd q
-one_begin_fault m engines pieces TooLong Engines p q = absurd (q p.0)
-one_begin_fault m engines pieces TooLong (OutOfImage j) p q = absurd (none_outside m pieces j p.1 q.1)
-one_begin_fault m engines pieces TooLong TooLong p q = refl
-one_begin_fault m engines pieces TooLong _ p q = absurd q
-one_begin_fault m engines pieces _ g p q = absurd p
+one_begin_fault m engines pieces f g (inl (is, none)) (inl (is', none')) = is ∙ sym is'
+one_begin_fault m engines pieces f g (inl (is, none)) (inr (inl (j, is', some, outside))) = absurd (none some)
+one_begin_fault m engines pieces f g (inl (is, none)) (inr (inr (is', some, holds, many))) = absurd (none some)
+one_begin_fault m engines pieces f g (inr (inl (i, is, some, outside))) (inl (is', none)) = absurd (none some)
+one_begin_fault m engines pieces f g (inr (inl (i, is, some, outside))) (inr (inl (j, is', some', outside'))) = is ∙ ap OutOfImage (first_is_one m pieces i j outside outside') ∙ sym is'
+one_begin_fault m engines pieces f g (inr (inl (i, is, some, outside))) (inr (inr (is', some', holds, many))) = absurd (none_outside m pieces i holds outside)
+one_begin_fault m engines pieces f g (inr (inr (is, some, holds, many))) (inl (is', none)) = absurd (none some)
+one_begin_fault m engines pieces f g (inr (inr (is, some, holds, many))) (inr (inl (j, is', some', outside))) = absurd (none_outside m pieces j holds outside)
+one_begin_fault m engines pieces f g (inr (inr (is, some, holds, many))) (inr (inr (is', some', holds', many'))) = is ∙ sym is'
 
 -- ---- the pieces of a list
 

@@ -1,5 +1,5 @@
 -- Planning has one outcome, whose plan is least and shown to be.
-use Rattle.std.proofs.Common.{◌≡◌, inl, inr, ℕ, ◌≤◌, List, length, map, Result, Ok, Err, sym, ap, subst, ◌∙◌, arith}
+use Rattle.std.proofs.Common.{◌≡◌, inl, inr, if◌then◌else◌, Bool, true, false, ℕ, ◌≤◌, List, length, map, Result, Ok, Err, refl, sym, ap, subst, ◌∙◌, arith}
 use Rattle.std.proofs.lemmas.List.{length-map}
 use Rattle.dsa_descriptor.specs.declared.descriptor.Descriptor.{Descriptor}
 use Rattle.dsa_descriptor.specs.Fields.{Fields}
@@ -14,7 +14,7 @@ use Rattle.dsa_plan.specs.LegalFaults.{HasGroupShapes}
 use Rattle.dsa_plan.specs.Certificate.{IsGood}
 use Rattle.dsa_plan.specs.Emission.{portal_bytes, staging_bytes, CanBeEmitted}
 use Rattle.dsa_splitter.specs.declared.fault.SplitFault.{SplitFault}
-use Rattle.dsa_splitter.specs.declared.fault.SplitFault.TheVariants.{DeltaTooLong, ExpectedSplit, TooManyPieces, StagingMeets, RowMeetsData, RowWrap, Memory as SplitMemory}
+use Rattle.dsa_splitter.specs.Causes.{split_is_memory}
 use Rattle.dsa_splitter.specs.Pieces.{all_pieces}
 use Rattle.dsa_splitter.specs.Rules.{IsSplit, IsFirstSplitFault}
 use Rattle.dsa_splitter.proofs.OneFault.{one_first_fault, split_no_fault}
@@ -24,6 +24,7 @@ use Rattle.dsa_search.specs.Chosen.{IsChosen}
 use Rattle.dsa_search.proofs.Choosing.{chosen_is_good, chosen_is_least}
 use Rattle.dsa_search.proofs.Unique.{one_chosen}
 use Rattle.dsa_planner.specs.declared.fault.PlanFault.{PlanFault}
+use Rattle.dsa_planner.specs.declared.fault.PlanFault.TheVariants.{Split, Memory}
 use Rattle.dsa_planner.specs.Fault.{split_cause}
 use Rattle.dsa_planner.specs.Lists.{IsListOf, OrMemory}
 use Rattle.dsa_planner.specs.Planned.{Submission, IsSubmissionOf, PlansOperations, Plans, CanBePlanned, ArePiecesOf, SplitsList, IsSubmissionOfPieces}
@@ -64,13 +65,11 @@ can_emit C s fs plan can legal = record {
 -- the operations were refused
 pub split_refused : (bytes : List ℕ) (s : Limits) (ds : List Descriptor) (cause : SplitFault) (fault : PlanFault) → IsListOf bytes ds → fault ≡ split_cause cause
     → IsFirstSplitFault s.greatest_transfer s.staging (map fields ds) cause → OrMemory {X = List Descriptor} {Y = List Descriptor} (λ p. p) (SplitsList s bytes) (Err fault)
-split_refused bytes s ds (DeltaTooLong i) fault list is first = inr (inr (ds, list, (DeltaTooLong i, (λ e. cc), first, is)))
-split_refused bytes s ds (ExpectedSplit i) fault list is first = inr (inr (ds, list, (ExpectedSplit i, (λ e. cc), first, is)))
-split_refused bytes s ds TooManyPieces fault list is first = inr (inr (ds, list, (TooManyPieces, (λ e. cc), first, is)))
-split_refused bytes s ds (StagingMeets i) fault list is first = inr (inr (ds, list, (StagingMeets i, (λ e. cc), first, is)))
-split_refused bytes s ds (RowMeetsData i) fault list is first = inr (inr (ds, list, (RowMeetsData i, (λ e. cc), first, is)))
-split_refused bytes s ds (RowWrap i) fault list is first = inr (inr (ds, list, (RowWrap i, (λ e. cc), first, is)))
-split_refused bytes s ds SplitMemory fault list is first = inl is
+split_refused bytes s ds cause fault list is first = go (split_is_memory cause) refl is
+  where
+    go : (b : Bool) → split_is_memory cause ≡ b → fault ≡ (if b then Memory else Split cause) → OrMemory {X = List Descriptor} {Y = List Descriptor} (λ p. p) (SplitsList s bytes) (Err fault)
+    go true e same = inl same
+    go false e same = inr (inr (ds, list, (cause, (λ f. let g = ap split_is_memory f in cc), first, same)))
 
 -- ---- one outcome
 
@@ -97,7 +96,7 @@ one_operations s fs (Ok p) (Ok q) h k = ap Ok (one_submission s fs p q h k)
 one_operations s fs (Ok p) (Err fault) h (cause, other, first, is) = absurd (other (split_no_fault s.greatest_transfer s.staging fs cause h.split first))
 one_operations s fs (Err fault) (Ok q) (cause, other, first, is) k = absurd (other (split_no_fault s.greatest_transfer s.staging fs cause k.split first))
 one_operations s fs (Err fault) (Err fault') (cause, other, first, is) (cause', other', first', is') =
-    ap Err (is ∙ ap split_cause (one_first_fault s.greatest_transfer s.staging fs cause cause' first first') ∙ sym is')
+    ap Err (is ∙ ap Split (one_first_fault s.greatest_transfer s.staging fs cause cause' first first') ∙ sym is')
 
 pub one_planned : OnePlanned
 one_planned bytes s = one_over_list (λ fs o. PlansOperations s fs o) (λ fs o p. one_operations s fs o p) bytes

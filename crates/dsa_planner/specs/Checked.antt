@@ -12,10 +12,10 @@ use Rattle.dsa_plan.specs.EmissionFaults.{IsEmission, IsFirstEmissionFault}
 use Rattle.dsa_emission.specs.declared.emission_fault.EmissionFault.{EmissionFault}
 use Rattle.dsa_emission.specs.declared.emission_fault.EmissionFault.TheVariants.{Memory as EmissionMemory}
 use Rattle.dsa_cert.specs.Document.{Contents}
+use Rattle.dsa_checker.specs.declared.fault.CheckFault.{CheckFault}
 use Rattle.dsa_checker.specs.Checked.{IsFirstCheckFault}
 use Rattle.dsa_planner.specs.declared.fault.PlanFault.{PlanFault}
-use Rattle.dsa_planner.specs.declared.fault.PlanFault.TheVariants.{Check}
-use Rattle.dsa_planner.specs.Fault.{emission_cause}
+use Rattle.dsa_planner.specs.declared.fault.PlanFault.TheVariants.{Emission, Check}
 
 -- the certificate shows that the plan of these pieces is legal and that none costs less than this
 pub record IsShownLeast (s : Limits) (pieces : List Fields) (plan : Plan) (c : Contents) (cost : ℕ) : Type 0 where
@@ -27,13 +27,12 @@ pub record IsShownLeast (s : Limits) (pieces : List Fields) (plan : Plan) (c : C
 -- the outcome of checking this plan of the pieces: its cost where the certificate shows it, and else the first fault
 abbrev pub ChecksPlan : Limits → List Fields → Plan → Contents → Result ℕ PlanFault → Type 0
 ChecksPlan s pieces plan c (Ok cost) = IsShownLeast s pieces plan c cost
-ChecksPlan s pieces plan c (Err (Check fault)) =
-    IsFirstCheckFault (ConflictAt pieces) (prices_of s) (version_of s) (length pieces) plan c fault
-ChecksPlan s pieces plan c (Err _) = ⊥
+ChecksPlan s pieces plan c (Err cause) =
+    (fault : CheckFault) × (cause ≡ Check fault) × IsFirstCheckFault (ConflictAt pieces) (prices_of s) (version_of s) (length pieces) plan c fault
 
 -- the outcome of checking these bytes: their first fault as an emission, or that of checking the plan that they are the
 -- emission of
 abbrev pub Checks : List ℕ → List ℕ → Limits → Contents → Result ℕ PlanFault → Type 0
 Checks portal staging s c outcome =
-    ((fault : EmissionFault) × (fault ≢ EmissionMemory) × IsFirstEmissionFault s portal staging fault × (outcome ≡ Err (emission_cause fault)))
+    ((fault : EmissionFault) × (fault ≢ EmissionMemory) × IsFirstEmissionFault s portal staging fault × (outcome ≡ Err (Emission fault)))
     ⊎ ((plan : Plan) × (ds : List Descriptor) × IsEmission s portal staging plan ds × ChecksPlan s (map fields ds) plan c outcome)

@@ -1,13 +1,15 @@
 -- What judging says of the bytes of a list, a plan and the settings.
-use Rattle.std.specs.Prelude.{◌≡◌, ℕ, ◌<◌, ◌≤◌, List, length, slice_get, Option, Some, None, Result, Ok, Err}
+use Rattle.std.specs.Prelude.{◌≡◌, ◌⊎◌, ℕ, ◌<◌, ◌≤◌, List, length, slice_get, Option, Some, None, Result, Ok, Err}
 use Rattle.dsa_descriptor.specs.Fields.{Fields}
 use Rattle.dsa_ranges.specs.Ranges.{ConflictAt}
 use Rattle.dsa_plan.specs.Settings.{Limits, prices_of}
 use Rattle.dsa_plan.specs.Plan.{Plan, plan_cost}
 use Rattle.dsa_plan.specs.Legal.{IsLegal}
+use Rattle.dsa_legal.specs.declared.legal.LegalFault.{LegalFault}
 use Rattle.dsa_plan.specs.LegalFaults.{IsFirstLegalFault}
+use Rattle.dsa_splitter.specs.declared.fault.SplitFault.TheVariants.{TooManyPieces}
 use Rattle.dsa_planner.specs.declared.fault.PlanFault.{PlanFault}
-use Rattle.dsa_planner.specs.declared.fault.PlanFault.TheVariants.{TooManyPieces, OverTransfer, Legal}
+use Rattle.dsa_planner.specs.declared.fault.PlanFault.TheVariants.{Split, OverTransfer, Legal}
 use Rattle.dsa_planner.specs.Lists.{most_pieces, OverList}
 
 -- no descriptor is longer than the greatest transfer
@@ -30,11 +32,11 @@ pub record IsFirstOver (greatest : ℕ) (pieces : List Fields) (i : ℕ) : Type 
 abbrev pub JudgesPieces : List Fields → Plan → Limits → Result ℕ PlanFault → Type 0
 JudgesPieces pieces plan settings (Ok cost) =
     (length pieces ≤ most_pieces) × FitTransfer settings.greatest_transfer pieces × IsLegal (ConflictAt pieces) settings.greatest_batch (length pieces) plan × (cost ≡ plan_cost (prices_of settings) plan)
-JudgesPieces pieces plan settings (Err TooManyPieces) = most_pieces < length pieces
-JudgesPieces pieces plan settings (Err (OverTransfer i)) = (length pieces ≤ most_pieces) × IsFirstOver settings.greatest_transfer pieces i
-JudgesPieces pieces plan settings (Err (Legal fault)) =
-    (length pieces ≤ most_pieces) × FitTransfer settings.greatest_transfer pieces × IsFirstLegalFault (ConflictAt pieces) settings.greatest_batch (length pieces) plan fault
-JudgesPieces pieces plan settings (Err _) = ⊥
+JudgesPieces pieces plan settings (Err cause) =
+    ((cause ≡ Split TooManyPieces) × (most_pieces < length pieces))
+    ⊎ ((i : ℕ) × (cause ≡ OverTransfer i) × (length pieces ≤ most_pieces) × IsFirstOver settings.greatest_transfer pieces i)
+    ⊎ ((fault : LegalFault) × (cause ≡ Legal fault) × (length pieces ≤ most_pieces) × FitTransfer settings.greatest_transfer pieces
+    × IsFirstLegalFault (ConflictAt pieces) settings.greatest_batch (length pieces) plan fault)
 
 -- the outcome of judging these bytes: the first fault of the bytes as a list, or what judging the descriptors that they
 -- spell says

@@ -7,8 +7,7 @@ use Rattle.dsa_descriptor.specs.Fields.{Fields}
 use Rattle.dsa_descriptor.specs.Descriptors.{fields}
 use Rattle.dsa_descriptor.specs.Lists.{list_spelling, HaveOneOwner, IsFirstListFault}
 use Rattle.dsa_planner.specs.declared.fault.PlanFault.{PlanFault}
-use Rattle.dsa_planner.specs.declared.fault.PlanFault.TheVariants.{Memory}
-use Rattle.dsa_planner.specs.Fault.{list_cause}
+use Rattle.dsa_planner.specs.declared.fault.PlanFault.TheVariants.{List as InList, Memory}
 
 -- the most pieces that are planned (this project's choice)
 abbrev pub most_pieces : ℕ
@@ -23,7 +22,7 @@ pub record IsListOf (bytes : List ℕ) (ds : List Descriptor) : Type 0 where
 -- descriptors that they spell
 abbrev pub OverList : {X : Type 0} → (List Fields → Result X PlanFault → Type 0) → List ℕ → Result X PlanFault → Type 0
 OverList Says bytes outcome =
-    ((fault : ListFault) × (fault ≢ ListMemory) × IsFirstListFault bytes fault × (outcome ≡ Err (list_cause fault)))
+    ((fault : ListFault) × (fault ≢ ListMemory) × IsFirstListFault bytes fault × (outcome ≡ Err (InList fault)))
     ⊎ ((ds : List Descriptor) × IsListOf bytes ds × Says (map fields ds) outcome)
 
 -- what a call that may want memory answers, seen by shown

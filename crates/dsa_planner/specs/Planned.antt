@@ -19,7 +19,7 @@ use Rattle.dsa_cert.specs.Document.{Contents}
 use Rattle.dsa_cert.specs.Certificates.{contents}
 use Rattle.dsa_planner.specs.declared.fault.PlanFault.{PlanFault}
 use Rattle.dsa_planner.specs.declared.planning.Planned.{Planned}
-use Rattle.dsa_planner.specs.Fault.{split_cause}
+use Rattle.dsa_planner.specs.declared.fault.PlanFault.TheVariants.{Split}
 use Rattle.dsa_planner.specs.Lists.{IsListOf, OverList}
 
 -- what planning answers: the pieces of the listed operations, their plan, its certificate and its cost, and the bytes
@@ -47,7 +47,7 @@ pub record IsSubmissionOf (s : Limits) (fs : List Fields) (p : Submission) : Typ
 abbrev pub PlansOperations : Limits → List Fields → Result Submission PlanFault → Type 0
 PlansOperations s fs (Ok p) = IsSubmissionOf s fs p
 PlansOperations s fs (Err fault) =
-    (cause : SplitFault) × (cause ≢ SplitMemory) × IsFirstSplitFault s.greatest_transfer s.staging fs cause × (fault ≡ split_cause cause)
+    (cause : SplitFault) × (cause ≢ SplitMemory) × IsFirstSplitFault s.greatest_transfer s.staging fs cause × (fault ≡ Split cause)
 
 -- the outcome of planning these bytes: the first fault of the bytes as a list, or that of planning the operations that
 -- they spell

@@ -10,11 +10,13 @@ use Rattle.dsa_plan.specs.Plan.{Plan}
 use Rattle.dsa_splitter.specs.Pieces.{all_whole, whole_statuses}
 use Rattle.dsa_core.specs.declared.event.Event.{Event}
 use Rattle.dsa_core.specs.declared.outcome.Outcome.{Outcome}
+use Rattle.dsa_core.specs.declared.fault.CoreFault.TheVariants.{TooLong, NotAStep, Incomplete}
 use Rattle.dsa_core.specs.PieceRuns.{event_count}
 use Rattle.dsa_core.specs.Accounts.{IsOutcome, IsUnfinished}
 use Rattle.dsa_core.specs.Outcomes.{room_with, IsFirstRefused}
+use Rattle.dsa_engines.specs.declared.fault.RoomFault.TheVariants.{GateShut, Stale, Mixed}
 use Rattle.dsa_planner.specs.declared.fault.PlanFault.{PlanFault}
-use Rattle.dsa_planner.specs.declared.fault.PlanFault.TheVariants.{Length, Field, MixedPasid, OutOfImage, ImageSize, DeltaTooLong, ExpectedSplit, TooManyPieces, StagingMeets, RowMeetsData, RowWrap, OverTransfer, Legal, PortalLength, BatchFields, StagingLength, Entry, EntryFence, RecordBytes, Shape, Check, GateShut, Stale, Mixed, Memory as NoMemory, TooLong, NotAStep, Incomplete, Json, Member, Do, Settings, Hex, Engines, JobTooLong}
+use Rattle.dsa_planner.specs.declared.fault.PlanFault.TheVariants.{OutOfImage, Core, Room, Engines}
 use Rattle.dsa_planner.specs.Lists.{IsListOf}
 use Rattle.dsa_planner.specs.Planned.{Submission, Plans, ArePiecesOf}
 
@@ -45,53 +47,22 @@ pub record CanBegin (m : Memory) (engines : ℕ) (pieces : List Fields) : Type 0
 
 -- the first cause why it can't: the engines, a piece outside the memory, the events
 abbrev pub IsFirstBeginFault : Memory → ℕ → List Fields → PlanFault → Type 0
-IsFirstBeginFault m engines pieces Engines = ¬ AreEngines engines
-IsFirstBeginFault m engines pieces (OutOfImage i) = AreEngines engines × IsFirstOutside m pieces i
-IsFirstBeginFault m engines pieces TooLong = AreEngines engines × All (HoldsRanges m) pieces × (most_events < event_count pieces)
-IsFirstBeginFault m engines pieces Length = ⊥
-IsFirstBeginFault m engines pieces (Field index cause) = ⊥
-IsFirstBeginFault m engines pieces (MixedPasid index) = ⊥
-IsFirstBeginFault m engines pieces ImageSize = ⊥
-IsFirstBeginFault m engines pieces (DeltaTooLong index) = ⊥
-IsFirstBeginFault m engines pieces (ExpectedSplit index) = ⊥
-IsFirstBeginFault m engines pieces TooManyPieces = ⊥
-IsFirstBeginFault m engines pieces (StagingMeets index) = ⊥
-IsFirstBeginFault m engines pieces (RowMeetsData index) = ⊥
-IsFirstBeginFault m engines pieces (RowWrap index) = ⊥
-IsFirstBeginFault m engines pieces (OverTransfer index) = ⊥
-IsFirstBeginFault m engines pieces (Legal fault) = ⊥
-IsFirstBeginFault m engines pieces PortalLength = ⊥
-IsFirstBeginFault m engines pieces (BatchFields group) = ⊥
-IsFirstBeginFault m engines pieces StagingLength = ⊥
-IsFirstBeginFault m engines pieces (Entry index fault) = ⊥
-IsFirstBeginFault m engines pieces (EntryFence group) = ⊥
-IsFirstBeginFault m engines pieces (RecordBytes batch) = ⊥
-IsFirstBeginFault m engines pieces Shape = ⊥
-IsFirstBeginFault m engines pieces (Check fault) = ⊥
-IsFirstBeginFault m engines pieces GateShut = ⊥
-IsFirstBeginFault m engines pieces Stale = ⊥
-IsFirstBeginFault m engines pieces Mixed = ⊥
-IsFirstBeginFault m engines pieces NoMemory = ⊥
-IsFirstBeginFault m engines pieces (NotAStep event) = ⊥
-IsFirstBeginFault m engines pieces Incomplete = ⊥
-IsFirstBeginFault m engines pieces Json = ⊥
-IsFirstBeginFault m engines pieces Member = ⊥
-IsFirstBeginFault m engines pieces Do = ⊥
-IsFirstBeginFault m engines pieces Settings = ⊥
-IsFirstBeginFault m engines pieces Hex = ⊥
-IsFirstBeginFault m engines pieces JobTooLong = ⊥
+IsFirstBeginFault m engines pieces fault =
+    ((fault ≡ Engines) × ¬ AreEngines engines)
+    ⊎ ((i : ℕ) × (fault ≡ OutOfImage i) × AreEngines engines × IsFirstOutside m pieces i)
+    ⊎ ((fault ≡ Core TooLong) × AreEngines engines × All (HoldsRanges m) pieces × (most_events < event_count pieces))
 
 -- the outcome of replaying these events on pieces under a plan, where a run of these can begin: what they leave where they
 -- are a complete run; else the first that is no step, or that the run isn't complete
 abbrev pub ReplaysPieces : Memory → ℕ → List Event → Plan → List Fields → Result Left PlanFault → Type 0
 ReplaysPieces m engines trace plan pieces (Ok left) = IsOutcome (room_with m plan pieces engines trace) left.image left.finished left.batch_records
 ReplaysPieces m engines trace plan pieces (Err fault) =
-    ((k : ℕ) × (fault ≡ NotAStep k) × IsFirstRefused (room_with m plan pieces engines) trace k)
-    ⊎ ((fault ≡ Incomplete) × IsUnfinished (room_with m plan pieces engines trace))
+    ((k : ℕ) × (fault ≡ Core (NotAStep k)) × IsFirstRefused (room_with m plan pieces engines) trace k)
+    ⊎ ((fault ≡ Core Incomplete) × IsUnfinished (room_with m plan pieces engines trace))
 
 -- a run breaks off where work comes back out of date, or where the room that is left is not over
 abbrev pub BreaksOff : PlanFault → Type 0
-BreaksOff fault = (fault ≡ Stale) ⊎ (fault ≡ Mixed)
+BreaksOff fault = (fault ≡ Room Stale) ⊎ (fault ≡ Room Mixed)
 
 -- the outcome of running pieces under a plan, where a run of them can begin: what some complete run leaves; or that the run
 -- broke off
@@ -136,7 +107,7 @@ LeavesWhole bytes s m left =
 
 -- what a run comes to, or that its gate refused, where it may
 abbrev pub OrShut : Bool → (Result Left PlanFault → Type 0) → Result Left PlanFault → Type 0
-OrShut may_refuse Says outcome = Says outcome ⊎ ((may_refuse ≡ true) × (outcome ≡ Err GateShut))
+OrShut may_refuse Says outcome = Says outcome ⊎ ((may_refuse ≡ true) × (outcome ≡ Err (Room GateShut)))
 
 -- the number of engines, where a run of these pieces can begin; else the first cause why it can't
 abbrev pub BeginsWith : Memory → ℕ → List Fields → Result ℕ PlanFault → Type 0

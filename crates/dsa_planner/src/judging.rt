@@ -9,6 +9,7 @@ ghost use Rattle.dsa_planner.specs.Lists.{OrMemory, IsOrMemory};
 use crate::fault::PlanFault;
 use dsa_descriptor::{Descriptor, read_list};
 use dsa_plan::{Plan, Settings, cost, is_legal};
+use dsa_splitter::SplitFault;
 use std::alloc::Global;
 
 /// The most pieces that are planned.
@@ -37,7 +38,7 @@ fn judge(pieces: &[Descriptor], plan: &Plan, settings: &Settings) -> Result<u64,
     ensures { JudgesPieces (map fields pieces.now) plan.now settings.now result }
 {
     if pieces.len() > MOST_PIECES {
-        return Err(PlanFault::TooManyPieces);
+        return Err(PlanFault::Split(SplitFault::TooManyPieces));
     }
     if let Some(index) = first_over(pieces, settings.greatest_transfer()) {
         return Err(PlanFault::OverTransfer(index));

@@ -12,7 +12,7 @@ mod replaying;
 mod running;
 
 pub use checking::check_bytes;
-pub use fault::PlanFault;
+pub use fault::{InnerFault, PlanFault};
 pub use judging::{MOST_PIECES, judge_bytes};
 pub use laws::{
     one_checked, one_judged, one_planned, one_replayed, one_run, planned_is_least_and_shown,

@@ -14,7 +14,7 @@ ghost use Rattle.dsa_planner.specs.Runs.{BeginsWith, CanBegin, IsReady, Left, Le
 
 use crate::fault::PlanFault;
 use crate::planning::pieces_of;
-use dsa_core::{Event, Outcome, events_within, replay};
+use dsa_core::{CoreFault, Event, Outcome, events_within, replay};
 use dsa_descriptor::Descriptor;
 use dsa_image::{Image, ImageFault};
 use dsa_plan::{Plan, Settings};
@@ -42,7 +42,7 @@ fn begin(image: &Image, pieces: &[Descriptor], engines: u64) -> Result<u8, PlanF
     match image.holds_all(pieces) {
         Ok(()) => match events_within(pieces) {
             Some(_events) => Ok(engines as u8),
-            None => Err(PlanFault::TooLong),
+            None => Err(PlanFault::Core(CoreFault::TooLong)),
         },
         Err(ImageFault::OutOfImage(piece)) => Err(PlanFault::OutOfImage(piece)),
         Err(ImageFault::ImageSize) => unreachable!(),
@@ -124,9 +124,9 @@ fn replay_pieces(
 ///
 /// # Errors
 /// As [`plan_list`](crate::plan_list()); else [`PlanFault::Engines`]; else [`PlanFault::OutOfImage`] with the first piece
-/// that the image doesn't hold; else [`PlanFault::TooLong`]; all these before the search for a plan. Else
-/// [`PlanFault::NotAStep`], which names the first event at which the run can't go on; else [`PlanFault::Incomplete`] of a
-/// run that ends too early; and [`PlanFault::Memory`] where a growth is refused.
+/// that the image doesn't hold; else [`PlanFault::Core`] with `TooLong`; all these before the search for a plan. Else
+/// [`PlanFault::Core`] with `NotAStep`, which names the first event at which the run can't go on, or with `Incomplete` of
+/// a run that ends too early. [`PlanFault::Memory`] where an allocation fails.
 pub fn replay_bytes(
     alloc: Global,
     list: &[u8],

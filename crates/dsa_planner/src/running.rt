@@ -79,9 +79,9 @@ pub(crate) fn run_gated<G: Gate + Sync, R: Threads + Wait + Sync>(
 ///
 /// # Errors
 /// As [`plan_list`](crate::plan_list()); else [`PlanFault::Engines`]; else [`PlanFault::OutOfImage`] with the first piece
-/// that the image doesn't hold; else [`PlanFault::TooLong`]; all these before the search for a plan.
-/// [`PlanFault::Memory`] where a growth or the start of a thread is refused. [`PlanFault::Stale`] and
-/// [`PlanFault::Mixed`] say that the run broke off.
+/// that the image doesn't hold; else [`PlanFault::Core`] with `TooLong`; all these before the search for a plan.
+/// [`PlanFault::Memory`] where an allocation or the start of a thread fails. [`PlanFault::Room`] with `Stale` or `Mixed`
+/// says that the run broke off.
 pub fn run_bytes<R: Threads + Wait + Sync>(
     rt: &R,
     alloc: Global,

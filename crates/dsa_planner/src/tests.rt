@@ -4,11 +4,12 @@ use crate::{
 };
 use dsa_cert::Certificate;
 use dsa_checker::CheckFault;
-use dsa_core::{Event, Kind};
-use dsa_descriptor::FieldFault;
-use dsa_engines::{Gate, GateShut};
+use dsa_core::{CoreFault, Event, Kind};
+use dsa_descriptor::{FieldFault, ListFault};
+use dsa_engines::{Gate, GateShut, RoomFault};
 use dsa_image::Image;
-use dsa_plan::{EntryFault, Group, LegalFault, Plan, Settings};
+use dsa_plan::{EmissionFault, EntryFault, Group, LegalFault, Plan, Settings};
+use dsa_splitter::SplitFault;
 use std::alloc::{AllocError, Global};
 use std::rt::Clock;
 use std::sync::atomic::{AtomicU32, Ordering};
@@ -93,12 +94,12 @@ fn refuses_what_cannot_be_planned(rt: HostRuntime) -> Result<(), Fail> {
     let mut list = two_moves(alloc)?;
     let meets = Settings::new(4, 4096, 10, 14, 3, 0x4000)?;
     match plan_list(alloc, &list, &meets) {
-        Err(fault) => assert_eq!(rt; fault, PlanFault::StagingMeets(1)),
+        Err(fault) => assert_eq!(rt; fault, PlanFault::Split(SplitFault::StagingMeets(1))),
         Ok(_) => assert!(rt; false),
     }
     list.push(0)?;
     match plan_list(alloc, &list, &settings()?) {
-        Err(fault) => assert_eq!(rt; fault, PlanFault::Length),
+        Err(fault) => assert_eq!(rt; fault, PlanFault::List(ListFault::Length)),
         Ok(_) => assert!(rt; false),
     }
     Ok(())
@@ -134,8 +135,8 @@ fn refuses_runs_in_order(rt: HostRuntime) -> Result<(), Fail> {
         (&small, 0, PlanFault::Engines),
         (&small, 65, PlanFault::Engines),
         (&small, 1, PlanFault::OutOfImage(0)),
-        (&large, 1, PlanFault::TooLong),
-        (&large, 64, PlanFault::TooLong),
+        (&large, 1, PlanFault::Core(CoreFault::TooLong)),
+        (&large, 64, PlanFault::Core(CoreFault::TooLong)),
     ] {
         match replay_bytes(alloc, &list, &settings, image, engines, &[]) {
             Err(cause) => assert_eq!(rt; cause, fault),
@@ -223,7 +224,10 @@ fn checks_two_moves(rt: HostRuntime) -> Result<(), Fail> {
         &settings()?,
         &certificate(alloc, 17)?,
     );
-    assert_eq!(rt; short, Err(PlanFault::StagingLength));
+    assert_eq!(rt;
+        short,
+        Err(PlanFault::Emission(EmissionFault::StagingLength))
+    );
     Ok(())
 }
 
@@ -245,22 +249,25 @@ fn judges_two_moves(rt: HostRuntime) -> Result<(), Fail> {
 #[test]
 fn writes_lines_of_refusals(rt: HostRuntime) {
     for (fault, line) in [
-        (PlanFault::Length, "refused 1 Length\n"),
+        (PlanFault::List(ListFault::Length), "refused 1 Length\n"),
         (
-            PlanFault::Field(7, FieldFault::RecordMeetsData),
+            PlanFault::List(ListFault::Field(7, FieldFault::RecordMeetsData)),
             "refused 13 RecordMeetsData 7\n",
         ),
-        (PlanFault::DeltaTooLong(3), "refused 30 DeltaTooLong 3\n"),
+        (
+            PlanFault::Split(SplitFault::DeltaTooLong(3)),
+            "refused 30 DeltaTooLong 3\n",
+        ),
         (
             PlanFault::Legal(LegalFault::Unfenced(0, usize::MAX)),
             "refused 43 Unfenced 0 18446744073709551615\n",
         ),
         (
-            PlanFault::Entry(1, EntryFault::Field(FieldFault::Reserved)),
+            PlanFault::Emission(EmissionFault::Entry(1, EntryFault::Field(FieldFault::Reserved))),
             "refused 47 Entry 1 4 Reserved\n",
         ),
         (
-            PlanFault::Entry(2, EntryFault::StagingMeets),
+            PlanFault::Emission(EmissionFault::Entry(2, EntryFault::StagingMeets)),
             "refused 47 Entry 2 33 StagingMeets\n",
         ),
         (
@@ -275,9 +282,27 @@ fn writes_lines_of_refusals(rt: HostRuntime) {
             PlanFault::Check(CheckFault::Price(0, 3)),
             "refused 63 Price 0 3\n",
         ),
-        (PlanFault::NotAStep(4), "refused 76 NotAStep 4\n"),
+        (
+            PlanFault::Core(CoreFault::NotAStep(4)),
+            "refused 76 NotAStep 4\n",
+        ),
+        (PlanFault::Memory, "refused 73 Memory\n"),
+        (PlanFault::Room(RoomFault::Stale), "refused 71 Stale\n"),
         (PlanFault::JobTooLong, "refused 86 JobTooLong\n"),
     ] {
         assert_eq!(rt; refusal_line(fault).as_str(), line);
+    }
+}
+
+#[test]
+fn out_of_memory_is_one_cause(rt: HostRuntime) {
+    for fault in [
+        PlanFault::from(ListFault::Memory),
+        PlanFault::from(SplitFault::Memory),
+        PlanFault::from(EmissionFault::Memory),
+        PlanFault::from(CoreFault::Memory),
+        PlanFault::from(RoomFault::Memory),
+    ] {
+        assert_eq!(rt; fault, PlanFault::Memory);
     }
 }

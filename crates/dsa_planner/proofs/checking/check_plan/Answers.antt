@@ -9,4 +9,4 @@ returns-in-Ok c =
 
 pub returns-in-Err : goal.returns-in-Err
 returns-in-Err c =
-    fault_shown c.args.settings.now c.args.pieces.now c.args.plan.now (contents c.args.certificate.now) c.in-Err.fault ((c.in-Err.ensures.fault c.in-Err.fault).0 refl)
+    (c.in-Err.fault, refl, fault_shown c.args.settings.now c.args.pieces.now c.args.plan.now (contents c.args.certificate.now) c.in-Err.fault ((c.in-Err.ensures.fault c.in-Err.fault).0 refl))

@@ -1,4 +1,4 @@
-use Rattle.std.proofs.Common.{Err, refl, ap, arith}
+use Rattle.std.proofs.Common.{Err, inl, inr, refl, ap, arith}
 use Rattle.dsa_planner.proofs.Beginnings.{none_outside}
 use Rattle.dsa_planner.proofs.replaying.begin.Goals as goal
 
@@ -18,8 +18,8 @@ returns-in-Some c = (
 )
 
 pub returns-in-None : goal.returns-in-None
-returns-in-None c = (record { some = c.if-engines-lt1.false; few = c.if-engines-gt64.false }, c.in-Ok.ensures.ok.0 refl, c.in-None.ensures)
+returns-in-None c = inr (inr (refl, record { some = c.if-engines-lt1.false; few = c.if-engines-gt64.false }, c.in-Ok.ensures.ok.0 refl, c.in-None.ensures))
 
 pub returns-in-Err-OutOfImage : goal.returns-in-Err-OutOfImage
 returns-in-Err-OutOfImage c =
-    (record { some = c.if-engines-lt1.false; few = c.if-engines-gt64.false }, (c.in-Err-OutOfImage.ensures.fault c.in-Err-OutOfImage.piece).0 (ap Err c.in-Err-OutOfImage.field-0-is))
+    inr (inl (c.in-Err-OutOfImage.piece, refl, record { some = c.if-engines-lt1.false; few = c.if-engines-gt64.false }, (c.in-Err-OutOfImage.ensures.fault c.in-Err-OutOfImage.piece).0 (ap Err c.in-Err-OutOfImage.field-0-is)))

@@ -9,7 +9,7 @@ ghost use Rattle.dsa_core.specs.Accounts.{most_members};
 
 use crate::cases::Case;
 use crate::telling::{mark, tell_outcome};
-use dsa_core::{Event, Finished, Kind, Outcome, Room, Taken};
+use dsa_core::{CoreFault, Event, Finished, Kind, Outcome, Room, Taken};
 use dsa_descriptor::Descriptor;
 use dsa_image::Image;
 use dsa_plan::{Plan, Settings, is_legal};
@@ -42,24 +42,23 @@ pub(crate) fn can_run(image: &Image, plan: &Plan, pieces: &[Descriptor]) -> bool
 
 /// The room of the case's run. Each of the lists has a legal plan and an image that holds it, so `Incomplete` never
 /// comes.
-fn room_of(alloc: Global, case: &Case) -> Result<Room, PlanFault> {
+fn room_of(alloc: Global, case: &Case) -> Result<Room, CoreFault> {
     let planned = &case.planned;
     let pieces = planned.pieces.as_slice();
     if !can_run(&case.image, &planned.plan, pieces) {
-        return Err(PlanFault::Incomplete);
+        return Err(CoreFault::Incomplete);
     }
-    let room = Room::new(alloc, &case.image, &planned.plan, pieces, 2)?;
-    Ok(room)
+    Room::new(alloc, &case.image, &planned.plan, pieces, 2)
 }
 
 /// Does the events in the room, and answers what they leave.
-fn stepped(mut room: Room, trace: &[Event]) -> Result<Outcome, PlanFault> {
+fn stepped(mut room: Room, trace: &[Event]) -> Result<Outcome, CoreFault> {
     for event in trace {
         if !room.step(*event) {
-            return Err(PlanFault::Incomplete);
+            return Err(CoreFault::Incomplete);
         }
     }
-    room.into_outcome().map_err(|_room| PlanFault::Incomplete)
+    room.into_outcome().map_err(|_room| CoreFault::Incomplete)
 }
 
 /// Does the event by the call of an engine, and a line by its parcel. Says whether it did.
@@ -87,20 +86,20 @@ fn does(room: &mut Room, event: &Event) -> bool {
 }
 
 /// Does the events by the calls of engines. Which waiting piece an engine takes is the room's choice.
-fn engaged(mut room: Room, trace: &[Event]) -> Result<Outcome, PlanFault> {
+fn engaged(mut room: Room, trace: &[Event]) -> Result<Outcome, CoreFault> {
     for event in trace {
         if !does(&mut room, event) {
-            return Err(PlanFault::Incomplete);
+            return Err(CoreFault::Incomplete);
         }
     }
-    room.into_outcome().map_err(|_room| PlanFault::Incomplete)
+    room.into_outcome().map_err(|_room| CoreFault::Incomplete)
 }
 
 pub(crate) fn whole<R: Runtime + Alloc<A = Global>>(rt: &R, case: &Case) -> io::Result<()> {
     mark(rt)?;
     let answer = room_of(rt.alloc(), case).and_then(|room| stepped(room, &case.trace));
     mark(rt)?;
-    tell_outcome(rt, &answer)
+    tell_outcome(rt, &answer.map_err(PlanFault::from))
 }
 
 pub(crate) fn steps<R: Runtime + Alloc<A = Global>>(rt: &R, case: &Case) -> io::Result<()> {
@@ -110,7 +109,7 @@ pub(crate) fn steps<R: Runtime + Alloc<A = Global>>(rt: &R, case: &Case) -> io::
     mark(rt)?;
     let answer = stepped(room, &case.trace);
     mark(rt)?;
-    tell_outcome(rt, &answer)
+    tell_outcome(rt, &answer.map_err(PlanFault::from))
 }
 
 pub(crate) fn parcels<R: Runtime + Alloc<A = Global>>(rt: &R, case: &Case) -> io::Result<()> {
@@ -120,5 +119,5 @@ pub(crate) fn parcels<R: Runtime + Alloc<A = Global>>(rt: &R, case: &Case) -> io
     mark(rt)?;
     let answer = engaged(room, &case.trace);
     mark(rt)?;
-    tell_outcome(rt, &answer)
+    tell_outcome(rt, &answer.map_err(PlanFault::from))
 }

@@ -92,3 +92,6 @@ pub fn find_hazard(earlier: &Touched, later: &Touched) -> Option<Hazard>
     }
     None
 }
+
+#[cfg(test)]
+mod tests;

@@ -1,0 +1,47 @@
+use super::*;
+use dsa_descriptor::Descriptor;
+use dsa_ranges::touched;
+use std::test::Fail;
+
+/// A move of 64 bytes.
+fn move_of(src: u64, dst: u64, record_at: u64) -> [u8; 64] {
+    let mut bytes = [0; 64];
+    bytes[4] = 0x0c;
+    bytes[7] = 3;
+    bytes[8..16].copy_from_slice(&record_at.to_le_bytes());
+    bytes[16..24].copy_from_slice(&src.to_le_bytes());
+    bytes[24..32].copy_from_slice(&dst.to_le_bytes());
+    bytes[32] = 64;
+    bytes
+}
+
+/// The earlier move reads from 0x1000 to below 0x1040, and writes from 0x2000 to below 0x2040.
+#[test]
+fn each_kind_of_hazard(rt: HostRuntime) -> Result<(), Fail> {
+    let earlier = touched(&Descriptor::read(&move_of(0x1000, 0x2000, 0x8000))?);
+    let rows = [
+        (
+            move_of(0x2020, 0x4000, 0x8020),
+            Some((0x2020, HazardKind::ReadAfterWrite)),
+        ),
+        (
+            move_of(0x3000, 0x1030, 0x8020),
+            Some((0x1030, HazardKind::WriteAfterRead)),
+        ),
+        (
+            move_of(0x3000, 0x203f, 0x8020),
+            Some((0x203f, HazardKind::WriteAfterWrite)),
+        ),
+        (
+            move_of(0x3000, 0x4000, 0x8000),
+            Some((0x8000, HazardKind::WriteAfterWrite)),
+        ),
+        (move_of(0x1000, 0x2040, 0x8020), None),
+    ];
+    for (bytes, expected) in &rows {
+        let later = touched(&Descriptor::read(bytes)?);
+        let found = find_hazard(&earlier, &later).map(|hazard| (hazard.address, hazard.kind));
+        assert_eq!(rt; found, *expected);
+    }
+    Ok(())
+}

@@ -2,3 +2,5 @@ pub mod Reached
 pub mod Needed
 pub mod Singles
 pub mod Laid
+pub mod Fenced
+pub mod Costs

@@ -1,18 +1,17 @@
 -- Each fence of a planned group is needed.
-use Rattle.std.proofs.Common.{◌≡◌, ℕ, suc, ◌+◌, ◌-◌, ◌<◌, ◌≤◌, inl, inr, List, length, Some, Ok, Err, ap, subst, arith}
+use Rattle.std.proofs.Common.{◌≡◌, ℕ, suc, ◌+◌, ◌-◌, ◌<◌, ◌≤◌, inl, inr, length, Some, ap, subst, arith}
 use Rattle.std.specs.Prelude.{map, slice_get, min}
 use Rattle.std.proofs.lemmas.Bool.{cases_eq, cases_lt}
 use Rattle.std.proofs.lemmas.Option.{slice_get_within}
 use Rattle.dsa_descriptor.specs.Descriptors.{fields}
 use Rattle.dsa_ranges.specs.Ranges.{ConflictAt}
-use Rattle.dsa_plan.specs.Plan.{Prices, Group, Plan, start_of}
-use Rattle.dsa_plan.specs.Legal.{IsFenced, ConflictsWithin}
-use Rattle.dsa_plan.specs.Chain.{Pairs, LeadsTo, Reaches, IsOnChain, HasChainFences, IsFirstPair, HasPairs}
+use Rattle.dsa_plan.specs.Plan.{Prices, Group, start_of}
+use Rattle.dsa_plan.specs.Legal.{IsFenced}
+use Rattle.dsa_plan.specs.Chain.{Pairs, Reaches, HasChainFences, IsFirstPair, HasPairs}
 use Rattle.dsa_plan.specs.Settings.{Limits, prices_of}
 use Rattle.dsa_plan.proofs.Chains.{Reaches-same, Reaches-lt, Reaches-le, Reaches-from_start}
 use Rattle.dsa_plan.proofs.Groups.{forward_from_pairs}
-use Rattle.dsa_search.specs.Chosen.{IsChosen}
-use Rattle.dsa_planner.specs.Planned.{Submission, IsSubmissionOf, Plans}
+use Rattle.dsa_planner.specs.Planned.{Submission, IsSubmissionOf}
 use Rattle.dsa_explain.specs.Reasons.{NeedsFence}
 use Rattle.dsa_explain.specs.Laws.{PlannedFencesAreNeeded}
 

@@ -1,12 +1,11 @@
 -- What the search for a fence's reason finds.
-use Rattle.std.proofs.Common.{◌≡◌, ℕ, ◌+◌, ◌-◌, ◌<◌, ◌≤◌, inl, inr, true, List, length, get_or, Some, sym, ap, ◌∙◌, subst, slice_get, arith}
+use Rattle.std.proofs.Common.{◌≡◌, ℕ, ◌+◌, ◌-◌, ◌<◌, ◌≤◌, inl, inr, List, length, get_or, subst, arith}
 use Rattle.std.specs.Prelude.{map}
 use Rattle.std.proofs.lemmas.Bool.{cases_eq, cases_lt}
 use Rattle.dsa_descriptor.specs.declared.descriptor.Descriptor.{Descriptor}
 use Rattle.dsa_descriptor.specs.declared.span.Span.{Span}
 use Rattle.dsa_descriptor.specs.Descriptors.{fields}
 use Rattle.dsa_descriptor.specs.Fields.{Fields}
-use Rattle.dsa_descriptor.specs.Spans.{InSome}
 use Rattle.dsa_ranges.specs.Ranges.{read_spans, written_spans, SpansConflict, ConflictAt}
 use Rattle.dsa_ranges.proofs.Places.{fields_at}
 use Rattle.dsa_plan.specs.Plan.{Group}
@@ -78,16 +77,28 @@ apart_more P i at lt here later x le below p =
 
 -- ---- the outer loop
 
+-- a piece before a fence that it needs stands in the open before it
+needs_reached : (C : ℕ → ℕ → Type 0) (start : ℕ) (group : Group) (at a b : ℕ) → NeedsFence C start group at a b → IsReached start group at a
+needs_reached C start group at a b needs =
+    record {
+      begun = needs.conflicts.starts;
+      before = needs.before;
+      open_between = λ other after before fenced.
+          let same : other ≡ at = needs.alone other after (omega (arith, needs.behind)) fenced in omega arith;
+    }
+
 pub reason_found : (fs : List Fields) (start : ℕ) (group : Group) (at end : ℕ) (r : Reason) → IsFenced start group at → at ≤ r.later → r.later < end
-    → end ≤ start + length group → IsOpen start group at end → FindsEarlier fs start group at r.later r.earlier r.hazard → IsReason fs start group at r
-reason_found fs start group at end r fenced from before within open_here (reached, hazard) =
+    → end ≤ start + length group → IsOpen start group at end → ((b : ℕ) → at ≤ b → b < r.later → FindsNone fs start group at b)
+    → FindsEarlier fs start group at r.later r.earlier r.hazard → IsReason fs start group at r
+reason_found fs start group at end r fenced from before within open_here none found =
+    let reached = found.reached in
     record {
       needs = record {
         conflicts = record {
           starts = reached.begun;
           ordered = omega (arith, reached.before);
           ends = omega arith;
-          conflict = hazard_conflicts fs r.earlier r.later r.hazard hazard;
+          conflict = hazard_conflicts fs r.earlier r.later r.hazard found.hazard;
         };
         before = reached.before;
         behind = from;
@@ -101,22 +112,20 @@ reason_found fs start group at end r fenced from before within open_here (reache
                   ]
             ];
       };
-      hazard = hazard;
+      least = λ a b needs.
+          elim (cases_lt b r.later) [
+            | inl below ↦ absurd (none b needs.behind below a (needs_reached (ConflictAt fs) start group at a b needs) needs.conflicts.conflict)
+            | inr above ↦ above
+          ];
+      greatest = λ a needs. found.last a (needs_reached (ConflictAt fs) start group at a r.later needs) needs.conflicts.conflict;
+      hazard = found.hazard;
     }
 
 pub no_reason : (fs : List Fields) (start : ℕ) (group : Group) (at end : ℕ) → at < end → (end < start + length group → IsFenced start group end)
     → ((b : ℕ) → at ≤ b → b < end → FindsNone fs start group at b) → (a b : ℕ) → NeedsFence (ConflictAt fs) start group at a b → ⊥
 no_reason fs start group at end lt closed none a b needs =
     elim (cases_lt b end) [
-      | inl below ↦
-          none b needs.behind below a
-          (record {
-            begun = needs.conflicts.starts;
-            before = needs.before;
-            open_between = λ other after before fenced.
-                let same : other ≡ at = needs.alone other after (omega (arith, needs.behind)) fenced in omega arith;
-          })
-          needs.conflicts.conflict
+      | inl below ↦ none b needs.behind below a (needs_reached (ConflictAt fs) start group at a b needs) needs.conflicts.conflict
       | inr above ↦
           let inside : end < start + length group = omega (arith, needs.conflicts.ends) in
           let same : end ≡ at = needs.alone end (omega (arith, needs.before)) above (closed inside) in

@@ -1,9 +1,9 @@
 -- The plan of lone submissions.
-use Rattle.std.proofs.Common.{◌≡◌, ℕ, zero, suc, ◌+◌, ◌*◌, ◌<◌, ◌≤◌, false, List, [], ◌∷◌, length, Some, refl, sym, ap, ◌∙◌, subst, arith}
-use Rattle.std.specs.Prelude.{slice_get, sum_by}
+use Rattle.std.proofs.Common.{◌≡◌, ℕ, zero, suc, ◌*◌, ◌<◌, false, [], ◌∷◌, length, Some, refl, sym, subst, arith}
+use Rattle.std.specs.Prelude.{slice_get}
 use Rattle.std.proofs.lemmas.List.Sums.{sum_by-cons}
 use Rattle.dsa_plan.specs.Plan.{Prices, Group, Plan, group_cost, plan_cost, piece_count, start_of}
-use Rattle.dsa_plan.specs.Legal.{IsLegal, IsLegalGroup, IsLeast}
+use Rattle.dsa_plan.specs.Legal.{IsLegal, IsLegalGroup}
 use Rattle.dsa_explain.specs.Laws.{LeastPlansSave}
 
 single : Group

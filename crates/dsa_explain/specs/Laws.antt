@@ -8,6 +8,7 @@ use Rattle.dsa_plan.specs.Legal.{IsFenced, IsLeast}
 use Rattle.dsa_planner.specs.Planned.{Submission, Plans}
 use Rattle.dsa_explain.specs.Reasons.{NeedsFence}
 use Rattle.dsa_explain.specs.Cells.{cells_from}
+use Rattle.dsa_explain.specs.Costs.{group_prices}
 
 -- of a plan that planning answers, each fence is needed by the fenced piece and an earlier one
 abbrev pub PlannedFencesAreNeeded : Type 0
@@ -25,3 +26,9 @@ abbrev pub CellsArePiecesAndFences : Type 0
 CellsArePiecesAndFences =
     (plan : Plan) → (length (cells_from 0 plan) ≡ piece_count plan)
     × (count_by (λ cell. cell.fenced) (cells_from 0 plan) ≡ sum_by fence_count plan)
+
+-- the costs of the groups add up to the plan's
+abbrev pub GroupCostsAddUp : Type 0
+GroupCostsAddUp =
+    (prices : Prices) (plan : Plan) →
+    sum_by (λ group. group.cost) (group_prices prices plan) ≡ plan_cost prices plan

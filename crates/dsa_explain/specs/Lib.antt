@@ -1,4 +1,6 @@
 pub mod Reasons
-pub mod Told
+pub mod Costs
+pub mod Fences
 pub mod Cells
+pub mod Explained
 pub mod Laws

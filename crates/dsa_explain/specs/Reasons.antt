@@ -1,5 +1,5 @@
 -- Why a piece is fenced. `C a b` says that the pieces a and b conflict.
-use Rattle.std.specs.Prelude.{ℕ, ◌≡◌, ◌+◌, ◌<◌, ◌≤◌, List, length, slice_get, Some}
+use Rattle.std.specs.Prelude.{ℕ, ◌≡◌, ◌+◌, ◌<◌, ◌≤◌, List, length, slice_get, Option, Some, None}
 use Rattle.dsa_descriptor.specs.Fields.{Fields}
 use Rattle.dsa_ranges.specs.Ranges.{read_spans, written_spans, ConflictAt}
 use Rattle.dsa_plan.specs.Plan.{Group}
@@ -24,10 +24,19 @@ pub record IsHazardOf (pieces : List Fields) (a b : ℕ) (h : Hazard) : Type 0 w
   pub later_is : slice_get pieces b ≡ Some later
   pub hazard : IsHazard (read_spans earlier) (written_spans earlier) (read_spans later) (written_spans later) h.address h.kind
 
--- the two pieces need the fence at piece k, and the hazard is theirs
+-- the two pieces need the fence at piece k: of all that do, with the least later piece, and for it
+-- the greatest earlier one; and the hazard is theirs
 pub record IsReason (pieces : List Fields) (start : ℕ) (group : Group) (k : ℕ) (r : Reason) : Type 0 where
   pub needs : NeedsFence (ConflictAt pieces) start group k r.earlier r.later
+  pub least : (a b : ℕ) → NeedsFence (ConflictAt pieces) start group k a b → r.later ≤ b
+  pub greatest : (a : ℕ) → NeedsFence (ConflictAt pieces) start group k a r.later → a ≤ r.earlier
   pub hazard : IsHazardOf pieces r.earlier r.later r.hazard
+
+-- the reason for the fence at piece k, or that no two pieces need it
+abbrev pub IsReasonFor : List Fields → ℕ → Group → ℕ → Option Reason → Type 0
+IsReasonFor pieces start group k None =
+    (a b : ℕ) → ¬ NeedsFence (ConflictAt pieces) start group k a b
+IsReasonFor pieces start group k (Some r) = IsReason pieces start group k r
 
 -- ---- for private clauses
 
@@ -40,8 +49,12 @@ pub record IsReached (start : ℕ) (group : Group) (k x : ℕ) : Type 0 where
 abbrev pub FindsNone : List Fields → ℕ → Group → ℕ → ℕ → Type 0
 FindsNone pieces start group k later = (x : ℕ) → IsReached start group k x → ¬ ConflictAt pieces x later
 
-abbrev pub FindsEarlier : List Fields → ℕ → Group → ℕ → ℕ → ℕ → Hazard → Type 0
-FindsEarlier pieces start group k later x h = IsReached start group k x × IsHazardOf pieces x later h
+-- the piece stands so and conflicts with the later one, the hazard is theirs, and it is the last
+-- that does
+pub record FindsEarlier (pieces : List Fields) (start : ℕ) (group : Group) (k later x : ℕ) (h : Hazard) : Type 0 where
+  pub reached : IsReached start group k x
+  pub hazard : IsHazardOf pieces x later h
+  pub last : (y : ℕ) → IsReached start group k y → ConflictAt pieces y later → y ≤ x
 
 -- no piece after k and before `end` is fenced
 abbrev pub IsOpen : ℕ → Group → ℕ → ℕ → Type 0

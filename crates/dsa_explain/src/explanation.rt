@@ -1,10 +1,8 @@
 //! The explanation of a plan.
 
-ghost use Rattle.std.specs.Prelude.{◌≡◌, ◌≤◌, ◌*◌, IfOk, length, map};
-ghost use Rattle.dsa_plan.specs.Plan.{group_cost, plan_cost};
-ghost use Rattle.dsa_plan.specs.Settings.{prices_of};
-ghost use Rattle.dsa_explain.specs.Told.{group_costs};
-ghost use Rattle.dsa_explain.specs.Cells.{cells_from};
+ghost use Rattle.std.specs.Prelude.{◌≡◌};
+ghost use Rattle.dsa_explain.specs.declared.explanation.ExplainFault.TheVariants.{Memory};
+ghost use Rattle.dsa_explain.specs.Explained.{Explains};
 
 use crate::cells::{Cell, lay_out};
 use crate::fences::{Fence, fences_of};
@@ -39,24 +37,26 @@ pub enum ExplainFault {
 }
 
 impl From<AllocError> for ExplainFault {
+    ghost from_gives = { λ _ fault. fault ≡ Memory };
+
     fn from(_error: AllocError) -> ExplainFault {
         ExplainFault::Memory
     }
 }
 
 /// The explanation of a legal plan of the pieces.
+///
+/// # Errors
+/// [`ExplainFault::TooManyPieces`] where there are more than [`MOST_PIECES`]; else
+/// [`ExplainFault::Legal`] with the first fault of the plan, as [`is_legal`] reports it;
+/// [`ExplainFault::Memory`] at the first allocation that fails.
 pub fn explain(
     alloc: Global,
     plan: &Plan,
     pieces: &[Descriptor],
     settings: &Settings,
 ) -> Result<Explanation, ExplainFault>
-    ensures groups { IfOk result (λ told.
-        group_costs told.prices.groups.items ≡ map (group_cost (prices_of settings.now)) plan.now) }
-    ensures cost { IfOk result
-        (λ told. told.prices.cost ≡ plan_cost (prices_of settings.now) plan.now) }
-    ensures lone { IfOk result (λ told. told.prices.lone ≡ settings.now.lone * length pieces.now) }
-    ensures cells { IfOk result (λ told. told.cells.items ≡ cells_from 0 plan.now) }
+    ensures { Explains settings.now pieces.now plan.now result }
 {
     if pieces.len() > MOST_PIECES {
         return Err(ExplainFault::TooManyPieces);

@@ -1,7 +1,9 @@
 //! The fences of a plan, each with the conflict that it separates.
 
-ghost use Rattle.std.specs.Prelude.{◌≡◌, ◌+◌, ◌≤◌, length};
+ghost use Rattle.std.specs.Prelude.{◌≡◌, ◌+◌, ◌≤◌, ◌++◌, IfOk, OnOk, length, map};
+ghost use Rattle.dsa_descriptor.specs.Descriptors.{fields};
 ghost use Rattle.dsa_plan.specs.Plan.{piece_count};
+ghost use Rattle.dsa_explain.specs.Fences.{AddsExplained, AreFencesOf, fence_places, fenced_in};
 
 use crate::reason::{Reason, reason_of};
 use dsa_descriptor::Descriptor;
@@ -26,6 +28,10 @@ fn push_fences(
 ) -> Result<(), AllocError>
     requires known { start + length group.now ≤ length pieces.now }
     requires few { length pieces.now ≤ 65536 }
+    ensures places { OnOk result (fence_places fences.new.items ≡
+        fence_places fences.old.items ++ fenced_in start group.now) }
+    ensures explained { OnOk result (AddsExplained (map fields pieces.now)
+        start group.now fences.old.items fences.new.items) }
 {
     let flags = group.fences();
     for (column, fenced) in flags.iter().enumerate() {
@@ -47,6 +53,8 @@ pub fn fences_of(
 ) -> Result<Vec<Fence>, AllocError>
     requires all { piece_count plan.now ≡ length pieces.now }
     requires few { length pieces.now ≤ 65536 }
+    ensures { IfOk result
+        (λ fences. AreFencesOf (map fields pieces.now) plan.now fences.items) }
 {
     let mut fences = Vec::new(alloc);
     let mut start: usize = 0;

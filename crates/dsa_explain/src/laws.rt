@@ -1,6 +1,6 @@
 //! Laws of explanations.
 
-ghost use Rattle.dsa_explain.specs.Laws.{PlannedFencesAreNeeded, LeastPlansSave, CellsArePiecesAndFences};
+ghost use Rattle.dsa_explain.specs.Laws.{PlannedFencesAreNeeded, LeastPlansSave, CellsArePiecesAndFences, GroupCostsAddUp};
 
 use dsa_plan::Conflicts;
 
@@ -18,4 +18,9 @@ pub fn least_plans_save<C: Conflicts>()
 /// A picture has a box for each piece and a bar for each fence.
 pub fn cells_are_pieces_and_fences()
     ensures { CellsArePiecesAndFences }
+{}
+
+/// The costs of the groups of a plan add up to the plan's.
+pub fn group_costs_add_up()
+    ensures { GroupCostsAddUp }
 {}

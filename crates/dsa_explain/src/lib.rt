@@ -14,8 +14,13 @@ mod words;
 pub use cells::{Cell, lay_out};
 pub use explanation::{ExplainFault, Explanation, MOST_PIECES, explain};
 pub use fences::{Fence, fences_of};
-pub use laws::{cells_are_pieces_and_fences, least_plans_save, planned_fences_are_needed};
+pub use laws::{
+    cells_are_pieces_and_fences, group_costs_add_up, least_plans_save, planned_fences_are_needed,
+};
 pub use picture::{MOST_ROWS, draw};
 pub use prices::{GroupPrice, Prices, price_plan};
 pub use reason::{Reason, reason_of};
 pub use words::{Origin, explanation_text};
+
+#[cfg(test)]
+mod tests;

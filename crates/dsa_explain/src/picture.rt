@@ -35,11 +35,11 @@ fn column_left(column: usize) -> usize {
 fn push_head(
     alloc: Global,
     svg: &mut String,
-    told: &Explanation,
+    explanation: &Explanation,
     pieces: usize,
 ) -> Result<(), AllocError> {
-    let rows = told.prices.groups.len();
-    let widest = told
+    let rows = explanation.prices.groups.len();
+    let widest = explanation
         .prices
         .groups
         .iter()
@@ -51,7 +51,7 @@ fn push_head(
     svg.push_str("<svg xmlns=\"http://www.w3.org/2000/svg\" role=\"img\" ")?;
     svg.push_str(&size)?;
     svg.push_str(" font-family=\"monospace\" font-size=\"11\">\n<title>")?;
-    svg.push_str(&cost_text(alloc, &told.prices, pieces)?)?;
+    svg.push_str(&cost_text(alloc, &explanation.prices, pieces)?)?;
     svg.push_str("</title>\n<rect width=\"100%\" height=\"100%\" fill=\"white\"/>\n")
 }
 
@@ -59,10 +59,10 @@ fn push_head(
 fn push_row(
     alloc: Global,
     svg: &mut String,
-    told: &Explanation,
+    explanation: &Explanation,
     row: usize,
 ) -> Result<(), AllocError> {
-    let Some(group) = told.prices.groups.get(row) else {
+    let Some(group) = explanation.prices.groups.get(row) else {
         return Ok(());
     };
     let y = row_top(row).saturating_add(24);
@@ -126,19 +126,19 @@ fn push_box(
 /// bar under the pointer.
 pub fn draw(
     alloc: Global,
-    told: &Explanation,
+    explanation: &Explanation,
     pieces: &[Descriptor],
     origins: &[Origin],
 ) -> Result<String, AllocError> {
     let mut svg = String::new(alloc);
-    push_head(alloc, &mut svg, told, pieces.len())?;
+    push_head(alloc, &mut svg, explanation, pieces.len())?;
     let mut next_fence: usize = 0;
-    for (index, cell) in told.cells.iter().enumerate() {
+    for (index, cell) in explanation.cells.iter().enumerate() {
         if cell.column == 0 {
-            push_row(alloc, &mut svg, told, cell.row)?;
+            push_row(alloc, &mut svg, explanation, cell.row)?;
         }
         if cell.fenced {
-            push_bar(alloc, &mut svg, told.fences.get(next_fence), cell)?;
+            push_bar(alloc, &mut svg, explanation.fences.get(next_fence), cell)?;
             next_fence = next_fence.saturating_add(1);
         }
         if let Some(d) = pieces.get(index) {

@@ -1,10 +1,11 @@
 //! What each group of a plan costs, and what the plan saves.
 
-ghost use Rattle.std.specs.Prelude.{◌≡◌, ◌+◌, ◌*◌, ◌-◌, ◌≤◌, IfOk, length, map, sum_by};
-ghost use Rattle.dsa_plan.specs.Plan.{fence_count, group_cost, piece_count, plan_cost};
+ghost use Rattle.std.specs.Prelude.{◌≡◌, ◌≤◌, IfOk, length};
+ghost use Rattle.dsa_plan.specs.Plan.{fence_count, piece_count};
 ghost use Rattle.dsa_plan.specs.LegalFaults.{HasGroupShape, HasGroupShapes};
 ghost use Rattle.dsa_plan.specs.Settings.{prices_of};
-ghost use Rattle.dsa_explain.specs.Told.{group_costs};
+ghost use Rattle.dsa_explain.specs.Costs.{group_price, group_prices};
+ghost use Rattle.dsa_explain.specs.Explained.{ArePrices};
 
 use dsa_plan::{Group, Plan, Settings, cost, group_price};
 use std::alloc::{AllocError, Global};
@@ -42,9 +43,7 @@ fn fence_count(group: &Group) -> usize
 fn price(group: &Group, settings: &Settings) -> GroupPrice
     requires shape { HasGroupShape settings.now.greatest_batch group.now }
     requires few { length group.now ≤ 65536 }
-    ensures size { result.size ≡ length group.now }
-    ensures fences { result.fences ≡ fence_count group.now }
-    ensures cost { result.cost ≡ group_cost (prices_of settings.now) group.now }
+    ensures { result ≡ group_price (prices_of settings.now) group.now }
 {
     let (size, fences) = (group.len(), fence_count(group));
     GroupPrice {
@@ -63,7 +62,7 @@ fn group_prices(
     requires pieces { piece_count plan.now ≤ 65536 }
     requires shapes { HasGroupShapes settings.now.greatest_batch plan.now }
     ensures { IfOk result
-        (λ groups. group_costs groups.items ≡ map (group_cost (prices_of settings.now)) plan.now) }
+        (λ groups. groups.items ≡ group_prices (prices_of settings.now) plan.now) }
 {
     let mut groups = Vec::with_capacity(alloc, plan.groups().len())?;
     for group in plan.groups() {
@@ -82,10 +81,7 @@ pub fn price_plan(
     requires all { piece_count plan.now ≡ pieces }
     requires few { pieces ≤ 65536 }
     requires shapes { HasGroupShapes settings.now.greatest_batch plan.now }
-    ensures groups { IfOk result (λ told.
-        group_costs told.groups.items ≡ map (group_cost (prices_of settings.now)) plan.now) }
-    ensures cost { IfOk result (λ told. told.cost ≡ plan_cost (prices_of settings.now) plan.now) }
-    ensures lone { IfOk result (λ told. told.lone ≡ settings.now.lone * pieces) }
+    ensures { IfOk result (ArePrices settings.now pieces plan.now) }
 {
     let groups = group_prices(alloc, plan, settings)?;
     Ok(Prices {

@@ -2,9 +2,8 @@
 
 ghost use Rattle.std.specs.Prelude.{◌≡◌, ℕ, ◌+◌, ◌^◌, ◌<◌, ◌≤◌, map, length, MatchOption};
 ghost use Rattle.dsa_descriptor.specs.Descriptors.{fields};
-ghost use Rattle.dsa_ranges.specs.Ranges.{ConflictAt};
 ghost use Rattle.dsa_plan.specs.Legal.{IsFenced};
-ghost use Rattle.dsa_explain.specs.Reasons.{FindsEarlier, FindsNone, IsOpen, IsReason, NeedsFence};
+ghost use Rattle.dsa_explain.specs.Reasons.{FindsEarlier, FindsNone, IsOpen, IsReasonFor};
 
 use dsa_descriptor::Descriptor;
 use dsa_hazards::{Hazard, find_hazard};
@@ -77,9 +76,7 @@ pub fn reason_of(fences: &[bool], pieces: &[Descriptor], start: usize, at: usize
     requires known { start + length fences.now ≤ length pieces.now }
     requires few { length pieces.now ≤ 65536 }
     requires fenced { IsFenced start fences.now at }
-    ensures { MatchOption result
-        ((a b : ℕ) → ¬ NeedsFence (ConflictAt (map fields pieces.now)) start fences.now at a b)
-        (IsReason (map fields pieces.now) start fences.now at) }
+    ensures { IsReasonFor (map fields pieces.now) start fences.now at result }
 {
     let end = next_fence(fences, start, at);
     for later in at..end {

@@ -100,10 +100,10 @@ fn push_line(text: &mut String, before: &str, line: &str) -> Result<(), AllocErr
 fn push_group(
     alloc: Global,
     text: &mut String,
-    told: &Explanation,
+    explanation: &Explanation,
     row: usize,
 ) -> Result<(), AllocError> {
-    let Some(group) = told.prices.groups.get(row) else {
+    let Some(group) = explanation.prices.groups.get(row) else {
         return Ok(());
     };
     push_line(text, "", &group_text(alloc, row, group)?)
@@ -127,22 +127,22 @@ fn push_fence(
 /// The explanation of a plan in words: a line for each group, fence and piece, and one for the costs.
 pub fn explanation_text(
     alloc: Global,
-    told: &Explanation,
+    explanation: &Explanation,
     pieces: &[Descriptor],
     origins: &[Origin],
     settings: &Settings,
 ) -> Result<String, AllocError> {
     let mut text = String::new(alloc);
     let mut next_fence: usize = 0;
-    for (index, cell) in told.cells.iter().enumerate() {
+    for (index, cell) in explanation.cells.iter().enumerate() {
         if cell.column == 0 {
-            push_group(alloc, &mut text, told, cell.row)?;
+            push_group(alloc, &mut text, explanation, cell.row)?;
         }
         if cell.fenced {
             push_fence(
                 alloc,
                 &mut text,
-                told.fences.get(next_fence),
+                explanation.fences.get(next_fence),
                 settings.fence(),
             )?;
             next_fence = next_fence.saturating_add(1);
@@ -156,7 +156,7 @@ pub fn explanation_text(
     push_line(
         &mut text,
         "",
-        &cost_text(alloc, &told.prices, pieces.len())?,
+        &cost_text(alloc, &explanation.prices, pieces.len())?,
     )?;
     Ok(text)
 }

@@ -1,5 +1,6 @@
-use Rattle.std.proofs.Common.{ℕ, ◌-◌, ◌<◌, ◌≤◌, false, Some, length, ap, ◌∙◌, arith}
+use Rattle.std.proofs.Common.{ℕ, ◌-◌, ◌<◌, inl, inr, false, Some, length, ap, ◌∙◌, arith}
 use Rattle.std.specs.Prelude.{map}
+use Rattle.std.proofs.lemmas.Bool.{cases_lt}
 use Rattle.std.proofs.lemmas.Option.{slice_get-get_or}
 use Rattle.dsa_descriptor.specs.Descriptors.{fields}
 use Rattle.dsa_ranges.specs.Ranges.{ConflictAt}
@@ -12,16 +13,22 @@ pub returns-in-Some : goal.returns-in-Some
 returns-in-Some c =
     let h = c.loop-i.invariant in
     let first : c.loop-i.i - 1 < length c.args.pieces.now = omega (arith, h.before, c.requires.behind, c.requires.within, c.requires.known) in
-    let second : c.args.later < length c.args.pieces.now = omega (arith, c.requires.within, c.requires.known) in (
-      record {
+    let second : c.args.later < length c.args.pieces.now = omega (arith, c.requires.within, c.requires.known) in
+    record {
+      reached = record {
         begun = omega (arith, c.loop-i-test.true);
         before = omega (arith, h.before, c.loop-i-test.true);
         open_between = λ other after before. h.open_here other (omega arith) before;
-      },
-      hazard_seen c.args.pieces.now (c.loop-i.i - 1) c.args.later c.index-pieces-i.result c.index-pieces-later.result c.touched.result.reads.items c.touched.result.writes.items
+      };
+      hazard = hazard_seen c.args.pieces.now (c.loop-i.i - 1) c.args.later c.index-pieces-i.result c.index-pieces-later.result c.touched.result.reads.items c.touched.result.writes.items
           c.touched-waiting.result.reads.items c.touched-waiting.result.writes.items c.in-Some.hazard first second c.index-pieces-i.is c.index-pieces-later.is
-          c.touched.ensures.reads c.touched.ensures.writes c.touched-waiting.ensures.reads c.touched-waiting.ensures.writes c.in-Some.ensures,
-    )
+          c.touched.ensures.reads c.touched.ensures.writes c.touched-waiting.ensures.reads c.touched-waiting.ensures.writes c.in-Some.ensures;
+      last = λ y reached meets.
+          elim (cases_lt (c.loop-i.i - 1) y) [
+            | inl above ↦ absurd (h.apart y (omega arith) reached.before meets)
+            | inr below ↦ below
+          ];
+    }
 
 pub returns-then-fences-i : goal.returns-then-fences-i
 returns-then-fences-i c =

@@ -1,0 +1,47 @@
+-- What explaining a plan answers.
+use Rattle.std.specs.Prelude.{◌≡◌, ℕ, ◌*◌, ◌<◌, ◌≤◌, List, length, map, Result, Ok, Err}
+use Rattle.dsa_descriptor.specs.declared.descriptor.Descriptor.{Descriptor}
+use Rattle.dsa_descriptor.specs.Descriptors.{fields}
+use Rattle.dsa_ranges.specs.Ranges.{ConflictAt}
+use Rattle.dsa_plan.specs.Plan.{Plan, plan_cost}
+use Rattle.dsa_plan.specs.Settings.{Limits, prices_of}
+use Rattle.dsa_plan.specs.Legal.{IsLegal}
+use Rattle.dsa_plan.specs.LegalFaults.{IsFirstLegalFault}
+use Rattle.dsa_explain.specs.Cells.{cells_from}
+use Rattle.dsa_explain.specs.Costs.{group_prices}
+use Rattle.dsa_explain.specs.Fences.{AreFencesOf}
+use Rattle.dsa_explain.specs.declared.prices.Prices.{Prices}
+use Rattle.dsa_explain.specs.declared.explanation.Explanation.{Explanation}
+use Rattle.dsa_explain.specs.declared.explanation.ExplainFault.{ExplainFault}
+use Rattle.dsa_explain.specs.declared.explanation.ExplainFault.TheVariants.{TooManyPieces, Legal, Memory}
+
+-- the most pieces of a plan that is explained (this project's choice)
+abbrev pub most_pieces : ℕ
+most_pieces = 65536
+
+-- the costs of the groups and of the plan, and that of so many lone submissions
+pub record ArePrices (s : Limits) (pieces : ℕ) (plan : Plan) (prices : Prices) : Type 0 where
+  pub groups : prices.groups.items ≡ group_prices (prices_of s) plan
+  pub cost : prices.cost ≡ plan_cost (prices_of s) plan
+  pub lone : prices.lone ≡ s.lone * pieces
+
+-- the plan's prices, its fences and its cells
+pub record IsExplanationOf (s : Limits) (pieces : List Descriptor) (plan : Plan) (e : Explanation) : Type 0 where
+  pub prices : ArePrices s (length pieces) plan e.prices
+  pub fences : AreFencesOf (map fields pieces) plan e.fences.items
+  pub cells : e.cells.items ≡ cells_from 0 plan
+
+-- the plan is legal, of pieces that are not too many
+pub record CanBeExplained (s : Limits) (pieces : List Descriptor) (plan : Plan) : Type 0 where
+  pub few : length pieces ≤ most_pieces
+  pub legal : IsLegal (ConflictAt (map fields pieces)) s.greatest_batch (length pieces) plan
+
+-- Of a plan that can be explained, and of no other, its explanation, or that memory ran out. Else
+-- that the pieces are too many; else the plan's first fault.
+abbrev pub Explains : Limits → List Descriptor → Plan → Result Explanation ExplainFault → Type 0
+Explains s pieces plan (Ok e) = CanBeExplained s pieces plan × IsExplanationOf s pieces plan e
+Explains s pieces plan (Err Memory) = CanBeExplained s pieces plan
+Explains s pieces plan (Err TooManyPieces) = most_pieces < length pieces
+Explains s pieces plan (Err (Legal fault)) =
+    (length pieces ≤ most_pieces)
+    × IsFirstLegalFault (ConflictAt (map fields pieces)) s.greatest_batch (length pieces) plan fault

@@ -1,0 +1,44 @@
+-- The fences of a plan, and what each is for.
+use Rattle.std.specs.Prelude.{◌≡◌, ℕ, suc, ◌+◌, All, List, [], ◌∷◌, ◌++◌, length, map, slice_get, Some, if◌then◌else◌}
+use Rattle.dsa_descriptor.specs.Fields.{Fields}
+use Rattle.dsa_plan.specs.Plan.{Group, Plan, start_of}
+use Rattle.dsa_plan.specs.Legal.{IsFenced}
+use Rattle.dsa_explain.specs.Reasons.{IsReasonFor}
+use Rattle.dsa_explain.specs.declared.fences.Fence.{Fence}
+
+-- the fenced pieces of a group that begins with this piece, in order
+abbrev pub fenced_in : ℕ → Group → List ℕ
+fenced_in piece [] = []
+fenced_in piece (fenced ∷ group) =
+    if fenced then (piece ∷ fenced_in (suc piece) group) else fenced_in (suc piece) group
+
+-- the fenced pieces of groups of which the first begins with this piece, in order
+abbrev pub fenced_pieces : ℕ → Plan → List ℕ
+fenced_pieces piece [] = []
+fenced_pieces piece (group ∷ plan) =
+    fenced_in piece group ++ fenced_pieces (piece + length group) plan
+
+-- the fence stands in some group of the plan, and its reason is what needs it there
+pub record IsExplained (pieces : List Fields) (plan : Plan) (fence : Fence) : Type 0 where
+  pub number : ℕ
+  pub group : Group
+  pub is_group : slice_get plan number ≡ Some group
+  pub fenced : IsFenced (start_of plan number) group fence.piece
+  pub reason : IsReasonFor pieces (start_of plan number) group fence.piece fence.reason
+
+-- the pieces that fences stand before
+abbrev pub fence_places : List Fence → List ℕ
+fence_places fences = map (λ fence. fence.piece) fences
+
+-- one fence before each fenced piece of the plan, in order, and each with its reason
+pub record AreFencesOf (pieces : List Fields) (plan : Plan) (fences : List Fence) : Type 0 where
+  pub places : fence_places fences ≡ fenced_pieces 0 plan
+  pub reasons : All (IsExplained pieces plan) fences
+
+-- ---- for private clauses
+
+-- fences of the group of that number are added to explained ones, and then all are explained
+abbrev pub AddsExplained : List Fields → ℕ → Group → List Fence → List Fence → Type 0
+AddsExplained pieces start group before after =
+    (plan : Plan) (number : ℕ) → slice_get plan number ≡ Some group → start ≡ start_of plan number →
+    All (IsExplained pieces plan) before → All (IsExplained pieces plan) after

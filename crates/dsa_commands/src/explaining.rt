@@ -43,12 +43,12 @@ fn answer_plan(
     settings: &Settings,
     drawn: bool,
 ) -> Result<Answer, AllocError> {
-    let told = match explain(alloc, plan, pieces, settings) {
-        Ok(told) => told,
+    let explanation = match explain(alloc, plan, pieces, settings) {
+        Ok(explanation) => explanation,
         Err(fault) => return Answer::explain_fault(alloc, fault),
     };
     if !drawn {
-        let text = explanation_text(alloc, &told, pieces, origins, settings)?;
+        let text = explanation_text(alloc, &explanation, pieces, origins, settings)?;
         return Ok(Answer::done(text));
     }
     let groups = plan.groups().len();
@@ -56,7 +56,7 @@ fn answer_plan(
         let line = format!(in alloc; "refused 91 Picture: {groups} groups, and 1024 at most\n")?;
         return Ok(Answer::refused(line));
     }
-    Ok(Answer::done(draw(alloc, &told, pieces, origins)?))
+    Ok(Answer::done(draw(alloc, &explanation, pieces, origins)?))
 }
 
 /// The answer of the plan of a list.

@@ -1,10 +1,9 @@
 -- The lines of a text, and the operations of its lines.
-use Rattle.std.proofs.Common.{◌≡◌, ℕ, suc, ◌+◌, ◌-◌, ◌<◌, ◌≤◌, Bool, true, false, cond, Option, Some, None, List, [], ◌∷◌, ◌++◌, length, get_or, take, drop, refl, sym, ap, ◌∙◌, append_assoc, arith}
+use Rattle.std.proofs.Common.{◌≡◌, ℕ, suc, ◌+◌, ◌-◌, ◌<◌, ◌≤◌, Bool, true, false, Option, Some, None, List, [], ◌∷◌, ◌++◌, length, get_or, take, drop, refl, sym, ap, ◌∙◌, append_assoc, arith}
 use Rattle.std.specs.Prelude.{map, not, ◌==◌, ◌&&◌}
-use Rattle.std.specs.List.{AllByRecursion, flat_map}
-use Rattle.std.proofs.lemmas.Bool.{eqb-true}
+use Rattle.std.specs.List.{AllByRecursion}
 use Rattle.std.proofs.Math.Seq.{take-length}
-use Rattle.std.proofs.lemmas.List.{append-nil, map-append, take_more}
+use Rattle.std.proofs.lemmas.List.{append-nil, length-drop, length-take-le, map-append, take_more}
 use Rattle.dsa_descriptor.specs.declared.descriptor.Descriptor.{Descriptor}
 use Rattle.dsa_descriptor.specs.Descriptors.{fields}
 use Rattle.dsa_descriptor.specs.Fields.{Fields}
@@ -12,11 +11,12 @@ use Rattle.dsa_descriptor.specs.Profile.{IsListed}
 use Rattle.dsa_descriptor.specs.Lists.{list_spelling}
 use Rattle.dsa_descriptor.specs.Spelling.{spelling}
 use Rattle.dsa_lines.specs.Words.{Word, words_of}
-use Rattle.dsa_lines.specs.Grammar.{op_at, fields_of, Spells, ◌>>=◌}
+use Rattle.dsa_lines.specs.Grammar.{op_at, fields_of, ◌>>=◌}
 use Rattle.dsa_lines.specs.Text.{line_text}
 use Rattle.dsa_lines.proofs.WordLemmas.{both}
 use Rattle.dsa_lines.proofs.RoundTrip.{line_spells}
 use Rattle.dsa_listing.specs.Texts.{with_byte, lines_of, line_fields, with_fields, all_fields, TextSpells, text_line, list_text, line_len, lines_behind}
+use Rattle.dsa_listing.specs.Answers.{LeavesGrammarAt}
 use Rattle.dsa_listing.proofs.LineLemmas.{is_line, canonical_is_line}
 
 -- ---- lines
@@ -74,7 +74,11 @@ pub spelling_append : (fs gs : List Fields) → list_spelling (fs ++ gs) ≡ lis
 spelling_append [] gs = refl
 spelling_append (f ∷ fs) gs = rw (spelling_append fs gs) (sym (append_assoc (spelling f) (list_spelling fs) (list_spelling gs)))
 
-pub with_more : (fs gs : List Fields) (o : Option (List Fields)) → with_fields fs (with_fields gs o) ≡ with_fields (fs ++ gs) o
+with_none : (o : Option (List Fields)) → o ≡ with_fields [] o
+with_none None = refl
+with_none (Some more) = refl
+
+with_more : (fs gs : List Fields) (o : Option (List Fields)) → with_fields fs (with_fields gs o) ≡ with_fields (fs ++ gs) o
 with_more fs gs None = refl
 with_more fs gs (Some more) = ap Some (sym (append_assoc fs gs more))
 
@@ -82,22 +86,43 @@ pub all_listed : (ds : List Descriptor) → AllByRecursion IsListed (map fields 
 all_listed [] = tt
 all_listed (d ∷ ds) = (d.listed, all_listed ds)
 
--- a line behind those before, and what its lines that are left spell
-pub gathers_more : (done here : List Fields) (lines : List (List ℕ)) (line : List ℕ) (all : Option (List Fields))
-    → all ≡ with_fields done (all_fields (line ∷ lines)) → line_fields (words_of line) ≡ Some here
-    → all ≡ with_fields (done ++ here) (all_fields lines)
-unfolding all_fields
-gathers_more done here lines line all e f =
-    e ∙ ap (λ (o : Option (List Fields)). with_fields done (o >>= λ h. with_fields h (all_fields lines))) f ∙ with_more done here (all_fields lines)
+fields_then : (here first rest : Option (List Fields))
+    → (here >>= λ h. with_fields h (first >>= λ f. with_fields f rest)) ≡ ((here >>= λ h. with_fields h first) >>= λ f. with_fields f rest)
+fields_then None first rest = refl
+fields_then (Some h) None rest = refl
+fields_then (Some h) (Some f) rest = with_more h f rest
 
-pub gathers_none : (done : List Fields) (lines : List (List ℕ)) (line : List ℕ) (all : Option (List Fields))
-    → all ≡ with_fields done (all_fields (line ∷ lines)) → line_fields (words_of line) ≡ None → all ≡ None
+-- the operations of lines behind others
+fields_append : (lines more : List (List ℕ)) → all_fields (lines ++ more) ≡ (all_fields lines >>= λ fs. with_fields fs (all_fields more))
 unfolding all_fields
-gathers_none done lines line all e f = e ∙ ap (λ (o : Option (List Fields)). with_fields done (o >>= λ h. with_fields h (all_fields lines))) f
+fields_append [] more = with_none (all_fields more)
+fields_append (line ∷ lines) more =
+    ap (λ (o : Option (List Fields)). line_fields (words_of line) >>= λ h. with_fields h o) (fields_append lines more)
+    ∙ fields_then (line_fields (words_of line)) (all_fields lines) (all_fields more)
 
-pub gathers_end : (done : List Fields) (all : Option (List Fields)) → all ≡ with_fields done (all_fields []) → all ≡ Some done
+one_line : (line : List ℕ) (here : List Fields) → line_fields (words_of line) ≡ Some here → all_fields (line ∷ []) ≡ Some here
 unfolding all_fields
-gathers_end done all e = e ∙ ap Some (append-nil done)
+one_line line here e = ap (λ (o : Option (List Fields)). o >>= λ h. with_fields h (Some [])) e ∙ ap Some (append-nil here)
+
+no_line : (line : List ℕ) (behind : List (List ℕ)) → line_fields (words_of line) ≡ None → all_fields (line ∷ behind) ≡ None
+unfolding all_fields
+no_line line behind e = ap (λ (o : Option (List Fields)). o >>= λ h. with_fields h (all_fields behind)) e
+
+-- one line more
+pub fields_more : (before : List (List ℕ)) (line : List ℕ) (done here : List Fields) → all_fields before ≡ Some done → line_fields (words_of line) ≡ Some here
+    → all_fields (before ++ line ∷ []) ≡ Some (done ++ here)
+fields_more before line done here e f =
+    fields_append before (line ∷ [])
+    ∙ ap (λ (o : Option (List Fields)). o >>= λ fs. with_fields fs (all_fields (line ∷ []))) e
+    ∙ ap (with_fields done) (one_line line here f)
+
+-- lines of which one leaves the grammar spell no operations
+pub leaves_none : (lines : List (List ℕ)) (number : ℕ) → LeavesGrammarAt lines number → all_fields lines ≡ None
+leaves_none lines number leaves =
+    ap all_fields leaves.lines_are
+    ∙ fields_append leaves.before (leaves.line ∷ leaves.behind)
+    ∙ ap (λ (o : Option (List Fields)). o >>= λ fs. with_fields fs (all_fields (leaves.line ∷ leaves.behind))) leaves.spelled.1
+    ∙ ap (with_fields leaves.spelled.0) (no_line leaves.line leaves.behind leaves.outside)
 
 text_append : (fs gs : List Fields) → list_text (fs ++ gs) ≡ list_text fs ++ list_text gs
 unfolding list_text
@@ -121,10 +146,6 @@ pub no_text : list_text [] ≡ []
 unfolding list_text
 no_text = refl
 
-pub with_none : (o : Option (List Fields)) → o ≡ with_fields [] o
-with_none None = refl
-with_none (Some more) = refl
-
 behind_newline : (back : List ℕ) → 1 ≤ length back → lines_behind back ≡ lines_of (take (length back - 1) (drop 1 back))
 behind_newline [] lt = absurd (omega arith)
 behind_newline (c ∷ cs) lt = ap lines_of (sym (whole cs))
@@ -138,10 +159,20 @@ first_line rest line back n e f g =
     lines_at rest
     ∙ rw (← e) (ap (λ (l : List ℕ). l ∷ lines_behind (drop n rest)) (sym f) ∙ ap (λ (b : List ℕ). line ∷ lines_behind b) (sym g))
 
+pub no_fields : all_fields [] ≡ Some []
+unfolding all_fields
+no_fields = refl
+
 -- the line before a newline, and the lines behind it
 pub more_lines : (rest line back : List ℕ) (n : ℕ) → n ≡ line_len rest → line ≡ take n rest → back ≡ drop n rest → 1 ≤ length back
     → lines_of rest ≡ line ∷ lines_of (take (length back - 1) (drop 1 back))
 more_lines rest line back n e f g lt = first_line rest line back n e f g ∙ ap (λ (ls : List (List ℕ)). line ∷ ls) (behind_newline back lt)
+
+-- what stands behind a newline is shorter than what the line stood in
+pub next_shorter : (rest back : List ℕ) (n : ℕ) → back ≡ drop n rest → 1 ≤ length back → length (take (length back - 1) (drop 1 back)) + 1 ≤ length rest
+next_shorter rest back n e lt =
+    let here : length back ≡ length rest - n = ap length e ∙ length-drop n rest in
+    omega (arith, here, length-take-le (length back - 1) (drop 1 back) (omega (arith, length-drop 1 back)))
 
 no_lines : (back : List ℕ) → length back < 1 → lines_behind back ≡ []
 no_lines [] lt = refl

@@ -1,11 +1,13 @@
 -- What assembling a text answers.
-use Rattle.std.specs.Prelude.{◌≡◌, ◌≢◌, ⊤, ℕ, List, ◌++◌, map, Option, Some, None, Result, Ok, Err}
+use Rattle.std.specs.Prelude.{◌≡◌, ◌≢◌, ⊤, ℕ, ◌+◌, List, ◌∷◌, ◌++◌, length, map, Option, Some, None, Result, Ok, Err}
 use Rattle.dsa_descriptor.specs.declared.descriptor.Descriptor.{Descriptor}
 use Rattle.dsa_descriptor.specs.declared.fault.ListFault.{ListFault}
 use Rattle.dsa_descriptor.specs.declared.fault.ListFault.TheVariants.{Memory as ListMemory}
 use Rattle.dsa_descriptor.specs.Fields.{Fields}
 use Rattle.dsa_descriptor.specs.Descriptors.{fields}
 use Rattle.dsa_descriptor.specs.Lists.{list_spelling, HaveOneOwner, IsFirstListFault}
+use Rattle.dsa_lines.specs.Words.{words_of}
+use Rattle.dsa_listing.specs.Texts.{all_fields, line_fields}
 use Rattle.dsa_listing.specs.declared.fault.TextFault.{TextFault}
 use Rattle.dsa_listing.specs.declared.fault.TextFault.TheVariants.{Grammar, List as Listed, Memory}
 
@@ -15,17 +17,27 @@ pub record IsListing (bytes : List ℕ) : Type 0 where
   pub spelled : bytes ≡ list_spelling (map fields operations)
   pub one_owner : HaveOneOwner (map fields operations)
 
--- of a text that spells no operations, a place where it leaves the grammar; else the bytes of the operations, where
--- these are a list, or their first fault as a list; or that memory ran out
-abbrev pub Assembles : {X : Type 0} → (X → List ℕ) → Option (List Fields) → Result X TextFault → Type 0
-Assembles shown None (Ok bytes) = ⊥
-Assembles shown None (Err (Grammar line column what)) = ⊤
-Assembles shown None (Err (Listed line fault)) = ⊥
-Assembles shown None (Err Memory) = ⊤
-Assembles shown (Some fs) (Ok bytes) = (shown bytes ≡ list_spelling fs) × IsListing (shown bytes)
-Assembles shown (Some fs) (Err (Grammar line column what)) = ⊥
-Assembles shown (Some fs) (Err (Listed line fault)) = IsFirstListFault (list_spelling fs) fault
-Assembles shown (Some fs) (Err Memory) = ⊤
+-- the line of this number, from 1 on, is the first that leaves the grammar: it has words that spell
+-- no fields, and the lines before it spell operations
+pub record LeavesGrammarAt (lines : List (List ℕ)) (number : ℕ) : Type 0 where
+  pub before : List (List ℕ)
+  pub line : List ℕ
+  pub behind : List (List ℕ)
+  pub lines_are : lines ≡ before ++ line ∷ behind
+  pub number_is : number ≡ length before + 1
+  pub spelled : (fs : List Fields) × (all_fields before ≡ Some fs)
+  pub outside : line_fields (words_of line) ≡ None
+
+-- of lines that spell operations, the bytes of these, where they are a list, or their first fault as
+-- a list; else the first line that leaves the grammar; or that memory ran out
+abbrev pub Assembles : {X : Type 0} → (X → List ℕ) → List (List ℕ) → Result X TextFault → Type 0
+Assembles shown lines (Ok bytes) =
+    (fs : List Fields) × (all_fields lines ≡ Some fs) × (shown bytes ≡ list_spelling fs)
+    × IsListing (shown bytes)
+Assembles shown lines (Err (Grammar line column what)) = LeavesGrammarAt lines line
+Assembles shown lines (Err (Listed line fault)) =
+    (fs : List Fields) × (all_fields lines ≡ Some fs) × IsFirstListFault (list_spelling fs) fault
+Assembles shown lines (Err Memory) = ⊤
 
 -- ---- for private clauses
 
@@ -35,18 +47,26 @@ IsTextFault fault (Grammar line column what) = ⊥
 IsTextFault fault (Listed line listed) = (listed ≡ fault) × (fault ≢ ListMemory)
 IsTextFault fault Memory = fault ≡ ListMemory
 
--- why the bytes of operations are not gathered
-abbrev pub Stops : Option (List Fields) → TextFault → Type 0
-Stops read (Grammar line column what) = read ≡ None
-Stops read (Listed line fault) = ⊥
-Stops read Memory = ⊤
+-- why the bytes of lines are not gathered
+abbrev pub Stops : List (List ℕ) → TextFault → Type 0
+Stops lines (Grammar line column what) = LeavesGrammarAt lines line
+Stops lines (Listed line fault) = ⊥
+Stops lines Memory = ⊤
 
--- all bytes of what was read
-abbrev pub Gathers : {X : Type 0} → (X → List ℕ) → Option (List Fields) → Result X TextFault → Type 0
-Gathers shown read (Ok bytes) = (fs : List Fields) × (read ≡ Some fs) × (shown bytes ≡ list_spelling fs)
-Gathers shown read (Err fault) = Stops read fault
+-- all bytes of what the lines spell
+abbrev pub Gathers : {X : Type 0} → (X → List ℕ) → List (List ℕ) → Result X TextFault → Type 0
+Gathers shown lines (Ok bytes) =
+    (fs : List Fields) × (all_fields lines ≡ Some fs) × (shown bytes ≡ list_spelling fs)
+Gathers shown lines (Err fault) = Stops lines fault
+
+-- why the line of this number, of which this is read, has no bytes
+abbrev pub StopsAt : ℕ → Option (List Fields) → TextFault → Type 0
+StopsAt number read (Grammar line column what) = (line ≡ number) × (read ≡ None)
+StopsAt number read (Listed line fault) = ⊥
+StopsAt number read Memory = ⊤
 
 -- the bytes of what was read, behind those before
-abbrev pub Pushes : List ℕ → List ℕ → Option (List Fields) → Result Unit TextFault → Type 0
-Pushes before after read (Ok done) = (fs : List Fields) × (read ≡ Some fs) × (after ≡ before ++ list_spelling fs)
-Pushes before after read (Err fault) = Stops read fault
+abbrev pub Pushes : List ℕ → List ℕ → ℕ → Option (List Fields) → Result Unit TextFault → Type 0
+Pushes before after number read (Ok done) =
+    (fs : List Fields) × (read ≡ Some fs) × (after ≡ before ++ list_spelling fs)
+Pushes before after number read (Err fault) = StopsAt number read fault

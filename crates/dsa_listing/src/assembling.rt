@@ -28,7 +28,8 @@ fn push_entry(bytes: &mut Vec<u8>, entry: &[u8; 64]) -> Result<(), TextFault>
 
 /// Writes the bytes of the line's operation at the end, where the line has words.
 fn push_line(bytes: &mut Vec<u8>, line: &[u8], number: usize) -> Result<(), TextFault>
-    ensures { Pushes bytes.old.items bytes.new.items (line_fields (words_of line.now)) result }
+    ensures { Pushes bytes.old.items bytes.new.items number
+        (line_fields (words_of line.now)) result }
 {
     match line_bytes(line) {
         Ok(None) => Ok(()),
@@ -39,7 +40,7 @@ fn push_line(bytes: &mut Vec<u8>, line: &[u8], number: usize) -> Result<(), Text
 
 /// The bytes of the operations that the lines spell, listed or not.
 fn bytes_of(alloc: Global, text: &[u8]) -> Result<Vec<u8>, TextFault>
-    ensures { Gathers (λ bytes. bytes.items) (all_fields (lines_of text.now)) result }
+    ensures { Gathers (λ bytes. bytes.items) (lines_of text.now) result }
 {
     let mut bytes = Vec::new(alloc);
     let mut rest = text;
@@ -51,7 +52,7 @@ fn bytes_of(alloc: Global, text: &[u8]) -> Result<Vec<u8>, TextFault>
             return Ok(bytes);
         };
         rest = next;
-        number = number.saturating_add(1);
+        number += 1;
     }
 }
 
@@ -92,10 +93,10 @@ fn text_fault(text: &[u8], fault: ListFault) -> TextFault
 /// The bytes of the list that a text spells, 64 for each of its lines that has words.
 ///
 /// # Errors
-/// The first line that leaves the grammar; else the first fault of the bytes as a list, as [`read_list`] tells it;
-/// [`TextFault::Memory`] where a growth is refused.
+/// The first line that leaves the grammar; else the first fault of the bytes as a list, as
+/// [`read_list`] reports it; [`TextFault::Memory`] at the first allocation that fails.
 pub fn assemble(alloc: Global, text: &[u8]) -> Result<Vec<u8>, TextFault>
-    ensures told { Assembles (λ bytes. bytes.items) (all_fields (lines_of text.now)) result }
+    ensures told { Assembles (λ bytes. bytes.items) (lines_of text.now) result }
     // The text of a list is read back.
     ensures again { (ds : List Descriptor) →
         HaveOneOwner (map fields ds) → text.now ≡ list_text (map fields ds) → MatchResult result

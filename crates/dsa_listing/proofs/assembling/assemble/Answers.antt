@@ -1,11 +1,8 @@
-use Rattle.std.proofs.Common.{◌≡◌, List, Option, subst, ◌∙◌}
+use Rattle.std.proofs.Common.{◌∙◌}
 use Rattle.std.specs.Prelude.{map}
 use Rattle.std.proofs.lemmas.Result.{err_from_is_err_and}
 use Rattle.dsa_descriptor.specs.Descriptors.{fields}
-use Rattle.dsa_descriptor.specs.Fields.{Fields}
-use Rattle.dsa_descriptor.specs.Lists.{list_spelling}
 use Rattle.dsa_listing.specs.Texts.{all_fields, lines_of}
-use Rattle.dsa_listing.specs.Answers.{Stops}
 use Rattle.dsa_listing.proofs.AnswerLemmas.{memory_told, same_fields, stops_memory}
 use Rattle.dsa_listing.proofs.TextLemmas.{text_is_read}
 use Rattle.dsa_listing.proofs.assembling.assemble.Goals as goal
@@ -13,8 +10,7 @@ use Rattle.dsa_listing.proofs.assembling.assemble.Goals as goal
 pub returns-in_err-bytes-clause-again : goal.returns-in_err-bytes-clause-again
 returns-in_err-bytes-clause-again c = λ ds owner e.
     let p = err_from_is_err_and c.from_residual.result c.from_residual.ensures.1 in
-    let stops = subst (λ (o : Option (List Fields)). Stops o c.in_err-bytes.field-0.0) (text_is_read ds c.args.text.now e) c.in_err-bytes.ensures in
-    rw (p.1, p.2) (stops_memory (map fields ds) c.in_err-bytes.field-0.0 stops)
+    rw (p.1, p.2) (stops_memory (lines_of c.args.text.now) (map fields ds) c.in_err-bytes.field-0.0 (text_is_read ds c.args.text.now e) c.in_err-bytes.ensures)
 
 pub returns-in-Err-clause-again : goal.returns-in-Err-clause-again
 returns-in-Err-clause-again c = λ ds owner e.

@@ -1,50 +1,71 @@
-use Rattle.std.proofs.Common.{◌≡◌, ℕ, ◌<◌, List, [], ◌∷◌, ◌++◌, Option, None, length, sym, ap, ◌∙◌, arith}
+use Rattle.std.proofs.Common.{◌≡◌, ℕ, ◌+◌, ◌<◌, List, [], ◌∷◌, ◌++◌, None, length, refl, sym, ap, ◌∙◌, append_assoc, length-append, arith}
 use Rattle.std.proofs.lemmas.Result.{err_from_is_err_and}
-use Rattle.dsa_descriptor.specs.Fields.{Fields}
 use Rattle.dsa_descriptor.specs.Lists.{list_spelling}
 use Rattle.dsa_lines.specs.Words.{words_of}
-use Rattle.dsa_listing.specs.Texts.{lines_of, all_fields, line_fields, with_fields}
-use Rattle.dsa_listing.proofs.AnswerLemmas.{stops_more}
-use Rattle.dsa_listing.proofs.TextLemmas.{gathers_more, gathers_none, gathers_end, first_line, last_line, more_lines, spelling_append, with_none}
+use Rattle.dsa_listing.specs.Texts.{lines_of, lines_behind, all_fields, line_fields}
+use Rattle.dsa_listing.specs.Answers.{LeavesGrammarAt}
+use Rattle.dsa_listing.proofs.AnswerLemmas.{stops_there}
+use Rattle.dsa_listing.proofs.TextLemmas.{fields_more, first_line, last_line, more_lines, next_shorter, no_fields, spelling_append}
 use Rattle.dsa_listing.proofs.assembling.bytes_of.Goals as goal
 
 pub lines-init : goal.lines-init
-lines-init c = ([], c.new-bytes.ensures.items, with_none (all_fields (lines_of c.args.text.now)))
+lines-init c =
+    record {
+      before = [];
+      done = [];
+      bytes = c.new-bytes.ensures.items;
+      spelled = no_fields;
+      lines = refl;
+      number = refl;
+      room = omega arith;
+    }
 
 pub lines-preserved : goal.lines-preserved
 lines-preserved c =
     let i = c.lines.invariant in
     let h = c.in_ok-push_line.ensures in
-    let lines = more_lines c.lines.rest.now c.split_at.result.0.now c.split_at.result.1.now c.line_len.result c.line_len.ensures.value c.split_at.ensures.front
-    c.split_at.ensures.back c.in-len1-up.len_at_least in (
-      i.0 ++ h.0,
-      h.2 ∙ ap (λ (b : List ℕ). b ++ list_spelling h.0) i.1 ∙ sym (spelling_append i.0 h.0),
-      gathers_more i.0 h.0 _ c.split_at.result.0.now (all_fields (lines_of c.args.text.now))
-          (i.2 ∙ ap (λ (ls : List (List ℕ)). with_fields i.0 (all_fields ls)) lines) h.1,
-    )
+    let line = c.split_at.result.0.now in
+    let back = c.split_at.result.1.now in
+    let lines = more_lines c.lines.rest.now line back c.line_len.result c.line_len.ensures.value c.split_at.ensures.front c.split_at.ensures.back c.in-len1-up.len_at_least in
+    let one : length (i.before ++ line ∷ []) ≡ length i.before + 1 = length-append i.before (line ∷ []) in
+    record {
+      before = i.before ++ line ∷ [];
+      done = i.done ++ h.0;
+      bytes = h.2 ∙ ap (λ (b : List ℕ). b ++ list_spelling h.0) i.bytes ∙ sym (spelling_append i.done h.0);
+      spelled = fields_more i.before line i.done h.0 i.spelled h.1;
+      lines = i.lines ∙ ap (λ (ls : List (List ℕ)). i.before ++ ls) lines ∙ sym (append_assoc i.before (line ∷ []) _);
+      number = omega (arith, one, i.number);
+      room = omega (arith, one, i.room, next_shorter c.lines.rest.now back c.line_len.result c.split_at.ensures.back c.in-len1-up.len_at_least);
+    }
 
 pub returns-in_default : goal.returns-in_default
 returns-in_default c =
     let i = c.lines.invariant in
     let h = c.in_ok-push_line.ensures in
-    let none : length c.split_at.result.1.now < 1 = omega arith in
-    let lines = last_line c.lines.rest.now c.split_at.result.0.now c.split_at.result.1.now c.line_len.result c.line_len.ensures.value c.split_at.ensures.front
-    c.split_at.ensures.back none in (
-      i.0 ++ h.0,
-      gathers_end (i.0 ++ h.0) (all_fields (lines_of c.args.text.now))
-          (gathers_more i.0 h.0 [] c.split_at.result.0.now (all_fields (lines_of c.args.text.now))
-          (i.2 ∙ ap (λ (ls : List (List ℕ)). with_fields i.0 (all_fields ls)) lines) h.1),
-      h.2 ∙ ap (λ (b : List ℕ). b ++ list_spelling h.0) i.1 ∙ sym (spelling_append i.0 h.0),
+    let line = c.split_at.result.0.now in
+    let back = c.split_at.result.1.now in
+    let none : length back < 1 = omega arith in
+    let lines = last_line c.lines.rest.now line back c.line_len.result c.line_len.ensures.value c.split_at.ensures.front c.split_at.ensures.back none in (
+      i.done ++ h.0,
+      ap all_fields (i.lines ∙ ap (λ (ls : List (List ℕ)). i.before ++ ls) lines) ∙ fields_more i.before line i.done h.0 i.spelled h.1,
+      h.2 ∙ ap (λ (b : List ℕ). b ++ list_spelling h.0) i.bytes ∙ sym (spelling_append i.done h.0),
     )
 
 pub returns-in_err-push_line : goal.returns-in_err-push_line
 returns-in_err-push_line c =
     let i = c.lines.invariant in
     let p = err_from_is_err_and c.from_residual.result c.from_residual.ensures.1 in
-    let lines = first_line c.lines.rest.now c.split_at.result.0.now c.split_at.result.1.now c.line_len.result c.line_len.ensures.value c.split_at.ensures.front
-    c.split_at.ensures.back in
-    let none : line_fields (words_of c.split_at.result.0.now) ≡ None → all_fields (lines_of c.args.text.now) ≡ None =
-    λ e. gathers_none i.0 _ c.split_at.result.0.now (all_fields (lines_of c.args.text.now))
-    (i.2 ∙ ap (λ (ls : List (List ℕ)). with_fields i.0 (all_fields ls)) lines) e in
-    rw (p.1, p.2)
-    (stops_more (line_fields (words_of c.split_at.result.0.now)) (all_fields (lines_of c.args.text.now)) c.in_err-push_line.field-0.0 none c.in_err-push_line.ensures)
+    let line = c.split_at.result.0.now in
+    let back = c.split_at.result.1.now in
+    let lines = first_line c.lines.rest.now line back c.line_len.result c.line_len.ensures.value c.split_at.ensures.front c.split_at.ensures.back in
+    let leaves : line_fields (words_of line) ≡ None → LeavesGrammarAt (lines_of c.args.text.now) c.lines.number =
+    λ e. record {
+      before = i.before;
+      line = line;
+      behind = lines_behind back;
+      lines_are = i.lines ∙ ap (λ (ls : List (List ℕ)). i.before ++ ls) lines;
+      number_is = i.number;
+      spelled = (i.done, i.spelled);
+      outside = e;
+    } in
+    rw (p.1, p.2) (stops_there c.lines.number (line_fields (words_of line)) (lines_of c.args.text.now) c.in_err-push_line.field-0.0 leaves c.in_err-push_line.ensures)

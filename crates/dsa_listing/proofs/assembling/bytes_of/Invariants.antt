@@ -1,14 +1,20 @@
-use Rattle.std.proofs.Common.{◌≡◌, List, length}
+use Rattle.std.proofs.Common.{◌≡◌, ℕ, ◌+◌, ◌≤◌, List, ◌++◌, length, Some}
 use Rattle.dsa_descriptor.specs.Fields.{Fields}
 use Rattle.dsa_descriptor.specs.Lists.{list_spelling}
-use Rattle.dsa_listing.specs.Texts.{lines_of, all_fields, with_fields}
+use Rattle.dsa_listing.specs.Texts.{lines_of, all_fields}
 use Rattle.dsa_listing.proofs.assembling.bytes_of.Given as goal
 
--- the bytes so far are those of some operations, and the lines that are left spell what comes behind these
+-- the bytes so far are those of the operations of the lines so far, and the number is that of the next line
 abbrev pub invariant-lines : goal.invariant-lines
-invariant-lines l =
-    (done : List Fields) × (l.bytes.items ≡ list_spelling done)
-    × (all_fields (lines_of l.text) ≡ with_fields done (all_fields (lines_of l.rest)))
+invariant-lines l = record {
+  before : List (List ℕ);
+  done : List Fields;
+  bytes : l.bytes.items ≡ list_spelling done;
+  spelled : all_fields before ≡ Some done;
+  lines : lines_of l.text ≡ before ++ lines_of l.rest;
+  number : l.number ≡ length before + 1;
+  room : length before + length l.rest ≤ length l.text;
+}
 
 abbrev pub decreases-lines : goal.decreases-lines
 decreases-lines l = length l.rest

@@ -1,4 +1,4 @@
-use Rattle.std.proofs.Common.{ap, sym, ◌++◌, ◌∙◌, List, ℕ, arith}
+use Rattle.std.proofs.Common.{ap, sym, ◌++◌, ◌∙◌, List, ℕ}
 use Rattle.dsa_descriptor.specs.Descriptors.{fields}
 use Rattle.dsa_listing.specs.Texts.{text_line}
 use Rattle.dsa_listing.proofs.TextLemmas.{no_text, text_more}

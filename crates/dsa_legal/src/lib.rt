@@ -2,8 +2,10 @@
 #![tactic(auto)]
 
 mod conflicts;
+mod laws;
 mod legal;
 mod sweep;
 
 pub use conflicts::Conflicts;
+pub use laws::legal_stretches_part;
 pub use legal::{LegalFault, is_legal};

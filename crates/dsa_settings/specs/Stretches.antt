@@ -1,7 +1,8 @@
 -- The stretches that a plan cuts its list of pieces into (from specification 341204, batch and fence; that submissions are
 -- awaited in turn, so that each group begins a stretch, is this project's choice).
-use Rattle.std.specs.Prelude.{ℕ, ◌+◌, Bool, true, List, [], ◌∷◌, take, flat_map, count_by}
+use Rattle.std.specs.Prelude.{ℕ, ◌+◌, Bool, true, List, [], ◌∷◌, take, flat_map, count_by, ◌<◌, ◌≤◌}
 use Rattle.dsa_settings.specs.Plan.{Group, Plan}
+use Rattle.dsa_settings.specs.Legal.{IsLegal}
 
 -- the first of a group is a cut, whether it is fenced or not
 abbrev pub cuts_of_group : Group → List Bool
@@ -15,3 +16,19 @@ cuts plan = flat_map cuts_of_group plan
 -- the number of a piece's stretch: how many cuts stand at it or before it
 abbrev pub stretch_of : Plan → ℕ → ℕ
 stretch_of plan i = count_by (λ cut. cut) (take (i + 1) (cuts plan))
+
+-- under a legal plan, conflicting pieces are in different stretches
+abbrev pub LegalStretchesPart : (ℕ → ℕ → Type 0) → Type 0
+LegalStretchesPart C =
+    (greatest_batch n : ℕ) (plan : Plan) (i j : ℕ) →
+    IsLegal C greatest_batch n plan → i < j → j < n → C i j → stretch_of plan i < stretch_of plan j
+
+-- a plan's stretches follow the list
+abbrev pub StretchesFollow : Type 0
+StretchesFollow = (plan : Plan) (i j : ℕ) → i ≤ j → stretch_of plan i ≤ stretch_of plan j
+
+-- a plan that is legal with smaller batches is legal with larger ones
+abbrev pub LegalWithMore : (ℕ → ℕ → Type 0) → Type 0
+LegalWithMore C =
+    (greatest_batch more n : ℕ) (plan : Plan) → greatest_batch ≤ more →
+    IsLegal C greatest_batch n plan → IsLegal C more n plan

@@ -4,3 +4,4 @@ pub mod Singles
 pub mod Laid
 pub mod Fenced
 pub mod Costs
+pub mod FencedOnce

@@ -1,5 +1,5 @@
 -- What explanations promise.
-use Rattle.std.specs.Prelude.{ℕ, ◌≡◌, ◌*◌, ◌<◌, ◌≤◌, List, length, map, count_by, sum_by, slice_get, Some, Ok}
+use Rattle.std.specs.Prelude.{ℕ, ◌≡◌, ◌*◌, ◌<◌, ◌≤◌, ◌↔◌, AllPairs, Contains, List, length, map, count_by, sum_by, slice_get, Some, Ok}
 use Rattle.dsa_descriptor.specs.Descriptors.{fields}
 use Rattle.dsa_ranges.specs.Ranges.{ConflictAt}
 use Rattle.dsa_plan.specs.Settings.{Limits}
@@ -9,6 +9,7 @@ use Rattle.dsa_planner.specs.Planned.{Submission, Plans}
 use Rattle.dsa_explain.specs.Reasons.{NeedsFence}
 use Rattle.dsa_explain.specs.Cells.{cells_from}
 use Rattle.dsa_explain.specs.Costs.{group_prices}
+use Rattle.dsa_explain.specs.Fences.{fenced_pieces}
 
 -- of a plan that planning answers, each fence is needed by the fenced piece and an earlier one
 abbrev pub PlannedFencesAreNeeded : Type 0
@@ -32,3 +33,16 @@ abbrev pub GroupCostsAddUp : Type 0
 GroupCostsAddUp =
     (prices : Prices) (plan : Plan) →
     sum_by (λ group. group.cost) (group_prices prices plan) ≡ plan_cost prices plan
+
+-- piece k is fenced in some group of the plan
+pub record IsFencedIn (plan : Plan) (k : ℕ) : Type 0 where
+  pub number : ℕ
+  pub group : Group
+  pub is_group : slice_get plan number ≡ Some group
+  pub fenced : IsFenced (start_of plan number) group k
+
+-- the fenced pieces that are listed ascend, and they are all that are fenced
+abbrev pub EachFenceOnce : Type 0
+EachFenceOnce =
+    (plan : Plan) → AllPairs (λ a b. a < b) (fenced_pieces 0 plan)
+    × ((k : ℕ) → Contains (fenced_pieces 0 plan) k ↔ IsFencedIn plan k)

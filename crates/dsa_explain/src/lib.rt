@@ -15,7 +15,8 @@ pub use cells::{Cell, lay_out};
 pub use explanation::{ExplainFault, Explanation, MOST_PIECES, explain};
 pub use fences::{Fence, fences_of};
 pub use laws::{
-    cells_are_pieces_and_fences, group_costs_add_up, least_plans_save, planned_fences_are_needed,
+    cells_are_pieces_and_fences, each_fence_once, group_costs_add_up, least_plans_save,
+    planned_fences_are_needed,
 };
 pub use picture::{MOST_ROWS, draw};
 pub use prices::{GroupPrice, Prices, price_plan};

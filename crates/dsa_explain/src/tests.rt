@@ -149,6 +149,7 @@ fn cell(row: usize, column: usize, fenced: bool) -> Cell {
 #[test]
 fn fences_of_two_groups(rt: HostRuntime) -> Result<(), Fail> {
     group_costs_add_up();
+    each_fence_once();
     cells_are_pieces_and_fences();
     let read = HazardKind::ReadAfterWrite;
     match explained(rt.alloc(), &CHAIN, &[&[false, true], &[false, true]])? {

@@ -33,8 +33,8 @@ hazard_seen ds i j d e r w r' w' h i_within j_within i_is j_is p q p' q' is =
 -- a hazard is a conflict
 hazard_meets : (r w r' w' : List Span) (address : ℕ) (kind : HazardKind) → IsHazard r w r' w' address kind → SpansConflict r w r' w'
 hazard_meets r w r' w' address ReadAfterWrite (here, there) = inl (address, here, inl there)
-hazard_meets r w r' w' address WriteAfterRead (here, there) = inr (address, there, inl here)
-hazard_meets r w r' w' address WriteAfterWrite (here, there) = inl (address, here, inr there)
+hazard_meets r w r' w' address WriteAfterRead (here, there, no_read, no_write) = inr (address, there, inl here)
+hazard_meets r w r' w' address WriteAfterWrite (here, there, no_read) = inl (address, here, inr there)
 
 pub hazard_conflicts : (fs : List Fields) (a b : ℕ) (h : Hazard) → IsHazardOf fs a b h → ConflictAt fs a b
 hazard_conflicts fs a b h is = (

@@ -12,8 +12,12 @@ AreApartFrom s ts = (a : ℕ) → InSpan s a → InSome ts a → ⊥
 abbrev pub AreApart : List Span → List Span → Type 0
 AreApart ss ts = (a : ℕ) → InSome ss a → InSome ts a → ⊥
 
--- of an earlier descriptor that reads and writes these spans, and a later one, the address shows why the later waits
+-- of an earlier descriptor that reads and writes these spans, and a later one, the address shows why
+-- the later waits: it reads what the earlier writes; else it writes what that writes; else it writes
+-- what that reads
 abbrev pub IsHazard : List Span → List Span → List Span → List Span → ℕ → HazardKind → Type 0
 IsHazard reads writes reads' writes' a ReadAfterWrite = InSome writes a × InSome reads' a
-IsHazard reads writes reads' writes' a WriteAfterRead = InSome reads a × InSome writes' a
-IsHazard reads writes reads' writes' a WriteAfterWrite = InSome writes a × InSome writes' a
+IsHazard reads writes reads' writes' a WriteAfterWrite =
+    InSome writes a × InSome writes' a × AreApart writes reads'
+IsHazard reads writes reads' writes' a WriteAfterRead =
+    InSome reads a × InSome writes' a × AreApart writes reads' × AreApart writes writes'

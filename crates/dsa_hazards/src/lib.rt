@@ -67,6 +67,7 @@ fn shared_by(first: &[Span], second: &[Span]) -> Option<u64>
 }
 
 /// Where the two conflict, where they do: an address that one writes and the other reads or writes.
+/// Of several kinds it is a read after write, else a write after write.
 pub fn find_hazard(earlier: &Touched, later: &Touched) -> Option<Hazard>
     ensures { MatchOption result (¬ SpansConflict earlier.now.reads.items earlier.now.writes.items
         later.now.reads.items later.now.writes.items) (λ m. IsHazard earlier.now.reads.items

@@ -15,7 +15,8 @@ fn move_of(src: u64, dst: u64, record_at: u64) -> [u8; 64] {
     bytes
 }
 
-/// The earlier move reads from 0x1000 to below 0x1040, and writes from 0x2000 to below 0x2040.
+/// The earlier move reads from 0x1000 to below 0x1040, and writes from 0x2000 to below 0x2040. With
+/// each of the last two moves it has two kinds of hazard.
 #[test]
 fn each_kind_of_hazard(rt: HostRuntime) -> Result<(), Fail> {
     let earlier = touched(&Descriptor::read(&move_of(0x1000, 0x2000, 0x8000))?);
@@ -37,6 +38,14 @@ fn each_kind_of_hazard(rt: HostRuntime) -> Result<(), Fail> {
             Some((0x8000, HazardKind::WriteAfterWrite)),
         ),
         (move_of(0x1000, 0x2040, 0x8020), None),
+        (
+            move_of(0x2000, 0x2020, 0x8020),
+            Some((0x2000, HazardKind::ReadAfterWrite)),
+        ),
+        (
+            move_of(0x3000, 0x2000, 0x1000),
+            Some((0x2000, HazardKind::WriteAfterWrite)),
+        ),
     ];
     for (bytes, expected) in &rows {
         let later = touched(&Descriptor::read(bytes)?);

@@ -4,6 +4,7 @@ use dsa_descriptor::ListFault;
 use dsa_explain::ExplainFault;
 use dsa_listing::TextFault;
 use dsa_planner::{PlanFault, refusal_line};
+use dsa_splitter::SplitFault;
 use std::alloc::{AllocError, Global};
 
 /// What a command answers.
@@ -57,7 +58,9 @@ impl Answer {
     /// The refusal of a plan that is to be explained.
     pub(crate) fn explain_fault(alloc: Global, fault: ExplainFault) -> Result<Answer, AllocError> {
         match fault {
-            ExplainFault::TooManyPieces => Answer::fault(alloc, PlanFault::TooManyPieces),
+            ExplainFault::TooManyPieces => {
+                Answer::fault(alloc, PlanFault::Split(SplitFault::TooManyPieces))
+            }
             ExplainFault::Legal(fault) => Answer::fault(alloc, PlanFault::Legal(fault)),
             ExplainFault::Memory => Answer::fault(alloc, PlanFault::Memory),
         }

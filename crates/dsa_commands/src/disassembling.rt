@@ -2,9 +2,10 @@
 
 use crate::answer::Answer;
 use crate::bytes::{bytes_of, number_in};
-use dsa_descriptor::{Descriptor, FieldFault};
+use dsa_descriptor::{Descriptor, FieldFault, ListFault};
 use dsa_lines::line_of;
 use dsa_listing::disassemble;
+use dsa_plan::EmissionFault;
 use dsa_planner::PlanFault;
 use std::alloc::{AllocError, Global};
 
@@ -56,7 +57,7 @@ fn push_entry(
 }
 
 fn field_fault(index: usize, fault: FieldFault) -> PlanFault {
-    PlanFault::Field(index, fault)
+    PlanFault::List(ListFault::Field(index, fault))
 }
 
 /// Writes what stands in a batch descriptor.
@@ -74,7 +75,7 @@ fn push_batch(alloc: Global, text: &mut String, entry: &[u8; 64]) -> Result<(), 
 fn portal_text(alloc: Global, bytes: &[u8]) -> Result<String, Stop> {
     let (entries, rest) = bytes.as_chunks::<64>();
     if !rest.is_empty() {
-        return Err(Stop::Fault(PlanFault::PortalLength));
+        return Err(Stop::Fault(PlanFault::Emission(EmissionFault::PortalLength)));
     }
     let mut text = String::new(alloc);
     for (index, entry) in entries.iter().enumerate() {
@@ -112,14 +113,15 @@ fn push_records(
 ) -> Result<(), Stop> {
     let (records, rest) = bytes.as_chunks::<RECORD>();
     if !rest.is_empty() {
-        return Err(Stop::Fault(PlanFault::StagingLength));
+        return Err(Stop::Fault(PlanFault::Emission(EmissionFault::StagingLength)));
     }
     let before = pieces.saturating_mul(2);
     for (index, record) in records.iter().enumerate() {
         if index >= before {
             let number = index.saturating_sub(before);
             if record.iter().any(|byte| *byte != 0) {
-                return Err(Stop::Fault(PlanFault::RecordBytes(number)));
+                let fault = EmissionFault::RecordBytes(number);
+                return Err(Stop::Fault(PlanFault::Emission(fault)));
             }
             let address = at.saturating_add(32u64.saturating_mul(index as u64));
             text.push_str(&format!(in alloc; "# record {number} at 0x{address:x}\n")?)?;

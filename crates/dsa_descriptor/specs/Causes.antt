@@ -1,4 +1,5 @@
--- What a refusal reports of the faults of this crate. Names, numbers and indices are this project's choice.
+-- What a refusal reports of the faults of this crate.
+-- Names, numbers and indices are this project's choice.
 use Rattle.std.specs.Prelude.{Bool, true, false, ℕ, List, [], ◌∷◌, codes}
 use Rattle.dsa_descriptor.specs.declared.fault.FieldFault.{FieldFault}
 use Rattle.dsa_descriptor.specs.declared.fault.FieldFault.TheVariants.{Opcode, FlagBits, Reserved, SizeZero, Wrap, RecordAlign, DualcastBits, Overlap, Delta, Expected, RecordMeetsData}

@@ -1,4 +1,5 @@
--- What a refusal reports of the faults of an emission. Names, numbers and indices are this project's choice.
+-- What a refusal reports of the faults of an emission.
+-- Names, numbers and indices are this project's choice.
 use Rattle.std.specs.Prelude.{Bool, true, false, ℕ, List, codes, Option, Some, None}
 use Rattle.dsa_descriptor.specs.declared.indices.Indices.{Indices}
 use Rattle.dsa_descriptor.specs.declared.indices.Indices.TheVariants.{Empty, One}

@@ -19,7 +19,7 @@ use Rattle.dsa_planner.specs.declared.fault.InnerFault.TheVariants.{Entry as InE
 use Rattle.dsa_planner.specs.declared.fault.PlanFault.{PlanFault}
 use Rattle.dsa_planner.specs.declared.fault.PlanFault.TheVariants.{List as InList, Split, Emission, Core, Room, Legal, Check, OutOfImage, ImageSize, OverTransfer, Shape, Memory, Json, Member, Do, Settings, Hex, Engines, JobTooLong}
 
--- ---- the causes of the crates below, as refusals: out of memory is one cause, wherever it comes from
+-- ---- the causes of the crates below, as refusals; out of memory is one, wherever it comes from
 
 abbrev pub list_cause : ListFault → PlanFault
 list_cause cause = if list_is_memory cause then Memory else InList cause
@@ -156,8 +156,8 @@ abbrev pub inner_text : Option InnerFault → List ℕ
 inner_text None = []
 inner_text (Some cause) = named_text (inner_number cause) (inner_name cause) ++ indices_text (inner_indices cause)
 
--- `refused`, the number, the name and the indices, with a space before each, what is reported of the cause within, and
--- the end of the line
+-- `refused`, the number, the name and the indices, with a space before each, what is reported of
+-- the cause within, and the end of the line
 abbrev pub refusal_line : PlanFault → List ℕ
 refusal_line fault =
     codes "refused" ++ named_text (fault_number fault) (fault_name fault) ++ indices_text (fault_indices fault) ++ inner_text (fault_inner fault) ++ codes "\n"

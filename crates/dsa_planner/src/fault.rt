@@ -12,12 +12,13 @@ use dsa_plan::{EmissionFault, EntryFault, LegalFault, SettingsFault};
 use dsa_splitter::SplitFault;
 use std::alloc::AllocError;
 
-/// Why a call or a job is refused. What a crate below finds stands in its own type, which has the number, the name and
-/// the indices. Descriptors, pieces, groups, batches and events are numbered from 0.
+/// Why a call or a job is refused. Each cause that a crate below finds is a value of that crate's
+/// type, which has its number, its name and its indices. Descriptors, pieces, groups, batches and
+/// events are numbered from 0.
 ///
-/// Out of memory is one cause: where a crate below answers its own `Memory`, `From` makes it [`PlanFault::Memory`], and
-/// no call answers another. (A value such as `PlanFault::List(ListFault::Memory)`, which a caller can write, has the
-/// same number, name and line.)
+/// Out of memory is one cause: `From` makes each crate's own `Memory` a [`PlanFault::Memory`], and no
+/// call answers another. (`PlanFault::List(ListFault::Memory)` and its like, which only a caller can
+/// write, have the same number, name and line.)
 #[derive(Clone, Copy, Debug, PartialEq, Eq)]
 pub enum PlanFault {
     /// The bytes are no list of descriptors.

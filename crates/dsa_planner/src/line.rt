@@ -11,8 +11,8 @@ use itoa::Buffer;
 /// The bytes that the longest line of a refusal takes.
 pub const LONGEST_LINE: usize = 192;
 
-/// The line of a refusal: `refused`, the number, the name and the indices, and of a plan or a piece that is
-/// refused in its turn the same of its cause. It takes no memory.
+/// The line of a refusal: `refused`, the number, the name and the indices, and of a plan or a piece
+/// that is refused in its turn the same of its cause. It takes no memory.
 pub fn refusal_line(fault: PlanFault) -> ArrayString<LONGEST_LINE>
     ensures { result.bytes ≡ line_of_refusal fault }
 {

@@ -123,10 +123,11 @@ fn replay_pieces(
 /// Plans the list, and replays these events on its pieces: what they leave, where they are a complete run of the plan.
 ///
 /// # Errors
-/// As [`plan_list`](crate::plan_list()); else [`PlanFault::Engines`]; else [`PlanFault::OutOfImage`] with the first piece
-/// that the image doesn't hold; else [`PlanFault::Core`] with `TooLong`; all these before the search for a plan. Else
-/// [`PlanFault::Core`] with `NotAStep`, which names the first event at which the run can't go on, or with `Incomplete` of
-/// a run that ends too early. [`PlanFault::Memory`] where an allocation fails.
+/// As [`plan_list`](crate::plan_list()); else [`PlanFault::Engines`]; else [`PlanFault::OutOfImage`]
+/// with the first piece that the image doesn't hold; else [`PlanFault::Core`] with `TooLong`; all
+/// these before the search for a plan. Else [`PlanFault::Core`] with `NotAStep`, which names the first
+/// event at which the run can't go on, or with `Incomplete` of a run that ends too early.
+/// [`PlanFault::Memory`] where an allocation fails.
 pub fn replay_bytes(
     alloc: Global,
     list: &[u8],

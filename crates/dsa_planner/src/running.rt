@@ -78,10 +78,10 @@ pub(crate) fn run_gated<G: Gate + Sync, R: Threads + Wait + Sync>(
 /// ended when it returns.
 ///
 /// # Errors
-/// As [`plan_list`](crate::plan_list()); else [`PlanFault::Engines`]; else [`PlanFault::OutOfImage`] with the first piece
-/// that the image doesn't hold; else [`PlanFault::Core`] with `TooLong`; all these before the search for a plan.
-/// [`PlanFault::Memory`] where an allocation or the start of a thread fails. [`PlanFault::Room`] with `Stale` or `Mixed`
-/// says that the run broke off.
+/// As [`plan_list`](crate::plan_list()); else [`PlanFault::Engines`]; else [`PlanFault::OutOfImage`]
+/// with the first piece that the image doesn't hold; else [`PlanFault::Core`] with `TooLong`; all
+/// these before the search for a plan. [`PlanFault::Memory`] where an allocation or the start of a
+/// thread fails. [`PlanFault::Room`] with `Stale` or `Mixed` says that the run broke off.
 pub fn run_bytes<R: Threads + Wait + Sync>(
     rt: &R,
     alloc: Global,

@@ -96,7 +96,7 @@ fn text_fault(text: &[u8], fault: ListFault) -> TextFault
 /// The first line that leaves the grammar; else the first fault of the bytes as a list, as
 /// [`read_list`] reports it; [`TextFault::Memory`] at the first allocation that fails.
 pub fn assemble(alloc: Global, text: &[u8]) -> Result<Vec<u8>, TextFault>
-    ensures told { Assembles (λ bytes. bytes.items) (lines_of text.now) result }
+    ensures answer { Assembles (λ bytes. bytes.items) (lines_of text.now) result }
     // The text of a list is read back.
     ensures again { (ds : List Descriptor) →
         HaveOneOwner (map fields ds) → text.now ≡ list_text (map fields ds) → MatchResult result

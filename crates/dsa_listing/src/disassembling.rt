@@ -38,7 +38,7 @@ pub fn text_of_list(alloc: Global, list: &[Descriptor]) -> Result<String, AllocE
 /// # Errors
 /// Those of [`read_list`], and [`ListFault::Memory`] where a growth is refused.
 pub fn disassemble(alloc: Global, bytes: &[u8]) -> Result<String, ListFault>
-    ensures told { IfOk result (λ text. (ds : List Descriptor) ×
+    ensures answer { IfOk result (λ text. (ds : List Descriptor) ×
         (bytes.now ≡ list_spelling (map fields ds)) ×
         HaveOneOwner (map fields ds) × (string_bytes text ≡ list_text (map fields ds))) }
     ensures only { (ds : List Descriptor) → bytes.now ≡ list_spelling (map fields ds) →

@@ -33,7 +33,7 @@ pub fn check_bytes(
     settings: &Settings,
     certificate: &Certificate,
 ) -> Result<u64, PlanFault>
-    ensures told { OrMemory (λ cost. cost)
+    ensures answer { OrMemory (λ cost. cost)
         (Checks portal.now staging.now settings.now (contents certificate.now)) result }
     // What it answers is the one outcome, but for want of memory.
     ensures only { (outcome : Result ℕ PlanFault) →

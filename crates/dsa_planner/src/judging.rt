@@ -24,7 +24,7 @@ pub fn judge_bytes(
     plan: &Plan,
     settings: &Settings,
 ) -> Result<u64, PlanFault>
-    ensures told { OrMemory (λ cost. cost) (Judges list.now plan.now settings.now) result }
+    ensures answer { OrMemory (λ cost. cost) (Judges list.now plan.now settings.now) result }
     // What it answers is the one outcome, but for want of memory.
     ensures only { (outcome : Result ℕ PlanFault) →
         Judges list.now plan.now settings.now outcome → IsOrMemory (λ cost. cost) outcome result }

@@ -89,7 +89,7 @@ fn plan_pieces(
 /// The first fault of the bytes as a list, as [`read_list`] tells it; else the first fault of splitting the operations,
 /// as [`pieces`](dsa_splitter::pieces()) tells it; [`PlanFault::Memory`] at the first growth that is refused.
 pub fn plan_list(alloc: Global, list: &[u8], settings: &Settings) -> Result<Planned, PlanFault>
-    ensures told { OrMemory submission_of (Plans list.now settings.now) result }
+    ensures answer { OrMemory submission_of (Plans list.now settings.now) result }
     // What it answers is the one outcome, but for want of memory.
     ensures only { (outcome : Result Submission PlanFault) →
         Plans list.now settings.now outcome → IsOrMemory submission_of outcome result }
@@ -97,11 +97,11 @@ pub fn plan_list(alloc: Global, list: &[u8], settings: &Settings) -> Result<Plan
     ensures least { IfOk result (λ p. IsLeast (ConflictAt (map fields p.pieces.items))
         (prices_of settings.now) (length p.pieces.items) p.plan) }
     // The certificate is good for the cost.
-    ensures good { IfOk result
+    ensures certificate_good { IfOk result
         (λ p. IsGood (ConflictAt (map fields p.pieces.items)) (prices_of settings.now)
         (length p.pieces.items) p.certificate.prices.items p.certificate.pairs.items p.cost) }
     // Checking the emission with the certificate answers the cost.
-    ensures shown { IfOk result (λ p. Checks p.emission.portal.items
+    ensures certificate_checks { IfOk result (λ p. Checks p.emission.portal.items
         p.emission.staging.items settings.now (contents p.certificate) (Ok p.cost)) }
 {
     let pieces = pieces_of(alloc, list, settings)?;

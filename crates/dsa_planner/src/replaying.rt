@@ -79,7 +79,7 @@ pub(crate) fn prepare(
     image: &Image,
     engines: u64,
 ) -> Result<Ready, PlanFault>
-    ensures told { MatchResult result
+    ensures answer { MatchResult result
         (λ r. IsReady list.now settings.now image.now engines r.pieces.items r.plan r.engines)
         (λ fault. (fault ≡ Memory) ⊎ RefusesRun list.now settings.now image.now engines fault) }
     ensures few { IfOk result (λ r. length r.pieces.items ≤ 65536) }
@@ -112,7 +112,7 @@ fn replay_pieces(
     requires legal { IsLegal
         (ConflictAt (map fields pieces.now)) most_members (length pieces.now) plan.now }
     requires can { CanBegin image.now engines (map fields pieces.now) }
-    ensures told { OrMemory left_of
+    ensures answer { OrMemory left_of
         (ReplaysPieces image.now engines trace.now plan.now (map fields pieces.now)) result }
     ensures history { IfOk result (λ o. o.history.items ≡ trace.now) }
 {
@@ -136,7 +136,7 @@ pub fn replay_bytes(
     engines: u64,
     trace: &[Event],
 ) -> Result<Outcome, PlanFault>
-    ensures told { OrMemory left_of
+    ensures answer { OrMemory left_of
         (Replays list.now settings.now image.now engines trace.now) result }
     // What it answers is the one outcome, but for want of memory.
     ensures only { (outcome : Result Left PlanFault) →
@@ -145,7 +145,7 @@ pub fn replay_bytes(
     // The trace is the history.
     ensures history { IfOk result (λ o. o.history.items ≡ trace.now) }
     // Where each listed operation succeeds, what is left is the memory of executing the list in order.
-    ensures whole { IfOk result (λ o. LeavesWhole list.now settings.now image.now (left_of o)) }
+    ensures as_in_order { IfOk result (λ o. LeavesWhole list.now settings.now image.now (left_of o)) }
 {
     let ready = prepare(alloc, list, settings, image, engines)?;
     replay_pieces(

@@ -35,7 +35,7 @@ fn run_pieces<G: Gate + Sync, R: Threads + Wait + Sync>(
     requires legal { IsLegal
         (ConflictAt (map fields pieces.now)) most_members (length pieces.now) plan.now }
     requires can { CanBegin image.now engines (map fields pieces.now) }
-    ensures told { OrMemory left_of (OrShut G.may_refuse
+    ensures answer { OrMemory left_of (OrShut G.may_refuse
         (RunsPieces image.now engines plan.now (map fields pieces.now))) result }
     ensures history { IfOk result (λ o. IsOutcomeOf
         (room_with image.now plan.now (map fields pieces.now) engines o.history.items) o) }
@@ -54,13 +54,13 @@ pub(crate) fn run_gated<G: Gate + Sync, R: Threads + Wait + Sync>(
     engines: u64,
     gate: &G,
 ) -> Result<Outcome, PlanFault>
-    ensures told { OrMemory left_of
+    ensures answer { OrMemory left_of
         (OverPlanned (λ p o. OrShut G.may_refuse
         (RunsPieces image.now engines p.plan (map fields p.pieces)) o)
         list.now settings.now image.now engines) result }
     ensures history { IfOk result (λ o. (p : Submission) → Plans list.now settings.now (Ok p) →
         IsOutcomeOf (room_with image.now p.plan (map fields p.pieces) engines o.history.items) o) }
-    ensures whole { IfOk result (λ o. LeavesWhole list.now settings.now image.now (left_of o)) }
+    ensures as_in_order { IfOk result (λ o. LeavesWhole list.now settings.now image.now (left_of o)) }
 {
     let ready = prepare(alloc, list, settings, image, engines)?;
     run_pieces(
@@ -90,12 +90,12 @@ pub fn run_bytes<R: Threads + Wait + Sync>(
     image: &Image,
     engines: u64,
 ) -> Result<Outcome, PlanFault>
-    ensures told { OrMemory left_of (Runs list.now settings.now image.now engines) result }
+    ensures answer { OrMemory left_of (Runs list.now settings.now image.now engines) result }
     // The history is a complete run of the planned pieces, and the rest is what it leaves.
     ensures history { IfOk result (λ o. (p : Submission) → Plans list.now settings.now (Ok p) →
         IsOutcomeOf (room_with image.now p.plan (map fields p.pieces) engines o.history.items) o) }
     // Where each listed operation succeeds, what is left is the memory of executing the list in order.
-    ensures whole { IfOk result (λ o. LeavesWhole list.now settings.now image.now (left_of o)) }
+    ensures as_in_order { IfOk result (λ o. LeavesWhole list.now settings.now image.now (left_of o)) }
 {
     run_gated(rt, alloc, list, settings, image, engines, &OpenGate)
 }

@@ -7,5 +7,5 @@ pub returns : goal.returns
 returns c = (
   c.refusal-in-Err.ensures.some,
   refuses_check c.args.settings.now c.args.table.now c.args.portal.now c.args.staging.now c.in-Ok.checked (contents_of c.args.version c.args.prices.now c.args.pairs.now) (contents c.in-Ok-certificate_of.certificate)
-      c.in-Err.fault c.refusal-in-Err.result c.in-Ok.ensures.0 c.in-Ok.ensures.1 c.in-Ok-certificate_of.ensures c.in-Err.ensures.told c.refusal-in-Err.ensures.value,
+      c.in-Err.fault c.refusal-in-Err.result c.in-Ok.ensures.0 c.in-Ok.ensures.1 c.in-Ok-certificate_of.ensures c.in-Err.ensures.answer c.refusal-in-Err.ensures.value,
 )

@@ -3,11 +3,11 @@ use Rattle.dsa_c.proofs.judging.judge_for.Goals as goal
 
 pub returns-in-Ok-judge_bytes : goal.returns-in-Ok-judge_bytes
 returns-in-Ok-judge_bytes c =
-    let told = c.in-Ok-judge_bytes.ensures.told in
+    let told = c.in-Ok-judge_bytes.ensures.answer in
     (c.in-Ok.ensures.1, rw (c.in-Ok.ensures.0, c.in-Ok-plan_of.ensures) at told)
 
 pub returns : goal.returns
 returns c = (
   c.refusal-in-Err.ensures.some,
-  refuses_judge c.args.settings.now c.args.table.now c.args.list.now c.args.marks.now c.in-Ok.checked c.in-Ok-plan_of.plan c.in-Err.fault c.refusal-in-Err.result c.in-Ok.ensures.0 c.in-Ok.ensures.1 c.in-Ok-plan_of.ensures c.in-Err.ensures.told c.refusal-in-Err.ensures.value,
+  refuses_judge c.args.settings.now c.args.table.now c.args.list.now c.args.marks.now c.in-Ok.checked c.in-Ok-plan_of.plan c.in-Err.fault c.refusal-in-Err.result c.in-Ok.ensures.0 c.in-Ok.ensures.1 c.in-Ok-plan_of.ensures c.in-Err.ensures.answer c.refusal-in-Err.ensures.value,
 )

@@ -5,7 +5,7 @@ use Rattle.dsa_planner.proofs.checking.check_plan.Goals as goal
 
 pub returns-in-Ok : goal.returns-in-Ok
 returns-in-Ok c =
-    yes_shown c.args.settings.now c.args.pieces.now c.args.plan.now (contents c.args.certificate.now) c.in-Ok.cost ((c.in-Ok.ensures.good c.in-Ok.cost).0 refl)
+    yes_shown c.args.settings.now c.args.pieces.now c.args.plan.now (contents c.args.certificate.now) c.in-Ok.cost ((c.in-Ok.ensures.certificate_good c.in-Ok.cost).0 refl)
 
 pub returns-in-Err : goal.returns-in-Err
 returns-in-Err c =

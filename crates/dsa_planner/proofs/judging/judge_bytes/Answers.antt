@@ -11,8 +11,8 @@ returns-in_err-pieces-clause-only c =
     let told = list_refused (λ cost. cost) (λ fs o. JudgesPieces fs c.args.plan.now c.args.settings.now o) c.args.list.now c.in_err-pieces.field-0.0 _ p.2 c.in_err-pieces.ensures.fault in
     rw p.1 (only_outcome (λ cost. cost) (Judges c.args.list.now c.args.plan.now c.args.settings.now) (one_judged c.args.list.now c.args.plan.now c.args.settings.now) (Err _) told)
 
-pub returns-clause-told : goal.returns-clause-told
-returns-clause-told c =
+pub returns-clause-answer : goal.returns-clause-answer
+returns-clause-answer c =
     let found = c.in_ok-pieces.ensures.found in
     list_judged c.args.list.now c.args.plan.now c.args.settings.now c.in_ok-pieces.pieces.items c.deref.result.now c.judge.result
     (record { spelled = found.0; owner = found.1 }) c.deref.ensures.value c.judge.ensures

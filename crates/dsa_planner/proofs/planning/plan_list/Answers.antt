@@ -25,8 +25,8 @@ returns-clause-only c o says = one_planned c.args.list.now c.args.settings.now o
 pub returns-clause-least : goal.returns-clause-least
 returns-clause-least c = (planned_is_least_and_shown c.args.list.now c.args.settings.now (submission_of c.in_ok-planned.planned) (plans c)).least
 
-pub returns-clause-shown : goal.returns-clause-shown
-returns-clause-shown c = (planned_is_least_and_shown c.args.list.now c.args.settings.now (submission_of c.in_ok-planned.planned) (plans c)).shown
+pub returns-clause-certificate_checks : goal.returns-clause-certificate_checks
+returns-clause-certificate_checks c = (planned_is_least_and_shown c.args.list.now c.args.settings.now (submission_of c.in_ok-planned.planned) (plans c)).shown
 
-pub returns-clause-good : goal.returns-clause-good
-returns-clause-good c = (planned_is_least_and_shown c.args.list.now c.args.settings.now (submission_of c.in_ok-planned.planned) (plans c)).good
+pub returns-clause-certificate_good : goal.returns-clause-certificate_good
+returns-clause-certificate_good c = (planned_is_least_and_shown c.args.list.now c.args.settings.now (submission_of c.in_ok-planned.planned) (plans c)).good

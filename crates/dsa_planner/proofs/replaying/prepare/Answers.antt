@@ -8,16 +8,16 @@ use Rattle.dsa_planner.specs.Runs.{CanBegin, IsFirstBeginFault}
 use Rattle.dsa_planner.proofs.Refusals.{found_submission}
 use Rattle.dsa_planner.proofs.replaying.prepare.Goals as goal
 
-pub returns-in_err-engines-clause-told : goal.returns-in_err-engines-clause-told
-returns-in_err-engines-clause-told c =
+pub returns-in_err-engines-clause-answer : goal.returns-in_err-engines-clause-answer
+returns-in_err-engines-clause-answer c =
     let p = err_from_is_err_and c.from_residual-in_err-engines.result c.from_residual-in_err-engines.ensures.1 in
     let m = c.args.image.now in
     let pieces = c.in_ok-pieces.pieces.items in
     let first = subst (λ (ds : List Descriptor). IsFirstBeginFault m c.args.engines (map fields ds) c.in_err-engines.field-0.0) c.deref.ensures.value c.in_err-engines.ensures in
     rw p.1 (inr (inr (pieces, c.in_ok-pieces.ensures.split, subst (λ (f : PlanFault). IsFirstBeginFault m c.args.engines (map fields pieces) f) (sym p.2) first)))
 
-pub returns-clause-told : goal.returns-clause-told
-returns-clause-told c =
+pub returns-clause-answer : goal.returns-clause-answer
+returns-clause-answer c =
     let s = c.args.settings.now in
     let plan = c.in_ok-plan.plan in
     record {

@@ -4,7 +4,7 @@ use Rattle.dsa_planner.specs.Runs.{RunsPieces}
 use Rattle.dsa_planner.proofs.Histories.{never_shut}
 use Rattle.dsa_planner.proofs.running.run_bytes.Goals as goal
 
-pub returns-clause-told : goal.returns-clause-told
-returns-clause-told g c =
+pub returns-clause-answer : goal.returns-clause-answer
+returns-clause-answer g c =
     never_shut (λ p o. RunsPieces c.args.image.now c.args.engines p.plan (map fields p.pieces) o) c.args.list.now c.args.settings.now c.args.image.now
-    c.args.engines c.run_gated.result c.run_gated.ensures.told
+    c.args.engines c.run_gated.result c.run_gated.ensures.answer

@@ -7,5 +7,5 @@ mod legal;
 mod sweep;
 
 pub use conflicts::Conflicts;
-pub use laws::legal_stretches_part;
+pub use laws::legal_epochs_part;
 pub use legal::{LegalFault, is_legal};

@@ -21,7 +21,7 @@ use Rattle.dsa_core.specs.declared.event.Event.{Event}
 use Rattle.dsa_core.specs.declared.fault.CoreFault.TheVariants.{NotAStep}
 use Rattle.dsa_core.specs.StopPoint.{AllSucceed}
 use Rattle.dsa_core.specs.BatchRecords.{batch_records}
-use Rattle.dsa_core.specs.Stretches.{stretch_of}
+use Rattle.dsa_core.specs.Epochs.{epoch_of}
 use Rattle.dsa_core.specs.PieceRuns.{StopsAfter}
 use Rattle.dsa_core.specs.Accounts.{Account, IsOver, IsUnfinished, IsOutcome}
 use Rattle.dsa_core.specs.Outcomes.{room_with, IsFirstRefused, IsOutcomeOf}
@@ -55,7 +55,7 @@ module _ (m : Memory) (plan : Plan) (pieces : List Fields) (engines : ℕ) where
 left_is_one : (m : Memory) (plan : Plan) (pieces : List Fields) (engines : ℕ) (vs ws : List Event) (a b : Left) →
     IsOutcome (room_with m plan pieces engines vs) a.image a.finished a.batch_records → IsOutcome (room_with m plan pieces engines ws) b.image b.finished b.batch_records → a ≡ b
 left_is_one m plan pieces engines vs ws a b h k =
-    let same : a.finished ≡ b.finished = stop_points_agree (stretch_of plan) (statuses pieces m) a.finished b.finished h.stops k.stops in
+    let same : a.finished ≡ b.finished = stop_points_agree (epoch_of plan) (statuses pieces m) a.finished b.finished h.stops k.stops in
     let image : a.image ≡ b.image = h.memory ∙ ap (λ (n : ℕ). fold_done (take n pieces) m) same ∙ sym k.memory in
     let records : a.batch_records ≡ b.batch_records = h.records_are ∙ ap (λ (n : ℕ). batch_records plan n (statuses pieces m)) same ∙ sym k.records_are in
     λ i. record { image = image i; finished = same i; batch_records = records i }

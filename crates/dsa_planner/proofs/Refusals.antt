@@ -14,7 +14,7 @@ use Rattle.dsa_splitter.specs.Rules.{IsSplit}
 use Rattle.dsa_splitter.proofs.OneFault.{split_no_fault}
 use Rattle.dsa_core.specs.declared.outcome.Outcome.{Outcome}
 use Rattle.dsa_core.specs.Accounts.{most_members}
-use Rattle.dsa_settings.proofs.Stretches.{legal_with_more}
+use Rattle.dsa_settings.proofs.Epochs.{legal_with_more}
 use Rattle.dsa_planner.specs.declared.fault.PlanFault.{PlanFault}
 use Rattle.dsa_planner.specs.declared.fault.PlanFault.TheVariants.{OutOfImage, Memory as NoMemory}
 use Rattle.dsa_planner.specs.Lists.{OrMemory}

@@ -145,7 +145,8 @@ pub fn replay_bytes(
     // The trace is the history.
     ensures history { IfOk result (λ o. o.history.items ≡ trace.now) }
     // Where each listed operation succeeds, what is left is the memory of executing the list in order.
-    ensures as_in_order { IfOk result (λ o. LeavesWhole list.now settings.now image.now (left_of o)) }
+    ensures as_in_order { IfOk result
+        (λ o. LeavesWhole list.now settings.now image.now (left_of o)) }
 {
     let ready = prepare(alloc, list, settings, image, engines)?;
     replay_pieces(

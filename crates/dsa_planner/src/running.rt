@@ -60,7 +60,8 @@ pub(crate) fn run_gated<G: Gate + Sync, R: Threads + Wait + Sync>(
         list.now settings.now image.now engines) result }
     ensures history { IfOk result (λ o. (p : Submission) → Plans list.now settings.now (Ok p) →
         IsOutcomeOf (room_with image.now p.plan (map fields p.pieces) engines o.history.items) o) }
-    ensures as_in_order { IfOk result (λ o. LeavesWhole list.now settings.now image.now (left_of o)) }
+    ensures as_in_order { IfOk result
+        (λ o. LeavesWhole list.now settings.now image.now (left_of o)) }
 {
     let ready = prepare(alloc, list, settings, image, engines)?;
     run_pieces(
@@ -95,7 +96,8 @@ pub fn run_bytes<R: Threads + Wait + Sync>(
     ensures history { IfOk result (λ o. (p : Submission) → Plans list.now settings.now (Ok p) →
         IsOutcomeOf (room_with image.now p.plan (map fields p.pieces) engines o.history.items) o) }
     // Where each listed operation succeeds, what is left is the memory of executing the list in order.
-    ensures as_in_order { IfOk result (λ o. LeavesWhole list.now settings.now image.now (left_of o)) }
+    ensures as_in_order { IfOk result
+        (λ o. LeavesWhole list.now settings.now image.now (left_of o)) }
 {
     run_gated(rt, alloc, list, settings, image, engines, &OpenGate)
 }

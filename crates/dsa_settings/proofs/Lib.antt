@@ -1,4 +1,4 @@
 pub mod Plans
 pub mod Equal
 pub mod Numbering
-pub mod Stretches
+pub mod Epochs

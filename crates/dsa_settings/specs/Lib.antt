@@ -3,4 +3,4 @@ pub mod Settings
 pub mod Kept
 pub mod Legal
 pub mod Shapes
-pub mod Stretches
+pub mod Epochs

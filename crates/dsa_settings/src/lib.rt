@@ -6,7 +6,7 @@ mod plan;
 mod same;
 mod settings;
 
-pub use numbers::stretch_numbers;
+pub use numbers::epoch_numbers;
 pub use plan::{Group, Plan};
 pub use same::{copy_plan, same_plan};
 pub use settings::{Settings, SettingsFault};

@@ -1,11 +1,11 @@
--- A legal plan cuts the list into stretches without conflicts.
+-- A legal plan cuts the list into epochs without conflicts.
 use Rattle.std.proofs.Common.{◌≡◌, ℕ, zero, suc, ◌+◌, ◌-◌, ◌<◌, ◌≤◌, inl, inr, Bool, true, cond, zero-le, List, [], ◌∷◌, ◌++◌, length, take, count_by, Some, slice_get, refl, sym, ap, ◌∙◌, arith}
 use Rattle.std.proofs.lemmas.Bool.{cases_lt}
 use Rattle.std.proofs.lemmas.List.Sums.{sum_by-cons}
 use Rattle.std.proofs.lemmas.Option.{slice_get_within, same_Some}
 use Rattle.dsa_settings.specs.Plan.{Group, Plan, piece_count, start_of}
 use Rattle.dsa_settings.specs.Legal.{IsLegalGroup, IsLegal}
-use Rattle.dsa_settings.specs.Stretches.{LegalWithMore, cuts_of_group, cuts, stretch_of}
+use Rattle.dsa_settings.specs.Epochs.{LegalWithMore, cuts_of_group, cuts, epoch_of}
 
 -- an empty list has no element
 none_read : {X : Type 0} (i : ℕ) (x : X) → slice_get [] i ≡ Some x → ⊥
@@ -119,8 +119,8 @@ is_in (g ∷ gs) j lt =
 abbrev CutBetween : Plan → ℕ → ℕ → Type 0
 CutBetween plan i j = (k : ℕ) × (i < k) × (k ≤ j) × (slice_get (cuts plan) k ≡ Some true)
 
--- a cut between two pieces puts them in two stretches
-cut_parts : (plan : Plan) (i j : ℕ) → CutBetween plan i j → stretch_of plan i < stretch_of plan j
+-- a cut between two pieces puts them in two epochs
+cut_parts : (plan : Plan) (i j : ℕ) → CutBetween plan i j → epoch_of plan i < epoch_of plan j
 cut_parts plan i j (k, above, below, cut) = trues_cut (i + 1) (j + 1) k (cuts plan) (omega arith) (omega arith) cut
 
 -- under a legal plan a cut stands between two conflicting pieces
@@ -155,13 +155,13 @@ conflict_cut C greatest_batch n plan i j legal lt j_in conflict = by (is_in plan
               )
         ]
 
--- conflicting pieces are in different stretches
-pub legal_parts : (C : ℕ → ℕ → Type 0) (greatest_batch n : ℕ) (plan : Plan) (i j : ℕ) → IsLegal C greatest_batch n plan → i < j → j < n → C i j → stretch_of plan i < stretch_of plan j
+-- conflicting pieces are in different epochs
+pub legal_parts : (C : ℕ → ℕ → Type 0) (greatest_batch n : ℕ) (plan : Plan) (i j : ℕ) → IsLegal C greatest_batch n plan → i < j → j < n → C i j → epoch_of plan i < epoch_of plan j
 legal_parts C greatest_batch n plan i j legal lt j_in conflict = cut_parts plan i j (conflict_cut C greatest_batch n plan i j legal lt j_in conflict)
 
--- stretches follow the list
-pub stretches_follow : (plan : Plan) (i j : ℕ) → i ≤ j → stretch_of plan i ≤ stretch_of plan j
-stretches_follow plan i j le = trues_more (i + 1) (j + 1) (cuts plan) (omega arith)
+-- epochs follow the list
+pub epochs_follow : (plan : Plan) (i j : ℕ) → i ≤ j → epoch_of plan i ≤ epoch_of plan j
+epochs_follow plan i j le = trues_more (i + 1) (j + 1) (cuts plan) (omega arith)
 
 pub legal_with_more : (C : ℕ → ℕ → Type 0) → LegalWithMore C
 legal_with_more C greatest_batch more n plan le legal = record { covers = legal.covers; groups = groups }

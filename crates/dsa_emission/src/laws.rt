@@ -1,4 +1,5 @@
-//! Laws of emissions. Each function is a law: its body is empty, and its clause is what the proof shows.
+//! Laws of emissions. Each function is a law: its body is empty, and its clause is what the
+//! proof shows.
 
 ghost use Rattle.dsa_emission.specs.EmissionLaws.{OneEmission, EmissionStandsAtPlaces};
 

@@ -1,4 +1,4 @@
-//! Values of JSON: how they spell numbers, arrays and objects, and readers of the members of an object.
+//! Values of JSON: how they spell numbers, arrays and objects, and readers of members of objects.
 #![tactic(auto)]
 
 mod members;

@@ -40,7 +40,7 @@ one_over_list Says one bytes o p (inr (ds, list, says)) (inr (es, list', says'))
     let same : es ≡ ds = one_list bytes ds es list list' in
     one (map fields ds) o p says (subst (λ (xs : List Descriptor). Says (map fields xs) p) same says')
 
--- an answer that is an outcome, or want of memory, is the one outcome, or want of memory
+-- an answer that is an outcome, or an allocation failure, is the one outcome, or an allocation failure
 pub only_outcome : {X Y : Type 0} (shown : X → Y) (Outcome : Result Y PlanFault → Type 0) → ((o p : Result Y PlanFault) → Outcome o → Outcome p → o ≡ p)
     → (r : Result X PlanFault) → OrMemory shown Outcome r → (o : Result Y PlanFault) → Outcome o → IsOrMemory shown o r
 only_outcome shown Outcome one (Ok x) h o says = one o (Ok (shown x)) says h

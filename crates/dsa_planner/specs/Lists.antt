@@ -30,7 +30,7 @@ abbrev pub OrMemory : {X Y : Type 0} → (X → Y) → (Result Y PlanFault → T
 OrMemory shown Outcome (Ok x) = Outcome (Ok (shown x))
 OrMemory shown Outcome (Err fault) = (fault ≡ Memory) ⊎ Outcome (Err fault)
 
--- the answer is that outcome, or want of memory
+-- the answer is that outcome, or an allocation failure
 abbrev pub IsOrMemory : {X Y : Type 0} → (X → Y) → Result Y PlanFault → Result X PlanFault → Type 0
 IsOrMemory shown outcome (Ok x) = outcome ≡ Ok (shown x)
 IsOrMemory shown outcome (Err fault) = (fault ≡ Memory) ⊎ (outcome ≡ Err fault)

@@ -35,7 +35,7 @@ pub fn check_bytes(
 ) -> Result<u64, PlanFault>
     ensures answer { OrMemory (λ cost. cost)
         (Checks portal.now staging.now settings.now (contents certificate.now)) result }
-    // What it answers is the one outcome, but for want of memory.
+    // What it answers is the one outcome, but for an allocation failure.
     ensures only { (outcome : Result ℕ PlanFault) →
         Checks portal.now staging.now settings.now (contents certificate.now) outcome →
         IsOrMemory (λ cost. cost) outcome result }

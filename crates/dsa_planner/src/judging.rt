@@ -25,7 +25,7 @@ pub fn judge_bytes(
     settings: &Settings,
 ) -> Result<u64, PlanFault>
     ensures answer { OrMemory (λ cost. cost) (Judges list.now plan.now settings.now) result }
-    // What it answers is the one outcome, but for want of memory.
+    // What it answers is the one outcome, but for an allocation failure.
     ensures only { (outcome : Result ℕ PlanFault) →
         Judges list.now plan.now settings.now outcome → IsOrMemory (λ cost. cost) outcome result }
 {

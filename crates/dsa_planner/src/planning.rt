@@ -90,7 +90,7 @@ fn plan_pieces(
 /// as [`pieces`](dsa_splitter::pieces()) tells it; [`PlanFault::Memory`] at the first growth that is refused.
 pub fn plan_list(alloc: Global, list: &[u8], settings: &Settings) -> Result<Planned, PlanFault>
     ensures answer { OrMemory submission_of (Plans list.now settings.now) result }
-    // What it answers is the one outcome, but for want of memory.
+    // What it answers is the one outcome, but for an allocation failure.
     ensures only { (outcome : Result Submission PlanFault) →
         Plans list.now settings.now outcome → IsOrMemory submission_of outcome result }
     // The plan is legal, and no legal plan of the pieces costs less.

@@ -138,7 +138,7 @@ pub fn replay_bytes(
 ) -> Result<Outcome, PlanFault>
     ensures answer { OrMemory left_of
         (Replays list.now settings.now image.now engines trace.now) result }
-    // What it answers is the one outcome, but for want of memory.
+    // What it answers is the one outcome, but for an allocation failure.
     ensures only { (outcome : Result Left PlanFault) →
         Replays list.now settings.now image.now engines trace.now outcome →
         IsOrMemory left_of outcome result }

@@ -1,6 +1,6 @@
 use Rattle.std.proofs.Common.{◌≡◌, Some, ap, sym, ◌∙◌, slice_get, arith}
 use Rattle.std.proofs.lemmas.Option.{slice_get-get_or}
-use Rattle.dsa_plan.proofs.Judged.{start_of-next}
+use Rattle.dsa_settings.proofs.Plans.{start_of-next}
 use Rattle.dsa_explain.specs.Fences.{fence_places, fenced_pieces}
 use Rattle.dsa_explain.proofs.Fenced.{group_pushed}
 use Rattle.dsa_explain.proofs.fences.fences_of.Goals as goal

@@ -170,7 +170,7 @@ is_memory (EntryFence a) = inr (λ e. absurd cc)
 is_memory (Entry a b) = inr (λ e. absurd cc)
 is_memory (RecordBytes a) = inr (λ e. absurd cc)
 
--- what is told is the first fault, or an allocation failure
+-- the answer is the first fault, or an allocation failure
 pub told_or_memory : (s : Limits) (portal staging : List ℕ) (told fault : EmissionFault) → fault ≢ Memory → IsFirstEmissionFault s portal staging told → IsFirstEmissionFault s portal staging fault → (told ≡ fault) ⊎ (told ≡ Memory)
 told_or_memory s portal staging told fault other p q =
     ⊎_elim (λ (e : told ≡ Memory). inr e) (λ (n : told ≢ Memory). inl (one_fault s portal staging told fault n other p q)) (is_memory told)

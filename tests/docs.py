@@ -88,6 +88,19 @@ def prices(page, dsa):
     return 2
 
 
+def edits(page):
+    """The wrong bodies that a page shows: one stands in its crate as the page has it, the other can be applied there."""
+    folder = 'crates/dsa_checker/'
+    shown = block_after(page, 'This is `crates/dsa_checker/must-fail/total_may_be_lower.edit`')
+    if shown != open(folder + 'must-fail/total_may_be_lower.edit').read():
+        ended(f'{page} shows another edit than total_may_be_lower')
+    own = block_after(page, 'as `crates/dsa_checker/must-fail/looks_at_lone_only.edit`').split('\n')
+    file, old = (line.split(': ', 1)[1] for line in own[:2])
+    if open(folder + file).read().count(old) != 1:
+        ended(f'{page}: {old!r} does not stand once in {file}')
+    return 2
+
+
 def main():
     dsa, dsa_text = (os.path.abspath(program) for program in sys.argv[1:3])
     with tempfile.TemporaryDirectory() as folder:
@@ -98,6 +111,7 @@ def main():
         sh = block_after('docs/USING.md', "## Checking other software's batches", 'sh')
         count += noted(sh.replace('crates/dsa/out/dsa', dsa), places)
         count += prices('docs/PRICES.md', dsa)
+        count += edits('docs/PROOF.md')
         code = block_after('docs/USING.md', "## Checking other software's batches", 'python')
         subprocess.run([sys.executable, '-c', code.replace('crates/dsa/out/dsa', dsa)], check=True)
         answer = subprocess.run([dsa], stdin=open('examples/plan.job'), capture_output=True, text=True).stdout

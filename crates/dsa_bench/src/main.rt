@@ -35,6 +35,7 @@ const PATTERN: u64 = 0x0706_0504_0302_0100;
 /// The pattern that an image repeats whose bytes are all 1.
 const ONES: u64 = 0x0101_0101_0101_0101;
 
+/// Measures the case that standard input names; with none, does nothing.
 fn main(rt: HostRuntime) -> io::Result<()> {
     let name = io::read_to_string(rt.alloc(), rt.reader())?;
     match name.trim() {

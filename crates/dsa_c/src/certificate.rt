@@ -21,7 +21,7 @@ pub struct RawPair {
     pub second: u32,
 }
 
-// What the pair stands for.
+/// What the pair stands for.
 fn pair_of(raw: RawPair) -> Option<(u32, u32)>
     ensures { result ≡ pair_of raw }
 {
@@ -32,7 +32,7 @@ fn pair_of(raw: RawPair) -> Option<(u32, u32)>
     }
 }
 
-// How a pair is laid out.
+/// How a pair is laid out.
 fn raw_pair_of(pair: Option<(u32, u32)>) -> RawPair
     ensures { result ≡ raw_pair_of pair }
 {
@@ -45,7 +45,7 @@ fn raw_pair_of(pair: Option<(u32, u32)>) -> RawPair
     }
 }
 
-// What the pairs stand for.
+/// What the pairs stand for.
 fn pairs_of(alloc: Global, raw: &[RawPair]) -> Result<Vec<Option<(u32, u32)>>, AllocError>
     ensures { IfOk result (λ pairs. pairs.items ≡ map pair_of raw.now) }
 {

@@ -14,14 +14,14 @@ use dsa_marks::marks_of;
 use dsa_planner::{PlanFault, Planned};
 use std::alloc::Global;
 
-// A planned list, and the marks of its pieces.
+/// A planned list, and the marks of its pieces.
 #[derive(Drop)]
 struct Certified {
     planned: Planned,
     marks: Vec<u8>,
 }
 
-// How many items each of the caller's arrays has room for.
+/// How many items each of the caller's arrays has room for.
 #[derive(Clone, Copy)]
 struct Rooms {
     portal: usize,
@@ -31,7 +31,7 @@ struct Rooms {
     marks: usize,
 }
 
-// The planned list, where it is planned and all fits.
+/// The planned list, where it is planned and all fits.
 fn certified_for(
     alloc: Global,
     settings: &RawSettings,

@@ -10,7 +10,7 @@ use crate::settings::{RawSettings, settings_of};
 use dsa_planner::{PlanFault, check_bytes};
 use std::alloc::Global;
 
-// The cost of the bytes, where the certificate checks.
+/// The cost of the bytes, where the certificate checks.
 fn check_for(
     alloc: Global,
     settings: &RawSettings,

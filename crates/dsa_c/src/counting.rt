@@ -8,7 +8,7 @@ ghost use Rattle.dsa_c.specs.Counting.{size_of, pieces_of, CountsEntries, IsCoun
 use crate::settings::{RawSettings, settings_of};
 use dsa_planner::MOST_PIECES;
 
-// The transfer size of the entry.
+/// The transfer size of the entry.
 #[tactic(auto, unfolding(dsa_descriptor::specs::Places::u32_at))]
 fn size_of(entry: &[u8; 64]) -> u32
     ensures { result ≡ size_of entry.now }
@@ -16,7 +16,7 @@ fn size_of(entry: &[u8; 64]) -> u32
     u32::from_le_bytes([entry[32], entry[33], entry[34], entry[35]])
 }
 
-// How many pieces an operation of this entry has.
+/// How many pieces an operation of this entry has.
 #[tactic(auto, unfolding(dsa_image::specs::Lines::quotient_up))]
 fn pieces_of(entry: &[u8; 64], greatest: u64) -> u64
     requires { 8 ≤ greatest }
@@ -26,7 +26,7 @@ fn pieces_of(entry: &[u8; 64], greatest: u64) -> u64
     u64::from(size_of(entry)).div_ceil(greatest)
 }
 
-// How many pieces the operations of the entries have, or None for more than may be planned.
+/// How many pieces the operations of the entries have, or None for more than may be planned.
 fn count(entries: &[[u8; 64]], greatest: u64) -> Option<u64>
     requires { 8 ≤ greatest }
     ensures { CountsEntries greatest entries.now result }

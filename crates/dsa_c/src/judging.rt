@@ -9,7 +9,7 @@ use dsa_marks::plan_of;
 use dsa_planner::{PlanFault, judge_bytes};
 use std::alloc::Global;
 
-// The cost of the plan that the marks spell.
+/// The cost of the plan that the marks spell.
 fn judge_for(
     alloc: Global,
     settings: &RawSettings,

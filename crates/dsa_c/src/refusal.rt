@@ -66,7 +66,7 @@ pub(crate) fn no_room_for_certificate(pieces: usize) -> RawRefusal
     }
 }
 
-// The number of the cause within, else 0.
+/// The number of the cause within, else 0.
 fn inner(fault: PlanFault) -> u32
     ensures { result ≡ inner_of (fault_inner fault) }
 {
@@ -76,7 +76,7 @@ fn inner(fault: PlanFault) -> u32
     }
 }
 
-// The first two indices that the cause and the cause within name, with 0 for each that is missing.
+/// The first two indices that the cause and the cause within name, with 0 for each that is missing.
 fn places(fault: PlanFault) -> (u64, u64)
     ensures { ArePlaces (all_places fault) result }
 {
@@ -91,7 +91,7 @@ fn places(fault: PlanFault) -> (u64, u64)
     }
 }
 
-// These indices, with 0 for each that is missing.
+/// These indices, with 0 for each that is missing.
 fn first_two(indices: Indices) -> (u64, u64)
     ensures { ArePlaces (index_list indices) result }
 {

@@ -26,7 +26,7 @@ pub struct RawSettings {
 }
 
 /// The settings of numbers of version 1, where they are in their limits.
-// The settings are large: inlined, they are written where the caller lends them from.
+/// The settings are large: inlined, they are written where the caller lends them from.
 #[inline(always)]
 pub(crate) fn same_price(raw: &RawSettings) -> Result<Settings, SettingsFault>
     requires { raw.now.version ≡ 1 }

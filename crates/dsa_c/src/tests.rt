@@ -35,7 +35,7 @@ const NOT_REFUSED: RawRefusal = RawRefusal {
     second: 8,
 };
 
-// Moves of so many bytes from 0x1000 to 0x2000 and from there to 0x4000, with their records at 0x8000 and 0x8020.
+/// Moves of so many bytes from 0x1000 to 0x2000 and from there to 0x4000, with their records at 0x8000 and 0x8020.
 fn moves_of(first: u32, second: u32) -> [u8; 128] {
     let (first, second) = (first.to_le_bytes(), second.to_le_bytes());
     let mut list = [0; 128];
@@ -61,7 +61,7 @@ fn moves_of(first: u32, second: u32) -> [u8; 128] {
     list
 }
 
-// By pieces of 4,096 bytes.
+/// By pieces of 4,096 bytes.
 #[test]
 fn pieces_are_counted(rt: HostRuntime) {
     let count = |first: u32, second: u32| -> u64 {
@@ -152,7 +152,7 @@ fn plans_are_judged(rt: HostRuntime) {
     assert_eq!(rt; (refusal.number, refusal.first, refusal.second), (43, 0, 1));
 }
 
-// Another version is no settings, nor are too few prices by size; a buffer is a byte too small; there is no room for a third price.
+/// Another version is no settings, nor are too few prices by size; a buffer is a byte too small; there is no room for a third price.
 #[test]
 fn refusals_leave_the_buffers(rt: HostRuntime) {
     let list = moves_of(64, 64);
@@ -210,7 +210,7 @@ fn refusals_leave_the_buffers(rt: HostRuntime) {
     assert_eq!(rt; (prices, marks, pairs[0].first), ([7, 7], [9, 9], 5));
 }
 
-// Where neither the bytes nor the certificate fit, the refusal names the bytes.
+/// Where neither the bytes nor the certificate fit, the refusal names the bytes.
 #[test]
 fn bytes_are_told_first(rt: HostRuntime) {
     let (mut planned, mut refusal) = (NOT_PLANNED, NOT_REFUSED);
@@ -230,7 +230,7 @@ fn bytes_are_told_first(rt: HostRuntime) {
     assert_eq!(rt; (code, refusal.first, refusal.second), (90, 64, 160));
 }
 
-// A batch of two costs 5 in the table, and its fence 3.
+/// A batch of two costs 5 in the table, and its fence 3.
 #[test]
 fn prices_go_by_size(rt: HostRuntime) {
     let by_size = RawSettings {

@@ -19,6 +19,7 @@ pub fn write_json(alloc: Global, certificate: &Certificate) -> Result<Value, All
     json!(in alloc; {"pairs": pairs, "prices": prices, "version": (certificate.version)})
 }
 
+/// The array that spells the prices.
 fn prices_json(alloc: Global, prices: &[u64]) -> Result<Value, AllocError>
     ensures { IfOk result (λ value. view value ≡ prices_value prices.now) }
 {
@@ -29,6 +30,7 @@ fn prices_json(alloc: Global, prices: &[u64]) -> Result<Value, AllocError>
     Ok(Value::Array(values))
 }
 
+/// The array that spells the pairs.
 fn pairs_json(alloc: Global, pairs: &[Option<(u32, u32)>]) -> Result<Value, AllocError>
     ensures { IfOk result (λ value. (view value ≡ pairs_value pairs.now) × All PairFits pairs.now) }
 {
@@ -39,6 +41,7 @@ fn pairs_json(alloc: Global, pairs: &[Option<(u32, u32)>]) -> Result<Value, Allo
     Ok(Value::Array(values))
 }
 
+/// An array of two numbers, or null.
 fn pair_json(alloc: Global, pair: Option<(u32, u32)>) -> Result<Value, AllocError>
     ensures { IfOk result (λ value. (view value ≡ pair_value pair) × PairFits pair) }
 {
@@ -98,6 +101,7 @@ pub fn prices_of(alloc: Global, value: &Value) -> Result<Option<Vec<u64>>, Alloc
     Ok(Some(prices))
 }
 
+/// The pairs that a value spells, if it spells some.
 fn pairs_of(alloc: Global, value: &Value) -> Result<Option<Vec<Option<(u32, u32)>>>, AllocError>
     ensures { IfOk result (λ pairs. ReadsPairs (view value.now) (option_map (λ v. v.items) pairs)) }
 {

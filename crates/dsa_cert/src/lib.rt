@@ -6,6 +6,3 @@ mod document;
 
 pub use certificate::{CertFault, Certificate};
 pub use document::{prices_of, read_json, write_json};
-
-#[cfg(test)]
-mod tests;

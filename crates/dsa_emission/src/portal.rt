@@ -182,6 +182,7 @@ pub(crate) fn wrong_batch(
     None
 }
 
+/// Whether all of the bytes are zero.
 fn are_zero(bytes: &[u8]) -> bool
     ensures { IsTrue result ↔ AreZero bytes.now }
 {

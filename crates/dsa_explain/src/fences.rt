@@ -15,7 +15,7 @@ use std::alloc::{AllocError, Global};
 pub struct Fence {
     /// The piece that it stands before.
     pub piece: usize,
-    /// The conflict that it alone separates; none where no conflict needs it.
+    /// The conflict that it alone separates; none where no conflict needs it alone.
     pub reason: Option<Reason>,
 }
 

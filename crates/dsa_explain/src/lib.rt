@@ -22,6 +22,3 @@ pub use picture::{MOST_ROWS, draw};
 pub use prices::{GroupPrice, Prices, price_plan};
 pub use reason::{Reason, reason_of};
 pub use words::{Origin, explanation_text};
-
-#[cfg(test)]
-mod tests;

@@ -71,7 +71,7 @@ fn next_fence(fences: &[bool], start: usize, at: usize) -> usize
 }
 
 /// In a group that begins with piece `start`, the conflict that the fence at piece `at` alone separates: with the least
-/// later piece, and for it the greatest earlier one. None where no conflict needs the fence.
+/// later piece, and for it the greatest earlier one. None where no conflict needs the fence alone.
 pub fn reason_of(fences: &[bool], pieces: &[Descriptor], start: usize, at: usize) -> Option<Reason>
     requires known { start + length fences.now ≤ length pieces.now }
     requires few { length pieces.now ≤ 65536 }

@@ -48,7 +48,7 @@ pub fn group_text(alloc: Global, number: usize, group: &GroupPrice) -> Result<St
 /// The line of a fence: the two pieces of the conflict that it separates, the address and the kind of hazard.
 pub fn fence_text(alloc: Global, fence: &Fence) -> Result<String, AllocError> {
     let Some(reason) = fence.reason else {
-        return String::from_str(alloc, "no conflict needs it");
+        return String::from_str(alloc, "no conflict needs it alone");
     };
     let (earlier, later) = (reason.earlier, reason.later);
     let kind = kind_text(reason.hazard.kind);

@@ -93,6 +93,3 @@ pub fn find_hazard(earlier: &Touched, later: &Touched) -> Option<Hazard>
     }
     None
 }
-
-#[cfg(test)]
-mod tests;

@@ -9,6 +9,7 @@ use std::alloc::{Alloc, Global};
 use std::io;
 use std::rt::Runtime;
 
+/// Plans the list.
 pub(crate) fn plan<R: Runtime + Alloc<A = Global>>(rt: &R, case: &Case) -> io::Result<()> {
     mark(rt)?;
     let answer = plan_list(rt.alloc(), &case.list, &case.settings);
@@ -16,6 +17,7 @@ pub(crate) fn plan<R: Runtime + Alloc<A = Global>>(rt: &R, case: &Case) -> io::R
     tell(rt, &answer)
 }
 
+/// Judges the plan of the pieces.
 pub(crate) fn judge<R: Runtime + Alloc<A = Global>>(rt: &R, case: &Case) -> io::Result<()> {
     mark(rt)?;
     let answer = judge_bytes(rt.alloc(), &case.list, &case.planned.plan, &case.settings);
@@ -23,6 +25,7 @@ pub(crate) fn judge<R: Runtime + Alloc<A = Global>>(rt: &R, case: &Case) -> io::
     tell(rt, &answer)
 }
 
+/// Checks the bytes to submit.
 pub(crate) fn check<R: Runtime + Alloc<A = Global>>(rt: &R, case: &Case) -> io::Result<()> {
     let emission = &case.planned.emission;
     mark(rt)?;
@@ -37,6 +40,7 @@ pub(crate) fn check<R: Runtime + Alloc<A = Global>>(rt: &R, case: &Case) -> io::
     tell(rt, &answer)
 }
 
+/// Replays the trace by two engines.
 pub(crate) fn replay<R: Runtime + Alloc<A = Global>>(rt: &R, case: &Case) -> io::Result<()> {
     mark(rt)?;
     let answer = replay_bytes(
@@ -51,6 +55,7 @@ pub(crate) fn replay<R: Runtime + Alloc<A = Global>>(rt: &R, case: &Case) -> io:
     tell_outcome(rt, &answer)
 }
 
+/// Writes the document of the certificate.
 pub(crate) fn write<R: Runtime + Alloc<A = Global>>(rt: &R, case: &Case) -> io::Result<()> {
     mark(rt)?;
     let answer = write_json(rt.alloc(), &case.planned.certificate);
@@ -61,6 +66,7 @@ pub(crate) fn write<R: Runtime + Alloc<A = Global>>(rt: &R, case: &Case) -> io::
     }
 }
 
+/// Reads the document of the certificate.
 pub(crate) fn read<R: Runtime + Alloc<A = Global>>(rt: &R, case: &Case) -> io::Result<()> {
     mark(rt)?;
     let answer = read_json(rt.alloc(), &case.document);
@@ -72,6 +78,7 @@ pub(crate) fn read<R: Runtime + Alloc<A = Global>>(rt: &R, case: &Case) -> io::R
     }
 }
 
+/// Searches for the plan of the pieces.
 pub(crate) fn find<R: Runtime + Alloc<A = Global>>(rt: &R, case: &Case) -> io::Result<()> {
     let pieces = &case.planned.pieces;
     if pieces.len() > 65_536 {

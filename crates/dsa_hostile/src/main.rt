@@ -46,6 +46,7 @@ fn call<R: Runtime + Alloc<A = Global> + Threads + Wait + Sync>(
     }
 }
 
+/// Runs the call that standard input names, on the list that it names.
 fn main(rt: HostRuntime) -> io::Result<()> {
     let text = io::read_to_string(rt.alloc(), rt.reader())?;
     if let Some(job) = text.strip_prefix("serve\n") {

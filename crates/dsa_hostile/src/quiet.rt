@@ -135,6 +135,7 @@ fn count_passed(trace: &[Event]) -> usize {
     count
 }
 
+/// The calls that take no memory.
 pub(crate) fn calls<R: Runtime + Alloc<A = Global>>(rt: &R, case: &Case) -> io::Result<()> {
     let planned = &case.planned;
     let pieces = planned.pieces.as_slice();

@@ -95,6 +95,7 @@ fn engaged(mut room: Room, trace: &[Event]) -> Result<Outcome, CoreFault> {
     room.into_outcome().map_err(|_room| CoreFault::Incomplete)
 }
 
+/// Makes a room and steps it through the trace.
 pub(crate) fn whole<R: Runtime + Alloc<A = Global>>(rt: &R, case: &Case) -> io::Result<()> {
     mark(rt)?;
     let answer = room_of(rt.alloc(), case).and_then(|room| stepped(room, &case.trace));
@@ -102,6 +103,7 @@ pub(crate) fn whole<R: Runtime + Alloc<A = Global>>(rt: &R, case: &Case) -> io::
     tell_outcome(rt, &answer.map_err(PlanFault::from))
 }
 
+/// Steps a room that was made before through the trace.
 pub(crate) fn steps<R: Runtime + Alloc<A = Global>>(rt: &R, case: &Case) -> io::Result<()> {
     let Ok(room) = room_of(rt.alloc(), case) else {
         return Ok(());
@@ -112,6 +114,7 @@ pub(crate) fn steps<R: Runtime + Alloc<A = Global>>(rt: &R, case: &Case) -> io::
     tell_outcome(rt, &answer.map_err(PlanFault::from))
 }
 
+/// Runs a room by parcels.
 pub(crate) fn parcels<R: Runtime + Alloc<A = Global>>(rt: &R, case: &Case) -> io::Result<()> {
     let Ok(room) = room_of(rt.alloc(), case) else {
         return Ok(());

@@ -16,6 +16,7 @@ use std::thread::Threads;
 /// How many bytes a line may have before its writer has to grow.
 const LONGEST: usize = 131_072;
 
+/// Runs the pieces by threads.
 pub(crate) fn engines<R: Runtime + Alloc<A = Global> + Threads + Wait + Sync>(
     rt: &R,
     case: &Case,
@@ -40,6 +41,7 @@ pub(crate) fn engines<R: Runtime + Alloc<A = Global> + Threads + Wait + Sync>(
     tell_threads(rt)
 }
 
+/// Runs the list by threads.
 pub(crate) fn engines_over_bytes<R: Runtime + Alloc<A = Global> + Threads + Wait + Sync>(
     rt: &R,
     case: &Case,

@@ -18,6 +18,7 @@ pub fn has_names(value: &Value, names: &[&str]) -> bool
     }
 }
 
+/// Whether the members have these names, in this order, and no other.
 fn are_named(members: &Map<String, Value>, names: &[&str]) -> bool
     ensures { IsTrue result ↔
         (member_names (members_view members.now.entries) ≡ map (λ name. name.now) names.now) }

@@ -15,6 +15,3 @@ pub use fault::{Expected, LineFault};
 pub use laws::{canonical_line_spells, spells_one};
 pub use reading::{line_bytes, parse_line};
 pub use writing::{line_of, op_text};
-
-#[cfg(test)]
-mod tests;

@@ -11,6 +11,3 @@ pub use assembling::assemble;
 pub use disassembling::disassemble;
 pub use fault::TextFault;
 pub use laws::{canonical_text_spells, text_spells_one};
-
-#[cfg(test)]
-mod tests;

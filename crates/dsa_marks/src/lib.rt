@@ -13,7 +13,7 @@ pub const BEGINS: u8 = 1;
 /// The mark of a piece that is fenced.
 pub const FENCED: u8 = 2;
 
-// The mark of a piece.
+/// The mark of a piece.
 fn mark(begins: bool, fenced: bool) -> u8
     ensures { result ≡ mark begins fenced }
 {
@@ -22,21 +22,21 @@ fn mark(begins: bool, fenced: bool) -> u8
     first + second
 }
 
-// The piece of this mark begins a group.
+/// The piece of this mark begins a group.
 fn begins_group(mark: u8) -> bool
     ensures { result ≡ begins_group mark }
 {
     mark % 2 == 1
 }
 
-// The piece of this mark is fenced.
+/// The piece of this mark is fenced.
 fn is_fenced(mark: u8) -> bool
     ensures { result ≡ is_fenced mark }
 {
     mark / 2 % 2 == 1
 }
 
-// Adds the marks of the pieces of a group.
+/// Adds the marks of the pieces of a group.
 fn push_group(marks: &mut Vec<u8>, group: &[bool]) -> Result<(), AllocError>
     ensures { IfOk result (λ _. marks.new.items ≡ marks.old.items ++ group_marks group.now) }
 {
@@ -92,6 +92,3 @@ pub fn marks_spell_plans()
 pub fn plans_spell_marks()
     ensures { PlansSpellMarks }
 {}
-
-#[cfg(test)]
-mod tests;

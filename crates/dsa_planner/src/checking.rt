@@ -48,7 +48,7 @@ pub fn check_bytes(
     check_plan(&pieces, settings, &plan, certificate)
 }
 
-// The cost of the plan of these pieces, where the certificate shows it.
+/// The cost of the plan of these pieces, where the certificate shows it.
 fn check_plan(
     pieces: &[Descriptor],
     settings: &Settings,

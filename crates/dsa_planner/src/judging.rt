@@ -33,7 +33,7 @@ pub fn judge_bytes(
     judge(&pieces, plan, settings)
 }
 
-// The cost of the plan for the pieces, or the first cause to refuse it.
+/// The cost of the plan for the pieces, or the first cause to refuse it.
 fn judge(pieces: &[Descriptor], plan: &Plan, settings: &Settings) -> Result<u64, PlanFault>
     ensures { JudgesPieces (map fields pieces.now) plan.now settings.now result }
 {
@@ -47,7 +47,7 @@ fn judge(pieces: &[Descriptor], plan: &Plan, settings: &Settings) -> Result<u64,
     Ok(cost(plan, settings))
 }
 
-// The index of the first piece longer than the greatest transfer.
+/// The index of the first piece longer than the greatest transfer.
 fn first_over(pieces: &[Descriptor], greatest: u64) -> Option<usize>
     ensures { FindsOver greatest (map fields pieces.now) result }
 {

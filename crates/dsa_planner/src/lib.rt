@@ -21,7 +21,4 @@ pub use laws::{
 pub use line::{LONGEST_LINE, refusal_line};
 pub use planning::{Planned, plan_list};
 pub use replaying::replay_bytes;
-pub use running::run_bytes;
-
-#[cfg(test)]
-mod tests;
+pub use running::{run_bytes, run_gated};

@@ -25,7 +25,7 @@ pub fn refusal_line(fault: PlanFault) -> ArrayString<LONGEST_LINE>
     line
 }
 
-// A number and a name, with a space before each, at the end.
+/// A number and a name, with a space before each, at the end.
 fn push_named(line: &mut ArrayString<LONGEST_LINE>, number: u64, name: &str)
     requires short { length name.now ≤ 16 }
     requires fits { length line.old.bytes + 38 ≤ LONGEST_LINE }
@@ -37,7 +37,7 @@ fn push_named(line: &mut ArrayString<LONGEST_LINE>, number: u64, name: &str)
     line.push_str(name);
 }
 
-// The indices, at the end.
+/// The indices, at the end.
 fn push_indices(line: &mut ArrayString<LONGEST_LINE>, indices: Indices)
     requires { length line.old.bytes + 42 ≤ LONGEST_LINE }
     ensures value { line.new.bytes ≡ line.old.bytes ++ indices_text indices }
@@ -53,7 +53,7 @@ fn push_indices(line: &mut ArrayString<LONGEST_LINE>, indices: Indices)
     }
 }
 
-// The cause within, of a piece or a plan that is refused in its turn, at the end.
+/// The cause within, of a piece or a plan that is refused in its turn, at the end.
 fn push_inner(line: &mut ArrayString<LONGEST_LINE>, cause: Option<InnerFault>)
     requires { length line.old.bytes + 80 ≤ LONGEST_LINE }
     ensures value { line.new.bytes ≡ line.old.bytes ++ inner_text cause }
@@ -65,7 +65,7 @@ fn push_inner(line: &mut ArrayString<LONGEST_LINE>, cause: Option<InnerFault>)
     }
 }
 
-// A space and the number, at the end.
+/// A space and the number, at the end.
 fn push_place(line: &mut ArrayString<LONGEST_LINE>, place: u64)
     requires { length line.old.bytes + 21 ≤ LONGEST_LINE }
     ensures value { line.new.bytes ≡ line.old.bytes ++ place_text place }

@@ -44,8 +44,11 @@ fn run_pieces<G: Gate + Sync, R: Threads + Wait + Sync>(
     Ok(outcome)
 }
 
-/// As [`run_bytes`], with a gate that the engines ask.
-pub(crate) fn run_gated<G: Gate + Sync, R: Threads + Wait + Sync>(
+/// As [`run_bytes`], with a gate that the engines ask before and after each event: a test holds them there.
+///
+/// # Errors
+/// As [`run_bytes`]; [`PlanFault::Room`] with `GateShut` where a gate that may refuse did so.
+pub fn run_gated<G: Gate + Sync, R: Threads + Wait + Sync>(
     rt: &R,
     alloc: Global,
     list: &[u8],

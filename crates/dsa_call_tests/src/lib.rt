@@ -1,0 +1,20 @@
+//! Tests of the calls over bytes, of jobs and of texts, a module for each crate. They stand here and not in those crates,
+//! since a crate with tests is proved twice.
+#![tactic(auto)]
+
+#[cfg(test)]
+mod explain;
+#[cfg(test)]
+mod given;
+#[cfg(test)]
+mod hazards;
+#[cfg(test)]
+mod lines;
+#[cfg(test)]
+mod listing;
+#[cfg(test)]
+mod marks;
+#[cfg(test)]
+mod planner;
+#[cfg(test)]
+mod report;

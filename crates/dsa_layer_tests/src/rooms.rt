@@ -1,0 +1,478 @@
+//! Traces, rooms and parcels of small lists.
+
+ghost use Rattle.std.specs.Prelude.{◌≡◌, ◌≤◌, All, IfOk, IsTrue, length, map};
+ghost use Rattle.dsa_descriptor.specs.Descriptors.{fields};
+ghost use Rattle.dsa_ranges.specs.Ranges.{ConflictAt};
+ghost use Rattle.dsa_image.specs.Memory.{HoldsRanges};
+ghost use Rattle.dsa_settings.specs.Legal.{IsLegal};
+ghost use Rattle.dsa_core.specs.Accounts.{most_members};
+
+use crate::given::{descriptor, put};
+use dsa_core::{
+    CoreFault, Event, Finished, Kind, Lined, Outcome, Parcel, Room, Stale, Taken, replay,
+};
+use dsa_descriptor::{Descriptor, Record};
+use dsa_image::Image;
+use dsa_legal::is_legal;
+use dsa_settings::{Group, Plan, Settings};
+use std::alloc::Global;
+use std::process::Abort;
+use std::test::Fail;
+
+/// Two moves of 8 bytes, from 0 to 0x20 and from `second` to 0x60.
+fn moves(second: u64) -> Result<[Descriptor; 2], Fail> {
+    Ok([
+        descriptor(3, 0x0c, 0x80, 8, [0, 0x20, 0])?,
+        descriptor(3, 0x0c, 0xa0, 8, [second, 0x60, 0])?,
+    ])
+}
+
+/// The image of these bytes.
+fn image_of(base: u64, bytes: Vec<u8>) -> Result<Image, Fail> {
+    match Image::new(base, bytes) {
+        Ok(image) => Ok(image),
+        Err(_) => Err(Fail::new("no image")),
+    }
+}
+
+/// 192 bytes: `first` to 8 at 0, 0x11 to 0x18 at 0x40, else zero.
+fn sources(alloc: Global, first: u8) -> Result<Vec<u8>, Fail> {
+    let mut bytes = vec![in alloc; 0; 192]?;
+    put(&mut bytes, 0, &[first, 2, 3, 4, 5, 6, 7, 8]);
+    put(
+        &mut bytes,
+        0x40,
+        &[0x11, 0x12, 0x13, 0x14, 0x15, 0x16, 0x17, 0x18],
+    );
+    Ok(bytes)
+}
+
+/// The same after both moves.
+fn copied(alloc: Global) -> Result<Vec<u8>, Fail> {
+    let mut bytes = sources(alloc, 1)?;
+    put(&mut bytes, 0x20, &[1, 2, 3, 4, 5, 6, 7, 8]);
+    put(
+        &mut bytes,
+        0x60,
+        &[0x11, 0x12, 0x13, 0x14, 0x15, 0x16, 0x17, 0x18],
+    );
+    put(&mut bytes, 0x80, &[1]);
+    put(&mut bytes, 0xa0, &[1]);
+    Ok(bytes)
+}
+
+/// A plan of one group.
+fn plan_of(alloc: Global, flags: &[bool]) -> Result<Plan, Fail> {
+    let mut groups = Vec::new(alloc);
+    groups.push(Group::new(Vec::from_slice(alloc, flags)?))?;
+    Ok(Plan::new(groups))
+}
+
+/// Whether the plan is legal for the pieces.
+fn is_planned(plan: &Plan, pieces: &[Descriptor]) -> bool
+    ensures few { IsTrue result → length pieces.now ≤ 65536 }
+    ensures legal { IsTrue result →
+        IsLegal (ConflictAt (map fields pieces.now)) most_members (length pieces.now) plan.now }
+{
+    if pieces.len() > 65536 {
+        return false;
+    }
+    let Ok(settings) = Settings::new(1024, 4096, 0, 0, 0, 0) else {
+        return false;
+    };
+    let Ok(()) = is_legal(plan, pieces, &settings) else {
+        return false;
+    };
+    true
+}
+
+/// Whether the image has what the pieces read and write.
+fn is_held(image: &Image, pieces: &[Descriptor]) -> bool
+    ensures { IsTrue result → All (HoldsRanges image.now) (map fields pieces.now) }
+{
+    match image.holds_all(pieces) {
+        Ok(()) => true,
+        Err(_) => false,
+    }
+}
+
+fn event(engine: u8, kind: Kind, piece: u32) -> Event {
+    Event {
+        engine,
+        kind,
+        piece,
+    }
+}
+
+/// Replays a trace of two engines, from the image of these bytes at address 0.
+fn judge<R: Abort>(
+    rt: &R,
+    alloc: Global,
+    pieces: &[Descriptor],
+    flags: &[bool],
+    trace: &[Event],
+) -> Result<Result<Outcome, CoreFault>, Fail> {
+    let image = image_of(0, sources(alloc, 1)?)?;
+    let plan = plan_of(alloc, flags)?;
+    assert!(rt; is_planned(&plan, pieces));
+    assert!(rt; is_held(&image, pieces));
+    Ok(replay(alloc, &image, &plan, pieces, 2, trace))
+}
+
+/// The fault of a replay.
+fn fault_of(answer: Result<Outcome, CoreFault>) -> Option<CoreFault> {
+    match answer {
+        Ok(_outcome) => None,
+        Err(fault) => Some(fault),
+    }
+}
+
+/// The events of two engines that take turns: each takes, works and finishes the piece of its own number.
+fn trace_of(alloc: Global, turns: &[u8]) -> Result<Vec<Event>, Fail> {
+    let mut trace = Vec::new(alloc);
+    let mut counts = (0u8, 0u8);
+    for turn in turns {
+        let count = if *turn == 0 { counts.0 } else { counts.1 };
+        let kind = match count {
+            0 => Kind::Take,
+            1 => Kind::Line,
+            _ => Kind::Finish,
+        };
+        if *turn == 0 {
+            counts.0 = counts.0.saturating_add(1);
+        } else {
+            counts.1 = counts.1.saturating_add(1);
+        }
+        trace.push(event(*turn, kind, u32::from(*turn)))?;
+    }
+    Ok(trace)
+}
+
+/// The bytes that begin with a status and a count, and zeros.
+fn batch_bytes(status: u8, count: u8) -> [u8; 32] {
+    let mut bytes = [0; 32];
+    bytes[0] = status;
+    bytes[4] = count;
+    bytes
+}
+
+/// Replays the orders in which the engines take turns, and looks at what the run leaves.
+fn leaves_copies<R: Abort>(rt: &R, alloc: Global, turns: &[u8]) -> Result<(), Fail> {
+    let pieces = moves(0x40)?;
+    let trace = trace_of(alloc, turns)?;
+    let answer = judge(rt, alloc, &pieces, &[false, false], trace.as_slice())?;
+    let Ok(outcome) = answer else {
+        return Err(Fail::new("refused"));
+    };
+    let expected = copied(alloc)?;
+    assert!(rt; outcome.image.bytes() == expected.as_slice());
+    assert!(rt; outcome.finished == 2);
+    assert!(rt; outcome.batch_records.as_slice() == [batch_bytes(1, 2)].as_slice());
+    assert!(rt; outcome.history.as_slice() == trace.as_slice());
+    Ok(())
+}
+
+#[test]
+fn orders_of_the_first_engine(rt: HostRuntime) -> Result<(), Fail> {
+    leaves_copies(&rt, rt.alloc(), &[0, 1, 1, 1, 0, 0])?;
+    leaves_copies(&rt, rt.alloc(), &[0, 0, 0, 1, 1, 1])?;
+    leaves_copies(&rt, rt.alloc(), &[0, 0, 1, 0, 1, 1])?;
+    leaves_copies(&rt, rt.alloc(), &[0, 0, 1, 1, 0, 1])?;
+    leaves_copies(&rt, rt.alloc(), &[0, 0, 1, 1, 1, 0])?;
+    leaves_copies(&rt, rt.alloc(), &[0, 1, 0, 1, 0, 1])?;
+    leaves_copies(&rt, rt.alloc(), &[0, 1, 1, 0, 1, 0])?;
+    Ok(())
+}
+
+#[test]
+fn orders_of_the_second_engine(rt: HostRuntime) -> Result<(), Fail> {
+    leaves_copies(&rt, rt.alloc(), &[1, 0, 0, 0, 1, 1])?;
+    leaves_copies(&rt, rt.alloc(), &[1, 0, 0, 1, 1, 0])?;
+    leaves_copies(&rt, rt.alloc(), &[1, 0, 1, 0, 1, 0])?;
+    leaves_copies(&rt, rt.alloc(), &[1, 0, 1, 1, 0, 0])?;
+    leaves_copies(&rt, rt.alloc(), &[1, 1, 0, 0, 1, 0])?;
+    leaves_copies(&rt, rt.alloc(), &[1, 1, 1, 0, 0, 0])?;
+    Ok(())
+}
+
+#[test]
+fn a_short_trace_is_incomplete(rt: HostRuntime) -> Result<(), Fail> {
+    let pieces = moves(0x40)?;
+    let trace = trace_of(rt.alloc(), &[0, 1, 1, 1, 0])?;
+    let answer = judge(&rt, rt.alloc(), &pieces, &[false, false], trace.as_slice())?;
+    assert!(rt; fault_of(answer) == Some(CoreFault::Incomplete));
+    Ok(())
+}
+
+#[test]
+fn an_early_finish_is_no_step(rt: HostRuntime) -> Result<(), Fail> {
+    let pieces = moves(0x40)?;
+    let mut trace = trace_of(rt.alloc(), &[0, 1, 1, 1])?;
+    trace.push(event(0, Kind::Finish, 0))?;
+    trace.push(event(0, Kind::Finish, 0))?;
+    let answer = judge(&rt, rt.alloc(), &pieces, &[false, false], trace.as_slice())?;
+    assert!(rt; fault_of(answer) == Some(CoreFault::NotAStep(4)));
+    Ok(())
+}
+
+#[test]
+fn unknown_engines_take_nothing(rt: HostRuntime) -> Result<(), Fail> {
+    let pieces = moves(0x40)?;
+    let trace = [event(2, Kind::Take, 0)];
+    let answer = judge(&rt, rt.alloc(), &pieces, &[false, false], &trace)?;
+    assert!(rt; fault_of(answer) == Some(CoreFault::NotAStep(0)));
+    Ok(())
+}
+
+#[test]
+fn a_fence_holds(rt: HostRuntime) -> Result<(), Fail> {
+    let pieces = moves(0x20)?;
+    let trace = [event(0, Kind::Take, 0), event(1, Kind::Take, 1)];
+    let answer = judge(&rt, rt.alloc(), &pieces, &[false, true], &trace)?;
+    assert!(rt; fault_of(answer) == Some(CoreFault::NotAStep(1)));
+    Ok(())
+}
+
+/// A room of the two moves and two engines, of which engine 0 has taken a piece.
+fn taken_room<R: Abort>(rt: &R, alloc: Global, first: u8) -> Result<Room, Fail>
+    ensures { IfOk result (λ r. r.engines ≡ 2) }
+{
+    let pieces = moves(0x40)?;
+    let image = image_of(0, sources(alloc, first)?)?;
+    let plan = plan_of(alloc, &[false, false])?;
+    assert!(rt; is_planned(&plan, &pieces));
+    assert!(rt; is_held(&image, &pieces));
+    let Ok(mut room) = Room::new(alloc, &image, &plan, &pieces, 2) else {
+        return Err(Fail::new("no room"));
+    };
+    assert!(rt; room.take(0) == Taken::Piece(0));
+    Ok(room)
+}
+
+/// The parcel of engine 0's next line.
+fn fetched(room: &Room) -> Result<Parcel, Fail> {
+    match room.fetch(0) {
+        Some(parcel) => Ok(parcel),
+        None => Err(Fail::new("no parcel")),
+    }
+}
+
+#[test]
+fn unworked_parcels_are_stale(rt: HostRuntime) -> Result<(), Fail> {
+    let mut room = taken_room(&rt, rt.alloc(), 1)?;
+    let parcel = fetched(&room)?;
+    assert!(rt; room.commit(&parcel) == Err(Stale));
+    let mut again = fetched(&room)?;
+    again.work();
+    assert!(rt; room.commit(&again) == Ok(()));
+    Ok(())
+}
+
+#[test]
+fn parcels_are_used_once(rt: HostRuntime) -> Result<(), Fail> {
+    let mut room = taken_room(&rt, rt.alloc(), 1)?;
+    let mut parcel = fetched(&room)?;
+    parcel.work();
+    assert!(rt; room.commit(&parcel) == Ok(()));
+    assert!(rt; room.commit(&parcel) == Err(Stale));
+    assert!(rt; room.line(0) == Lined::Full);
+    assert!(rt; room.fetch(0).is_none());
+    Ok(())
+}
+
+#[test]
+fn parcels_of_another_image_are_stale(rt: HostRuntime) -> Result<(), Fail> {
+    let room = taken_room(&rt, rt.alloc(), 1)?;
+    let mut other = taken_room(&rt, rt.alloc(), 9)?;
+    let mut parcel = fetched(&room)?;
+    parcel.work();
+    assert!(rt; other.commit(&parcel) == Err(Stale));
+    assert!(rt; other.line(0) == Lined::Moved);
+    Ok(())
+}
+
+#[test]
+fn halted_rooms_take_no_parcels(rt: HostRuntime) -> Result<(), Fail> {
+    let mut room = taken_room(&rt, rt.alloc(), 1)?;
+    let mut parcel = fetched(&room)?;
+    parcel.work();
+    room.halt();
+    assert!(rt; room.commit(&parcel) == Err(Stale));
+    assert!(rt; room.fetch(0).is_none());
+    Ok(())
+}
+
+/// The room of the two moves, halted after so many events of engines that take both pieces before either is finished.
+fn halted_after<R: Abort>(rt: &R, alloc: Global, count: usize) -> Result<Room, Fail> {
+    let pieces = moves(0x40)?;
+    let image = image_of(0, sources(alloc, 1)?)?;
+    let plan = plan_of(alloc, &[false, false])?;
+    assert!(rt; is_planned(&plan, &pieces));
+    assert!(rt; is_held(&image, &pieces));
+    let Ok(mut room) = Room::new(alloc, &image, &plan, &pieces, 2) else {
+        return Err(Fail::new("no room"));
+    };
+    let trace = trace_of(alloc, &[0, 1, 1, 1, 0, 0])?;
+    for event in trace.iter().take(count) {
+        assert!(rt; room.step(*event));
+    }
+    room.halt();
+    Ok(room)
+}
+
+/// Whether a halted room answers an engine as it has to, which has this piece or none.
+fn refuses(room: &mut Room, engine: u8, piece: Option<u32>) -> bool {
+    if engine >= room.engines() {
+        return false;
+    }
+    let taken = match piece {
+        Some(own) => Taken::Holding(own),
+        None => Taken::Over,
+    };
+    room.take(engine) == taken
+        && room.line(engine) == Lined::Halted
+        && room.finish(engine) == Finished::Halted
+        && room.fetch(engine).is_none()
+}
+
+#[test]
+fn rooms_halted_at_each_moment_refuse(rt: HostRuntime) -> Result<(), Fail> {
+    for (count, first, second) in [
+        (0, None, None),
+        (1, Some(0), None),
+        (2, Some(0), Some(1)),
+        (3, Some(0), Some(1)),
+        (4, Some(0), None),
+        (5, Some(0), None),
+        (6, None, None),
+    ] {
+        let mut room = halted_after(&rt, rt.alloc(), count)?;
+        assert!(rt; refuses(&mut room, 0, first), "{count}");
+        assert!(rt; refuses(&mut room, 1, second), "{count}");
+        for event in trace_of(rt.alloc(), &[0, 1, 1, 1, 0, 0])? {
+            assert!(rt; !room.step(event), "{count}");
+        }
+        assert!(rt; room.is_over() == (count == 6), "{count}");
+        assert!(rt; room.into_outcome().is_ok() == (count == 6), "{count}");
+    }
+    Ok(())
+}
+
+#[test]
+fn rooms_know_what_they_were_given(rt: HostRuntime) -> Result<(), Fail> {
+    let room = taken_room(&rt, rt.alloc(), 1)?;
+    let image = image_of(0, sources(rt.alloc(), 1)?)?;
+    let other = image_of(0, sources(rt.alloc(), 9)?)?;
+    let plan = plan_of(rt.alloc(), &[false, false])?;
+    let pieces = moves(0x40)?;
+    assert!(rt; room.engines() == 2);
+    assert!(rt; room.is_of(&image, &plan, &pieces, 2));
+    assert!(rt; !room.is_of(&other, &plan, &pieces, 2));
+    assert!(rt; !room.is_of(&image, &plan, &pieces, 3));
+    Ok(())
+}
+
+/// Does engine 0's piece to its end.
+fn do_piece<R: Abort>(rt: &R, room: &mut Room)
+    requires { room.old.engines ≡ 2 }
+    ensures { room.new.engines ≡ 2 }
+{
+    let done = Record {
+        status: 1,
+        result: 0,
+        bytes_completed: 0,
+    };
+    assert!(rt; room.finish(0) == Finished::Early);
+    assert!(rt; room.line(0) == Lined::Moved);
+    assert!(rt; room.finish(0) == Finished::Record(done));
+    assert!(rt; room.finish(0) == Finished::Idle);
+}
+
+#[test]
+fn one_engine_does_all(rt: HostRuntime) -> Result<(), Fail> {
+    let mut room = taken_room(&rt, rt.alloc(), 1)?;
+    do_piece(&rt, &mut room);
+    assert!(rt; room.take(0) == Taken::Piece(1));
+    assert!(rt; room.take(1) == Taken::Wait);
+    do_piece(&rt, &mut room);
+    assert!(rt; room.is_over());
+    assert!(rt; room.take(0) == Taken::Over);
+    let Ok(outcome) = room.into_outcome() else {
+        return Err(Fail::new("unfinished"));
+    };
+    assert!(rt; outcome.image.bytes() == copied(rt.alloc())?.as_slice());
+    Ok(())
+}
+
+/// 256 bytes that begin with two entries of a delta for one place.
+fn two_entries(alloc: Global) -> Result<Vec<u8>, Fail> {
+    let mut bytes = vec![in alloc; 0; 256]?;
+    put(&mut bytes, 2, &[0x11; 8]);
+    put(&mut bytes, 12, &[0x22; 8]);
+    put(&mut bytes, 0, &[2]);
+    put(&mut bytes, 10, &[2]);
+    Ok(bytes)
+}
+
+#[test]
+fn a_fault_ends_its_batch(rt: HostRuntime) -> Result<(), Fail> {
+    let pieces = [
+        descriptor(8, 0x0c, 0x1080, 32, [0x1000, 0x1040, 20])?,
+        descriptor(3, 0x0c, 0x10c0, 8, [0x1040, 0x10a0, 0])?,
+    ];
+    let image = image_of(0x1000, two_entries(rt.alloc())?)?;
+    let plan = plan_of(rt.alloc(), &[false, true])?;
+    assert!(rt; is_planned(&plan, &pieces));
+    assert!(rt; is_held(&image, &pieces));
+    let line = event(0, Kind::Line, 0);
+    let trace = [
+        event(0, Kind::Take, 0),
+        line,
+        line,
+        event(0, Kind::Finish, 0),
+    ];
+    let Ok(outcome) = replay(rt.alloc(), &image, &plan, &pieces, 1, &trace) else {
+        return Err(Fail::new("refused"));
+    };
+    let mut expected = two_entries(rt.alloc())?;
+    put(&mut expected, 0x80, &[7]);
+    assert!(rt; outcome.image.bytes() == expected.as_slice());
+    assert!(rt; outcome.finished == 1);
+    assert!(rt; outcome.batch_records.as_slice() == [batch_bytes(5, 1)].as_slice());
+    Ok(())
+}
+
+/// A plan of so many lone pieces.
+fn lone_pieces(alloc: Global, count: usize) -> Result<Plan, Fail> {
+    let mut groups = Vec::new(alloc);
+    for _piece in 0..count {
+        groups.push(Group::new(Vec::from_slice(alloc, &[false])?))?;
+    }
+    Ok(Plan::new(groups))
+}
+
+/// So many fills of 2,048 lines, with records one behind the other.
+fn long_fills(alloc: Global, count: u16) -> Result<Vec<Descriptor>, Fail> {
+    let mut fills = Vec::new(alloc);
+    for place in 0..count {
+        let record_at = 0x80_0000 + 32 * u64::from(place);
+        fills.push(descriptor(4, 0x0c, record_at, 0x80_0000, [0, 0, 0])?)?;
+    }
+    Ok(fills)
+}
+
+/// 2,047 fills have 4,196,350 events, and one fill less has 4,194,300.
+#[test]
+fn long_runs_are_refused(rt: HostRuntime) -> Result<(), Fail> {
+    let image = image_of(0, vec![in rt.alloc(); 0; 0x100_0000]?)?;
+    for (count, fault) in [(2046, None), (2047, Some(CoreFault::TooLong))] {
+        let fills = long_fills(rt.alloc(), count)?;
+        let pieces = fills.as_slice();
+        let plan = lone_pieces(rt.alloc(), pieces.len())?;
+        assert!(rt; is_planned(&plan, pieces));
+        assert!(rt; is_held(&image, pieces));
+        let room = Room::new(rt.alloc(), &image, &plan, pieces, 1);
+        assert!(rt; room.err() == fault, "{count}");
+    }
+    Ok(())
+}

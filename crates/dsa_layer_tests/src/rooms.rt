@@ -1,11 +1,7 @@
 //! Traces, rooms and parcels of small lists.
 
-ghost use Rattle.std.specs.Prelude.{◌≡◌, ◌≤◌, All, IfOk, IsTrue, length, map};
-ghost use Rattle.dsa_descriptor.specs.Descriptors.{fields};
-ghost use Rattle.dsa_ranges.specs.Ranges.{ConflictAt};
-ghost use Rattle.dsa_image.specs.Memory.{HoldsRanges};
-ghost use Rattle.dsa_settings.specs.Legal.{IsLegal};
-ghost use Rattle.dsa_core.specs.Accounts.{most_members};
+ghost use Rattle.std.specs.Prelude.{◌≡◌, IfOk, IsTrue};
+ghost use Rattle.dsa_core.specs.Given.{IsRunnable};
 
 use crate::given::{descriptor, put};
 use dsa_core::{
@@ -68,13 +64,17 @@ fn plan_of(alloc: Global, flags: &[bool]) -> Result<Plan, Fail> {
     Ok(Plan::new(groups))
 }
 
-/// Whether the plan is legal for the pieces.
-fn is_planned(plan: &Plan, pieces: &[Descriptor]) -> bool
-    ensures few { IsTrue result → length pieces.now ≤ 65536 }
-    ensures legal { IsTrue result →
-        IsLegal (ConflictAt (map fields pieces.now)) most_members (length pieces.now) plan.now }
+/// Whether a room of these can be made.
+fn is_runnable(image: &Image, plan: &Plan, pieces: &[Descriptor], engines: u8) -> bool
+    ensures { IsTrue result → IsRunnable image.now plan.now pieces.now engines }
 {
     if pieces.len() > 65536 {
+        return false;
+    }
+    if engines == 0 {
+        return false;
+    }
+    if engines > 64 {
         return false;
     }
     let Ok(settings) = Settings::new(1024, 4096, 0, 0, 0, 0) else {
@@ -83,17 +83,10 @@ fn is_planned(plan: &Plan, pieces: &[Descriptor]) -> bool
     let Ok(()) = is_legal(plan, pieces, &settings) else {
         return false;
     };
+    let Ok(()) = image.holds_all(pieces) else {
+        return false;
+    };
     true
-}
-
-/// Whether the image has what the pieces read and write.
-fn is_held(image: &Image, pieces: &[Descriptor]) -> bool
-    ensures { IsTrue result → All (HoldsRanges image.now) (map fields pieces.now) }
-{
-    match image.holds_all(pieces) {
-        Ok(()) => true,
-        Err(_) => false,
-    }
 }
 
 fn event(engine: u8, kind: Kind, piece: u32) -> Event {
@@ -114,8 +107,7 @@ fn judge<R: Abort>(
 ) -> Result<Result<Outcome, CoreFault>, Fail> {
     let image = image_of(0, sources(alloc, 1)?)?;
     let plan = plan_of(alloc, flags)?;
-    assert!(rt; is_planned(&plan, pieces));
-    assert!(rt; is_held(&image, pieces));
+    assert!(rt; is_runnable(&image, &plan, pieces, 2));
     Ok(replay(alloc, &image, &plan, pieces, 2, trace))
 }
 
@@ -240,8 +232,7 @@ fn taken_room<R: Abort>(rt: &R, alloc: Global, first: u8) -> Result<Room, Fail>
     let pieces = moves(0x40)?;
     let image = image_of(0, sources(alloc, first)?)?;
     let plan = plan_of(alloc, &[false, false])?;
-    assert!(rt; is_planned(&plan, &pieces));
-    assert!(rt; is_held(&image, &pieces));
+    assert!(rt; is_runnable(&image, &plan, &pieces, 2));
     let Ok(mut room) = Room::new(alloc, &image, &plan, &pieces, 2) else {
         return Err(Fail::new("no room"));
     };
@@ -307,8 +298,7 @@ fn halted_after<R: Abort>(rt: &R, alloc: Global, count: usize) -> Result<Room, F
     let pieces = moves(0x40)?;
     let image = image_of(0, sources(alloc, 1)?)?;
     let plan = plan_of(alloc, &[false, false])?;
-    assert!(rt; is_planned(&plan, &pieces));
-    assert!(rt; is_held(&image, &pieces));
+    assert!(rt; is_runnable(&image, &plan, &pieces, 2));
     let Ok(mut room) = Room::new(alloc, &image, &plan, &pieces, 2) else {
         return Err(Fail::new("no room"));
     };
@@ -422,8 +412,7 @@ fn a_fault_ends_its_batch(rt: HostRuntime) -> Result<(), Fail> {
     ];
     let image = image_of(0x1000, two_entries(rt.alloc())?)?;
     let plan = plan_of(rt.alloc(), &[false, true])?;
-    assert!(rt; is_planned(&plan, &pieces));
-    assert!(rt; is_held(&image, &pieces));
+    assert!(rt; is_runnable(&image, &plan, &pieces, 1));
     let line = event(0, Kind::Line, 0);
     let trace = [
         event(0, Kind::Take, 0),
@@ -469,8 +458,7 @@ fn long_runs_are_refused(rt: HostRuntime) -> Result<(), Fail> {
         let fills = long_fills(rt.alloc(), count)?;
         let pieces = fills.as_slice();
         let plan = lone_pieces(rt.alloc(), pieces.len())?;
-        assert!(rt; is_planned(&plan, pieces));
-        assert!(rt; is_held(&image, pieces));
+        assert!(rt; is_runnable(&image, &plan, pieces, 1));
         let room = Room::new(rt.alloc(), &image, &plan, pieces, 1);
         assert!(rt; room.err() == fault, "{count}");
     }

@@ -5,6 +5,7 @@ ghost use Rattle.dsa_descriptor.specs.Descriptors.{fields};
 ghost use Rattle.dsa_ranges.specs.Ranges.{ConflictAt};
 ghost use Rattle.dsa_plan.specs.Legal.{IsLegal};
 ghost use Rattle.dsa_core.specs.Accounts.{most_members};
+ghost use Rattle.dsa_core.specs.Given.{IsRunnable};
 ghost use Rattle.dsa_planner.specs.declared.fault.PlanFault.{PlanFault};
 ghost use Rattle.dsa_planner.specs.declared.fault.PlanFault.TheVariants.{Memory};
 ghost use Rattle.dsa_planner.specs.Lists.{OrMemory, IsOrMemory};
@@ -82,9 +83,7 @@ pub(crate) fn prepare(
     ensures answer { MatchResult result
         (λ r. IsReady list.now settings.now image.now engines r.pieces.items r.plan r.engines)
         (λ fault. (fault ≡ Memory) ⊎ RefusesRun list.now settings.now image.now engines fault) }
-    ensures few { IfOk result (λ r. length r.pieces.items ≤ 65536) }
-    ensures legal { IfOk result (λ r. IsLegal
-        (ConflictAt (map fields r.pieces.items)) most_members (length r.pieces.items) r.plan) }
+    ensures runnable { IfOk result (λ r. IsRunnable image.now r.plan r.pieces.items r.engines) }
     ensures limits { AreInLimits settings.now }
 {
     // Its clause says that the settings are within their limits.
@@ -108,9 +107,7 @@ fn replay_pieces(
     engines: u8,
     trace: &[Event],
 ) -> Result<Outcome, PlanFault>
-    requires few { length pieces.now ≤ 65536 }
-    requires legal { IsLegal
-        (ConflictAt (map fields pieces.now)) most_members (length pieces.now) plan.now }
+    requires asked { IsRunnable image.now plan.now pieces.now engines }
     requires can { CanBegin image.now engines (map fields pieces.now) }
     ensures answer { OrMemory left_of
         (ReplaysPieces image.now engines trace.now plan.now (map fields pieces.now)) result }

@@ -1,10 +1,8 @@
 //! Running the planned pieces of a list by engines.
 
-ghost use Rattle.std.specs.Prelude.{◌≡◌, ◌≤◌, IfOk, Ok, Result, length, map};
+ghost use Rattle.std.specs.Prelude.{◌≡◌, IfOk, Ok, Result, map};
 ghost use Rattle.dsa_descriptor.specs.Descriptors.{fields};
-ghost use Rattle.dsa_ranges.specs.Ranges.{ConflictAt};
-ghost use Rattle.dsa_plan.specs.Legal.{IsLegal};
-ghost use Rattle.dsa_core.specs.Accounts.{most_members};
+ghost use Rattle.dsa_core.specs.Given.{IsRunnable};
 ghost use Rattle.dsa_core.specs.Outcomes.{IsOutcomeOf, room_with};
 ghost use Rattle.dsa_planner.specs.Planned.{Plans, Submission};
 ghost use Rattle.dsa_planner.specs.Lists.{OrMemory};
@@ -31,9 +29,7 @@ fn run_pieces<G: Gate + Sync, R: Threads + Wait + Sync>(
     engines: u8,
     gate: &G,
 ) -> Result<Outcome, PlanFault>
-    requires few { length pieces.now ≤ 65536 }
-    requires legal { IsLegal
-        (ConflictAt (map fields pieces.now)) most_members (length pieces.now) plan.now }
+    requires asked { IsRunnable image.now plan.now pieces.now engines }
     requires can { CanBegin image.now engines (map fields pieces.now) }
     ensures answer { OrMemory left_of (OrShut G.may_refuse
         (RunsPieces image.now engines plan.now (map fields pieces.now))) result }

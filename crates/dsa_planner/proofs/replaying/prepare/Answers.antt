@@ -1,7 +1,11 @@
-use Rattle.std.proofs.Common.{List, map, inr, sym, subst}
+use Rattle.std.proofs.Common.{List, length, map, inr, sym, subst, arith}
+use Rattle.std.proofs.lemmas.List.{length-map}
 use Rattle.std.proofs.lemmas.Result.{err_from_is_err_and}
 use Rattle.dsa_descriptor.specs.declared.descriptor.Descriptor.{Descriptor}
 use Rattle.dsa_descriptor.specs.Descriptors.{fields}
+use Rattle.dsa_ranges.specs.Ranges.{ConflictAt}
+use Rattle.dsa_plan.specs.Legal.{IsLegal}
+use Rattle.dsa_core.specs.Accounts.{most_members}
 use Rattle.dsa_planner.specs.declared.fault.PlanFault.{PlanFault}
 use Rattle.dsa_planner.specs.Planned.{IsPlanOf}
 use Rattle.dsa_planner.specs.Runs.{CanBegin, IsFirstBeginFault}
@@ -25,4 +29,20 @@ returns-clause-answer c =
           (subst (λ (ds : List Descriptor). IsPlanOf s ds plan) c.deref-2.ensures.value c.in_ok-plan.ensures.chosen);
       number_is = c.in_ok-engines.ensures.0;
       can = subst (λ (ds : List Descriptor). CanBegin c.args.image.now c.args.engines (map fields ds)) c.deref.ensures.value c.in_ok-engines.ensures.1;
+    }
+
+pub returns-clause-runnable : goal.returns-clause-runnable
+returns-clause-runnable c =
+    let pieces = c.in_ok-pieces.pieces.items in
+    let can = subst (λ (ds : List Descriptor). CanBegin c.args.image.now c.args.engines (map fields ds)) c.deref.ensures.value c.in_ok-engines.ensures.1 in
+    let number = c.in_ok-engines.ensures.0 in
+    let some = can.are_engines.some in
+    let few = can.are_engines.few in
+    let count = c.in_ok-pieces.ensures.can.few in
+    record {
+      few = omega (arith, count, length-map pieces fields);
+      legal = subst (λ (ds : List Descriptor). IsLegal (ConflictAt (map fields ds)) most_members (length ds) c.in_ok-plan.plan) c.deref-2.ensures.value c.in_ok-plan.ensures.legal;
+      in_image = can.holds;
+      some_engine = omega (arith, number, some);
+      few_engines = omega (arith, number, few);
     }

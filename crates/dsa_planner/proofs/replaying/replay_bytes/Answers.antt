@@ -1,10 +1,8 @@
-use Rattle.std.proofs.Common.{◌≡◌, ◌⊎◌, List, Err, sym, subst, map, length}
+use Rattle.std.proofs.Common.{◌≡◌, ◌⊎◌, List, Err, sym, subst, map}
 use Rattle.std.proofs.lemmas.Result.{err_from_is_err_and}
 use Rattle.dsa_descriptor.specs.declared.descriptor.Descriptor.{Descriptor}
 use Rattle.dsa_descriptor.specs.Descriptors.{fields}
-use Rattle.dsa_ranges.specs.Ranges.{ConflictAt}
-use Rattle.dsa_plan.specs.Legal.{IsLegal}
-use Rattle.dsa_core.specs.Accounts.{most_members}
+use Rattle.dsa_core.specs.Given.{IsRunnable}
 use Rattle.dsa_planner.specs.declared.fault.PlanFault.{PlanFault}
 use Rattle.dsa_planner.specs.declared.fault.PlanFault.TheVariants.{Memory}
 use Rattle.dsa_planner.specs.Lists.{OrMemory}
@@ -22,9 +20,10 @@ returns-in_err-ready-clause-only c =
     (one_replayed c.args.list.now c.args.settings.now c.args.image.now c.args.engines c.args.trace.now) (Err p.0)
     (run_refused left_of (λ p o. ReplaysPieces c.args.image.now c.args.engines c.args.trace.now p.plan (map fields p.pieces) o) c.args.list.now c.args.settings.now c.args.image.now c.args.engines p.0 refused))
 
-pub replay_pieces-requires-clause-legal : goal.replay_pieces-requires-clause-legal
-replay_pieces-requires-clause-legal c =
-    subst (λ (ds : List Descriptor). IsLegal (ConflictAt (map fields ds)) most_members (length ds) c.in_ok-ready.ready.plan) (sym c.deref.ensures.value) c.in_ok-ready.ensures.legal
+pub replay_pieces-requires-clause-asked : goal.replay_pieces-requires-clause-asked
+replay_pieces-requires-clause-asked c =
+    let r = c.in_ok-ready.ready in
+    subst (λ (ds : List Descriptor). IsRunnable c.args.image.now r.plan ds r.engines) (sym c.deref.ensures.value) c.in_ok-ready.ensures.runnable
 
 pub replay_pieces-requires-clause-can : goal.replay_pieces-requires-clause-can
 replay_pieces-requires-clause-can c =

@@ -1,10 +1,8 @@
-use Rattle.std.proofs.Common.{List, sym, subst, map, length}
+use Rattle.std.proofs.Common.{List, sym, subst, map}
 use Rattle.std.specs.Prelude.{IfOk}
 use Rattle.dsa_descriptor.specs.declared.descriptor.Descriptor.{Descriptor}
 use Rattle.dsa_descriptor.specs.Descriptors.{fields}
-use Rattle.dsa_ranges.specs.Ranges.{ConflictAt}
-use Rattle.dsa_plan.specs.Legal.{IsLegal}
-use Rattle.dsa_core.specs.Accounts.{most_members}
+use Rattle.dsa_core.specs.Given.{IsRunnable}
 use Rattle.dsa_core.specs.Outcomes.{IsOutcomeOf, room_with}
 use Rattle.dsa_planner.specs.Lists.{OrMemory}
 use Rattle.dsa_planner.specs.Runs.{OrShut, RunsPieces, left_of}
@@ -12,9 +10,10 @@ use Rattle.dsa_planner.proofs.Refusals.{ready_taken, ready_can, of_submission}
 use Rattle.dsa_planner.proofs.Histories.{engines_leave_whole, engines_have_run}
 use Rattle.dsa_planner.proofs.running.run_gated.Goals as goal
 
-pub run_pieces-requires-clause-legal : goal.run_pieces-requires-clause-legal
-run_pieces-requires-clause-legal g c lifetimes outlives =
-    subst (λ (ds : List Descriptor). IsLegal (ConflictAt (map fields ds)) most_members (length ds) c.in_ok-ready.ready.plan) (sym c.deref.ensures.value) c.in_ok-ready.ensures.legal
+pub run_pieces-requires-clause-asked : goal.run_pieces-requires-clause-asked
+run_pieces-requires-clause-asked g c lifetimes outlives =
+    let r = c.in_ok-ready.ready in
+    subst (λ (ds : List Descriptor). IsRunnable c.args.image.now r.plan ds r.engines) (sym c.deref.ensures.value) c.in_ok-ready.ensures.runnable
 
 pub run_pieces-requires-clause-can : goal.run_pieces-requires-clause-can
 run_pieces-requires-clause-can g c lifetimes outlives =

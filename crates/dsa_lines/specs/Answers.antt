@@ -11,12 +11,12 @@ use Rattle.dsa_lines.specs.declared.fault.LineFault.TheVariants.{Grammar, Field}
 use Rattle.dsa_lines.specs.Words.{Word}
 use Rattle.dsa_lines.specs.Grammar.{fields_of}
 
--- a place in the line where it spells no fields; else the descriptor with the bytes of the fields, or their first fault
+-- a place in the line where it spells no fields; else the descriptor of these fields, or the first fault of their bytes
 abbrev pub Answers : Option Fields → Result Descriptor LineFault → Type 0
 Answers None (Ok d) = ⊥
 Answers None (Err (Grammar column what)) = ⊤
 Answers None (Err (Field fault)) = ⊥
-Answers (Some f) (Ok d) = spelling f ≡ spelling (fields d)
+Answers (Some f) (Ok d) = f ≡ fields d
 Answers (Some f) (Err (Grammar column what)) = ⊥
 Answers (Some f) (Err (Field fault)) = IsFirstFault (spelling f) fault
 

@@ -1,14 +1,24 @@
 //! Laws of lines.
 
 ghost use Rattle.std.specs.Prelude.{◌≡◌, List, ℕ};
+ghost use Rattle.dsa_descriptor.specs.declared.descriptor.Descriptor.{Descriptor};
 ghost use Rattle.dsa_descriptor.specs.Fields.{Fields};
+ghost use Rattle.dsa_descriptor.specs.Descriptors.{fields};
 ghost use Rattle.dsa_descriptor.specs.Profile.{IsListed};
+ghost use Rattle.dsa_descriptor.specs.Spelling.{spelling};
 ghost use Rattle.dsa_lines.specs.Grammar.{Spells};
 ghost use Rattle.dsa_lines.specs.Text.{line_text};
 
 /// A line spells one set of fields at most.
 pub fn spells_one()
     ensures { (text : List ℕ) (f g : Fields) → Spells text f → Spells text g → f ≡ g }
+{}
+
+/// Fields that a line spells and that have a descriptor's bytes are that descriptor's fields.
+#[tactic(auto, using(crate::proofs::OneLine::spelled_descriptor))]
+pub fn one_line_one_descriptor()
+    ensures { (text : List ℕ) (f : Fields) (d : Descriptor) →
+        Spells text f → spelling f ≡ spelling (fields d) → f ≡ fields d }
 {}
 
 /// The canonical line of listed fields spells them.

@@ -1,0 +1,337 @@
+-- The fields that a line spells fit their places, so no others have their bytes.
+use Rattle.std.proofs.Common.{◌≡◌, ℕ, zero, suc, ◌+◌, ◌^◌, ◌<◌, ◌≤◌, Bool, true, false, cond, Option, List, [], ◌∷◌, Some, None, refl, sym, ap, subst, ◌∙◌, arith}
+use Rattle.std.specs.Prelude.{Result, Ok, Err, is_some, option_and_then, codes, bit_and, bit_or, nat_le, ◌==◌}
+use Rattle.std.specs.Str.{bytes_eq}
+use Rattle.std.specs.Int.{w64, from_le_bytes}
+use Rattle.std.proofs.lemmas.Bool.{leb-true}
+use Rattle.std.proofs.lemmas.Nat.{or_of_16}
+use Rattle.std.proofs.lemmas.Option.{same_Some, cond_some}
+use Rattle.hex.specs.Hex.{IsBytes, decode_sized}
+use Rattle.hex.specs.declared.error.FromHexError.{FromHexError}
+use Rattle.hex.proofs.HexLemmas.{decode_of-even, decode_pairs-ok, decode_sized-ok, decode_sized-twice}
+use Rattle.dsa_descriptor.specs.declared.descriptor.Descriptor.{Descriptor}
+use Rattle.dsa_descriptor.specs.declared.op.Op.{Op}
+use Rattle.dsa_descriptor.specs.Fields.{Fields}
+use Rattle.dsa_descriptor.specs.Descriptors.{fields}
+use Rattle.dsa_descriptor.specs.Profile.{FieldsFit, IsListed, required_flags}
+use Rattle.dsa_descriptor.specs.Operands.{code_of}
+use Rattle.dsa_descriptor.specs.Places.{op_at as op_of_bytes}
+use Rattle.dsa_descriptor.specs.Spelling.{owner_word, spelling}
+use Rattle.dsa_descriptor.proofs.Back.{spelling-spelt, Stands, stands, op_there}
+use Rattle.dsa_lines.specs.declared.options.Options.{Options}
+use Rattle.dsa_lines.specs.Words.{Word, words_of}
+use Rattle.dsa_lines.specs.Numbers.{number_of, pattern_of, pattern_with}
+use Rattle.dsa_lines.specs.Options.{no_options, or_zero, flags_with, carried_mask, check_mask}
+use Rattle.dsa_lines.specs.Answers.{Answers}
+use Rattle.dsa_lines.specs.Grammar.{greatest, after, named, number_at, pattern_at, size_at, move_at, fill_at, expected_at, compare_region_at, compare_pattern_at, compare_other_at, compare_at, delta_at, dualcast_at, op_at, pasid_at, privileged_at, check_at, flags_at, handle_at, option_at, options_at, fields_of, Spells}
+
+-- ---- fields that fit their places are known by their bytes
+
+pub record Fit (f : Fields) : Type 0 where
+  pub pasid_fits : f.pasid < 2 ^ 20
+  pub flags_fit : f.flags < 2 ^ 24
+  pub record_at_fits : f.record_at < 2 ^ 64
+  pub size_fits : f.size < 2 ^ 32
+  pub int_handle_fits : f.int_handle < 2 ^ 16
+  pub op_fits : FieldsFit f.op
+
+pub listed_fit : (f : Fields) → IsListed f → Fit f
+listed_fit f listed =
+    record {
+      pasid_fits = listed.pasid_fits;
+      flags_fit = listed.flags_fit;
+      record_at_fits = listed.record_at_fits;
+      size_fits = listed.size_fits;
+      int_handle_fits = listed.int_handle_fits;
+      op_fits = listed.op_fits;
+    }
+
+owner_fits : (pasid : ℕ) (privileged : Bool) → pasid < 2 ^ 20 → pasid + cond privileged (2 ^ 31) 0 < 2 ^ 32
+owner_fits pasid true lt = omega arith
+owner_fits pasid false lt = omega arith
+
+-- the parts of the word of the PASID and the privilege
+same_owner : (p q : ℕ) (a b : Bool) → p < 2 ^ 20 → q < 2 ^ 20 → p + cond a (2 ^ 31) 0 ≡ q + cond b (2 ^ 31) 0 → (p ≡ q) × (a ≡ b)
+same_owner p q true true lt mt e = (omega arith, refl)
+same_owner p q true false lt mt e = absurd (omega arith)
+same_owner p q false true lt mt e = absurd (omega arith)
+same_owner p q false false lt mt e = (omega arith, refl)
+
+pub spelling_stands : (f : Fields) → Fit f → Stands (owner_word f) f.flags f.record_at f.size f.int_handle f.op (spelling f)
+spelling_stands f h =
+    rw spelling-spelt (stands (owner_word f) f.flags f.record_at f.size f.int_handle f.op (owner_fits f.pasid f.privileged h.pasid_fits) h.flags_fit h.record_at_fits h.size_fits h.int_handle_fits h.op_fits)
+
+op_spelt : (f : Fields) → Fit f → op_of_bytes (spelling f) ≡ Some f.op
+op_spelt f h = op_there (owner_word f) f.flags f.record_at f.size f.int_handle f.op (spelling f) h.flags_fit (spelling_stands f h)
+
+-- fields that fit and have one spelling are equal
+pub one_spelling : (f g : Fields) → Fit f → Fit g → spelling f ≡ spelling g → f ≡ g
+one_spelling f g p q h =
+    let s = spelling_stands f p in
+    let t = subst (λ (bytes : List ℕ). Stands (owner_word g) g.flags g.record_at g.size g.int_handle g.op bytes) (sym h) (spelling_stands g q) in
+    let owner = same_owner f.pasid g.pasid f.privileged g.privileged p.pasid_fits q.pasid_fits (sym s.owner_there ∙ t.owner_there) in
+    let op : f.op ≡ g.op = same_Some f.op g.op (sym (op_spelt f p) ∙ ap op_of_bytes h ∙ op_spelt g q) in
+    let code : code_of f.op ≡ code_of g.op = ap code_of op in
+    let flags : f.flags ≡ g.flags = omega (arith, s.operation_there, t.operation_there, p.flags_fit, q.flags_fit) in
+    let record_at : f.record_at ≡ g.record_at = sym s.record_there ∙ t.record_there in
+    let size : f.size ≡ g.size = sym s.size_there ∙ t.size_there in
+    let int_handle : f.int_handle ≡ g.int_handle = sym s.int_handle_there ∙ t.int_handle_there in
+    λ i. record {
+      pasid = owner.0 i;
+      privileged = owner.1 i;
+      flags = flags i;
+      record_at = record_at i;
+      size = size i;
+      int_handle = int_handle i;
+      op = op i;
+    }
+
+-- ---- what an answer was made of
+
+bound : {A B : Type 0} (o : Option A) (f : A → Option B) (y : B) → option_and_then f o ≡ Some y → (x : A) × (o ≡ Some x) × (f x ≡ Some y)
+bound None f y e = absurd cc
+bound (Some x) f y e = (x, refl, e)
+
+unless : {A : Type 0} (b : Bool) (o : Option A) (y : A) → cond b None o ≡ Some y → o ≡ Some y
+unless true o y e = absurd cc
+unless false o y e = e
+
+one_of : {A P : Type 0} (b : Bool) (o p : Option A) (y : A) → cond b o p ≡ Some y → (o ≡ Some y → P) → (p ≡ Some y → P) → P
+one_of true o p y e first second = first e
+one_of false o p y e first second = second e
+
+-- ---- numbers
+
+number_fits : (most : ℕ) (ws : List Word) (r : ℕ × List Word) → number_at most ws ≡ Some r → r.0 ≤ most
+number_fits most [] r e = absurd cc
+number_fits most (w ∷ ws) r e =
+    let n = bound (number_of w) _ r e in
+    let h = cond_some (nat_le n.0 most) (n.0, ws) r n.2 in
+    subst (λ (x : ℕ × List Word). x.0 ≤ most) h.1 (leb-true n.0 most h.0)
+
+address_fits : (ws : List Word) (r : ℕ × List Word) → number_at (greatest 64) ws ≡ Some r → r.0 < 2 ^ 64
+address_fits ws r e = omega (arith, number_fits (greatest 64) ws r e)
+
+size_fits : (ws : List Word) (r : ℕ × List Word) → size_at ws ≡ Some r → r.0 < 2 ^ 32
+unfolding size_at
+size_fits ws r e =
+    let size = bound (number_at (greatest 32) ws) _ r e in
+    let rest = bound (after (codes "bytes") size.0.1) _ r size.2 in
+    let fits = number_fits (greatest 32) ws size.0 size.1 in
+    subst (λ (x : ℕ × List Word). x.0 < 2 ^ 32) (same_Some _ r rest.2) (omega arith)
+
+sized_bytes : (w : Word) (bytes : List ℕ) → decode_sized w 8 ≡ Ok bytes → IsBytes bytes
+sized_bytes w bytes e =
+    let long = decode_sized-ok w 8 bytes e in
+    (decode_pairs-ok 0 w bytes (sym (decode_of-even w (omega arith)) ∙ sym (decode_sized-twice w 8 long) ∙ e)).2
+
+pattern_by : (w : Word) (r : Result (List ℕ) FromHexError) (n : ℕ) → decode_sized w 8 ≡ r → pattern_with r ≡ Some n → n < 2 ^ 64
+pattern_by w (Ok bytes) n e p =
+    let b = sized_bytes w bytes e in
+    let is : from_le_bytes w64 bytes ≡ n = same_Some _ n p in
+    omega (arith, is, b 0, b 1, b 2, b 3, b 4, b 5, b 6, b 7)
+pattern_by w (Err fault) n e p = absurd cc
+
+pattern_fits : (ws : List Word) (r : ℕ × List Word) → pattern_at ws ≡ Some r → r.0 < 2 ^ 64
+unfolding pattern_of
+pattern_fits [] r e = absurd cc
+pattern_fits (w ∷ ws) r e =
+    let n = bound (pattern_of w) _ r e in
+    subst (λ (x : ℕ × List Word). x.0 < 2 ^ 64) (same_Some _ r n.2) (pattern_by w (decode_sized w 8) n.0 refl n.1)
+
+-- ---- operations
+
+abbrev OpFits : Op × ℕ × List Word → Type 0
+OpFits r = FieldsFit r.0 × (r.1 < 2 ^ 32)
+
+move_fits : (ws : List Word) (r : Op × ℕ × List Word) → move_at ws ≡ Some r → OpFits r
+unfolding move_at
+move_fits ws r e =
+    let src = bound (number_at (greatest 64) ws) _ r e in
+    let to = bound (after (codes "->") src.0.1) _ r src.2 in
+    let dst = bound (number_at (greatest 64) to.0) _ r to.2 in
+    let comma = bound (after (codes ",") dst.0.1) _ r dst.2 in
+    let size = bound (size_at comma.0) _ r comma.2 in
+    subst OpFits (same_Some _ r size.2) ((address_fits ws src.0 src.1, address_fits to.0 dst.0 dst.1), size_fits comma.0 size.0 size.1)
+
+fill_fits : (ws : List Word) (r : Op × ℕ × List Word) → fill_at ws ≡ Some r → OpFits r
+unfolding fill_at
+fill_fits ws r e =
+    let dst = bound (number_at (greatest 64) ws) _ r e in
+    let filled = bound (after (codes "with") dst.0.1) _ r dst.2 in
+    let pattern = bound (pattern_at filled.0) _ r filled.2 in
+    let comma = bound (after (codes ",") pattern.0.1) _ r pattern.2 in
+    let size = bound (size_at comma.0) _ r comma.2 in
+    subst OpFits (same_Some _ r size.2) ((pattern_fits filled.0 pattern.0 pattern.1, address_fits ws dst.0 dst.1), size_fits comma.0 size.0 size.1)
+
+expected_fits : (ws : List Word) (r : ℕ × ℕ × List Word) → expected_at ws ≡ Some r → (r.0 < 2 ^ 32) × (r.1 < 2 ^ 8)
+unfolding expected_at
+expected_fits ws r e =
+    let comma = bound (after (codes ",") ws) _ r e in
+    let size = bound (size_at comma.0) _ r comma.2 in
+    let expect = bound (named (codes "expect") size.0.1) _ r size.2 in
+    let bit = bound (number_at 1 expect.0) _ r expect.2 in
+    let small = number_fits 1 expect.0 bit.0 bit.1 in
+    subst (λ (x : ℕ × ℕ × List Word). (x.0 < 2 ^ 32) × (x.1 < 2 ^ 8)) (same_Some _ r bit.2) (size_fits comma.0 size.0 size.1, omega arith)
+
+region_fits : (src : ℕ) (ws : List Word) (r : Op × ℕ × List Word) → src < 2 ^ 64 → compare_region_at src ws ≡ Some r → OpFits r
+unfolding compare_region_at
+region_fits src ws r lt e =
+    let src2 = bound (number_at (greatest 64) ws) _ r e in
+    let expected = bound (expected_at src2.0.1) _ r src2.2 in
+    let fits = expected_fits src2.0.1 expected.0 expected.1 in
+    subst OpFits (same_Some _ r expected.2) ((lt, address_fits ws src2.0 src2.1, fits.1), fits.0)
+
+compared_fits : (src : ℕ) (ws : List Word) (r : Op × ℕ × List Word) → src < 2 ^ 64 → compare_pattern_at src ws ≡ Some r → OpFits r
+unfolding compare_pattern_at
+compared_fits src ws r lt e =
+    let pattern = bound (pattern_at ws) _ r e in
+    let expected = bound (expected_at pattern.0.1) _ r pattern.2 in
+    let fits = expected_fits pattern.0.1 expected.0 expected.1 in
+    subst OpFits (same_Some _ r expected.2) ((lt, pattern_fits ws pattern.0 pattern.1, fits.1), fits.0)
+
+other_fits : (src : ℕ) (ws : List Word) (rest : Option (List Word)) (r : Op × ℕ × List Word) → src < 2 ^ 64 → compare_other_at src ws rest ≡ Some r → OpFits r
+other_fits src ws None r lt e = region_fits src ws r lt e
+other_fits src ws (Some rest) r lt e = compared_fits src rest r lt e
+
+compare_fits : (ws : List Word) (r : Op × ℕ × List Word) → compare_at ws ≡ Some r → OpFits r
+unfolding compare_at
+compare_fits ws r e =
+    let src = bound (number_at (greatest 64) ws) _ r e in
+    let other = bound (after (codes "with") src.0.1) _ r src.2 in
+    other_fits src.0.0 other.0 (after (codes "pattern") other.0) r (address_fits ws src.0 src.1) other.2
+
+delta_fits : (ws : List Word) (r : Op × ℕ × List Word) → delta_at ws ≡ Some r → OpFits r
+unfolding delta_at
+delta_fits ws r e =
+    let delta = bound (number_at (greatest 64) ws) _ r e in
+    let comma = bound (after (codes ",") delta.0.1) _ r delta.2 in
+    let record_size = bound (size_at comma.0) _ r comma.2 in
+    let to = bound (after (codes "->") record_size.0.1) _ r record_size.2 in
+    let dst = bound (number_at (greatest 64) to.0) _ r to.2 in
+    let second = bound (after (codes ",") dst.0.1) _ r dst.2 in
+    let size = bound (size_at second.0) _ r second.2 in
+    subst OpFits (same_Some _ r size.2)
+    ((address_fits ws delta.0 delta.1, address_fits to.0 dst.0 dst.1, size_fits comma.0 record_size.0 record_size.1), size_fits second.0 size.0 size.1)
+
+dualcast_fits : (ws : List Word) (r : Op × ℕ × List Word) → dualcast_at ws ≡ Some r → OpFits r
+unfolding dualcast_at
+dualcast_fits ws r e =
+    let src = bound (number_at (greatest 64) ws) _ r e in
+    let to = bound (after (codes "->") src.0.1) _ r src.2 in
+    let dst = bound (number_at (greatest 64) to.0) _ r to.2 in
+    let next = bound (after (codes "and") dst.0.1) _ r dst.2 in
+    let dst2 = bound (number_at (greatest 64) next.0) _ r next.2 in
+    let comma = bound (after (codes ",") dst2.0.1) _ r dst2.2 in
+    let size = bound (size_at comma.0) _ r comma.2 in
+    subst OpFits (same_Some _ r size.2)
+    ((address_fits ws src.0 src.1, address_fits to.0 dst.0 dst.1, address_fits next.0 dst2.0 dst2.1), size_fits comma.0 size.0 size.1)
+
+op_fits : (ws : List Word) (r : Op × ℕ × List Word) → op_at ws ≡ Some r → OpFits r
+unfolding op_at
+op_fits [] r e = absurd cc
+op_fits (w ∷ ws) r e =
+    one_of (bytes_eq w (codes "move")) _ _ r e (move_fits ws r) (λ e.
+    one_of (bytes_eq w (codes "fill")) _ _ r e (fill_fits ws r) (λ e.
+    one_of (bytes_eq w (codes "compare")) _ _ r e (compare_fits ws r) (λ e.
+    one_of (bytes_eq w (codes "delta")) _ _ r e (delta_fits ws r) (λ e.
+    one_of (bytes_eq w (codes "dualcast")) _ _ r e (dualcast_fits ws r) (λ (none : None ≡ Some r). absurd cc)))))
+
+-- ---- options
+
+abbrev OptionsFit : Options → Type 0
+OptionsFit o = (or_zero o.pasid < 2 ^ 20) × (or_zero o.flags < 2 ^ 16) × (or_zero o.handle < 2 ^ 16)
+
+abbrev NextFits : Options × List Word → Type 0
+NextFits r = OptionsFit r.0
+
+pasid_option : (o : Options) (ws : List Word) (r : Options × List Word) → OptionsFit o → pasid_at o ws ≡ Some r → NextFits r
+unfolding pasid_at
+pasid_option o ws r fit e =
+    let free = unless (is_some o.pasid) _ r e in
+    let n = bound (number_at (greatest 20) ws) _ r free in
+    let fits = number_fits (greatest 20) ws n.0 n.1 in
+    let small : n.0.0 < 2 ^ 20 = omega arith in
+    subst NextFits (same_Some _ r n.2) (small, fit.1, fit.2)
+
+privileged_option : (o : Options) (ws : List Word) (r : Options × List Word) → OptionsFit o → privileged_at o ws ≡ Some r → NextFits r
+unfolding privileged_at
+privileged_option o ws r fit e = subst NextFits (same_Some _ r (unless _ _ r e)) fit
+
+check_option : (o : Options) (ws : List Word) (r : Options × List Word) → OptionsFit o → check_at o ws ≡ Some r → NextFits r
+unfolding check_at
+check_option o ws r fit e = subst NextFits (same_Some _ r (unless _ _ r e)) fit
+
+flags_option : (o : Options) (ws : List Word) (r : Options × List Word) → OptionsFit o → flags_at o ws ≡ Some r → NextFits r
+unfolding flags_at
+flags_option o ws r fit e =
+    let free = unless (is_some o.flags) _ r e in
+    let n = bound (number_at (greatest 16) ws) _ r free in
+    let fits = number_fits (greatest 16) ws n.0 n.1 in
+    let small : n.0.0 < 2 ^ 16 = omega arith in
+    let h = cond_some (bit_and n.0.0 carried_mask == n.0.0) _ r n.2 in
+    subst NextFits h.1 (fit.0, small, fit.2)
+
+handle_option : (o : Options) (ws : List Word) (r : Options × List Word) → OptionsFit o → handle_at o ws ≡ Some r → NextFits r
+unfolding handle_at
+handle_option o ws r fit e =
+    let free = unless (is_some o.handle) _ r e in
+    let n = bound (number_at (greatest 16) ws) _ r free in
+    let fits = number_fits (greatest 16) ws n.0 n.1 in
+    let small : n.0.0 < 2 ^ 16 = omega arith in
+    subst NextFits (same_Some _ r n.2) (fit.0, fit.1, small)
+
+option_fits : (o : Options) (ws : List Word) (r : Options × List Word) → OptionsFit o → option_at o ws ≡ Some r → NextFits r
+unfolding option_at
+option_fits o [] r fit e = absurd cc
+option_fits o (w ∷ ws) r fit e =
+    one_of (bytes_eq w (codes "pasid")) _ _ r e (pasid_option o ws r fit) (λ e.
+    one_of (bytes_eq w (codes "privileged")) _ _ r e (privileged_option o ws r fit) (λ e.
+    one_of (bytes_eq w (codes "check")) _ _ r e (check_option o ws r fit) (λ e.
+    one_of (bytes_eq w (codes "flags")) _ _ r e (flags_option o ws r fit) (λ e.
+    one_of (bytes_eq w (codes "handle")) _ _ r e (handle_option o ws r fit) (λ (none : None ≡ Some r). absurd cc)))))
+
+options_fit : (most : ℕ) (o : Options) (ws : List Word) (r : Options) → OptionsFit o → options_at most o ws ≡ Some r → OptionsFit r
+unfolding options_at
+options_fit zero o [] r fit e = subst OptionsFit (same_Some o r e) fit
+options_fit (suc most) o [] r fit e = subst OptionsFit (same_Some o r e) fit
+options_fit zero o (w ∷ ws) r fit e = absurd cc
+options_fit (suc most) o (w ∷ ws) r fit e =
+    let behind = bound (after (codes ",") (w ∷ ws)) _ r e in
+    let next = bound (option_at o behind.0) _ r behind.2 in
+    options_fit most next.0.0 next.0.1 r (option_fits o behind.0 next.0 fit next.1) next.2
+
+flags_small : (carried : ℕ) (check : Bool) → carried < 2 ^ 16 → flags_with carried check < 2 ^ 16
+flags_small carried true lt = or_of_16 (bit_or required_flags carried) check_mask (or_of_16 required_flags carried (omega arith) lt) (omega arith)
+flags_small carried false lt = or_of_16 (bit_or required_flags carried) 0 (or_of_16 required_flags carried (omega arith) lt) (omega arith)
+
+-- ---- a line
+
+-- the fields that words spell fit their places
+pub words_fit : (words : List Word) (f : Fields) → fields_of words ≡ Some f → Fit f
+unfolding fields_of
+words_fit words f e =
+    let op = bound (op_at words) _ f e in
+    let behind = bound (named (codes "record") op.0.2) _ f op.2 in
+    let record_at = bound (number_at (greatest 64) behind.0) _ f behind.2 in
+    let options = bound (options_at 5 no_options record_at.0.1) _ f record_at.2 in
+    let o = op_fits words op.0 op.1 in
+    let p = options_fit 5 no_options record_at.0.1 options.0 (omega arith, omega arith, omega arith) options.1 in
+    let flags = flags_small (or_zero options.0.flags) options.0.check p.1 in
+    subst Fit (same_Some _ f options.2) (record {
+      pasid_fits = p.0;
+      flags_fit = omega arith;
+      record_at_fits = address_fits behind.0 record_at.0 record_at.1;
+      size_fits = o.1;
+      int_handle_fits = p.2;
+      op_fits = o.0;
+    })
+
+-- fields that a line spells are those of the descriptor with their bytes
+pub spelled_descriptor : (text : List ℕ) (f : Fields) (d : Descriptor) → Spells text f → spelling f ≡ spelling (fields d) → f ≡ fields d
+spelled_descriptor text f d e same = one_spelling f (fields d) (words_fit (words_of text) f e) (listed_fit (fields d) d.listed) same
+
+-- the descriptor that is read from the bytes of a line's fields has these fields
+pub read_fields : (words : List Word) (f : Fields) (bytes : List ℕ) (d : Descriptor) → fields_of words ≡ Some f → bytes ≡ spelling f → bytes ≡ spelling (fields d)
+    → Answers (fields_of words) (Ok d)
+read_fields words f bytes d e spelt found = rw e (one_spelling f (fields d) (words_fit words f e) (listed_fit (fields d) d.listed) (sym spelt ∙ found))

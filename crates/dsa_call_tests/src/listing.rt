@@ -14,6 +14,7 @@ const CANONICAL: &str =
 #[test]
 fn there_and_back(rt: HostRuntime) -> Result<(), Fail> {
     text_spells_one();
+    one_text_one_list();
     canonical_text_spells();
     let alloc = rt.alloc();
     match assemble(alloc, TEXT.as_bytes()) {

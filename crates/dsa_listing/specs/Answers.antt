@@ -11,11 +11,12 @@ use Rattle.dsa_listing.specs.Texts.{all_fields, line_fields}
 use Rattle.dsa_listing.specs.declared.fault.TextFault.{TextFault}
 use Rattle.dsa_listing.specs.declared.fault.TextFault.TheVariants.{Grammar, List as Listed, Memory}
 
--- the bytes are those of a list that can be read
-pub record IsListing (bytes : List ℕ) : Type 0 where
+-- the lines spell a list, and these are its bytes
+pub record IsListing (lines : List (List ℕ)) (bytes : List ℕ) : Type 0 where
   pub operations : List Descriptor
-  pub spelled : bytes ≡ list_spelling (map fields operations)
+  pub spelled : all_fields lines ≡ Some (map fields operations)
   pub one_owner : HaveOneOwner (map fields operations)
+  pub bytes_are : bytes ≡ list_spelling (map fields operations)
 
 -- the line of this number, from 1 on, is the first that leaves the grammar: it has words that spell
 -- no fields, and the lines before it spell operations
@@ -28,12 +29,10 @@ pub record LeavesGrammarAt (lines : List (List ℕ)) (number : ℕ) : Type 0 whe
   pub spelled : (fs : List Fields) × (all_fields before ≡ Some fs)
   pub outside : line_fields (words_of line) ≡ None
 
--- of lines that spell operations, the bytes of these, where they are a list, or their first fault as
--- a list; else the first line that leaves the grammar; or that memory ran out
+-- of lines that spell a list, its bytes; of others that spell operations, their first fault as a list;
+-- else the first line that leaves the grammar; or that memory ran out
 abbrev pub Assembles : {X : Type 0} → (X → List ℕ) → List (List ℕ) → Result X TextFault → Type 0
-Assembles shown lines (Ok bytes) =
-    (fs : List Fields) × (all_fields lines ≡ Some fs) × (shown bytes ≡ list_spelling fs)
-    × IsListing (shown bytes)
+Assembles shown lines (Ok bytes) = IsListing lines (shown bytes)
 Assembles shown lines (Err (Grammar line column what)) = LeavesGrammarAt lines line
 Assembles shown lines (Err (Listed line fault)) =
     (fs : List Fields) × (all_fields lines ≡ Some fs) × IsFirstListFault (list_spelling fs) fault

@@ -1,8 +1,11 @@
 //! Laws of texts.
 
-ghost use Rattle.std.specs.Prelude.{◌≡◌, List, ℕ};
+ghost use Rattle.std.specs.Prelude.{◌≡◌, List, map, ℕ};
 ghost use Rattle.std.specs.List.{AllByRecursion};
+ghost use Rattle.dsa_descriptor.specs.declared.descriptor.Descriptor.{Descriptor};
 ghost use Rattle.dsa_descriptor.specs.Fields.{Fields};
+ghost use Rattle.dsa_descriptor.specs.Descriptors.{fields};
+ghost use Rattle.dsa_descriptor.specs.Lists.{list_spelling};
 ghost use Rattle.dsa_descriptor.specs.Profile.{IsListed};
 ghost use Rattle.dsa_listing.specs.Texts.{TextSpells, list_text};
 
@@ -10,6 +13,14 @@ ghost use Rattle.dsa_listing.specs.Texts.{TextSpells, list_text};
 pub fn text_spells_one()
     ensures { (text : List ℕ) (fs gs : List Fields) →
         TextSpells text fs → TextSpells text gs → fs ≡ gs }
+{}
+
+/// Fields that a text spells and that have the bytes of descriptors are those of these descriptors.
+#[tactic(auto, using(crate::proofs::OneText::spells_list))]
+pub fn one_text_one_list()
+    ensures { (text : List ℕ) (fs : List Fields) (ds : List Descriptor) →
+        TextSpells text fs → list_spelling fs ≡ list_spelling (map fields ds) →
+        fs ≡ map fields ds }
 {}
 
 /// The canonical text of listed fields spells them.

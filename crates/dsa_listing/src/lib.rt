@@ -10,4 +10,4 @@ mod lines;
 pub use assembling::assemble;
 pub use disassembling::disassemble;
 pub use fault::TextFault;
-pub use laws::{canonical_text_spells, text_spells_one};
+pub use laws::{canonical_text_spells, one_text_one_list, text_spells_one};

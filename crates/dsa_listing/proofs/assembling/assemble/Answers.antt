@@ -1,9 +1,10 @@
-use Rattle.std.proofs.Common.{◌∙◌}
+use Rattle.std.proofs.Common.{sym, ◌∙◌}
 use Rattle.std.specs.Prelude.{map}
 use Rattle.std.proofs.lemmas.Result.{err_from_is_err_and}
 use Rattle.dsa_descriptor.specs.Descriptors.{fields}
 use Rattle.dsa_listing.specs.Texts.{all_fields, lines_of}
 use Rattle.dsa_listing.proofs.AnswerLemmas.{memory_told, same_fields, stops_memory}
+use Rattle.dsa_listing.proofs.OneText.{listed}
 use Rattle.dsa_listing.proofs.TextLemmas.{text_is_read}
 use Rattle.dsa_listing.proofs.assembling.assemble.Goals as goal
 
@@ -17,6 +18,12 @@ returns-in-Err-clause-again c = λ ds owner e.
     let h = c.in_ok-bytes.ensures in
     let same = same_fields h.0 (map fields ds) (all_fields (lines_of c.args.text.now)) c.in_ok-bytes.bytes.items h.1 (text_is_read ds c.args.text.now e) h.2 in
     memory_told c.in-Err.fault c.text_fault.result (c.in-Err.ensures.only ds (c.as_slice.ensures.value ∙ same) owner) c.text_fault.ensures
+
+pub returns-clause-answer : goal.returns-clause-answer
+returns-clause-answer c =
+    let h = c.in_ok-bytes.ensures in
+    let found = c.in_default.ensures.found in
+    listed (lines_of c.args.text.now) c.in_ok-bytes.bytes.items h.0 c.in_default.field-0.items h.1 h.2 (sym c.as_slice.ensures.value ∙ found.0) found.1
 
 pub returns-clause-again : goal.returns-clause-again
 returns-clause-again c = λ ds owner e.

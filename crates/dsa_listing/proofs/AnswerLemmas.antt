@@ -1,5 +1,5 @@
 -- What assembling answers, by what was gathered.
-use Rattle.std.proofs.Common.{◌≡◌, ℕ, List, Option, Some, None, Err, Result, Ok, [], ◌∷◌, ◌++◌, ap, ◌∙◌, sym, subst}
+use Rattle.std.proofs.Common.{◌≡◌, ◌≢◌, ℕ, List, Option, Some, None, Err, Result, Ok, [], ◌∷◌, ◌++◌, ap, ◌∙◌, sym, subst}
 use Rattle.dsa_descriptor.specs.declared.fault.ListFault.{ListFault}
 use Rattle.dsa_descriptor.specs.declared.fault.ListFault.TheVariants.{Memory as ListMemory}
 use Rattle.std.specs.Prelude.{MatchResult}
@@ -31,7 +31,8 @@ pub refused_told : {X : Type 0} (shown : X → List ℕ) (bytes : List ℕ) (lin
 refused_told shown bytes lines fs fault (Grammar line column what) read e first is = absurd is
 refused_told shown bytes lines fs fault (Listed line listed) read e first is =
     let there : IsFirstListFault (list_spelling fs) fault = subst (λ (b : List ℕ). IsFirstListFault b fault) e first in
-    (fs, read, subst (λ (f : ListFault). IsFirstListFault (list_spelling fs) f) (sym is.0) there)
+    let other : listed ≢ ListMemory = λ e. is.1 (sym is.0 ∙ e) in
+    (fs, read, subst (λ (f : ListFault). IsFirstListFault (list_spelling fs) f) (sym is.0) there, other)
 refused_told shown bytes lines fs fault Memory read e first is = tt
 
 pub memory_told : (fault : ListFault) (told : TextFault) → fault ≡ ListMemory → IsTextFault fault told → told ≡ Memory

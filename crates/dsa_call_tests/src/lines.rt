@@ -123,6 +123,22 @@ fn refusals(rt: HostRuntime) {
             32,
             Expected::Option,
         ),
+        (
+            b"move 1 -> 2,\n3 bytes, record 32".as_slice(),
+            13,
+            Expected::Size,
+        ),
+        (
+            b"move 1 -> 2, 3 bytes, record 32\n".as_slice(),
+            32,
+            Expected::Comma,
+        ),
+        (
+            b"move 1 -> 2, 3 bytes, record 32 # all\nmove 1 -> 2, 3 bytes, record 32".as_slice(),
+            33,
+            Expected::Comma,
+        ),
+        (b"# none\n".as_slice(), 1, Expected::Operation),
     ];
     for (line, column, expected) in &refusals {
         let fault = LineFault::Grammar(*column, *expected);
@@ -243,7 +259,11 @@ fn written(rt: HostRuntime) -> Result<(), Fail> {
             Err(fault) => assert!(rt; false, "{fault:?}"),
         }
     }
-    assert_eq!(rt; line_bytes(b" # nothing".as_slice()), Ok(None));
+    assert_eq!(rt; line_bytes(b" # nothing\r".as_slice()), Ok(None));
+    assert_eq!(rt;
+        line_bytes(b"\r\n".as_slice()),
+        Err((2, Expected::Operation))
+    );
     assert_eq!(rt; line_bytes(b"move".as_slice()), Err((5, Expected::Number)));
     Ok(())
 }

@@ -36,6 +36,14 @@ fn there_and_back(rt: HostRuntime) -> Result<(), Fail> {
         assemble(alloc, b"".as_slice()).map(|bytes| bytes.len()),
         Ok(0)
     );
+    assert_eq!(rt;
+        assemble(
+            alloc,
+            b"# a move\r\n\r\nmove 1 -> 2, 3 bytes, record 32\r\n".as_slice()
+        )
+        .map(|bytes| bytes.len()),
+        Ok(64)
+    );
     Ok(())
 }
 

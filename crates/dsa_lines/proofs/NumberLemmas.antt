@@ -42,7 +42,7 @@ numeral_again base (c ∷ cs) le h lt = numeral_after_again base 0 (c ∷ cs) le
 digit_byte : (c : ℕ) → digit_value c < 16 → is_in_word c ≡ true
 digit_byte c lt =
     let no : (k : ℕ) → 16 ≤ digit_value k → c ≡ k → ⊥ = λ k le e. omega (arith, ap digit_value e) in
-    rw (ne_eqb c 32 (no 32 (omega arith)), ne_eqb c 9 (no 9 (omega arith)), ne_eqb c 13 (no 13 (omega arith)), ne_eqb c 10 (no 10 (omega arith)), ne_eqb c 44 (no 44 (omega arith)), ne_eqb c 35 (no 35 (omega arith))) refl
+    rw (ne_eqb c 32 (no 32 (omega arith)), ne_eqb c 9 (no 9 (omega arith)), ne_eqb c 13 (no 13 (omega arith)), ne_eqb c 44 (no 44 (omega arith)), ne_eqb c 10 (no 10 (omega arith)), ne_eqb c 35 (no 35 (omega arith))) refl
 
 digit_bytes : (base : ℕ) (ds : List ℕ) → base ≤ 16 → AllDigits base ds → all_in ds ≡ true
 digit_bytes base [] le all = refl

@@ -5,20 +5,21 @@ use Rattle.std.specs.Prelude.{not, ◌||◌, ◌==◌}
 use Rattle.std.specs.Prelude.{◌&&◌}
 use Rattle.std.specs.List.{AllByRecursion}
 use Rattle.dsa_lines.specs.Text.{tail_text, text_of}
-use Rattle.dsa_lines.specs.Words.{Word, is_blank, is_in_word, begins_blank, goes_on, with_front, words_of, word_len}
+use Rattle.dsa_lines.specs.Words.{Word, is_blank, is_in_word, begins_blank, goes_on, with_front, words_in, words_of, word_len}
 
-none_of : (b k h : Bool) → not (b || k || h) ≡ true → (b ≡ false) × (k ≡ false) × (h ≡ false)
-none_of true k h e = absurd cc
-none_of false true h e = absurd cc
-none_of false false true e = absurd cc
-none_of false false false e = (refl, refl, refl)
+none_of : (b k n h : Bool) → not (b || k || n || h) ≡ true → (b ≡ false) × (k ≡ false) × (n ≡ false) × (h ≡ false)
+none_of true k n h e = absurd cc
+none_of false true n h e = absurd cc
+none_of false false true h e = absurd cc
+none_of false false false true e = absurd cc
+none_of false false false false e = (refl, refl, refl, refl)
 
 -- a byte of a word stands first
 pub word_byte : (c : ℕ) (cs : List ℕ) → is_in_word c ≡ true → words_of (c ∷ cs) ≡ cond (goes_on cs) (with_front c (words_of cs)) ((c ∷ []) ∷ words_of cs)
-unfolding words_of
+unfolding words_in
 word_byte c cs e =
-    let n = none_of (is_blank c) (c == 44) (c == 35) e in
-    rw (n.0, n.1, n.2) refl
+    let n = none_of (is_blank c) (c == 44) (c == 10) (c == 35) e in
+    rw (n.0, n.1, n.2, n.3) refl
 
 abbrev pub Front : List ℕ → Type 0
 Front text = words_of text ≡ take (word_len text) text ∷ words_of (drop (word_len text) text)
@@ -44,25 +45,31 @@ word_front (c ∷ d ∷ ds) lt = at_front (is_in_word c) c (d ∷ ds) refl lt (�
 -- ---- what stands first
 
 pub none_here : (text : List ℕ) → length text ≡ 0 → words_of text ≡ []
-unfolding words_of
+unfolding words_in
 none_here [] e = refl
 none_here (c ∷ cs) e = absurd (omega arith)
 
-pub comment_here : (text : List ℕ) → 0 < length text → get_or text 0 0 ≡ 35 → words_of text ≡ []
-unfolding words_of
+pub comment_here : (text : List ℕ) → 0 < length text → get_or text 0 0 ≡ 35 → words_of text ≡ words_in true text
+unfolding words_in
 comment_here [] lt e = absurd (omega arith)
 comment_here (c ∷ cs) lt e = rw e refl
 
 pub comma_here : (text : List ℕ) → 0 < length text → get_or text 0 0 ≡ 44 → words_of text ≡ take 1 text ∷ words_of (drop 1 text)
-unfolding words_of
+unfolding words_in
 comma_here [] lt e = absurd (omega arith)
 comma_here (c ∷ cs) lt e = rw e refl
 
--- where no blank, comma or comment stands first, a word does
-pub word_here : (text : List ℕ) → 0 < length text → begins_blank text ≡ false → (get_or text 0 0 == 44) ≡ false → (get_or text 0 0 == 35) ≡ false → Front text
-word_here [] lt e f g = absurd (omega arith)
-word_here (c ∷ cs) lt e f g =
-    let inside : is_in_word c ≡ true = rw (e, f, g) refl in
+pub newline_here : (text : List ℕ) → 0 < length text → get_or text 0 0 ≡ 10 → words_of text ≡ take 1 text ∷ words_of (drop 1 text)
+unfolding words_in
+newline_here [] lt e = absurd (omega arith)
+newline_here (c ∷ cs) lt e = rw e refl
+
+-- where no blank, comma, newline or comment stands first, a word does
+pub word_here : (text : List ℕ) → 0 < length text → begins_blank text ≡ false → (get_or text 0 0 == 44) ≡ false → (get_or text 0 0 == 10) ≡ false → (get_or text 0 0 == 35) ≡ false
+    → Front text
+word_here [] lt e f n g = absurd (omega arith)
+word_here (c ∷ cs) lt e f n g =
+    let inside : is_in_word c ≡ true = rw (e, f, n, g) refl in
     let positive : 0 < word_len (c ∷ cs) = rw inside (omega arith) in
     word_front (c ∷ cs) positive
 
@@ -113,11 +120,11 @@ tail_ends ((c ∷ cs) ∷ ws) all = ends_at (c == 44) c cs ws refl
     ends_at false c cs ws e = rw e refl
 
 comma_then : (rest : List ℕ) → words_of (44 ∷ rest) ≡ (44 ∷ []) ∷ words_of rest
-unfolding words_of
+unfolding words_in
 comma_then rest = refl
 
 blank_then : (rest : List ℕ) → words_of (32 ∷ rest) ≡ words_of rest
-unfolding words_of
+unfolding words_in
 blank_then rest = refl
 
 not_chosen : (b x y : Bool) → b ≡ false → cond b x y ≡ true → y ≡ true
@@ -138,7 +145,7 @@ one_more false c cs ws e w all so_far =
     rw e (blank_then (c ∷ (cs ++ tail_text ws)) ∙ word_then c cs (tail_text ws) p.0 p.1 (tail_ends ws all) ∙ ap (λ (v : List Word). (c ∷ cs) ∷ v) so_far)
 
 tail_words : (ws : List Word) → AreWords ws → words_of (tail_text ws) ≡ ws
-unfolding words_of
+unfolding words_in
 tail_words [] all = refl
 tail_words ([] ∷ ws) all = absurd (let e : false ≡ true = all.0 in cc)
 tail_words ((c ∷ cs) ∷ ws) all = one_more (c == 44) c cs ws refl all.0 all.1 (tail_words ws all.1)

@@ -1,16 +1,16 @@
 -- The words of a line.
-use Rattle.std.specs.Prelude.{ℕ, Bool, false, not, ◌||◌, ◌==◌, suc, List, [], ◌∷◌, if◌then◌else◌}
+use Rattle.std.specs.Prelude.{ℕ, Bool, true, false, not, ◌||◌, ◌==◌, suc, List, [], ◌∷◌, if◌then◌else◌}
 
 abbrev pub Word : Type 0
 Word = List ℕ
 
--- a space, a tab, a carriage return or a newline
+-- a space, a tab or a carriage return
 abbrev pub is_blank : ℕ → Bool
-is_blank c = c == 32 || c == 9 || c == 13 || c == 10
+is_blank c = c == 32 || c == 9 || c == 13
 
--- neither a blank, nor a comma, nor the '#' of a comment
+-- neither a blank, nor a comma, nor a newline, nor the '#' of a comment
 abbrev pub is_in_word : ℕ → Bool
-is_in_word c = not (is_blank c || c == 44 || c == 35)
+is_in_word c = not (is_blank c || c == 44 || c == 10 || c == 35)
 
 abbrev pub begins_blank : List ℕ → Bool
 begins_blank [] = false
@@ -24,15 +24,22 @@ abbrev pub with_front : ℕ → List Word → List Word
 with_front c [] = (c ∷ []) ∷ []
 with_front c (w ∷ ws) = (c ∷ w) ∷ ws
 
--- Blanks part words, a comma is a word, and a comment runs to the end.
-unfoldable pub words_of : List ℕ → List Word
-words_of [] = []
-words_of (c ∷ cs) =
-    if c == 35 then [] else
-    if is_blank c then words_of cs else
-    if c == 44 then (44 ∷ []) ∷ words_of cs else
-    if goes_on cs then with_front c (words_of cs) else
-    (c ∷ []) ∷ words_of cs
+-- the words of a text that begins in a comment, or not: blanks part words, a comma and a newline are
+-- words by themselves, and a comment runs to the next newline
+unfoldable pub words_in : Bool → List ℕ → List Word
+words_in comment [] = []
+words_in true (c ∷ cs) = if c == 10 then (10 ∷ []) ∷ words_in false cs else words_in true cs
+words_in false (c ∷ cs) =
+    if c == 35 then words_in true cs else
+    if is_blank c then words_in false cs else
+    if c == 44 then (44 ∷ []) ∷ words_in false cs else
+    if c == 10 then (10 ∷ []) ∷ words_in false cs else
+    if goes_on cs then with_front c (words_in false cs) else
+    (c ∷ []) ∷ words_in false cs
+
+-- the words of a line; a text with a newline is no line, since the grammar has no such word
+abbrev pub words_of : List ℕ → List Word
+words_of text = words_in false text
 
 -- how many bytes the word at the front has
 abbrev pub word_len : List ℕ → ℕ

@@ -93,6 +93,7 @@ pub(crate) fn read_line(text: &[u8]) -> Result<Line, Stop>
 }
 
 /// The 64 bytes of the fields that a line spells, which may be no listed descriptor; none where it has no words.
+/// A text with a newline is no line.
 ///
 /// # Errors
 /// The column, from 1 on, where the line leaves the grammar, and what was expected there.
@@ -122,7 +123,7 @@ fn descriptor_of(text: &[u8]) -> Result<Descriptor, LineFault>
     }
 }
 
-/// The descriptor that a line spells.
+/// The descriptor that a line spells. A text with a newline is no line.
 ///
 /// # Errors
 /// Where the line leaves the grammar, or the first fault of the bytes of its fields.

@@ -10,7 +10,7 @@ use Rattle.dsa_descriptor.specs.Fields.{Fields}
 use Rattle.dsa_descriptor.specs.Profile.{IsListed}
 use Rattle.dsa_descriptor.specs.Lists.{list_spelling}
 use Rattle.dsa_descriptor.specs.Spelling.{spelling}
-use Rattle.dsa_lines.specs.Words.{Word, words_of}
+use Rattle.dsa_lines.specs.Words.{Word, words_in, words_of}
 use Rattle.dsa_lines.specs.Grammar.{op_at, fields_of, ◌>>=◌}
 use Rattle.dsa_lines.specs.Text.{line_text}
 use Rattle.dsa_lines.proofs.WordLemmas.{both}
@@ -62,7 +62,7 @@ next_line f fs listed so_far =
 
 -- the canonical text of listed fields spells them
 pub text_spells : (fs : List Fields) → AllByRecursion IsListed fs → TextSpells (list_text fs) fs
-unfolding list_text lines_of all_fields words_of
+unfolding list_text lines_of all_fields words_in
 text_spells [] all = refl
 text_spells (f ∷ fs) all =
     ap (λ (t : List ℕ). all_fields (lines_of t)) (append_assoc (line_text f) (10 ∷ []) (list_text fs))

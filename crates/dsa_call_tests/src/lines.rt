@@ -99,6 +99,21 @@ fn refusals(rt: HostRuntime) {
             Expected::Pattern,
         ),
         (
+            b"compare 1 with patern 0102030405060708, 8 bytes".as_slice(),
+            16,
+            Expected::NumberOrPattern,
+        ),
+        (
+            b"compare 1 with pattern 2, 8 bytes, expect 0, record 32".as_slice(),
+            24,
+            Expected::Pattern,
+        ),
+        (
+            b"move 1 -> 2, 3 bytes, record 32 pasid 1".as_slice(),
+            33,
+            Expected::CommaOrEnd,
+        ),
+        (
             b"move 1 -> 2, 3 bytes, record 4, pasid 0x100000".as_slice(),
             39,
             Expected::Pasid,
@@ -131,12 +146,12 @@ fn refusals(rt: HostRuntime) {
         (
             b"move 1 -> 2, 3 bytes, record 32\n".as_slice(),
             32,
-            Expected::Comma,
+            Expected::CommaOrEnd,
         ),
         (
             b"move 1 -> 2, 3 bytes, record 32 # all\nmove 1 -> 2, 3 bytes, record 32".as_slice(),
             33,
-            Expected::Comma,
+            Expected::CommaOrEnd,
         ),
         (b"# none\n".as_slice(), 1, Expected::Operation),
     ];
@@ -144,6 +159,14 @@ fn refusals(rt: HostRuntime) {
         let fault = LineFault::Grammar(*column, *expected);
         assert_eq!(rt; parse_line(line).err(), Some(fault));
     }
+    assert_eq!(rt;
+        Expected::NumberOrPattern.text(),
+        "a number below 2^64, or pattern"
+    );
+    assert_eq!(rt;
+        Expected::CommaOrEnd.text(),
+        "a comma, or the end of the line"
+    );
     assert_eq!(rt;
         parse_line(b"move 0x1000 -> 0x2000, 64 bytes, record 0x8010").err(),
         Some(LineFault::Field(FieldFault::RecordAlign))

@@ -10,6 +10,8 @@ pub enum Expected {
     Operation,
     /// A number below 2^64.
     Number,
+    /// A number below 2^64, or the word `pattern`.
+    NumberOrPattern,
     /// A number below 2^32.
     Size,
     /// A number below 2^20.
@@ -24,6 +26,8 @@ pub enum Expected {
     Pattern,
     /// A comma.
     Comma,
+    /// A comma, or the end of the line.
+    CommaOrEnd,
     /// The word `->`.
     Arrow,
     /// The word `with`.
@@ -48,6 +52,7 @@ impl Expected {
         match self {
             Expected::Operation => "move, fill, compare, delta or dualcast",
             Expected::Number => "a number below 2^64",
+            Expected::NumberOrPattern => "a number below 2^64, or pattern",
             Expected::Size => "a number below 2^32",
             Expected::Pasid => "a number below 2^20",
             Expected::Handle => "a number below 2^16",
@@ -55,6 +60,7 @@ impl Expected {
             Expected::Bit => "0 or 1",
             Expected::Pattern => "16 hexadecimal digits",
             Expected::Comma => "a comma",
+            Expected::CommaOrEnd => "a comma, or the end of the line",
             Expected::Arrow => "->",
             Expected::With => "with",
             Expected::And => "and",

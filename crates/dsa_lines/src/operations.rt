@@ -62,7 +62,7 @@ fn compare_region_at(src: u64, text: &[u8]) -> Result<(Op, u32, &[u8]), Stop>
     ensures { Gives
         (λ x. (x.0, x.1, words_of x.2.now)) result (compare_region_at src (words_of text.now)) }
 {
-    let (src2, rest) = number_at(text, u64::MAX, Expected::Number)?;
+    let (src2, rest) = number_at(text, u64::MAX, Expected::NumberOrPattern)?;
     let (size, expected, rest) = expected_at(rest)?;
     let op = Op::Compare {
         src,
@@ -95,7 +95,7 @@ fn compare_at(text: &[u8]) -> Result<(Op, u32, &[u8]), Stop>
 {
     let (src, rest) = number_at(text, u64::MAX, Expected::Number)?;
     let rest = after(rest, b"with", Expected::With)?;
-    match after(rest, b"pattern", Expected::Number) {
+    match after(rest, b"pattern", Expected::NumberOrPattern) {
         Ok(pattern) => compare_pattern_at(src, pattern),
         Err(_) => compare_region_at(src, rest),
     }

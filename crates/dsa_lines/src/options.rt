@@ -222,7 +222,7 @@ pub(crate) fn options_at(text: &[u8]) -> Result<Options, Stop>
         if is_over(rest) {
             return Ok(options);
         }
-        let behind = after(rest, b",", Expected::Comma)?;
+        let behind = after(rest, b",", Expected::CommaOrEnd)?;
         let (next, behind) = option_at(options, behind)?;
         options = next;
         rest = behind;

@@ -242,6 +242,7 @@ fn operations(rt: HostRuntime) {
 fn options(rt: HostRuntime) -> Result<(), Fail> {
     spells_one();
     one_line_one_descriptor();
+    one_line_no_newline();
     canonical_line_spells();
     let line =
         b"compare 1 with 2, 8 bytes, expect 1, record 0x20, handle 3, flags 0x102, check, privileged, pasid 7";

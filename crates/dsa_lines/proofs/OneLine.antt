@@ -1,12 +1,14 @@
--- The fields that a line spells fit their places, so no others have their bytes.
-use Rattle.std.proofs.Common.{◌≡◌, ℕ, zero, suc, ◌+◌, ◌^◌, ◌<◌, ◌≤◌, Bool, true, false, cond, Option, List, [], ◌∷◌, Some, None, refl, sym, ap, subst, ◌∙◌, arith}
+-- The fields that a line spells fit their places, so no others have their bytes; and a line has no newline.
+use Rattle.std.proofs.Common.{◌≡◌, ◌≢◌, ℕ, zero, suc, ◌+◌, ◌^◌, ◌<◌, ◌≤◌, Bool, true, false, cond, Option, List, [], ◌∷◌, Some, None, refl, sym, ap, subst, ◌∙◌, arith}
 use Rattle.std.specs.Prelude.{Result, Ok, Err, is_some, option_and_then, codes, bit_and, bit_or, nat_le, ◌==◌}
+use Rattle.std.specs.List.{AllByRecursion, AllPass}
 use Rattle.std.specs.Str.{bytes_eq}
 use Rattle.std.specs.Int.{w64, from_le_bytes}
-use Rattle.std.proofs.lemmas.Bool.{leb-true}
+use Rattle.std.proofs.lemmas.Bool.{leb-true, eqb-true, eqb-false, ne_eqb}
+use Rattle.std.proofs.lemmas.List.Elements.{All-head}
 use Rattle.std.proofs.lemmas.Nat.{or_of_16}
 use Rattle.std.proofs.lemmas.Option.{same_Some, cond_some}
-use Rattle.hex.specs.Hex.{IsBytes, decode_sized}
+use Rattle.hex.specs.Hex.{IsBytes, decode_sized, is_hex_digit}
 use Rattle.hex.specs.declared.error.FromHexError.{FromHexError}
 use Rattle.hex.proofs.HexLemmas.{decode_of-even, decode_pairs-ok, decode_sized-ok, decode_sized-twice}
 use Rattle.dsa_descriptor.specs.declared.descriptor.Descriptor.{Descriptor}
@@ -19,10 +21,11 @@ use Rattle.dsa_descriptor.specs.Places.{op_at as op_of_bytes}
 use Rattle.dsa_descriptor.specs.Spelling.{owner_word, spelling}
 use Rattle.dsa_descriptor.proofs.Back.{spelling-spelt, Stands, stands, op_there}
 use Rattle.dsa_lines.specs.declared.options.Options.{Options}
-use Rattle.dsa_lines.specs.Words.{Word, words_of}
-use Rattle.dsa_lines.specs.Numbers.{number_of, pattern_of, pattern_with}
+use Rattle.dsa_lines.specs.Words.{Word, is_blank, is_in_word, goes_on, with_front, words_in, words_of}
+use Rattle.dsa_lines.specs.Numbers.{number_of, numeral_after, pattern_of, pattern_with}
 use Rattle.dsa_lines.specs.Options.{no_options, or_zero, flags_with, carried_mask, check_mask}
 use Rattle.dsa_lines.specs.Answers.{Answers}
+use Rattle.dsa_lines.proofs.WordLemmas.{both, word_byte}
 use Rattle.dsa_lines.specs.Grammar.{greatest, after, named, number_at, pattern_at, size_at, move_at, fill_at, expected_at, compare_region_at, compare_pattern_at, compare_other_at, compare_at, delta_at, dualcast_at, op_at, pasid_at, privileged_at, check_at, flags_at, handle_at, option_at, options_at, fields_of, Spells}
 
 -- ---- fields that fit their places are known by their bytes
@@ -96,9 +99,50 @@ unless : {A : Type 0} (b : Bool) (o : Option A) (y : A) → cond b None o ≡ So
 unless true o y e = absurd cc
 unless false o y e = e
 
-one_of : {A P : Type 0} (b : Bool) (o p : Option A) (y : A) → cond b o p ≡ Some y → (o ≡ Some y → P) → (p ≡ Some y → P) → P
-one_of true o p y e first second = first e
+one_of : {A P : Type 0} (b : Bool) (o p : Option A) (y : A) → cond b o p ≡ Some y → (b ≡ true → o ≡ Some y → P) → (p ≡ Some y → P) → P
+one_of true o p y e first second = first refl e
 one_of false o p y e first second = second e
+
+-- ---- words that are no newline
+
+abbrev begins_newline : Word → Bool
+begins_newline [] = false
+begins_newline (c ∷ cs) = c == 10
+
+abbrev Lined : List Word → Type 0
+Lined ws = AllByRecursion (λ w. begins_newline w ≡ false) ws
+
+same_lined : (w word : Word) → bytes_eq w word ≡ true → begins_newline word ≡ false → begins_newline w ≡ false
+same_lined [] word e plain = refl
+same_lined (c ∷ cs) [] e plain = absurd cc
+same_lined (c ∷ cs) (d ∷ ds) e plain = let same : c ≡ d = eqb-true c d (both (c == d) (bytes_eq cs ds) e).0 in rw same plain
+
+after_lined : (word : Word) (ws rest : List Word) → begins_newline word ≡ false → after word ws ≡ Some rest → Lined rest → Lined ws
+after_lined word [] rest plain e h = absurd cc
+after_lined word (w ∷ ws) rest plain e h =
+    let p = cond_some (bytes_eq w word) ws rest e in
+    (same_lined w word p.0 plain, subst Lined (sym p.1) h)
+
+named_lined : (name : Word) (ws rest : List Word) → begins_newline name ≡ false → named name ws ≡ Some rest → Lined rest → Lined ws
+named_lined name ws rest plain e h =
+    let comma = bound (after (codes ",") ws) _ rest e in
+    after_lined (codes ",") ws comma.0 refl comma.1 (after_lined name comma.0 rest plain comma.2 h)
+
+no_number : (c : ℕ) (cs : List ℕ) (n : ℕ) → c ≡ 10 → number_of (c ∷ cs) ≡ Some n → ⊥
+unfolding numeral_after
+no_number c [] n k e = let none : None ≡ Some n = rw k at e in cc
+no_number c (d ∷ ds) n k e = let none : None ≡ Some n = rw k at e in cc
+
+number_word : (w : Word) (n : ℕ) → number_of w ≡ Some n → begins_newline w ≡ false
+number_word [] n e = refl
+number_word (c ∷ cs) n e = ne_eqb c 10 (λ k. no_number c cs n k e)
+
+number_lined : (most : ℕ) (ws : List Word) (r : ℕ × List Word) → number_at most ws ≡ Some r → Lined r.1 → Lined ws
+number_lined most [] r e h = tt
+number_lined most (w ∷ ws) r e h =
+    let n = bound (number_of w) _ r e in
+    let p = cond_some (nat_le n.0 most) (n.0, ws) r n.2 in
+    (number_word w n.0 n.1, subst (λ (x : ℕ × List Word). Lined x.1) (sym p.1) h)
 
 -- ---- numbers
 
@@ -112,39 +156,51 @@ number_fits most (w ∷ ws) r e =
 address_fits : (ws : List Word) (r : ℕ × List Word) → number_at (greatest 64) ws ≡ Some r → r.0 < 2 ^ 64
 address_fits ws r e = omega (arith, number_fits (greatest 64) ws r e)
 
-size_fits : (ws : List Word) (r : ℕ × List Word) → size_at ws ≡ Some r → r.0 < 2 ^ 32
+size_fits : (ws : List Word) (r : ℕ × List Word) → size_at ws ≡ Some r → (r.0 < 2 ^ 32) × (Lined r.1 → Lined ws)
 unfolding size_at
 size_fits ws r e =
     let size = bound (number_at (greatest 32) ws) _ r e in
     let rest = bound (after (codes "bytes") size.0.1) _ r size.2 in
     let fits = number_fits (greatest 32) ws size.0 size.1 in
-    subst (λ (x : ℕ × List Word). x.0 < 2 ^ 32) (same_Some _ r rest.2) (omega arith)
+    let small : size.0.0 < 2 ^ 32 = omega arith in
+    subst (λ (x : ℕ × List Word). (x.0 < 2 ^ 32) × (Lined x.1 → Lined ws)) (same_Some _ r rest.2)
+    (small, λ h. number_lined (greatest 32) ws size.0 size.1 (after_lined (codes "bytes") size.0.1 rest.0 refl rest.1 h))
 
-sized_bytes : (w : Word) (bytes : List ℕ) → decode_sized w 8 ≡ Ok bytes → IsBytes bytes
-sized_bytes w bytes e =
+digit_word : (w : Word) → AllPass is_hex_digit w → begins_newline w ≡ false
+digit_word [] all = refl
+digit_word (c ∷ cs) all =
+    let digit : is_hex_digit c ≡ true = All-head (λ b. is_hex_digit b ≡ true) c cs all in
+    ne_eqb c 10 (λ k. let plain : is_hex_digit 10 ≡ true = rw k at digit in cc)
+
+sized_word : (w : Word) (bytes : List ℕ) → decode_sized w 8 ≡ Ok bytes → (begins_newline w ≡ false) × IsBytes bytes
+sized_word w bytes e =
     let long = decode_sized-ok w 8 bytes e in
-    (decode_pairs-ok 0 w bytes (sym (decode_of-even w (omega arith)) ∙ sym (decode_sized-twice w 8 long) ∙ e)).2
+    let pairs = decode_pairs-ok 0 w bytes (sym (decode_of-even w (omega arith)) ∙ sym (decode_sized-twice w 8 long) ∙ e) in
+    (digit_word w pairs.0, pairs.2)
 
-pattern_by : (w : Word) (r : Result (List ℕ) FromHexError) (n : ℕ) → decode_sized w 8 ≡ r → pattern_with r ≡ Some n → n < 2 ^ 64
+pattern_by : (w : Word) (r : Result (List ℕ) FromHexError) (n : ℕ) → decode_sized w 8 ≡ r → pattern_with r ≡ Some n → (n < 2 ^ 64) × (begins_newline w ≡ false)
 pattern_by w (Ok bytes) n e p =
-    let b = sized_bytes w bytes e in
+    let word = sized_word w bytes e in
+    let b = word.1 in
     let is : from_le_bytes w64 bytes ≡ n = same_Some _ n p in
-    omega (arith, is, b 0, b 1, b 2, b 3, b 4, b 5, b 6, b 7)
+    (omega (arith, is, b 0, b 1, b 2, b 3, b 4, b 5, b 6, b 7), word.0)
 pattern_by w (Err fault) n e p = absurd cc
 
-pattern_fits : (ws : List Word) (r : ℕ × List Word) → pattern_at ws ≡ Some r → r.0 < 2 ^ 64
+pattern_fits : (ws : List Word) (r : ℕ × List Word) → pattern_at ws ≡ Some r → (r.0 < 2 ^ 64) × (Lined r.1 → Lined ws)
 unfolding pattern_of
 pattern_fits [] r e = absurd cc
 pattern_fits (w ∷ ws) r e =
     let n = bound (pattern_of w) _ r e in
-    subst (λ (x : ℕ × List Word). x.0 < 2 ^ 64) (same_Some _ r n.2) (pattern_by w (decode_sized w 8) n.0 refl n.1)
+    let fits = pattern_by w (decode_sized w 8) n.0 refl n.1 in
+    subst (λ (x : ℕ × List Word). (x.0 < 2 ^ 64) × (Lined x.1 → Lined (w ∷ ws))) (same_Some _ r n.2) (fits.0, λ h. (fits.1, h))
 
 -- ---- operations
 
-abbrev OpFits : Op × ℕ × List Word → Type 0
-OpFits r = FieldsFit r.0 × (r.1 < 2 ^ 32)
+-- the operation and its size fit their places, and words without a newline stand behind such words alone
+abbrev OpFits : List Word → Op × ℕ × List Word → Type 0
+OpFits ws r = FieldsFit r.0 × (r.1 < 2 ^ 32) × (Lined r.2 → Lined ws)
 
-move_fits : (ws : List Word) (r : Op × ℕ × List Word) → move_at ws ≡ Some r → OpFits r
+move_fits : (ws : List Word) (r : Op × ℕ × List Word) → move_at ws ≡ Some r → OpFits ws r
 unfolding move_at
 move_fits ws r e =
     let src = bound (number_at (greatest 64) ws) _ r e in
@@ -152,69 +208,112 @@ move_fits ws r e =
     let dst = bound (number_at (greatest 64) to.0) _ r to.2 in
     let comma = bound (after (codes ",") dst.0.1) _ r dst.2 in
     let size = bound (size_at comma.0) _ r comma.2 in
-    subst OpFits (same_Some _ r size.2) ((address_fits ws src.0 src.1, address_fits to.0 dst.0 dst.1), size_fits comma.0 size.0 size.1)
+    let sized = size_fits comma.0 size.0 size.1 in
+    subst (OpFits ws) (same_Some _ r size.2) (
+      (address_fits ws src.0 src.1, address_fits to.0 dst.0 dst.1),
+      sized.0,
+      λ h.
+          number_lined (greatest 64) ws src.0 src.1 (
+          after_lined (codes "->") src.0.1 to.0 refl to.1 (
+          number_lined (greatest 64) to.0 dst.0 dst.1 (
+          after_lined (codes ",") dst.0.1 comma.0 refl comma.1 (sized.1 h)))),
+    )
 
-fill_fits : (ws : List Word) (r : Op × ℕ × List Word) → fill_at ws ≡ Some r → OpFits r
+fill_fits : (ws : List Word) (r : Op × ℕ × List Word) → fill_at ws ≡ Some r → OpFits ws r
 unfolding fill_at
 fill_fits ws r e =
     let dst = bound (number_at (greatest 64) ws) _ r e in
     let filled = bound (after (codes "with") dst.0.1) _ r dst.2 in
     let pattern = bound (pattern_at filled.0) _ r filled.2 in
+    let read = pattern_fits filled.0 pattern.0 pattern.1 in
     let comma = bound (after (codes ",") pattern.0.1) _ r pattern.2 in
     let size = bound (size_at comma.0) _ r comma.2 in
-    subst OpFits (same_Some _ r size.2) ((pattern_fits filled.0 pattern.0 pattern.1, address_fits ws dst.0 dst.1), size_fits comma.0 size.0 size.1)
+    let sized = size_fits comma.0 size.0 size.1 in
+    subst (OpFits ws) (same_Some _ r size.2) (
+      (read.0, address_fits ws dst.0 dst.1),
+      sized.0,
+      λ h.
+          number_lined (greatest 64) ws dst.0 dst.1 (
+          after_lined (codes "with") dst.0.1 filled.0 refl filled.1 (
+          read.1 (
+          after_lined (codes ",") pattern.0.1 comma.0 refl comma.1 (sized.1 h)))),
+    )
 
-expected_fits : (ws : List Word) (r : ℕ × ℕ × List Word) → expected_at ws ≡ Some r → (r.0 < 2 ^ 32) × (r.1 < 2 ^ 8)
+expected_fits : (ws : List Word) (r : ℕ × ℕ × List Word) → expected_at ws ≡ Some r → (r.0 < 2 ^ 32) × (r.1 < 2 ^ 8) × (Lined r.2 → Lined ws)
 unfolding expected_at
 expected_fits ws r e =
     let comma = bound (after (codes ",") ws) _ r e in
     let size = bound (size_at comma.0) _ r comma.2 in
+    let sized = size_fits comma.0 size.0 size.1 in
     let expect = bound (named (codes "expect") size.0.1) _ r size.2 in
     let bit = bound (number_at 1 expect.0) _ r expect.2 in
-    let small = number_fits 1 expect.0 bit.0 bit.1 in
-    subst (λ (x : ℕ × ℕ × List Word). (x.0 < 2 ^ 32) × (x.1 < 2 ^ 8)) (same_Some _ r bit.2) (size_fits comma.0 size.0 size.1, omega arith)
+    let fits = number_fits 1 expect.0 bit.0 bit.1 in
+    let small : bit.0.0 < 2 ^ 8 = omega arith in
+    subst (λ (x : ℕ × ℕ × List Word). (x.0 < 2 ^ 32) × (x.1 < 2 ^ 8) × (Lined x.2 → Lined ws)) (same_Some _ r bit.2) (
+      sized.0,
+      small,
+      λ h.
+          after_lined (codes ",") ws comma.0 refl comma.1 (
+          sized.1 (
+          named_lined (codes "expect") size.0.1 expect.0 refl expect.1 (number_lined 1 expect.0 bit.0 bit.1 h))),
+    )
 
-region_fits : (src : ℕ) (ws : List Word) (r : Op × ℕ × List Word) → src < 2 ^ 64 → compare_region_at src ws ≡ Some r → OpFits r
+region_fits : (src : ℕ) (ws : List Word) (r : Op × ℕ × List Word) → src < 2 ^ 64 → compare_region_at src ws ≡ Some r → OpFits ws r
 unfolding compare_region_at
 region_fits src ws r lt e =
     let src2 = bound (number_at (greatest 64) ws) _ r e in
     let expected = bound (expected_at src2.0.1) _ r src2.2 in
     let fits = expected_fits src2.0.1 expected.0 expected.1 in
-    subst OpFits (same_Some _ r expected.2) ((lt, address_fits ws src2.0 src2.1, fits.1), fits.0)
+    subst (OpFits ws) (same_Some _ r expected.2) ((lt, address_fits ws src2.0 src2.1, fits.1), fits.0, λ h. number_lined (greatest 64) ws src2.0 src2.1 (fits.2 h))
 
-compared_fits : (src : ℕ) (ws : List Word) (r : Op × ℕ × List Word) → src < 2 ^ 64 → compare_pattern_at src ws ≡ Some r → OpFits r
+compared_fits : (src : ℕ) (ws : List Word) (r : Op × ℕ × List Word) → src < 2 ^ 64 → compare_pattern_at src ws ≡ Some r → OpFits ws r
 unfolding compare_pattern_at
 compared_fits src ws r lt e =
     let pattern = bound (pattern_at ws) _ r e in
     let expected = bound (expected_at pattern.0.1) _ r pattern.2 in
+    let read = pattern_fits ws pattern.0 pattern.1 in
     let fits = expected_fits pattern.0.1 expected.0 expected.1 in
-    subst OpFits (same_Some _ r expected.2) ((lt, pattern_fits ws pattern.0 pattern.1, fits.1), fits.0)
+    subst (OpFits ws) (same_Some _ r expected.2) ((lt, read.0, fits.1), fits.0, λ h. read.1 (fits.2 h))
 
-other_fits : (src : ℕ) (ws : List Word) (rest : Option (List Word)) (r : Op × ℕ × List Word) → src < 2 ^ 64 → compare_other_at src ws rest ≡ Some r → OpFits r
-other_fits src ws None r lt e = region_fits src ws r lt e
-other_fits src ws (Some rest) r lt e = compared_fits src rest r lt e
+other_fits : (src : ℕ) (ws : List Word) (rest : Option (List Word)) (r : Op × ℕ × List Word) → src < 2 ^ 64 → after (codes "pattern") ws ≡ rest → compare_other_at src ws rest ≡ Some r → OpFits ws r
+other_fits src ws None r lt word e = region_fits src ws r lt e
+other_fits src ws (Some rest) r lt word e =
+    let fits = compared_fits src rest r lt e in
+    (fits.0, fits.1, λ h. after_lined (codes "pattern") ws rest refl word (fits.2 h))
 
-compare_fits : (ws : List Word) (r : Op × ℕ × List Word) → compare_at ws ≡ Some r → OpFits r
+compare_fits : (ws : List Word) (r : Op × ℕ × List Word) → compare_at ws ≡ Some r → OpFits ws r
 unfolding compare_at
 compare_fits ws r e =
     let src = bound (number_at (greatest 64) ws) _ r e in
     let other = bound (after (codes "with") src.0.1) _ r src.2 in
-    other_fits src.0.0 other.0 (after (codes "pattern") other.0) r (address_fits ws src.0 src.1) other.2
+    let fits = other_fits src.0.0 other.0 (after (codes "pattern") other.0) r (address_fits ws src.0 src.1) refl other.2 in
+    (fits.0, fits.1, λ h. number_lined (greatest 64) ws src.0 src.1 (after_lined (codes "with") src.0.1 other.0 refl other.1 (fits.2 h)))
 
-delta_fits : (ws : List Word) (r : Op × ℕ × List Word) → delta_at ws ≡ Some r → OpFits r
+delta_fits : (ws : List Word) (r : Op × ℕ × List Word) → delta_at ws ≡ Some r → OpFits ws r
 unfolding delta_at
 delta_fits ws r e =
     let delta = bound (number_at (greatest 64) ws) _ r e in
     let comma = bound (after (codes ",") delta.0.1) _ r delta.2 in
     let record_size = bound (size_at comma.0) _ r comma.2 in
+    let recorded = size_fits comma.0 record_size.0 record_size.1 in
     let to = bound (after (codes "->") record_size.0.1) _ r record_size.2 in
     let dst = bound (number_at (greatest 64) to.0) _ r to.2 in
     let second = bound (after (codes ",") dst.0.1) _ r dst.2 in
     let size = bound (size_at second.0) _ r second.2 in
-    subst OpFits (same_Some _ r size.2)
-    ((address_fits ws delta.0 delta.1, address_fits to.0 dst.0 dst.1, size_fits comma.0 record_size.0 record_size.1), size_fits second.0 size.0 size.1)
+    let sized = size_fits second.0 size.0 size.1 in
+    subst (OpFits ws) (same_Some _ r size.2) (
+      (address_fits ws delta.0 delta.1, address_fits to.0 dst.0 dst.1, recorded.0),
+      sized.0,
+      λ h.
+          number_lined (greatest 64) ws delta.0 delta.1 (
+          after_lined (codes ",") delta.0.1 comma.0 refl comma.1 (
+          recorded.1 (
+          after_lined (codes "->") record_size.0.1 to.0 refl to.1 (
+          number_lined (greatest 64) to.0 dst.0 dst.1 (
+          after_lined (codes ",") dst.0.1 second.0 refl second.1 (sized.1 h)))))),
+    )
 
-dualcast_fits : (ws : List Word) (r : Op × ℕ × List Word) → dualcast_at ws ≡ Some r → OpFits r
+dualcast_fits : (ws : List Word) (r : Op × ℕ × List Word) → dualcast_at ws ≡ Some r → OpFits ws r
 unfolding dualcast_at
 dualcast_fits ws r e =
     let src = bound (number_at (greatest 64) ws) _ r e in
@@ -224,45 +323,59 @@ dualcast_fits ws r e =
     let dst2 = bound (number_at (greatest 64) next.0) _ r next.2 in
     let comma = bound (after (codes ",") dst2.0.1) _ r dst2.2 in
     let size = bound (size_at comma.0) _ r comma.2 in
-    subst OpFits (same_Some _ r size.2)
-    ((address_fits ws src.0 src.1, address_fits to.0 dst.0 dst.1, address_fits next.0 dst2.0 dst2.1), size_fits comma.0 size.0 size.1)
+    let sized = size_fits comma.0 size.0 size.1 in
+    subst (OpFits ws) (same_Some _ r size.2) (
+      (address_fits ws src.0 src.1, address_fits to.0 dst.0 dst.1, address_fits next.0 dst2.0 dst2.1),
+      sized.0,
+      λ h.
+          number_lined (greatest 64) ws src.0 src.1 (
+          after_lined (codes "->") src.0.1 to.0 refl to.1 (
+          number_lined (greatest 64) to.0 dst.0 dst.1 (
+          after_lined (codes "and") dst.0.1 next.0 refl next.1 (
+          number_lined (greatest 64) next.0 dst2.0 dst2.1 (
+          after_lined (codes ",") dst2.0.1 comma.0 refl comma.1 (sized.1 h)))))),
+    )
 
-op_fits : (ws : List Word) (r : Op × ℕ × List Word) → op_at ws ≡ Some r → OpFits r
+-- the same behind the operation's name
+op_named : (w name : Word) (ws : List Word) (r : Op × ℕ × List Word) → begins_newline name ≡ false → OpFits ws r → bytes_eq w name ≡ true → OpFits (w ∷ ws) r
+op_named w name ws r plain fits e = (fits.0, fits.1, λ h. (same_lined w name e plain, fits.2 h))
+
+op_fits : (ws : List Word) (r : Op × ℕ × List Word) → op_at ws ≡ Some r → OpFits ws r
 unfolding op_at
 op_fits [] r e = absurd cc
 op_fits (w ∷ ws) r e =
-    one_of (bytes_eq w (codes "move")) _ _ r e (move_fits ws r) (λ e.
-    one_of (bytes_eq w (codes "fill")) _ _ r e (fill_fits ws r) (λ e.
-    one_of (bytes_eq w (codes "compare")) _ _ r e (compare_fits ws r) (λ e.
-    one_of (bytes_eq w (codes "delta")) _ _ r e (delta_fits ws r) (λ e.
-    one_of (bytes_eq w (codes "dualcast")) _ _ r e (dualcast_fits ws r) (λ (none : None ≡ Some r). absurd cc)))))
+    one_of (bytes_eq w (codes "move")) _ _ r e (λ b e. op_named w (codes "move") ws r refl (move_fits ws r e) b) (λ e.
+    one_of (bytes_eq w (codes "fill")) _ _ r e (λ b e. op_named w (codes "fill") ws r refl (fill_fits ws r e) b) (λ e.
+    one_of (bytes_eq w (codes "compare")) _ _ r e (λ b e. op_named w (codes "compare") ws r refl (compare_fits ws r e) b) (λ e.
+    one_of (bytes_eq w (codes "delta")) _ _ r e (λ b e. op_named w (codes "delta") ws r refl (delta_fits ws r e) b) (λ e.
+    one_of (bytes_eq w (codes "dualcast")) _ _ r e (λ b e. op_named w (codes "dualcast") ws r refl (dualcast_fits ws r e) b) (λ (none : None ≡ Some r). absurd cc)))))
 
 -- ---- options
 
 abbrev OptionsFit : Options → Type 0
 OptionsFit o = (or_zero o.pasid < 2 ^ 20) × (or_zero o.flags < 2 ^ 16) × (or_zero o.handle < 2 ^ 16)
 
-abbrev NextFits : Options × List Word → Type 0
-NextFits r = OptionsFit r.0
+abbrev NextFits : List Word → Options × List Word → Type 0
+NextFits ws r = OptionsFit r.0 × (Lined r.1 → Lined ws)
 
-pasid_option : (o : Options) (ws : List Word) (r : Options × List Word) → OptionsFit o → pasid_at o ws ≡ Some r → NextFits r
+pasid_option : (o : Options) (ws : List Word) (r : Options × List Word) → OptionsFit o → pasid_at o ws ≡ Some r → NextFits ws r
 unfolding pasid_at
 pasid_option o ws r fit e =
     let free = unless (is_some o.pasid) _ r e in
     let n = bound (number_at (greatest 20) ws) _ r free in
     let fits = number_fits (greatest 20) ws n.0 n.1 in
     let small : n.0.0 < 2 ^ 20 = omega arith in
-    subst NextFits (same_Some _ r n.2) (small, fit.1, fit.2)
+    subst (NextFits ws) (same_Some _ r n.2) ((small, fit.1, fit.2), λ h. number_lined (greatest 20) ws n.0 n.1 h)
 
-privileged_option : (o : Options) (ws : List Word) (r : Options × List Word) → OptionsFit o → privileged_at o ws ≡ Some r → NextFits r
+privileged_option : (o : Options) (ws : List Word) (r : Options × List Word) → OptionsFit o → privileged_at o ws ≡ Some r → NextFits ws r
 unfolding privileged_at
-privileged_option o ws r fit e = subst NextFits (same_Some _ r (unless _ _ r e)) fit
+privileged_option o ws r fit e = subst (NextFits ws) (same_Some _ r (unless _ _ r e)) (fit, λ h. h)
 
-check_option : (o : Options) (ws : List Word) (r : Options × List Word) → OptionsFit o → check_at o ws ≡ Some r → NextFits r
+check_option : (o : Options) (ws : List Word) (r : Options × List Word) → OptionsFit o → check_at o ws ≡ Some r → NextFits ws r
 unfolding check_at
-check_option o ws r fit e = subst NextFits (same_Some _ r (unless _ _ r e)) fit
+check_option o ws r fit e = subst (NextFits ws) (same_Some _ r (unless _ _ r e)) (fit, λ h. h)
 
-flags_option : (o : Options) (ws : List Word) (r : Options × List Word) → OptionsFit o → flags_at o ws ≡ Some r → NextFits r
+flags_option : (o : Options) (ws : List Word) (r : Options × List Word) → OptionsFit o → flags_at o ws ≡ Some r → NextFits ws r
 unfolding flags_at
 flags_option o ws r fit e =
     let free = unless (is_some o.flags) _ r e in
@@ -270,36 +383,41 @@ flags_option o ws r fit e =
     let fits = number_fits (greatest 16) ws n.0 n.1 in
     let small : n.0.0 < 2 ^ 16 = omega arith in
     let h = cond_some (bit_and n.0.0 carried_mask == n.0.0) _ r n.2 in
-    subst NextFits h.1 (fit.0, small, fit.2)
+    subst (NextFits ws) h.1 ((fit.0, small, fit.2), λ l. number_lined (greatest 16) ws n.0 n.1 l)
 
-handle_option : (o : Options) (ws : List Word) (r : Options × List Word) → OptionsFit o → handle_at o ws ≡ Some r → NextFits r
+handle_option : (o : Options) (ws : List Word) (r : Options × List Word) → OptionsFit o → handle_at o ws ≡ Some r → NextFits ws r
 unfolding handle_at
 handle_option o ws r fit e =
     let free = unless (is_some o.handle) _ r e in
     let n = bound (number_at (greatest 16) ws) _ r free in
     let fits = number_fits (greatest 16) ws n.0 n.1 in
     let small : n.0.0 < 2 ^ 16 = omega arith in
-    subst NextFits (same_Some _ r n.2) (fit.0, fit.1, small)
+    subst (NextFits ws) (same_Some _ r n.2) ((fit.0, fit.1, small), λ h. number_lined (greatest 16) ws n.0 n.1 h)
 
-option_fits : (o : Options) (ws : List Word) (r : Options × List Word) → OptionsFit o → option_at o ws ≡ Some r → NextFits r
+option_named : (w name : Word) (ws : List Word) (r : Options × List Word) → begins_newline name ≡ false → NextFits ws r → bytes_eq w name ≡ true → NextFits (w ∷ ws) r
+option_named w name ws r plain fits e = (fits.0, λ h. (same_lined w name e plain, fits.1 h))
+
+option_fits : (o : Options) (ws : List Word) (r : Options × List Word) → OptionsFit o → option_at o ws ≡ Some r → NextFits ws r
 unfolding option_at
 option_fits o [] r fit e = absurd cc
 option_fits o (w ∷ ws) r fit e =
-    one_of (bytes_eq w (codes "pasid")) _ _ r e (pasid_option o ws r fit) (λ e.
-    one_of (bytes_eq w (codes "privileged")) _ _ r e (privileged_option o ws r fit) (λ e.
-    one_of (bytes_eq w (codes "check")) _ _ r e (check_option o ws r fit) (λ e.
-    one_of (bytes_eq w (codes "flags")) _ _ r e (flags_option o ws r fit) (λ e.
-    one_of (bytes_eq w (codes "handle")) _ _ r e (handle_option o ws r fit) (λ (none : None ≡ Some r). absurd cc)))))
+    one_of (bytes_eq w (codes "pasid")) _ _ r e (λ b e. option_named w (codes "pasid") ws r refl (pasid_option o ws r fit e) b) (λ e.
+    one_of (bytes_eq w (codes "privileged")) _ _ r e (λ b e. option_named w (codes "privileged") ws r refl (privileged_option o ws r fit e) b) (λ e.
+    one_of (bytes_eq w (codes "check")) _ _ r e (λ b e. option_named w (codes "check") ws r refl (check_option o ws r fit e) b) (λ e.
+    one_of (bytes_eq w (codes "flags")) _ _ r e (λ b e. option_named w (codes "flags") ws r refl (flags_option o ws r fit e) b) (λ e.
+    one_of (bytes_eq w (codes "handle")) _ _ r e (λ b e. option_named w (codes "handle") ws r refl (handle_option o ws r fit e) b) (λ (none : None ≡ Some r). absurd cc)))))
 
-options_fit : (most : ℕ) (o : Options) (ws : List Word) (r : Options) → OptionsFit o → options_at most o ws ≡ Some r → OptionsFit r
+options_fit : (most : ℕ) (o : Options) (ws : List Word) (r : Options) → OptionsFit o → options_at most o ws ≡ Some r → OptionsFit r × Lined ws
 unfolding options_at
-options_fit zero o [] r fit e = subst OptionsFit (same_Some o r e) fit
-options_fit (suc most) o [] r fit e = subst OptionsFit (same_Some o r e) fit
+options_fit zero o [] r fit e = (subst OptionsFit (same_Some o r e) fit, tt)
+options_fit (suc most) o [] r fit e = (subst OptionsFit (same_Some o r e) fit, tt)
 options_fit zero o (w ∷ ws) r fit e = absurd cc
 options_fit (suc most) o (w ∷ ws) r fit e =
     let behind = bound (after (codes ",") (w ∷ ws)) _ r e in
     let next = bound (option_at o behind.0) _ r behind.2 in
-    options_fit most next.0.0 next.0.1 r (option_fits o behind.0 next.0 fit next.1) next.2
+    let fits = option_fits o behind.0 next.0 fit next.1 in
+    let rest = options_fit most next.0.0 next.0.1 r fits.0 next.2 in
+    (rest.0, after_lined (codes ",") (w ∷ ws) behind.0 refl behind.1 (fits.1 rest.1))
 
 flags_small : (carried : ℕ) (check : Bool) → carried < 2 ^ 16 → flags_with carried check < 2 ^ 16
 flags_small carried true lt = or_of_16 (bit_or required_flags carried) check_mask (or_of_16 required_flags carried (omega arith) lt) (omega arith)
@@ -307,25 +425,35 @@ flags_small carried false lt = or_of_16 (bit_or required_flags carried) 0 (or_of
 
 -- ---- a line
 
--- the fields that words spell fit their places
-pub words_fit : (words : List Word) (f : Fields) → fields_of words ≡ Some f → Fit f
+-- the fields that words spell fit their places, and none of these words is a newline
+read_words : (words : List Word) (f : Fields) → fields_of words ≡ Some f → Fit f × Lined words
 unfolding fields_of
-words_fit words f e =
+read_words words f e =
     let op = bound (op_at words) _ f e in
     let behind = bound (named (codes "record") op.0.2) _ f op.2 in
     let record_at = bound (number_at (greatest 64) behind.0) _ f behind.2 in
     let options = bound (options_at 5 no_options record_at.0.1) _ f record_at.2 in
     let o = op_fits words op.0 op.1 in
     let p = options_fit 5 no_options record_at.0.1 options.0 (omega arith, omega arith, omega arith) options.1 in
-    let flags = flags_small (or_zero options.0.flags) options.0.check p.1 in
-    subst Fit (same_Some _ f options.2) (record {
-      pasid_fits = p.0;
+    let flags = flags_small (or_zero options.0.flags) options.0.check p.0.1 in
+    let fit = subst Fit (same_Some _ f options.2) (record {
+      pasid_fits = p.0.0;
       flags_fit = omega arith;
       record_at_fits = address_fits behind.0 record_at.0 record_at.1;
       size_fits = o.1;
-      int_handle_fits = p.2;
+      int_handle_fits = p.0.2;
       op_fits = o.0;
-    })
+    }) in (
+      fit,
+      o.2 (named_lined (codes "record") op.0.2 behind.0 refl behind.1 (number_lined (greatest 64) behind.0 record_at.0 record_at.1 p.1)),
+    )
+
+pub words_fit : (words : List Word) (f : Fields) → fields_of words ≡ Some f → Fit f
+words_fit words f e = (read_words words f e).0
+
+-- lines that spell fields of the same bytes spell the same fields
+pub same_bytes : (text other : List ℕ) (f g : Fields) → Spells text f → Spells other g → spelling f ≡ spelling g → f ≡ g
+same_bytes text other f g e p same = one_spelling f g (words_fit (words_of text) f e) (words_fit (words_of other) g p) same
 
 -- fields that a line spells are those of the descriptor with their bytes
 pub spelled_descriptor : (text : List ℕ) (f : Fields) (d : Descriptor) → Spells text f → spelling f ≡ spelling (fields d) → f ≡ fields d
@@ -335,3 +463,61 @@ spelled_descriptor text f d e same = one_spelling f (fields d) (words_fit (words
 pub read_fields : (words : List Word) (f : Fields) (bytes : List ℕ) (d : Descriptor) → fields_of words ≡ Some f → bytes ≡ spelling f → bytes ≡ spelling (fields d)
     → Answers (fields_of words) (Ok d)
 read_fields words f bytes d e spelt found = rw e (one_spelling f (fields d) (words_fit words f e) (listed_fit (fields d) d.listed) (sym spelt ∙ found))
+
+-- ---- a text that spells fields has no newline
+
+abbrev NoNewline : List ℕ → Type 0
+NoNewline text = AllByRecursion (λ byte. byte ≢ 10) text
+
+abbrev head_newline : List Word → Bool
+head_newline [] = false
+head_newline (w ∷ ws) = begins_newline w
+
+starts : (more : Bool) (d : ℕ) (ws : List Word) → head_newline (cond more (with_front d ws) ((d ∷ []) ∷ ws)) ≡ (d == 10)
+starts true d [] = refl
+starts true d (w ∷ ws) = refl
+starts false d ws = refl
+
+lined_behind : (c : ℕ) (ws : List Word) → head_newline ws ≡ false → Lined (with_front c ws) → Lined ws
+lined_behind c [] plain h = tt
+lined_behind c (w ∷ ws) plain h = (plain, h.1)
+
+in_word_no_newline : (d : ℕ) → is_in_word d ≡ true → (d == 10) ≡ false
+in_word_no_newline d e = ne_eqb d 10 (λ k. let plain : is_in_word 10 ≡ true = rw k at e in cc)
+
+word_lined : (more : Bool) (c : ℕ) (cs : List ℕ) → goes_on cs ≡ more → Lined (cond more (with_front c (words_of cs)) ((c ∷ []) ∷ words_of cs)) → Lined (words_of cs)
+word_lined false c cs e h = h.1
+word_lined true c [] e h = absurd cc
+word_lined true c (d ∷ ds) e h =
+    lined_behind c (words_of (d ∷ ds)) (ap head_newline (word_byte d ds e) ∙ starts (goes_on ds) d (words_of ds) ∙ in_word_no_newline d e) h
+
+rest_lined : {P : Type 0} (comment blank comma newline : Bool) (c : ℕ) (cs : List ℕ)
+    → Lined (cond comment (words_in true cs) (cond blank (words_of cs) (cond comma ((44 ∷ []) ∷ words_of cs) (cond newline ((10 ∷ []) ∷ words_of cs)
+    (cond (goes_on cs) (with_front c (words_of cs)) ((c ∷ []) ∷ words_of cs))))))
+    → (Lined (words_in true cs) → P) → (Lined (words_of cs) → P) → P
+rest_lined true blank comma newline c cs h first second = first h
+rest_lined false true comma newline c cs h first second = second h
+rest_lined false false true newline c cs h first second = second h.1
+rest_lined false false false true c cs h first second = second h.1
+rest_lined false false false false c cs h first second = second (word_lined (goes_on cs) c cs refl h)
+
+comment_lined : (b : Bool) (c : ℕ) (cs : List ℕ) → (c == 10) ≡ b → Lined (cond b ((10 ∷ []) ∷ words_of cs) (words_in true cs)) → (Lined (words_in true cs) → NoNewline cs)
+    → NoNewline (c ∷ cs)
+comment_lined true c cs e h rest = absurd (let plain : true ≡ false = h.0 in cc)
+comment_lined false c cs e h rest = (eqb-false c 10 e, rest h)
+
+newline_first : (c : ℕ) (cs : List ℕ) → c ≡ 10 → Lined (words_of (c ∷ cs)) → ⊥
+unfolding words_in
+newline_first c cs k h = let there : Lined (words_of (10 ∷ cs)) = subst (λ (b : ℕ). Lined (words_of (b ∷ cs))) k h in let plain : true ≡ false = there.0 in cc
+
+text_lined : (comment : Bool) (text : List ℕ) → Lined (words_in comment text) → NoNewline text
+unfolding words_in
+text_lined comment [] h = tt
+text_lined true (c ∷ cs) h = comment_lined (c == 10) c cs refl h (text_lined true cs)
+text_lined false (c ∷ cs) h = (newline_is_not, rest_lined (c == 35) (is_blank c) (c == 44) (c == 10) c cs h (text_lined true cs) (text_lined false cs))
+  where
+    newline_is_not : c ≢ 10
+    newline_is_not k = newline_first c cs k h
+
+pub spelled_line : (text : List ℕ) (f : Fields) → Spells text f → NoNewline text
+spelled_line text f e = text_lined false text (read_words (words_of text) f e).1

@@ -1,6 +1,7 @@
 //! Laws of lines.
 
-ghost use Rattle.std.specs.Prelude.{◌≡◌, List, ℕ};
+ghost use Rattle.std.specs.Prelude.{◌≡◌, ◌≢◌, List, ℕ};
+ghost use Rattle.std.specs.List.{AllByRecursion};
 ghost use Rattle.dsa_descriptor.specs.declared.descriptor.Descriptor.{Descriptor};
 ghost use Rattle.dsa_descriptor.specs.Fields.{Fields};
 ghost use Rattle.dsa_descriptor.specs.Descriptors.{fields};
@@ -9,9 +10,12 @@ ghost use Rattle.dsa_descriptor.specs.Spelling.{spelling};
 ghost use Rattle.dsa_lines.specs.Grammar.{Spells};
 ghost use Rattle.dsa_lines.specs.Text.{line_text};
 
-/// A line spells one set of fields at most.
+/// A line spells one set of fields at most, and lines that spell fields of the same bytes spell the same fields.
+#[tactic(auto, using(crate::proofs::OneLine::same_bytes))]
 pub fn spells_one()
-    ensures { (text : List ℕ) (f g : Fields) → Spells text f → Spells text g → f ≡ g }
+    ensures line { (text : List ℕ) (f g : Fields) → Spells text f → Spells text g → f ≡ g }
+    ensures bytes { (text other : List ℕ) (f g : Fields) →
+        Spells text f → Spells other g → spelling f ≡ spelling g → f ≡ g }
 {}
 
 /// Fields that a line spells and that have a descriptor's bytes are that descriptor's fields.
@@ -19,6 +23,13 @@ pub fn spells_one()
 pub fn one_line_one_descriptor()
     ensures { (text : List ℕ) (f : Fields) (d : Descriptor) →
         Spells text f → spelling f ≡ spelling (fields d) → f ≡ fields d }
+{}
+
+/// A text that spells fields has no newline.
+#[tactic(auto, using(crate::proofs::OneLine::spelled_line))]
+pub fn one_line_no_newline()
+    ensures { (text : List ℕ) (f : Fields) →
+        Spells text f → AllByRecursion (λ byte. byte ≢ 10) text }
 {}
 
 /// The canonical line of listed fields spells them.

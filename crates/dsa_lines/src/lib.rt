@@ -12,6 +12,6 @@ mod words;
 mod writing;
 
 pub use fault::{Expected, LineFault};
-pub use laws::{canonical_line_spells, one_line_one_descriptor, spells_one};
+pub use laws::{canonical_line_spells, one_line_no_newline, one_line_one_descriptor, spells_one};
 pub use reading::{line_bytes, parse_line};
 pub use writing::{line_of, op_text};

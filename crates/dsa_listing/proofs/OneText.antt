@@ -68,6 +68,10 @@ one_list (f ∷ fs) (g ∷ gs) p q e =
     let rest : fs ≡ gs = one_list fs gs p.1 q.1 parts.1 in
     cc
 
+-- texts that spell fields of the same bytes spell the same fields
+pub same_bytes : (text other : List ℕ) (fs gs : List Fields) → TextSpells text fs → TextSpells other gs → list_spelling fs ≡ list_spelling gs → fs ≡ gs
+same_bytes text other fs gs e p same = one_list fs gs (lines_fit (lines_of text) fs e) (lines_fit (lines_of other) gs p) same
+
 pub spelled_list : (lines : List (List ℕ)) (fs : List Fields) (ds : List Descriptor) → all_fields lines ≡ Some fs → list_spelling fs ≡ list_spelling (map fields ds) → fs ≡ map fields ds
 spelled_list lines fs ds e same = one_list fs (map fields ds) (lines_fit lines fs e) (all_fit ds) same
 

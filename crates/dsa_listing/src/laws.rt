@@ -9,10 +9,14 @@ ghost use Rattle.dsa_descriptor.specs.Lists.{list_spelling};
 ghost use Rattle.dsa_descriptor.specs.Profile.{IsListed};
 ghost use Rattle.dsa_listing.specs.Texts.{TextSpells, list_text};
 
-/// A text spells one list of fields at most.
+/// A text spells one list of fields at most, and texts that spell fields of the same bytes spell the same fields.
+#[tactic(auto, using(crate::proofs::OneText::same_bytes))]
 pub fn text_spells_one()
-    ensures { (text : List ℕ) (fs gs : List Fields) →
+    ensures text { (text : List ℕ) (fs gs : List Fields) →
         TextSpells text fs → TextSpells text gs → fs ≡ gs }
+    ensures bytes { (text other : List ℕ) (fs gs : List Fields) →
+        TextSpells text fs → TextSpells other gs →
+        list_spelling fs ≡ list_spelling gs → fs ≡ gs }
 {}
 
 /// Fields that a text spells and that have the bytes of descriptors are those of these descriptors.

@@ -11,7 +11,8 @@ use Rattle.dsa_lines.specs.declared.fault.LineFault.TheVariants.{Grammar, Field}
 use Rattle.dsa_lines.specs.Words.{Word}
 use Rattle.dsa_lines.specs.Grammar.{fields_of}
 
--- a place in the line where it spells no fields; else the descriptor of these fields, or the first fault of their bytes
+-- a place in the line where it spells no fields; else the descriptor of these fields, or the first
+-- fault of their bytes
 abbrev pub Answers : Option Fields → Result Descriptor LineFault → Type 0
 Answers None (Ok d) = ⊥
 Answers None (Err (Grammar column what)) = ⊤

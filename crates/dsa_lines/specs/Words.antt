@@ -24,8 +24,8 @@ abbrev pub with_front : ℕ → List Word → List Word
 with_front c [] = (c ∷ []) ∷ []
 with_front c (w ∷ ws) = (c ∷ w) ∷ ws
 
--- the words of a text that begins in a comment, or not: blanks part words, a comma and a newline are
--- words by themselves, and a comment runs to the next newline
+-- the words of a text that begins in a comment, or not: blanks part words, a comma and a newline
+-- are words by themselves, and a comment runs to the next newline
 unfoldable pub words_in : Bool → List ℕ → List Word
 words_in comment [] = []
 words_in true (c ∷ cs) = if c == 10 then (10 ∷ []) ∷ words_in false cs else words_in true cs

@@ -10,7 +10,8 @@ ghost use Rattle.dsa_descriptor.specs.Spelling.{spelling};
 ghost use Rattle.dsa_lines.specs.Grammar.{Spells};
 ghost use Rattle.dsa_lines.specs.Text.{line_text};
 
-/// A line spells one set of fields at most, and lines that spell fields of the same bytes spell the same fields.
+/// A line spells one set of fields at most, and lines that spell fields of the same bytes spell the
+/// same fields.
 #[tactic(auto, using(crate::proofs::OneLine::same_bytes))]
 pub fn spells_one()
     ensures line { (text : List ℕ) (f g : Fields) → Spells text f → Spells text g → f ≡ g }

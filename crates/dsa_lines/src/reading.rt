@@ -128,7 +128,7 @@ fn descriptor_of(text: &[u8]) -> Result<Descriptor, LineFault>
 /// # Errors
 /// Where the line leaves the grammar, or the first fault of the bytes of its fields.
 pub fn parse_line(text: &[u8]) -> Result<Descriptor, LineFault>
-    // The descriptor that the line spells, the first fault of the fields that it spells, or that it spells none.
+    // The descriptor that the line spells, the first fault of its fields, or that it spells none.
     ensures gives { Answers (fields_of (words_of text.now)) result }
     // What the line spells is read.
     ensures only { (d : Descriptor) → Spells text.now (fields d) → result ≡ Ok d }

@@ -29,8 +29,9 @@ pub record LeavesGrammarAt (lines : List (List ℕ)) (number : ℕ) : Type 0 whe
   pub spelled : (fs : List Fields) × (all_fields before ≡ Some fs)
   pub outside : line_fields (words_of line) ≡ None
 
--- of lines that spell a list, its bytes; of others that spell operations, their first fault as a list,
--- which is no allocation failure; else the first line that leaves the grammar; or that memory ran out
+-- of lines that spell a list, its bytes; of others that spell operations, their first fault as a
+-- list, which is no allocation failure; else the first line that leaves the grammar; or that memory
+-- ran out
 abbrev pub Assembles : {X : Type 0} → (X → List ℕ) → List (List ℕ) → Result X TextFault → Type 0
 Assembles shown lines (Ok bytes) = IsListing lines (shown bytes)
 Assembles shown lines (Err (Grammar line column what)) = LeavesGrammarAt lines line

@@ -9,7 +9,8 @@ ghost use Rattle.dsa_descriptor.specs.Lists.{list_spelling};
 ghost use Rattle.dsa_descriptor.specs.Profile.{IsListed};
 ghost use Rattle.dsa_listing.specs.Texts.{TextSpells, list_text};
 
-/// A text spells one list of fields at most, and texts that spell fields of the same bytes spell the same fields.
+/// A text spells one list of fields at most, and texts that spell fields of the same bytes spell the
+/// same fields.
 #[tactic(auto, using(crate::proofs::OneText::same_bytes))]
 pub fn text_spells_one()
     ensures text { (text : List ℕ) (fs gs : List Fields) →

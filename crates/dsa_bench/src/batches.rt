@@ -1,11 +1,7 @@
 //! Plans of equal batches, and pieces that an image holds.
 
-ghost use Rattle.std.specs.Prelude.{◌≤◌, All, IsTrue, length, map};
-ghost use Rattle.dsa_descriptor.specs.Descriptors.{fields};
-ghost use Rattle.dsa_ranges.specs.Ranges.{ConflictAt};
-ghost use Rattle.dsa_image.specs.Memory.{HoldsRanges};
-ghost use Rattle.dsa_plan.specs.Legal.{IsLegal};
-ghost use Rattle.dsa_core.specs.Accounts.{most_members};
+ghost use Rattle.std.specs.Prelude.{IsTrue};
+ghost use Rattle.dsa_core.specs.Given.{IsRunnable};
 
 use dsa_descriptor::Descriptor;
 use dsa_image::Image;
@@ -29,14 +25,17 @@ pub(crate) fn batches(alloc: Global, count: usize, size: usize) -> Result<Plan, 
     Ok(Plan::new(groups))
 }
 
-/// The plan is legal for the pieces, which the image holds.
-pub(crate) fn can_run(image: &Image, plan: &Plan, pieces: &[Descriptor]) -> bool
-    ensures few { IsTrue result → length pieces.now ≤ 65536 }
-    ensures legal { IsTrue result →
-        IsLegal (ConflictAt (map fields pieces.now)) most_members (length pieces.now) plan.now }
-    ensures holds { IsTrue result → All (HoldsRanges image.now) (map fields pieces.now) }
+/// Whether engines can run the pieces under the plan, on this image.
+pub(crate) fn can_run(image: &Image, plan: &Plan, pieces: &[Descriptor], engines: u8) -> bool
+    ensures { IsTrue result → IsRunnable image.now plan.now pieces.now engines }
 {
     if pieces.len() > 65536 {
+        return false;
+    }
+    if engines == 0 {
+        return false;
+    }
+    if engines > 64 {
         return false;
     }
     let Ok(settings) = Settings::new(1024, 4096, 1, 1, 1, 65536) else {

@@ -101,7 +101,7 @@ fn finished(
     pieces: &[Descriptor],
     trace: &[Event],
 ) -> Option<u32> {
-    if !can_run(image, plan, pieces) {
+    if !can_run(image, plan, pieces, 64) {
         return None;
     }
     match replay(alloc, image, plan, pieces, 64, trace) {
@@ -120,7 +120,7 @@ fn measure_trace<R: Runtime + Alloc<A = Global>>(
 ) -> io::Result<()> {
     let plan = batches(rt.alloc(), pieces.len(), BATCH as usize)?;
     let start = Instant::now(rt)?;
-    let is_legal = can_run(image, &plan, pieces);
+    let is_legal = can_run(image, &plan, pieces, 64);
     let tested = start.elapsed(rt)?;
     let start = Instant::now(rt)?;
     let finished = finished(rt.alloc(), image, &plan, pieces, trace);

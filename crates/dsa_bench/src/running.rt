@@ -58,13 +58,7 @@ fn finished<R: Threads + Wait + Sync>(
     pieces: &[Descriptor],
     engines: u8,
 ) -> Option<u32> {
-    if engines == 0 {
-        return None;
-    }
-    if engines > 64 {
-        return None;
-    }
-    if !can_run(image, plan, pieces) {
+    if !can_run(image, plan, pieces, engines) {
         return None;
     }
     match run(rt, alloc, image, plan, pieces, engines, &OpenGate) {
@@ -84,7 +78,7 @@ fn measure_pieces<R: Runtime + Alloc<A = Global> + Threads + Wait + Sync>(
     let plan = batches(alloc, pieces.len(), 1024)?;
     for engines in [1, 2, 4] {
         let start = Instant::now(rt)?;
-        let is_legal = can_run(image, &plan, pieces);
+        let is_legal = can_run(image, &plan, pieces, engines);
         let tested = start.elapsed(rt)?;
         let start = Instant::now(rt)?;
         let finished = finished(rt, alloc, image, &plan, pieces, engines);

@@ -9,7 +9,8 @@ use Rattle.dsa_settings.specs.Legal.{IsLegal}
 use Rattle.dsa_core.specs.Accounts.{most_members}
 
 -- what is asked before engines run the pieces under the plan, from the memory m
-pub record IsRunnable (m : Memory) (plan : Plan) (pieces : List Descriptor) (engines : ℕ) : Type 0 where
+pub record IsRunnable (m : Memory) (plan : Plan) (pieces : List Descriptor) (engines : ℕ)
+    : Type 0 where
   -- there are at most 65,536 pieces (this project's choice)
   pub few : length pieces ≤ 65536
   -- the plan is legal for them, with batches of at most as many members as a room takes

@@ -153,7 +153,7 @@ pub(crate) fn calls<R: Runtime + Alloc<A = Global>>(rt: &R, case: &Case) -> io::
         conflicts: count_conflicts(pieces),
         last_record,
         is_left_whole: is_done && by_lines == at_once,
-        can_run: can_run(&case.image, &planned.plan, pieces),
+        can_run: can_run(&case.image, &planned.plan, pieces, 2),
         cost: cost_of(&planned.plan, pieces, &case.settings),
         checked: check(pieces, &case.settings, &planned.plan, &planned.certificate),
         events_passed: count_passed(&case.trace),

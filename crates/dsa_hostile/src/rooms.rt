@@ -1,11 +1,7 @@
 //! Rooms: made and used while memory is refused, or made before.
 
-ghost use Rattle.std.specs.Prelude.{◌≤◌, All, IsTrue, length, map};
-ghost use Rattle.dsa_descriptor.specs.Descriptors.{fields};
-ghost use Rattle.dsa_ranges.specs.Ranges.{ConflictAt};
-ghost use Rattle.dsa_image.specs.Memory.{HoldsRanges};
-ghost use Rattle.dsa_plan.specs.Legal.{IsLegal};
-ghost use Rattle.dsa_core.specs.Accounts.{most_members};
+ghost use Rattle.std.specs.Prelude.{IsTrue};
+ghost use Rattle.dsa_core.specs.Given.{IsRunnable};
 
 use crate::cases::Case;
 use crate::telling::{mark, tell_outcome};
@@ -18,14 +14,17 @@ use std::alloc::{Alloc, Global};
 use std::io;
 use std::rt::Runtime;
 
-/// The plan is legal for the pieces, which the image holds.
-pub(crate) fn can_run(image: &Image, plan: &Plan, pieces: &[Descriptor]) -> bool
-    ensures few { IsTrue result → length pieces.now ≤ 65536 }
-    ensures legal { IsTrue result →
-        IsLegal (ConflictAt (map fields pieces.now)) most_members (length pieces.now) plan.now }
-    ensures holds { IsTrue result → All (HoldsRanges image.now) (map fields pieces.now) }
+/// Whether engines can run the pieces under the plan, on this image.
+pub(crate) fn can_run(image: &Image, plan: &Plan, pieces: &[Descriptor], engines: u8) -> bool
+    ensures { IsTrue result → IsRunnable image.now plan.now pieces.now engines }
 {
     if pieces.len() > 65536 {
+        return false;
+    }
+    if engines == 0 {
+        return false;
+    }
+    if engines > 64 {
         return false;
     }
     let Ok(settings) = Settings::new(1024, 4096, 1, 1, 1, 65536) else {
@@ -45,7 +44,7 @@ pub(crate) fn can_run(image: &Image, plan: &Plan, pieces: &[Descriptor]) -> bool
 fn room_of(alloc: Global, case: &Case) -> Result<Room, CoreFault> {
     let planned = &case.planned;
     let pieces = planned.pieces.as_slice();
-    if !can_run(&case.image, &planned.plan, pieces) {
+    if !can_run(&case.image, &planned.plan, pieces, 2) {
         return Err(CoreFault::Incomplete);
     }
     Room::new(alloc, &case.image, &planned.plan, pieces, 2)

@@ -23,7 +23,7 @@ pub(crate) fn engines<R: Runtime + Alloc<A = Global> + Threads + Wait + Sync>(
 ) -> io::Result<()> {
     let planned = &case.planned;
     let pieces = planned.pieces.as_slice();
-    if !can_run(&case.image, &planned.plan, pieces) {
+    if !can_run(&case.image, &planned.plan, pieces, 3) {
         return Ok(());
     }
     mark(rt)?;

@@ -79,7 +79,13 @@ printf '\nmove 1 -> 2, 0 bytes, record 32\n' | refused 1 'refused 5 SizeZero 0, 
 printf 'move 1 -> 2, 3 bytes, record 32\n' | refused 1 'refused 83 Settings' explain --lone 1000000001
 printf 'xy' | refused 1 'refused 84 Hex' disassemble
 printf '000' | refused 1 'refused 84 Hex' disassemble
-printf '{"do":"run"}' | refused 1 'refused 82 Do' explain
+printf '{"do":"run"}' | refused 1 'refused 81 Member' explain
+refused 1 'refused 82 Do' explain < examples/run.job
+refused 1 'refused 92 Options: a job has settings of its own' explain --fence 3 < examples/plan.job
+sed 's/"list": *"/&0 /' examples/plan.job | refused 1 'refused 84 Hex' explain
+printf '' | refused 1 'refused 83 Settings' disassemble --staging --at 0x10001
+printf '' | refused 1 'refused 83 Settings' disassemble --staging --at 0x8000000000000040
+refused 2 '' disassemble --at 0x10000 < /dev/null
 refused 2 '' assemble --wrong < /dev/null
 awk 'BEGIN { for (i = 0; i < 1025; i++) printf "move 0 -> 4096, 64 bytes, record 8192\n" }' \
     | refused 1 'refused 91 Picture: 1025 groups, and 1024 at most' explain --svg --lone 0

@@ -83,7 +83,7 @@ def streams_see_a_second_try(folder):
 
 
 def main():
-    by_name = {run.name: run for run in runs("", "")}
+    by_name = {run.name: run for run in runs("", "", "")}
     calls = [by_name[name] for _, name, _ in WRONG]
     with tempfile.TemporaryDirectory() as tree:
         found, printed = tried(tree, calls)

@@ -1,8 +1,8 @@
-"""Runs each call of crates/dsa_hostile on each of its lists, and the program itself on jobs, while refuse.so refuses one
-allocation, or one and all after it, for every one that a run asks for, or one start of a thread. Each has to answer as
+"""Runs each call of crates/dsa_hostile on each of its lists, the program itself on jobs, and the program for texts on an
+example, while refuse.so refuses one allocation, or one and all after it, for every one that a run asks for, or one start of a thread. Each has to answer as
 with ample memory, or `refused 73 Memory`, and leave what it was given as it was.
 
-    run.py REFUSE.SO HOSTILE PROGRAM [WORD]      WORD: only runs whose name has it
+    run.py REFUSE.SO HOSTILE PROGRAM TEXTS [WORD]      WORD: only runs whose name has it
 """
 
 import json
@@ -34,6 +34,14 @@ JOBS = [f"examples/{name}.job" for name in ("plan", "check", "judge", "replay", 
         "check-fence-left-out", "plan-list-of-65-bytes", "check-no-version", "no-do", "nothing", "plan-by-size", "check-by-size",
         "plan-table-too-short",
     )
+]
+
+# of the program for texts: the input, the arguments, and what is answered
+TEXTS = [
+    ("store.txt", ("assemble", "--job"), "store.job"),
+    ("store.txt", ("explain",), "store.explain"),
+    ("store.txt", ("explain", "--svg"), "store.svg"),
+    ("pages.job", ("explain",), "pages.explain"),
 ]
 
 
@@ -115,6 +123,7 @@ class Run:
     refused: tuple
     counts_all: bool = False
     takes_memory: bool = True
+    words: tuple = ()
     faults: list = field(default_factory=list)
 
     def once(self, **refusals):
@@ -124,7 +133,7 @@ class Run:
         names |= {"LD_PRELOAD": SHARED, "HOSTILE_REPORT": str(writer)} | ({"HOSTILE_ALL": "1"} if self.counts_all else {})
         try:
             ran = subprocess.run(
-                [self.program], input=self.text, capture_output=True, env=names, pass_fds=[writer], timeout=20
+                [self.program, *self.words], input=self.text, capture_output=True, env=names, pass_fds=[writer], timeout=20
             )
         except subprocess.TimeoutExpired:
             return ("does not end in 20 seconds", 0), (0, 0)
@@ -184,8 +193,8 @@ class Run:
         return self
 
 
-def runs(hostile, program):
-    """All runs: each call on each list, each job served, and the program on each job."""
+def runs(hostile, program, texts):
+    """All runs: each call on each list, each job served, the program on each job, and the program for texts."""
     calls = ["plan_list", "judge_bytes", "check_bytes", "replay_bytes", "write_json", "read_json", "search", "room", "run"]
     for call in calls + ["run_bytes", "steps", "parcels", "quiet"]:
         quiet = call in ("steps", "parcels", "quiet")
@@ -199,13 +208,17 @@ def runs(hostile, program):
         served = line + ("Refused\n" if line.startswith("refused") else "Answered\n") + NO_THREAD
         yield Run(f"serve {job}", hostile, b"serve\n" + text, [served], (MEMORY + "Refused\n" + NO_THREAD, 0))
         yield Run(f"the program on {job}", program, text, [line], (MEMORY, 1), True)
+    for name, words, said in TEXTS:
+        with open(f"examples/text/{name}", "rb") as file, open(f"examples/text/{said}") as answer:
+            text, answer = file.read(), answer.read()
+        yield Run(f"dsa_text {' '.join(words)} of {name}", texts, text, [answer], (MEMORY, 1), True, words=words)
 
 
 def main():
     global SHARED
-    SHARED, hostile, program = map(os.path.abspath, sys.argv[1:4])
-    word = sys.argv[4] if len(sys.argv) > 4 else ""
-    chosen = [run for run in runs(hostile, program) if word in run.name]
+    SHARED, hostile, program, texts = map(os.path.abspath, sys.argv[1:5])
+    word = sys.argv[5] if len(sys.argv) > 5 else ""
+    chosen = [run for run in runs(hostile, program, texts) if word in run.name]
     with ThreadPoolExecutor(os.cpu_count()) as pool:
         done = list(pool.map(Run.all, chosen))
     faults = [fault for run in done for fault in run.faults]

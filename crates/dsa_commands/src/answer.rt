@@ -22,8 +22,8 @@ impl Answer {
         Answer { text, status: 0 }
     }
 
-    /// A refusal.
-    pub(crate) fn refused(text: String) -> Answer {
+    /// A refusal, which is one line.
+    pub fn refused(text: String) -> Answer {
         Answer { text, status: 1 }
     }
 

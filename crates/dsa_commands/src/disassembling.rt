@@ -56,6 +56,7 @@ fn push_entry(
     }
 }
 
+/// The refusal of an entry that is not listed.
 fn field_fault(index: usize, fault: FieldFault) -> PlanFault {
     PlanFault::List(ListFault::Field(index, fault))
 }
@@ -123,6 +124,7 @@ fn push_records(
                 let fault = EmissionFault::RecordBytes(number);
                 return Err(Stop::Fault(PlanFault::Emission(fault)));
             }
+            // An address of a staging area is at most 2^63, and no text is that long.
             let address = at.saturating_add(32u64.saturating_mul(index as u64));
             text.push_str(&format!(in alloc; "# record {number} at 0x{address:x}\n")?)?;
         }
@@ -163,8 +165,12 @@ pub fn disassemble_portal(alloc: Global, hex: &[u8]) -> Result<Answer, AllocErro
     }
 }
 
-/// The text of a staging area at an address, in hexadecimal: a line for each piece and each record.
+/// The text of a staging area at an address, in hexadecimal: a line for each piece and each record. The address is a
+/// multiple of 64 and at most 2^63, as that of settings is.
 pub fn disassemble_staging(alloc: Global, hex: &[u8], at: u64) -> Result<Answer, AllocError> {
+    if at % 64 != 0 || at > 1 << 63 {
+        return Answer::fault(alloc, PlanFault::Settings);
+    }
     match bytes_of(alloc, hex) {
         Ok(bytes) => answer_of(alloc, staging_text(alloc, &bytes, at)),
         Err(fault) => Answer::fault(alloc, fault),

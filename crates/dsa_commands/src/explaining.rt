@@ -1,14 +1,12 @@
 //! `explain`: what the plan of a text or a job does, in words or as a picture.
 
 use crate::answer::Answer;
-use crate::job::{Job, job_of};
 use dsa_cert::Certificate;
 use dsa_descriptor::{Descriptor, read_list};
 use dsa_explain::{MOST_ROWS, Origin, draw, explain, explanation_text};
 use dsa_listing::assemble;
 use dsa_plan::{Plan, Settings, read_emission};
 use dsa_planner::{PlanFault, check_bytes, judge_bytes, plan_list};
-use dsa_splitter::pieces;
 use std::alloc::{AllocError, Global};
 
 /// Of which operation each piece is.
@@ -19,10 +17,8 @@ fn origins_of(
 ) -> Result<Vec<Origin>, AllocError> {
     let mut origins = Vec::new(alloc);
     for (operation, d) in operations.iter().enumerate() {
-        let count = match pieces(alloc, [*d].as_slice(), settings) {
-            Ok(pieces) => pieces.len(),
-            Err(_) => 1,
-        };
+        // An operation of a planned list is split at each multiple of the greatest transfer.
+        let count = u64::from(d.size).div_ceil(settings.greatest_transfer().max(1)) as usize;
         for piece in 0..count {
             origins.push(Origin {
                 operation,
@@ -59,8 +55,8 @@ fn answer_plan(
     Ok(Answer::done(draw(alloc, &explanation, pieces, origins)?))
 }
 
-/// The answer of the plan of a list.
-fn answer_list(
+/// What the plan of least cost of a list does and why, in words, or as a picture where it is to be drawn.
+pub fn explain_list(
     alloc: Global,
     list: &[u8],
     settings: &Settings,
@@ -85,8 +81,21 @@ fn answer_list(
     )
 }
 
-/// The answer of a plan that is judged.
-fn answer_judge(
+/// What the plan of least cost of a text of operations does and why.
+pub fn explain_text(
+    alloc: Global,
+    text: &[u8],
+    settings: &Settings,
+    drawn: bool,
+) -> Result<Answer, AllocError> {
+    match assemble(alloc, text) {
+        Ok(list) => explain_list(alloc, &list, settings, drawn),
+        Err(fault) => Answer::text_fault(alloc, fault),
+    }
+}
+
+/// What a plan of listed pieces does and why, if it may be submitted.
+pub fn explain_judged(
     alloc: Global,
     list: &[u8],
     plan: &Plan,
@@ -102,8 +111,8 @@ fn answer_judge(
     }
 }
 
-/// The answer of a plan that is checked.
-fn answer_check(
+/// What the plan that a portal and a staging area submit does and why, if the certificate shows that none costs less.
+pub fn explain_checked(
     alloc: Global,
     portal: &[u8],
     staging: &[u8],
@@ -117,47 +126,5 @@ fn answer_check(
     match read_emission(alloc, portal, staging, settings) {
         Ok((plan, pieces)) => answer_plan(alloc, &plan, &pieces, [].as_slice(), settings, drawn),
         Err(fault) => Answer::fault(alloc, PlanFault::from(fault)),
-    }
-}
-
-/// The answer of a job.
-fn answer_job(alloc: Global, text: &[u8], drawn: bool) -> Result<Answer, AllocError> {
-    match job_of(alloc, text) {
-        Ok(Job::Plan(list, settings)) => answer_list(alloc, &list, &settings, drawn),
-        Ok(Job::Judge(list, plan, settings)) => {
-            answer_judge(alloc, &list, &plan, &settings, drawn)
-        }
-        Ok(Job::Check(portal, staging, certificate, settings)) => {
-            answer_check(alloc, &portal, &staging, &certificate, &settings, drawn)
-        }
-        Err(fault) => Answer::fault(alloc, fault),
-    }
-}
-
-/// The answer of a text of operations.
-fn answer_text(
-    alloc: Global,
-    text: &[u8],
-    settings: &Settings,
-    drawn: bool,
-) -> Result<Answer, AllocError> {
-    match assemble(alloc, text) {
-        Ok(list) => answer_list(alloc, &list, settings, drawn),
-        Err(fault) => Answer::text_fault(alloc, fault),
-    }
-}
-
-/// What a plan does and why, of a job, which begins with a brace, or of a text of operations under the settings; a
-/// picture where it is to be drawn.
-pub fn explain_input(
-    alloc: Global,
-    text: &[u8],
-    settings: &Settings,
-    drawn: bool,
-) -> Result<Answer, AllocError> {
-    if text.trim_ascii().first().copied() == Some(b'{') {
-        answer_job(alloc, text, drawn)
-    } else {
-        answer_text(alloc, text, settings, drawn)
     }
 }

@@ -6,13 +6,12 @@ mod assembling;
 mod bytes;
 mod disassembling;
 mod explaining;
-mod job;
 mod numbers;
 mod settings;
 
 pub use answer::Answer;
 pub use assembling::{assemble_job, assemble_list};
 pub use disassembling::{disassemble_list, disassemble_portal, disassemble_staging};
-pub use explaining::explain_input;
+pub use explaining::{explain_checked, explain_judged, explain_list, explain_text};
 pub use numbers::number_of;
 pub use settings::{SettingsWords, settings_of};

@@ -1,14 +1,17 @@
 //! Descriptors as text: `assemble`, `disassemble` and `explain`, from standard input to standard output.
 #![tactic(auto)]
 
+use clap::error::ErrorKind;
+use clap::parser::ValueSource;
 use clap::{Arg, ArgAction, ArgMatches, Command};
 use dsa_commands::{
     Answer, SettingsWords, assemble_job, assemble_list, disassemble_list, disassemble_portal,
-    disassemble_staging, explain_input, number_of, settings_of,
+    disassemble_staging, explain_checked, explain_judged, explain_list, explain_text, number_of,
+    settings_of,
 };
 use dsa_plan::Settings;
-use dsa_planner::PlanFault;
-use dsa_report::{Stop, read_text, write_line};
+use dsa_planner::{PlanFault, refusal_line};
+use dsa_report::{Job, Stop, read_job, read_text, write_line};
 use std::alloc::{AllocError, Global};
 use std::io;
 use std::process::ExitCode;
@@ -67,7 +70,9 @@ fn commands<'a>(alloc: Global) -> Result<Command<'a>, AllocError> {
         .about("Reads a list in hexadecimal, and writes its lines")
         .arg(flag(alloc, "portal", "read the entries of a portal"))?
         .arg(flag(alloc, "staging", "read a staging area").conflicts_with("portal")?)?
-        .arg(value(alloc, "at", "0x10000", "address of the staging area"))?;
+        .arg(value(alloc, "at", "0x10000", "address of the staging area").requires_arg(
+            "staging",
+        )?)?;
     let explain = Command::new(alloc, "explain")
         .about("Reads lines or a job to plan, judge or check, and tells what the plan does and why")
         .arg(flag(alloc, "svg", "draw the plan"))?;
@@ -77,6 +82,22 @@ fn commands<'a>(alloc: Global) -> Result<Command<'a>, AllocError> {
         .subcommand(with_settings(alloc, assemble)?)?
         .subcommand(disassemble)?
         .subcommand(with_settings(alloc, explain)?)
+}
+
+/// The names of the options of the settings.
+const SETTINGS: [&str; 7] = [
+    "greatest-batch",
+    "greatest-transfer",
+    "lone",
+    "batch",
+    "batches",
+    "fence",
+    "staging",
+];
+
+/// Whether some option of the settings was given.
+fn are_settings_given(matches: &ArgMatches<'_>) -> bool {
+    SETTINGS.iter().any(|name| matches.value_source(name) == Some(ValueSource::CommandLine))
 }
 
 /// The value of an option.
@@ -127,12 +148,38 @@ fn disassemble(alloc: Global, matches: &ArgMatches<'_>, text: &[u8]) -> Result<A
     }
 }
 
-/// What `explain` answers.
+/// What `explain` answers of a job: one to plan, to judge or to check.
+fn explain_job(alloc: Global, text: &[u8], drawn: bool) -> Result<Answer, AllocError> {
+    match read_job(alloc, text) {
+        Ok(Job::Plan(job)) => explain_list(alloc, &job.list, &job.settings, drawn),
+        Ok(Job::Judge(job)) => explain_judged(alloc, &job.list, &job.plan, &job.settings, drawn),
+        Ok(Job::Check(job)) => explain_checked(
+            alloc,
+            &job.portal,
+            &job.staging,
+            &job.certificate,
+            &job.settings,
+            drawn,
+        ),
+        Ok(Job::Replay(_)) | Ok(Job::Run(_)) => Answer::fault(alloc, PlanFault::Do),
+        Err(fault) => Answer::fault(alloc, fault),
+    }
+}
+
+/// What `explain` answers, of a job, which begins with a brace and has settings of its own, or of a text.
 fn explain(alloc: Global, matches: &ArgMatches<'_>, text: &[u8]) -> Result<Answer, AllocError> {
-    let Some(settings) = settings_in(alloc, matches)? else {
-        return Answer::fault(alloc, PlanFault::Settings);
-    };
-    explain_input(alloc, text, &settings, matches.get_flag("svg"))
+    let drawn = matches.get_flag("svg");
+    if text.trim_ascii().first().copied() == Some(b'{') {
+        if are_settings_given(matches) {
+            let line = "refused 92 Options: a job has settings of its own\n";
+            return Ok(Answer::refused(String::from_str(alloc, line)?));
+        }
+        return explain_job(alloc, text, drawn);
+    }
+    match settings_in(alloc, matches)? {
+        Some(settings) => explain_text(alloc, text, &settings, drawn),
+        None => Answer::fault(alloc, PlanFault::Settings),
+    }
 }
 
 /// What the command of the matches answers.
@@ -145,26 +192,66 @@ fn answer(alloc: Global, matches: &ArgMatches<'_>, text: &[u8]) -> Result<Answer
     }
 }
 
-/// Runs one command. The status is 0 for an answer and 1 for a refusal, which is one line; 2 where reading or writing
-/// failed, and for arguments that are none, whose message goes to standard error.
-fn main(rt: HostRuntime) -> anyhow::Result<ExitCode> {
+/// Writes the line of a refusal, which takes no memory, and ends.
+fn refuse(rt: &HostRuntime, fault: PlanFault) -> ExitCode {
+    let line = refusal_line(fault);
+    ended(rt, line.as_str(), 1)
+}
+
+/// Writes a text, and ends with a status, or with 2 where writing fails.
+fn ended(rt: &HostRuntime, text: &str, status: u8) -> ExitCode {
+    if write_line(&mut io::writer(rt), text.as_bytes()) {
+        ExitCode::from(status)
+    } else {
+        ExitCode::from(2)
+    }
+}
+
+/// Writes what the parser of the arguments says: to help with them, or why they are none.
+fn show(rt: &HostRuntime, error: &clap::Error) -> Result<ExitCode, AllocError> {
+    if error.kind() == ErrorKind::OutOfMemory {
+        return Err(AllocError);
+    }
+    match error.print(rt) {
+        Ok(()) => Ok(ExitCode::from(error.exit_code() as u8)),
+        Err(_) => Ok(ExitCode::from(2)),
+    }
+}
+
+/// The arguments; none where they are no text.
+fn arguments(rt: &HostRuntime) -> Result<Option<Vec<String>>, AllocError> {
+    match std::env::args(rt) {
+        Ok(words) => Ok(Some(words.collect(rt.alloc())?)),
+        Err(error) if error.kind() == io::ErrorKind::OutOfMemory => Err(AllocError),
+        Err(_) => Ok(None),
+    }
+}
+
+/// Runs one command.
+fn run(rt: &HostRuntime) -> Result<ExitCode, AllocError> {
     let alloc = rt.alloc();
-    let words: Vec<String> = std::env::args(&rt)?.collect(alloc)?;
+    let Some(words) = arguments(rt)? else {
+        return Ok(ExitCode::from(2));
+    };
     let matches = match commands(alloc)?.try_get_matches_from(words.as_slice()) {
         Ok(matches) => matches,
-        Err(error) => {
-            error.print(&rt)?;
-            return Ok(ExitCode::from(error.exit_code() as u8));
+        Err(error) => return show(rt, &error),
+    };
+    match read_text(alloc, &mut rt.reader()) {
+        Ok(text) => {
+            let answer = answer(alloc, &matches, &text)?;
+            Ok(ended(rt, &answer.text, answer.status))
         }
-    };
-    let answer = match read_text(alloc, &mut rt.reader()) {
-        Ok(text) => answer(alloc, &matches, &text)?,
-        Err(Stop::Refusal(fault)) => Answer::fault(alloc, fault)?,
-        Err(Stop::Fault) => return Ok(ExitCode::from(2)),
-    };
-    if write_line(&mut io::writer(&rt), answer.text.as_bytes()) {
-        Ok(ExitCode::from(answer.status))
-    } else {
-        Ok(ExitCode::from(2))
+        Err(Stop::Refusal(fault)) => Ok(refuse(rt, fault)),
+        Err(Stop::Fault) => Ok(ExitCode::from(2)),
+    }
+}
+
+/// Runs one command. The status is 0 for an answer and 1 for a refusal, which is one line; 2 where reading or writing
+/// failed, and for arguments that are none, whose message goes to standard error.
+fn main(rt: HostRuntime) -> ExitCode {
+    match run(&rt) {
+        Ok(code) => code,
+        Err(AllocError) => refuse(&rt, PlanFault::Memory),
     }
 }

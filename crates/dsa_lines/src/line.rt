@@ -20,6 +20,7 @@ pub(crate) struct Line {
 }
 
 impl Line {
+    /// The code of an operation.
     fn code(&self) -> u8
         ensures { result ≡ code_of self.now.op }
     {
@@ -33,6 +34,7 @@ impl Line {
         }
     }
 
+    /// What stands at the bytes 16 and 24.
     fn first_fields(&self) -> (u64, u64)
         ensures first { result.0 ≡ first_field self.now.op }
         ensures second { result.1 ≡ second_field self.now.op }
@@ -47,6 +49,7 @@ impl Line {
         }
     }
 
+    /// Writes what an operation has from byte 40 on.
     fn put_own_bytes(&self, bytes: &mut [u8])
         requires { length bytes.old ≡ 24 }
         ensures { bytes.new ≡ own_bytes self.now.op ++ drop (own_len self.now.op) bytes.old }
@@ -63,6 +66,7 @@ impl Line {
         }
     }
 
+    /// The first four bytes: the PASID and the privilege.
     fn owner_word(&self) -> u32
         requires { self.now.pasid < 2 ^ 20 }
         ensures { result ≡ owner_word (view self.now) }
@@ -74,6 +78,7 @@ impl Line {
         }
     }
 
+    /// The second four bytes: the flags and the operation code.
     fn operation_word(&self) -> u32
         requires { self.now.flags < 2 ^ 16 }
         ensures { result ≡ operation_word (view self.now) }

@@ -32,6 +32,7 @@ pub(crate) struct Options {
 }
 
 impl Options {
+    /// No option.
     fn none() -> Options
         ensures { result ≡ no_options }
     {
@@ -44,6 +45,7 @@ impl Options {
         }
     }
 
+    /// The PASID, 0 if there is none.
     pub(crate) fn pasid_or_zero(self) -> u32
         ensures { result ≡ or_zero self.pasid }
     {
@@ -53,6 +55,7 @@ impl Options {
         }
     }
 
+    /// The handle, 0 if there is none.
     pub(crate) fn handle_or_zero(self) -> u16
         ensures { result ≡ or_zero self.handle }
     {
@@ -62,6 +65,7 @@ impl Options {
         }
     }
 
+    /// The flags that the options stand for.
     fn carried(self) -> u16
         ensures { result ≡ or_zero self.flags }
     {

@@ -109,6 +109,7 @@ pub fn line_bytes(text: &[u8]) -> Result<Option<[u8; 64]>, (usize, Expected)>
     }
 }
 
+/// The descriptor that a line with words spells.
 fn descriptor_of(text: &[u8]) -> Result<Descriptor, LineFault>
     ensures gives { Answers (fields_of (words_of text.now)) result }
     ensures only { (d : Descriptor) → Spells text.now (fields d) → result ≡ Ok d }

@@ -4,12 +4,14 @@ ghost use Rattle.std.specs.Prelude.{◌≡◌, ◌<◌, ◌≤◌, ◌↔◌, le
 ghost use Rattle.dsa_lines.specs.Words.{is_in_word, is_blank, begins_blank, word_len, words_in, words_of};
 ghost use Rattle.dsa_lines.specs.Views.{first_word};
 
+/// Whether the byte parts words.
 fn is_blank(byte: u8) -> bool
     ensures { result ≡ is_blank byte }
 {
     byte == b' ' || byte == b'\t' || byte == b'\r'
 }
 
+/// Whether the byte is of a word.
 fn is_in_word(byte: u8) -> bool
     ensures { result ≡ is_in_word byte }
 {

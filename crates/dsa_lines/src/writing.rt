@@ -10,6 +10,7 @@ ghost use Rattle.dsa_lines.specs.Text.{text_of, tail_text, spaced, op_words, num
 use dsa_descriptor::{Descriptor, Op};
 use std::alloc::{AllocError, Global};
 
+/// The text of a move.
 fn move_text(alloc: Global, src: u64, dst: u64, size: u32) -> Result<String, AllocError>
     ensures { IfOk result (λ s. string_bytes s ≡ text_of (op_words (Move src dst) size)) }
 {
@@ -49,12 +50,14 @@ fn push_expected(alloc: Global, line: &mut String, expected: u8) -> Result<(), A
     line.push_str(&text)
 }
 
+/// The text of a fill up to its pattern.
 fn fill_front(alloc: Global, dst: u64) -> Result<String, AllocError>
     ensures { IfOk result (λ s. string_bytes s ≡ codes "fill " ++ (hex dst ++ codes " with ")) }
 {
     format!(in alloc; "fill 0x{dst:x} with ")
 }
 
+/// The text of a fill.
 fn fill_text(alloc: Global, pattern: u64, dst: u64, size: u32) -> Result<String, AllocError>
     ensures { IfOk result (λ s. string_bytes s ≡ text_of (op_words (Fill pattern dst) size)) }
 {
@@ -64,6 +67,7 @@ fn fill_text(alloc: Global, pattern: u64, dst: u64, size: u32) -> Result<String,
     Ok(line)
 }
 
+/// The text of a compare up to its size.
 fn compare_front(alloc: Global, src: u64, src2: u64) -> Result<String, AllocError>
     ensures { IfOk result (λ s. string_bytes s ≡ codes "compare " ++
         (hex src ++ (codes " with " ++ hex src2))) }
@@ -71,6 +75,7 @@ fn compare_front(alloc: Global, src: u64, src2: u64) -> Result<String, AllocErro
     format!(in alloc; "compare 0x{src:x} with 0x{src2:x}")
 }
 
+/// The text of a compare.
 fn compare_text(
     alloc: Global,
     src: u64,
@@ -87,6 +92,7 @@ fn compare_text(
     Ok(line)
 }
 
+/// The text of a compare with a pattern up to the pattern.
 fn compare_pattern_front(alloc: Global, src: u64) -> Result<String, AllocError>
     ensures { IfOk result (λ s. string_bytes s ≡ codes "compare " ++
         (hex src ++ codes " with pattern ")) }
@@ -94,6 +100,7 @@ fn compare_pattern_front(alloc: Global, src: u64) -> Result<String, AllocError>
     format!(in alloc; "compare 0x{src:x} with pattern ")
 }
 
+/// The text of a compare with a pattern.
 fn compare_pattern_text(
     alloc: Global,
     src: u64,
@@ -111,6 +118,7 @@ fn compare_pattern_text(
     Ok(line)
 }
 
+/// The text of a delta up to the size of its destination.
 fn delta_front(alloc: Global, delta: u64, dst: u64, record_size: u32) -> Result<String, AllocError>
     ensures { IfOk result (λ s. string_bytes s ≡ codes "delta " ++
         (hex delta ++ (codes ", " ++ (decimal record_size ++ (codes " bytes -> " ++ hex dst))))) }
@@ -118,6 +126,7 @@ fn delta_front(alloc: Global, delta: u64, dst: u64, record_size: u32) -> Result<
     format!(in alloc; "delta 0x{delta:x}, {record_size} bytes -> 0x{dst:x}")
 }
 
+/// The text of a delta.
 fn delta_text(
     alloc: Global,
     delta: u64,
@@ -133,6 +142,7 @@ fn delta_text(
     Ok(line)
 }
 
+/// The text of a dualcast up to its size.
 fn dualcast_front(alloc: Global, src: u64, dst: u64, dst2: u64) -> Result<String, AllocError>
     ensures { IfOk result (λ s. string_bytes s ≡ codes "dualcast " ++
         (hex src ++ (codes " -> " ++ (hex dst ++ (codes " and " ++ hex dst2))))) }
@@ -140,6 +150,7 @@ fn dualcast_front(alloc: Global, src: u64, dst: u64, dst2: u64) -> Result<String
     format!(in alloc; "dualcast 0x{src:x} -> 0x{dst:x} and 0x{dst2:x}")
 }
 
+/// The text of a dualcast.
 fn dualcast_text(
     alloc: Global,
     src: u64,

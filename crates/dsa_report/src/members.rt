@@ -55,7 +55,7 @@ pub(crate) fn members_at(
     Ok(members_with(value, name, settings, plan))
 }
 
-// The same, with these settings and this plan.
+/// The same, with these settings and this plan.
 fn members_with(value: &Value, name: JobName, settings: Numbers, plan: Plan) -> Option<Members<'_>>
     requires named { HasName (view value.now) name }
     requires settings { get (codes "settings") (view value.now) ≡
@@ -80,7 +80,7 @@ fn members_with(value: &Value, name: JobName, settings: Numbers, plan: Plan) -> 
     })
 }
 
-// Whether the value is an object with the members of such a job, and with no other.
+/// Whether the value is an object with the members of such a job, and with no other.
 fn has_members(value: &Value, name: JobName) -> bool
     ensures { IsTrue result ↔ (option_map member_names
         (as_object (view value.now)) ≡ Some (map member_name (members_of name))) }
@@ -100,8 +100,9 @@ fn has_members(value: &Value, name: JobName) -> bool
     }
 }
 
-// Each member, where a job of this name has it; and what is empty, where it does not.
+// Each member, where a job of this name has it; else what is empty, which nothing looks at.
 
+/// The value of the certificate, of a job that has one.
 fn certificate_of_job(value: &Value, name: JobName) -> Option<&Value>
     ensures { ReadsIf (has name the_certificate) (codes "certificate") (λ d. d) (λ found. view found.now)
         (view value.now) result }
@@ -112,6 +113,7 @@ fn certificate_of_job(value: &Value, name: JobName) -> Option<&Value>
     }
 }
 
+/// The number of engines, of a job that has one.
 fn engines_of_job(value: &Value, name: JobName) -> Option<u64>
     ensures { ReadsIf (has name the_engines) (codes "engines") whole (λ n. n)
         (view value.now) result }
@@ -122,6 +124,7 @@ fn engines_of_job(value: &Value, name: JobName) -> Option<u64>
     }
 }
 
+/// The image, of a job that has one.
 fn image_of_job(value: &Value, name: JobName) -> Option<ImageMembers<'_>>
     ensures { ReadsIf (has name the_image) (codes "image") image_value image_shown
         (view value.now) result }
@@ -135,6 +138,7 @@ fn image_of_job(value: &Value, name: JobName) -> Option<ImageMembers<'_>>
     }
 }
 
+/// The text of the list, of a job that has one.
 fn list_of_job(value: &Value, name: JobName) -> Option<&str>
     ensures { ReadsIf (has name the_list) (codes "list") string (λ text. text.now)
         (view value.now) result }
@@ -145,6 +149,7 @@ fn list_of_job(value: &Value, name: JobName) -> Option<&str>
     }
 }
 
+/// The plan, of a job that has one.
 fn plan_of_job(alloc: Global, value: &Value, name: JobName) -> Result<Option<Plan>, AllocError>
     ensures { IfOk result (ReadsIf (has name the_plan) (codes "plan") plan_value
         (λ plan. plan) (view value.now)) }
@@ -157,6 +162,7 @@ fn plan_of_job(alloc: Global, value: &Value, name: JobName) -> Result<Option<Pla
     }
 }
 
+/// The text of the portal, of a job that has one.
 fn portal_of_job(value: &Value, name: JobName) -> Option<&str>
     ensures { ReadsIf (has name the_portal) (codes "portal") string (λ text. text.now)
         (view value.now) result }
@@ -167,6 +173,7 @@ fn portal_of_job(value: &Value, name: JobName) -> Option<&str>
     }
 }
 
+/// The text of the staging area, of a job that has one.
 fn staging_of_job(value: &Value, name: JobName) -> Option<&str>
     ensures { ReadsIf (has name the_staging) (codes "staging") string (λ text. text.now)
         (view value.now) result }
@@ -177,6 +184,7 @@ fn staging_of_job(value: &Value, name: JobName) -> Option<&str>
     }
 }
 
+/// The value of the trace, of a job that has one.
 fn trace_of_job(value: &Value, name: JobName) -> Option<&Value>
     ensures { ReadsIf (has name the_trace) (codes "trace") (λ d. d) (λ found. view found.now)
         (view value.now) result }

@@ -34,6 +34,7 @@ pub(crate) struct Turns<'a, R> {
 }
 
 impl<'a, R: Read> Turns<'a, R> {
+    /// A reader with all of its turns.
     pub(crate) fn new(reader: &'a mut R) -> Turns<'a, R>
         ensures same_reader { result.reader.ghost_name ≡ reader.entry.ghost_name }
         ensures reader { result.reader.now ≡ reader.old }

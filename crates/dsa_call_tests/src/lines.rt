@@ -1,6 +1,7 @@
 use dsa_descriptor::{FieldFault, Op};
 use dsa_lines::{
-    Expected, LineFault, canonical_line_spells, line_bytes, line_of, parse_line, spells_one,
+    Expected, LineFault, canonical_line_spells, line_bytes, line_of, one_line_no_newline,
+    one_line_one_descriptor, parse_line, spells_one,
 };
 use std::test::Fail;
 

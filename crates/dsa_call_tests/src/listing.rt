@@ -1,6 +1,8 @@
 use dsa_descriptor::{FieldFault, ListFault};
 use dsa_lines::Expected;
-use dsa_listing::{TextFault, assemble, canonical_text_spells, disassemble, text_spells_one};
+use dsa_listing::{
+    TextFault, assemble, canonical_text_spells, disassemble, one_text_one_list, text_spells_one,
+};
 use std::test::Fail;
 
 /// Two moves, with a comment, an empty line and a line of blanks between.

@@ -298,19 +298,20 @@ fn prices_by_size(rt: HostRuntime) -> Result<(), Fail> {
 }
 
 /// Moves of so many pieces, no two of which conflict.
-fn apart(alloc: Global, count: u64) -> Result<Vec<(u64, u64)>, AllocError> {
+fn apart(alloc: Global, count: u8) -> Result<Vec<(u64, u64)>, AllocError> {
     let mut moves = Vec::new(alloc);
     for piece in 0..count {
-        moves.push((0x10_0000 + 64 * piece, 0x20_0000 + 64 * piece))?;
+        let offset = 64 * u64::from(piece);
+        moves.push((0x10_0000 + offset, 0x20_0000 + offset))?;
     }
     Ok(moves)
 }
 
 /// Moves of so many pieces to one address.
-fn all_meeting(alloc: Global, count: u64) -> Result<Vec<(u64, u64)>, AllocError> {
+fn all_meeting(alloc: Global, count: u8) -> Result<Vec<(u64, u64)>, AllocError> {
     let mut moves = Vec::new(alloc);
     for piece in 0..count {
-        moves.push((0x10_0000 + 64 * piece, 0x20_0000))?;
+        moves.push((0x10_0000 + 64 * u64::from(piece), 0x20_0000))?;
     }
     Ok(moves)
 }

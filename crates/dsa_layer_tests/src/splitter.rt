@@ -131,10 +131,11 @@ fn run_split(
     d: &Descriptor,
     settings: &Settings,
 ) -> Result<bool, Fail> {
-    let parts = pieces(alloc, &[*d], settings)?;
-    match image.holds_all(&parts) {
+    let list = pieces(alloc, &[*d], settings)?;
+    let parts = list.as_slice();
+    match image.holds_all(parts) {
         Ok(()) => {
-            image.execute_list(&parts);
+            image.execute_list(parts);
             Ok(true)
         }
         Err(_) => Ok(false),

@@ -86,6 +86,10 @@ sed 's/"list": *"/&0 /' examples/plan.job | refused 1 'refused 84 Hex' explain
 printf '' | refused 1 'refused 83 Settings' disassemble --staging --at 0x10001
 printf '' | refused 1 'refused 83 Settings' disassemble --staging --at 0x8000000000000040
 refused 2 '' disassemble --at 0x10000 < /dev/null
+refused 2 '' disassemble --portal --at 0x10000 < /dev/null
+refused 2 '' explain --batch 14 --batches 5 --greatest-batch 2 < /dev/null
+printf 'compare 1 with patern 2, 8 bytes\n' \
+    | refused 1 'refused 90 Line 1, column 16: expected a number below 2^64, or pattern' assemble
 refused 2 '' assemble --wrong < /dev/null
 awk 'BEGIN { for (i = 0; i < 1025; i++) printf "move 0 -> 4096, 64 bytes, record 8192\n" }' \
     | refused 1 'refused 91 Picture: 1025 groups, and 1024 at most' explain --svg --lone 0

@@ -40,6 +40,7 @@ fn with_settings<'a>(alloc: Global, command: Command<'a>) -> Result<Command<'a>,
         .long("batches")
         .value_name("N,N,..")
         .action(ArgAction::Set)
+        .conflicts_with("batch")?
         .help("prices of batches by their size, from 2 pieces on, in place of --batch");
     command
         .arg(value(
@@ -66,13 +67,14 @@ fn commands<'a>(alloc: Global) -> Result<Command<'a>, AllocError> {
     let assemble = Command::new(alloc, "assemble")
         .about("Reads lines of operations, and writes their list in hexadecimal")
         .arg(flag(alloc, "job", "write a whole job to plan the list"))?;
+    let at = value(alloc, "at", "0x10000", "address of the staging area")
+        .requires_arg("staging")?
+        .conflicts_with("portal")?;
     let disassemble = Command::new(alloc, "disassemble")
         .about("Reads a list in hexadecimal, and writes its lines")
         .arg(flag(alloc, "portal", "read the entries of a portal"))?
         .arg(flag(alloc, "staging", "read a staging area").conflicts_with("portal")?)?
-        .arg(value(alloc, "at", "0x10000", "address of the staging area").requires_arg(
-            "staging",
-        )?)?;
+        .arg(at)?;
     let explain = Command::new(alloc, "explain")
         .about("Reads lines or a job to plan, judge or check, and tells what the plan does and why")
         .arg(flag(alloc, "svg", "draw the plan"))?;
@@ -248,7 +250,7 @@ fn run(rt: &HostRuntime) -> Result<ExitCode, AllocError> {
 }
 
 /// Runs one command. The status is 0 for an answer and 1 for a refusal, which is one line; 2 where reading or writing
-/// failed, and for arguments that are none, whose message goes to standard error.
+/// failed, and for arguments that are none: of those that are text, a message on standard error says why.
 fn main(rt: HostRuntime) -> ExitCode {
     match run(&rt) {
         Ok(code) => code,

@@ -104,8 +104,8 @@ fn has_members(value: &Value, name: JobName) -> bool
 
 /// The value of the certificate, of a job that has one.
 fn certificate_of_job(value: &Value, name: JobName) -> Option<&Value>
-    ensures { ReadsIf (has name the_certificate) (codes "certificate") (λ d. d) (λ found. view found.now)
-        (view value.now) result }
+    ensures { ReadsIf (has name the_certificate) (codes "certificate")
+        (λ d. d) (λ found. view found.now) (view value.now) result }
 {
     match name {
         JobName::Check => value.get("certificate"),

@@ -2,7 +2,7 @@
 use Rattle.std.proofs.Common.{List, ℕ, ◌≡◌, ◌⊎◌, ◌<◌, Ok, Err, inl, inr, length, map, ap, subst, ◌∙◌, arith}
 use Rattle.dsa_descriptor.specs.Descriptors.{fields}
 use Rattle.dsa_ranges.specs.Ranges.{ConflictAt}
-use Rattle.dsa_plan.specs.Settings.{Limits, prices_of}
+use Rattle.dsa_plan.specs.Settings.{Limits, tariff_of}
 use Rattle.dsa_plan.specs.Legal.{IsLeast}
 use Rattle.dsa_plan.specs.Certificate.{IsGood}
 use Rattle.dsa_cert.specs.Document.{Contents}
@@ -22,15 +22,15 @@ use Rattle.dsa_c.specs.Planning.{IsPlannedFor, Refuses}
 
 -- what planning answers under the settings that the numbers are
 pub planned_for : (s : RawSettings) (table list : List ℕ) (l : Limits) (p : Submission) → l ≡ limits_of s table → AreSettings s table → Plans list l (Ok p)
-    → IsLeast (ConflictAt (map fields p.pieces)) (prices_of l) (length p.pieces) p.plan
-    → IsGood (ConflictAt (map fields p.pieces)) (prices_of l) (length p.pieces) p.certificate.prices p.certificate.pairs p.cost
+    → IsLeast (ConflictAt (map fields p.pieces)) l.greatest_batch (tariff_of l) (length p.pieces) p.plan
+    → IsGood (ConflictAt (map fields p.pieces)) l.greatest_batch (tariff_of l) (length p.pieces) p.certificate.prices p.certificate.pairs p.cost
     → Checks p.portal p.staging l p.certificate (Ok p.cost) → IsPlannedFor s table list p
 planned_for s table list l p is are planned least good checks =
     record {
       settings = are;
       planned = subst (λ (x : Limits). Plans list x (Ok p)) is planned;
-      least = subst (λ (x : Limits). IsLeast (ConflictAt (map fields p.pieces)) (prices_of x) (length p.pieces) p.plan) is least;
-      good = subst (λ (x : Limits). IsGood (ConflictAt (map fields p.pieces)) (prices_of x) (length p.pieces) p.certificate.prices p.certificate.pairs p.cost) is good;
+      least = subst (λ (x : Limits). IsLeast (ConflictAt (map fields p.pieces)) x.greatest_batch (tariff_of x) (length p.pieces) p.plan) is least;
+      good = subst (λ (x : Limits). IsGood (ConflictAt (map fields p.pieces)) x.greatest_batch (tariff_of x) (length p.pieces) p.certificate.prices p.certificate.pairs p.cost) is good;
       checks = subst (λ (x : Limits). Checks p.portal p.staging x p.certificate (Ok p.cost)) is checks;
     }
 

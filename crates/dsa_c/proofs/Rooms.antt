@@ -14,7 +14,7 @@ use Rattle.dsa_descriptor.proofs.Entries.{chunks_spelt, length-list_spelling}
 use Rattle.dsa_image.specs.Lines.{quotient_up}
 use Rattle.dsa_ranges.specs.Ranges.{ConflictAt}
 use Rattle.dsa_plan.specs.Plan.{Plan, Group, piece_count}
-use Rattle.dsa_plan.specs.Settings.{Limits, prices_of}
+use Rattle.dsa_plan.specs.Settings.{Limits}
 use Rattle.dsa_plan.specs.Legal.{IsLegal}
 use Rattle.dsa_plan.specs.Emission.{is_batch, batched, batch_count, batched_count, CanBeEmitted}
 use Rattle.dsa_plan.specs.EmissionLaws.{StandsAtPlaces}

@@ -4,7 +4,7 @@ use Rattle.dsa_descriptor.specs.declared.descriptor.Descriptor.{Descriptor}
 use Rattle.dsa_descriptor.specs.Descriptors.{fields}
 use Rattle.dsa_ranges.specs.Ranges.{ConflictAt}
 use Rattle.dsa_plan.specs.Plan.{Plan}
-use Rattle.dsa_plan.specs.Settings.{prices_of}
+use Rattle.dsa_plan.specs.Settings.{tariff_of}
 use Rattle.dsa_plan.specs.Legal.{IsLeast}
 use Rattle.dsa_plan.specs.EmissionFaults.{IsEmission}
 use Rattle.dsa_cert.specs.Document.{Contents}
@@ -19,7 +19,9 @@ use Rattle.dsa_c.specs.Raw.{limits_of, AreSettings, refusal_of}
 pub record IsCheckedCost (s : RawSettings) (table portal staging : List ℕ) (c : Contents) (cost : ℕ) : Type 0 where
   pub settings : AreSettings s table
   pub checks : Checks portal staging (limits_of s table) c (Ok cost)
-  pub least : (plan : Plan) (ds : List Descriptor) → IsEmission (limits_of s table) portal staging plan ds → IsLeast (ConflictAt (map fields ds)) (prices_of (limits_of s table)) (length ds) plan
+  pub least :
+      (plan : Plan) (ds : List Descriptor) → IsEmission (limits_of s table) portal staging plan ds →
+      IsLeast (ConflictAt (map fields ds)) (limits_of s table).greatest_batch (tariff_of (limits_of s table)) (length ds) plan
 
 -- why checking refuses: the numbers are no settings, an allocation failed, or checking answers this fault
 abbrev pub RefusesCheck : RawSettings → List ℕ → List ℕ → List ℕ → Contents → RawRefusal → Type 0

@@ -2,7 +2,7 @@
 use Rattle.std.specs.Prelude.{◌≡◌, ◌⊎◌, ℕ, ◌+◌, ◌≤◌, List, length, map, Ok, Err}
 use Rattle.dsa_descriptor.specs.Descriptors.{fields}
 use Rattle.dsa_ranges.specs.Ranges.{ConflictAt}
-use Rattle.dsa_plan.specs.Settings.{prices_of}
+use Rattle.dsa_plan.specs.Settings.{tariff_of}
 use Rattle.dsa_plan.specs.Legal.{IsLeast}
 use Rattle.dsa_plan.specs.Certificate.{IsGood}
 use Rattle.dsa_marks.specs.Marks.{marks_of}
@@ -22,8 +22,12 @@ use Rattle.dsa_c.specs.Certificates.{raw_pair_of}
 pub record IsPlannedFor (s : RawSettings) (table list : List ℕ) (p : Submission) : Type 0 where
   pub settings : AreSettings s table
   pub planned : Plans list (limits_of s table) (Ok p)
-  pub least : IsLeast (ConflictAt (map fields p.pieces)) (prices_of (limits_of s table)) (length p.pieces) p.plan
-  pub good : IsGood (ConflictAt (map fields p.pieces)) (prices_of (limits_of s table)) (length p.pieces) p.certificate.prices p.certificate.pairs p.cost
+  pub least :
+      IsLeast (ConflictAt (map fields p.pieces)) (limits_of s table).greatest_batch (tariff_of (limits_of s table))
+      (length p.pieces) p.plan
+  pub good :
+      IsGood (ConflictAt (map fields p.pieces)) (limits_of s table).greatest_batch (tariff_of (limits_of s table))
+      (length p.pieces) p.certificate.prices p.certificate.pairs p.cost
   pub checks : Checks p.portal p.staging (limits_of s table) p.certificate (Ok p.cost)
 
 -- the cost, the number of pieces, and how many bytes are written

@@ -6,7 +6,7 @@ use Rattle.std.proofs.Math.Nat.{mul-add}
 use Rattle.dsa_plan.specs.Chain.{Pairs, GoForward, LeadsTo, IsLastBelow, HasCountBelow}
 use Rattle.dsa_plan.proofs.Chains.{LeadsTo-same}
 use Rattle.dsa_plan.specs.Plan.{price_of}
-use Rattle.dsa_plan.specs.Settings.{sized_prices}
+use Rattle.dsa_plan.specs.Settings.{sized_tariff}
 use Rattle.dsa_plan.proofs.Fences.{price_of-batch}
 use Rattle.dsa_checker.specs.Steps.{StepHolds}
 use Rattle.dsa_checker.specs.Blocks.{place, HasRows, IsFilled, IsRowOf, AreChains}
@@ -110,14 +110,14 @@ module _ (pairs : Pairs) (prices : List ℕ) (fence first past : ℕ) (rows last
         (last_led pairs piece next past (slice_index counts (next - first)) (slice_index lasts (next - first)) leads (filled.each.last next begun inside))
 
 -- a step to an end whose price, less some of the chain's fences, is low enough for the others
-pub step_by_row : (lone fence : ℕ) (table : List ℕ) (pairs : Pairs) (costs : List ℕ) (n : ℕ) → GoForward pairs → (start end count more most row : ℕ) → start + 2 ≤ end
-    → HasCountBelow pairs start end (count + more) → row ≡ slice_index costs end - fence * more → row ≤ most + slice_index table (end - start - 2)
-    → most ≤ slice_index costs start + fence * count → StepHolds (sized_prices lone fence table) pairs costs start end
-step_by_row lone fence table pairs costs n forward start end count more most row far counted is within low =
+pub step_by_row : (lone fence : ℕ) (table : List ℕ) (pairs : Pairs) (prices : List ℕ) (n : ℕ) → GoForward pairs → (start end count more most row : ℕ) → start + 2 ≤ end
+    → HasCountBelow pairs start end (count + more) → row ≡ slice_index prices end - fence * more → row ≤ most + slice_index table (end - start - 2)
+    → most ≤ slice_index prices start + fence * count → StepHolds (sized_tariff lone fence table) pairs prices start end
+step_by_row lone fence table pairs prices n forward start end count more most row far counted is within low =
     let split : fence * (count + more) ≡ fence * count + fence * more = mul-add fence count more in
-    let price : price_of (sized_prices lone fence table) (end - start) (count + more) ≡ slice_index table (end - start - 2) + fence * (count + more) =
-    price_of-batch (sized_prices lone fence table) (end - start) (count + more) (omega arith) in
-    step_by_count (sized_prices lone fence table) pairs costs n forward start end (count + more) counted (omega (arith, split, price, is, within, low))
+    let price : price_of (sized_tariff lone fence table) (end - start) (count + more) ≡ slice_index table (end - start - 2) + fence * (count + more) =
+    price_of-batch (sized_tariff lone fence table) (end - start) (count + more) (omega arith) in
+    step_by_count (sized_tariff lone fence table) pairs prices n forward start end (count + more) counted (omega (arith, split, price, is, within, low))
 
 -- ---- chains at their places
 

@@ -3,12 +3,12 @@ use Rattle.std.specs.Prelude.{ℕ, ◌+◌, ◌-◌, ◌<◌, ◌≤◌, List, s
 
 -- no end from one to before another has a price above this and that of a batch of the pieces from `start` on
 abbrev pub AreWithin : List ℕ → List ℕ → ℕ → ℕ → ℕ → ℕ → Type 0
-AreWithin costs table start from to most =
-    (k : ℕ) → from ≤ k → k < to → slice_index costs k ≤ most + slice_index table (k - start - 2)
+AreWithin prices table start from to most =
+    (k : ℕ) → from ≤ k → k < to → slice_index prices k ≤ most + slice_index table (k - start - 2)
 
 -- this end is the first with one
-pub record IsFirstAbove (costs table : List ℕ) (start from to most end : ℕ) : Type 0 where
+pub record IsFirstAbove (prices table : List ℕ) (start from to most end : ℕ) : Type 0 where
   pub low : from ≤ end
   pub high : end < to
-  pub above : most + slice_index table (end - start - 2) < slice_index costs end
-  pub before : AreWithin costs table start from end most
+  pub above : most + slice_index table (end - start - 2) < slice_index prices end
+  pub before : AreWithin prices table start from end most

@@ -2,7 +2,7 @@
 
 ghost use Rattle.std.specs.Prelude.{◌≡◌, ◌⊎◌, ℕ, ◌+◌, ◌-◌, ◌^◌, ◌<◌, ◌≤◌, max, List, length, slice_index, IsTrue, IfSome};
 ghost use Rattle.dsa_plan.specs.Chain.{GoForward, LeadsTo, IsLastBelow};
-ghost use Rattle.dsa_plan.specs.Settings.{sized_prices};
+ghost use Rattle.dsa_plan.specs.Settings.{sized_tariff};
 ghost use Rattle.dsa_checker.specs.Steps.{HoldsWithin};
 ghost use Rattle.dsa_checker.specs.Blocks.{place, HasRows, IsFilled, IsRowOf};
 
@@ -202,7 +202,8 @@ pub(crate) fn look(
     requires rows { IsFilled pairs.now prices.now fence first past block.now.rows block.now.lasts
         block.now.counts }
     requires chain { IsLastBelow pairs.now start (max first (start + 1)) chain.1 chain.0 }
-    ensures held { IfSome result (λ _. HoldsWithin (sized_prices lone fence table.now)
+    ensures held { IfSome result
+        (λ _. HoldsWithin (length table.now + 1) (sized_tariff lone fence table.now)
         (length pairs.now) pairs.now prices.now first past start) }
     ensures chain { IfSome result (λ chain. IsLastBelow pairs.now start past chain.1 chain.0) }
 {

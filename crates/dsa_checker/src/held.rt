@@ -2,7 +2,7 @@
 
 ghost use Rattle.std.specs.Prelude.{◌≡◌, ℕ, ◌+◌, ◌-◌, ◌%◌, ◌^◌, ◌<◌, ◌≤◌, length, slice_index, IsTrue};
 ghost use Rattle.dsa_plan.specs.Chain.{GoForward, IsLastBelow};
-ghost use Rattle.dsa_plan.specs.Settings.{sized_prices};
+ghost use Rattle.dsa_plan.specs.Settings.{sized_tariff};
 ghost use Rattle.dsa_checker.specs.Steps.{HoldsWithin, StepsHoldFrom};
 ghost use Rattle.dsa_checker.specs.Blocks.{IsFilled, AreChains};
 
@@ -63,8 +63,8 @@ fn block_holds(
     requires chains { AreChains pairs.now (first - length table.now) first first
         chains.old.fences chains.old.pieces }
     ensures held { IsTrue result → (i : ℕ) → first - length table.now ≤ i → i < past →
-        HoldsWithin (sized_prices lone fence table.now) (length pairs.now) pairs.now prices.now
-        first past i }
+        HoldsWithin (length table.now + 1) (sized_tariff lone fence table.now)
+        (length pairs.now) pairs.now prices.now first past i }
     ensures chains { IsTrue result → AreChains pairs.now (first - length table.now) past past
         chains.new.fences chains.new.pieces }
 {
@@ -108,7 +108,8 @@ pub(crate) fn held_starts(
     requires sizes { length table.now ≤ 1023 }
     ensures inside { result ≤ length pairs.now }
     ensures held { (i : ℕ) → i < result → StepsHoldFrom
-        (sized_prices lone fence table.now) (length pairs.now) pairs.now prices.now i }
+        (length table.now + 1) (sized_tariff lone fence table.now)
+        (length pairs.now) pairs.now prices.now i }
 {
     let limit = u64::MAX - greatest(table);
     let mut block = Block::new();

@@ -3,7 +3,7 @@
 ghost use Rattle.std.specs.Prelude.{◌≡◌, ℕ, ◌+◌, ◌<◌, ◌≤◌, length, MatchOption};
 ghost use Rattle.dsa_plan.specs.Chain.{GoForward, LeadsTo};
 ghost use Rattle.dsa_checker.specs.Steps.{StepsHold, StepsHoldFrom, IsFirstBadEnd, IsFirstBadStep};
-ghost use Rattle.dsa_plan.specs.Settings.{sized_prices};
+ghost use Rattle.dsa_plan.specs.Settings.{sized_tariff};
 ghost use Rattle.dsa_checker.specs.Sized.{AreWithin, IsFirstAbove};
 
 use crate::held::held_starts;
@@ -52,10 +52,10 @@ fn first_bad_end(
     requires count { length prices.now ≡ length pairs.now + 1 }
     requires sizes { length table.now ≤ 1023 }
     ensures { MatchOption result
-        (StepsHoldFrom (sized_prices lone fence table.now) (length pairs.now)
-        pairs.now prices.now start)
-        (IsFirstBadEnd (sized_prices lone fence table.now) (length pairs.now)
-        pairs.now prices.now start) }
+        (StepsHoldFrom (length table.now + 1) (sized_tariff lone fence table.now)
+        (length pairs.now) pairs.now prices.now start)
+        (IsFirstBadEnd (length table.now + 1) (sized_tariff lone fence table.now)
+        (length pairs.now) pairs.now prices.now start) }
 {
     if prices[start + 1] > prices[start].saturating_add(lone) {
         return Some(start + 1);
@@ -88,7 +88,8 @@ fn starts_passed(
     requires count { length prices.now ≡ length pairs.now + 1 }
     requires sizes { length table.now ≤ 1023 }
     ensures { (i : ℕ) → i < result → StepsHoldFrom
-        (sized_prices lone fence table.now) (length pairs.now) pairs.now prices.now i }
+        (length table.now + 1) (sized_tariff lone fence table.now)
+        (length pairs.now) pairs.now prices.now i }
 {
     if pairs.len().min(table.len()) < FEW {
         return 0;
@@ -110,9 +111,10 @@ pub(crate) fn first_bad_sized_step(
     requires count { length prices.now ≡ length pairs.now + 1 }
     requires sizes { length table.now ≤ 1023 }
     ensures { MatchOption result
-        (StepsHold (sized_prices lone fence table.now) (length pairs.now) pairs.now prices.now)
-        (λ step. IsFirstBadStep (sized_prices lone fence table.now) (length pairs.now)
-        pairs.now prices.now step.0 step.1) }
+        (StepsHold (length table.now + 1) (sized_tariff lone fence table.now)
+        (length pairs.now) pairs.now prices.now)
+        (λ step. IsFirstBadStep (length table.now + 1) (sized_tariff lone fence table.now)
+        (length pairs.now) pairs.now prices.now step.0 step.1) }
 {
     for start in starts_passed(prices, pairs, lone, fence, table)..pairs.len() {
         if let Some(end) = first_bad_end(prices, pairs, lone, fence, table, start) {

@@ -6,7 +6,6 @@ ghost use Rattle.dsa_descriptor.specs.Spelling.{spelling};
 ghost use Rattle.dsa_emission.specs.Emission.{place_of, with_fence, batch_spelling, portal_entry, fenced_spelling, staged, portal_bytes, staging_bytes, CanBeEmitted};
 ghost use Rattle.dsa_settings.specs.Plan.{piece_count};
 ghost use Rattle.dsa_settings.specs.Shapes.{HasGroupShapes};
-ghost use Rattle.dsa_settings.specs.Settings.{prices_of};
 
 use crate::place::Place;
 use dsa_descriptor::Descriptor;

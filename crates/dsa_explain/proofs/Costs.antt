@@ -7,8 +7,8 @@ use Rattle.dsa_explain.specs.Costs.{group_price, group_prices}
 use Rattle.dsa_explain.specs.Laws.{GroupCostsAddUp}
 
 pub costs_add_up : GroupCostsAddUp
-costs_add_up prices [] = refl
-costs_add_up prices (g ∷ plan) =
-    sum_by-cons (λ (p : GroupPrice). p.cost) (group_price prices g) (group_prices prices plan)
-    ∙ ap (λ (n : ℕ). group_cost prices g + n) (costs_add_up prices plan)
-    ∙ sym (sum_by-cons (group_cost prices) g plan)
+costs_add_up tariff [] = refl
+costs_add_up tariff (g ∷ plan) =
+    sum_by-cons (λ (p : GroupPrice). p.cost) (group_price tariff g) (group_prices tariff plan)
+    ∙ ap (λ (n : ℕ). group_cost tariff g + n) (costs_add_up tariff plan)
+    ∙ sym (sum_by-cons (group_cost tariff) g plan)

@@ -2,7 +2,7 @@
 use Rattle.std.proofs.Common.{◌≡◌, ℕ, zero, suc, ◌*◌, ◌<◌, false, [], ◌∷◌, length, Some, refl, sym, subst, arith}
 use Rattle.std.specs.Prelude.{slice_get}
 use Rattle.std.proofs.lemmas.List.Sums.{sum_by-cons}
-use Rattle.dsa_plan.specs.Plan.{Prices, Group, Plan, group_cost, plan_cost, piece_count, start_of}
+use Rattle.dsa_plan.specs.Plan.{Tariff, Group, Plan, group_cost, plan_cost, piece_count, start_of}
 use Rattle.dsa_plan.specs.Legal.{IsLegal, IsLegalGroup}
 use Rattle.dsa_explain.specs.Laws.{LeastPlansSave}
 
@@ -17,11 +17,11 @@ singles_count : (n : ℕ) → piece_count (singles n) ≡ n
 singles_count zero = refl
 singles_count (suc n) = omega (arith, sum_by-cons length (false ∷ []) (singles n), singles_count n)
 
-singles_cost : (prices : Prices) (n : ℕ) → plan_cost prices (singles n) ≡ prices.lone * n
-singles_cost prices zero = omega arith
-singles_cost prices (suc n) =
-    let one : group_cost prices (false ∷ []) ≡ prices.lone = refl in
-    omega (arith, sum_by-cons (group_cost prices) (false ∷ []) (singles n), singles_cost prices n, one)
+singles_cost : (tariff : Tariff) (n : ℕ) → plan_cost tariff (singles n) ≡ tariff.lone * n
+singles_cost tariff zero = omega arith
+singles_cost tariff (suc n) =
+    let one : group_cost tariff (false ∷ []) ≡ tariff.lone = refl in
+    omega (arith, sum_by-cons (group_cost tariff) (false ∷ []) (singles n), singles_cost tariff n, one)
 
 singles_at : (n number : ℕ) (group : Group) → slice_get (singles n) number ≡ Some group → false ∷ [] ≡ group
 singles_at zero number group e = absurd cc
@@ -46,4 +46,4 @@ singles_legal C greatest_batch n lt =
     }
 
 pub least_saves : (C : ℕ → ℕ → Type 0) → LeastPlansSave C
-least_saves C prices n plan lt least = rw (sym (singles_cost prices n)) (least.least (singles n) (singles_legal C prices.greatest_batch n lt))
+least_saves C greatest_batch tariff n plan lt least = rw (sym (singles_cost tariff n)) (least.least (singles n) (singles_legal C greatest_batch n lt))

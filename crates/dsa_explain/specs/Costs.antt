@@ -1,13 +1,13 @@
 -- What the groups of a plan cost.
 use Rattle.std.specs.Prelude.{List, length, map}
-use Rattle.dsa_plan.specs.Plan.{Prices, Group, Plan, fence_count, group_cost}
+use Rattle.dsa_plan.specs.Plan.{Tariff, Group, Plan, fence_count, group_cost}
 use Rattle.dsa_explain.specs.declared.prices.GroupPrice.{GroupPrice}
 
 -- of a group: how many pieces and fences it has, and its cost
-abbrev pub group_price : Prices → Group → GroupPrice
-group_price prices group =
-    record { size = length group; fences = fence_count group; cost = group_cost prices group }
+abbrev pub group_price : Tariff → Group → GroupPrice
+group_price tariff group =
+    record { size = length group; fences = fence_count group; cost = group_cost tariff group }
 
 -- of each group, in order
-abbrev pub group_prices : Prices → Plan → List GroupPrice
-group_prices prices plan = map (group_price prices) plan
+abbrev pub group_prices : Tariff → Plan → List GroupPrice
+group_prices tariff plan = map (group_price tariff) plan

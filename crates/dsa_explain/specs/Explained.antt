@@ -4,7 +4,7 @@ use Rattle.dsa_descriptor.specs.declared.descriptor.Descriptor.{Descriptor}
 use Rattle.dsa_descriptor.specs.Descriptors.{fields}
 use Rattle.dsa_ranges.specs.Ranges.{ConflictAt}
 use Rattle.dsa_plan.specs.Plan.{Plan, plan_cost}
-use Rattle.dsa_plan.specs.Settings.{Limits, prices_of}
+use Rattle.dsa_plan.specs.Settings.{Limits, tariff_of}
 use Rattle.dsa_plan.specs.Legal.{IsLegal}
 use Rattle.dsa_plan.specs.LegalFaults.{IsFirstLegalFault}
 use Rattle.dsa_explain.specs.Cells.{cells_from}
@@ -21,8 +21,8 @@ most_pieces = 65536
 
 -- the costs of the groups and of the plan, and that of so many lone submissions
 pub record ArePrices (s : Limits) (pieces : ℕ) (plan : Plan) (prices : Prices) : Type 0 where
-  pub groups : prices.groups.items ≡ group_prices (prices_of s) plan
-  pub cost : prices.cost ≡ plan_cost (prices_of s) plan
+  pub groups : prices.groups.items ≡ group_prices (tariff_of s) plan
+  pub cost : prices.cost ≡ plan_cost (tariff_of s) plan
   pub lone : prices.lone ≡ s.lone * pieces
 
 -- the plan's prices, its fences and its cells

@@ -3,7 +3,7 @@ use Rattle.std.specs.Prelude.{ℕ, ◌≡◌, ◌*◌, ◌<◌, ◌≤◌, ◌�
 use Rattle.dsa_descriptor.specs.Descriptors.{fields}
 use Rattle.dsa_ranges.specs.Ranges.{ConflictAt}
 use Rattle.dsa_plan.specs.Settings.{Limits}
-use Rattle.dsa_plan.specs.Plan.{Prices, Group, Plan, fence_count, plan_cost, piece_count, start_of}
+use Rattle.dsa_plan.specs.Plan.{Tariff, Group, Plan, fence_count, plan_cost, piece_count, start_of}
 use Rattle.dsa_plan.specs.Legal.{IsFenced, IsLeast}
 use Rattle.dsa_planner.specs.Planned.{Submission, Plans}
 use Rattle.dsa_explain.specs.Reasons.{NeedsFence}
@@ -20,7 +20,9 @@ PlannedFencesAreNeeded =
 
 -- a least plan of n pieces costs at most as much as n lone submissions
 abbrev pub LeastPlansSave : (ℕ → ℕ → Type 0) → Type 0
-LeastPlansSave C = (prices : Prices) (n : ℕ) (plan : Plan) → 0 < prices.greatest_batch → IsLeast C prices n plan → plan_cost prices plan ≤ prices.lone * n
+LeastPlansSave C =
+    (greatest_batch : ℕ) (tariff : Tariff) (n : ℕ) (plan : Plan) → 0 < greatest_batch →
+    IsLeast C greatest_batch tariff n plan → plan_cost tariff plan ≤ tariff.lone * n
 
 -- as many cells as pieces, and as many fenced ones as fences
 abbrev pub CellsArePiecesAndFences : Type 0
@@ -31,8 +33,8 @@ CellsArePiecesAndFences =
 -- the costs of the groups add up to the plan's
 abbrev pub GroupCostsAddUp : Type 0
 GroupCostsAddUp =
-    (prices : Prices) (plan : Plan) →
-    sum_by (λ group. group.cost) (group_prices prices plan) ≡ plan_cost prices plan
+    (tariff : Tariff) (plan : Plan) →
+    sum_by (λ group. group.cost) (group_prices tariff plan) ≡ plan_cost tariff plan
 
 -- piece k is fenced in some group of the plan
 pub record IsFencedIn (plan : Plan) (k : ℕ) : Type 0 where

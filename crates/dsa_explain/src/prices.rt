@@ -3,7 +3,7 @@
 ghost use Rattle.std.specs.Prelude.{◌≡◌, ◌≤◌, IfOk, length};
 ghost use Rattle.dsa_plan.specs.Plan.{fence_count, piece_count};
 ghost use Rattle.dsa_plan.specs.LegalFaults.{HasGroupShape, HasGroupShapes};
-ghost use Rattle.dsa_plan.specs.Settings.{prices_of};
+ghost use Rattle.dsa_plan.specs.Settings.{tariff_of};
 ghost use Rattle.dsa_explain.specs.Costs.{group_price, group_prices};
 ghost use Rattle.dsa_explain.specs.Explained.{ArePrices};
 
@@ -43,7 +43,7 @@ fn fence_count(group: &Group) -> usize
 fn price(group: &Group, settings: &Settings) -> GroupPrice
     requires shape { HasGroupShape settings.now.greatest_batch group.now }
     requires few { length group.now ≤ 65536 }
-    ensures { result ≡ group_price (prices_of settings.now) group.now }
+    ensures { result ≡ group_price (tariff_of settings.now) group.now }
 {
     let (size, fences) = (group.len(), fence_count(group));
     GroupPrice {
@@ -62,7 +62,7 @@ fn group_prices(
     requires pieces { piece_count plan.now ≤ 65536 }
     requires shapes { HasGroupShapes settings.now.greatest_batch plan.now }
     ensures { IfOk result
-        (λ groups. groups.items ≡ group_prices (prices_of settings.now) plan.now) }
+        (λ groups. groups.items ≡ group_prices (tariff_of settings.now) plan.now) }
 {
     let mut groups = Vec::with_capacity(alloc, plan.groups().len())?;
     for group in plan.groups() {

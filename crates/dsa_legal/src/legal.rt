@@ -9,7 +9,6 @@ ghost use Rattle.dsa_settings.specs.Shapes.{HasGroupShapes};
 ghost use Rattle.dsa_legal.specs.LegalFaults.{IsShapeFault, HasNoUnfenced, IsLastUnfenced, IsFencedWithin, IsFirstUnfencedWithin, IsFencedThroughout, IsFirstUnfenced, IsFirstLegalFault};
 ghost use Rattle.dsa_legal.specs.Causes.{legal_number, legal_name, legal_indices};
 ghost use Rattle.dsa_settings.specs.Plan.{piece_count};
-ghost use Rattle.dsa_settings.specs.Settings.{prices_of};
 
 use crate::sweep::{Access, ROOM, is_seen_fenced};
 use arrayvec::ArrayVec;

@@ -5,7 +5,7 @@ use Rattle.dsa_descriptor.specs.declared.descriptor.Descriptor.{Descriptor}
 use Rattle.dsa_descriptor.specs.Fields.{Fields}
 use Rattle.dsa_descriptor.specs.Descriptors.{fields}
 use Rattle.dsa_ranges.specs.Ranges.{ConflictAt}
-use Rattle.dsa_plan.specs.Settings.{Limits, prices_of, version_of}
+use Rattle.dsa_plan.specs.Settings.{Limits, tariff_of, version_of}
 use Rattle.dsa_plan.specs.Plan.{Plan, plan_cost}
 use Rattle.dsa_plan.specs.Legal.{IsLegal, IsLeast}
 use Rattle.dsa_plan.specs.Certificate.{IsGood}
@@ -37,12 +37,12 @@ bytes_refused portal staging s c cause fault is first = go (emission_is_memory c
 
 -- what a yes says, in the checker's words
 held_of : (s : Limits) (fs : List Fields) (plan : Plan) (c : Contents) (cost : ℕ) → IsShownLeast s fs plan c cost
-    → IsLegal (ConflictAt fs) s.greatest_batch (length fs) plan × (c.version ≡ version_of s) × IsGood (ConflictAt fs) (prices_of s) (length fs) c.prices c.pairs cost × (cost ≡ plan_cost (prices_of s) plan)
+    → IsLegal (ConflictAt fs) s.greatest_batch (length fs) plan × (c.version ≡ version_of s) × IsGood (ConflictAt fs) s.greatest_batch (tariff_of s) (length fs) c.prices c.pairs cost × (cost ≡ plan_cost (tariff_of s) plan)
 held_of s fs plan c cost h = (h.legal, h.version, h.good, h.is_cost)
 
 not_both : (s : Limits) (fs : List Fields) (plan : Plan) (c : Contents) (cost : ℕ) (f : CheckFault) → IsShownLeast s fs plan c cost
-    → IsFirstCheckFault (ConflictAt fs) (prices_of s) (version_of s) (length fs) plan c f → ⊥
-not_both s fs plan c cost f h first = yes_has_no_fault (ConflictAt fs) (prices_of s) (version_of s) (length fs) plan c cost (held_of s fs plan c cost h) f first
+    → IsFirstCheckFault (ConflictAt fs) s.greatest_batch (tariff_of s) (version_of s) (length fs) plan c f → ⊥
+not_both s fs plan c cost f h first = yes_has_no_fault (ConflictAt fs) s.greatest_batch (tariff_of s) (version_of s) (length fs) plan c cost (held_of s fs plan c cost h) f first
 
 -- a plan of pieces and a certificate have one outcome
 one_plan_checked : (s : Limits) (fs : List Fields) (plan : Plan) (c : Contents) (o p : Result ℕ PlanFault) → ChecksPlan s fs plan c o → ChecksPlan s fs plan c p → o ≡ p
@@ -50,7 +50,7 @@ one_plan_checked s fs plan c (Ok cost) (Ok cost') h k = ap Ok (h.is_cost ∙ sym
 one_plan_checked s fs plan c (Ok cost) (Err cause) h (f, is, first) = absurd (not_both s fs plan c cost f h first)
 one_plan_checked s fs plan c (Err cause) (Ok cost) (f, is, first) k = absurd (not_both s fs plan c cost f k first)
 one_plan_checked s fs plan c (Err cause) (Err other) (f, is, first) (g, is', first') =
-    ap Err (is ∙ ap Check (one_check_fault (ConflictAt fs) (prices_of s) (version_of s) (length fs) plan c f g first first') ∙ sym is')
+    ap Err (is ∙ ap Check (one_check_fault (ConflictAt fs) s.greatest_batch (tariff_of s) (version_of s) (length fs) plan c f g first first') ∙ sym is')
 
 -- bytes are the emission of one plan and its pieces
 same_emission : (s : Limits) (portal staging : List ℕ) (plan plan' : Plan) (ds ds' : List Descriptor) → IsEmission s portal staging plan ds → IsEmission s portal staging plan' ds'
@@ -80,31 +80,31 @@ plan_checked portal staging s c plan ds o emission checks = go o (inr (plan, ds,
 
 -- where an answer is told, the plan of the bytes is least
 pub shown_least : (portal staging : List ℕ) (s : Limits) (c : Contents) (r : Result ℕ PlanFault) → OrMemory (λ cost. cost) (Checks portal staging s c) r
-    → (plan : Plan) (ds : List Descriptor) → IsEmission s portal staging plan ds → IsOk r → IsLeast (ConflictAt (map fields ds)) (prices_of s) (length ds) plan
+    → (plan : Plan) (ds : List Descriptor) → IsEmission s portal staging plan ds → IsOk r → IsLeast (ConflictAt (map fields ds)) s.greatest_batch (tariff_of s) (length ds) plan
 shown_least portal staging s c (Err fault) h plan ds emission ok = cc
 shown_least portal staging s c (Ok cost) (inl (fault, other, first, is)) plan ds emission ok = cc
 shown_least portal staging s c (Ok cost) (inr (plan', ds', emission', shown)) plan ds emission ok =
     let same = same_emission s portal staging plan' plan ds' ds emission' emission in
-    let least = yes_means_least (ConflictAt (map fields ds')) (prices_of s) (length (map fields ds')) plan' c.prices c.pairs cost shown.legal shown.good shown.is_cost in
-    let least' = subst (λ (n : ℕ). IsLeast (ConflictAt (map fields ds')) (prices_of s) n plan') (length-map ds' fields) least in
-    subst (λ (xs : List Descriptor). IsLeast (ConflictAt (map fields xs)) (prices_of s) (length xs) plan) same.1
-    (subst (λ (x : Plan). IsLeast (ConflictAt (map fields ds')) (prices_of s) (length ds') x) same.0 least')
+    let least = yes_means_least (ConflictAt (map fields ds')) s.greatest_batch (tariff_of s) (length (map fields ds')) plan' c.prices c.pairs cost shown.legal shown.good shown.is_cost in
+    let least' = subst (λ (n : ℕ). IsLeast (ConflictAt (map fields ds')) s.greatest_batch (tariff_of s) n plan') (length-map ds' fields) least in
+    subst (λ (xs : List Descriptor). IsLeast (ConflictAt (map fields xs)) s.greatest_batch (tariff_of s) (length xs) plan) same.1
+    (subst (λ (x : Plan). IsLeast (ConflictAt (map fields ds')) s.greatest_batch (tariff_of s) (length ds') x) same.0 least')
 
 -- what the checker says of pieces, by their number as fields
 pub yes_shown : (s : Limits) (ds : List Descriptor) (plan : Plan) (c : Contents) (cost : ℕ)
-    → IsLegal (ConflictAt (map fields ds)) s.greatest_batch (length ds) plan × (c.version ≡ version_of s) × IsGood (ConflictAt (map fields ds)) (prices_of s) (length ds) c.prices c.pairs cost × (cost ≡ plan_cost (prices_of s) plan)
+    → IsLegal (ConflictAt (map fields ds)) s.greatest_batch (length ds) plan × (c.version ≡ version_of s) × IsGood (ConflictAt (map fields ds)) s.greatest_batch (tariff_of s) (length ds) c.prices c.pairs cost × (cost ≡ plan_cost (tariff_of s) plan)
     → IsShownLeast s (map fields ds) plan c cost
 yes_shown s ds plan c cost h =
     let count = sym (length-map ds fields) in
     record {
       legal = subst (λ (n : ℕ). IsLegal (ConflictAt (map fields ds)) s.greatest_batch n plan) count h.0;
       version = h.1;
-      good = subst (λ (n : ℕ). IsGood (ConflictAt (map fields ds)) (prices_of s) n c.prices c.pairs cost) count h.2;
+      good = subst (λ (n : ℕ). IsGood (ConflictAt (map fields ds)) s.greatest_batch (tariff_of s) n c.prices c.pairs cost) count h.2;
       is_cost = h.3;
     }
 
 pub fault_shown : (s : Limits) (ds : List Descriptor) (plan : Plan) (c : Contents) (fault : CheckFault)
-    → IsFirstCheckFault (ConflictAt (map fields ds)) (prices_of s) (version_of s) (length ds) plan c fault
-    → IsFirstCheckFault (ConflictAt (map fields ds)) (prices_of s) (version_of s) (length (map fields ds)) plan c fault
+    → IsFirstCheckFault (ConflictAt (map fields ds)) s.greatest_batch (tariff_of s) (version_of s) (length ds) plan c fault
+    → IsFirstCheckFault (ConflictAt (map fields ds)) s.greatest_batch (tariff_of s) (version_of s) (length (map fields ds)) plan c fault
 fault_shown s ds plan c fault h =
-    subst (λ (n : ℕ). IsFirstCheckFault (ConflictAt (map fields ds)) (prices_of s) (version_of s) n plan c fault) (sym (length-map ds fields)) h
+    subst (λ (n : ℕ). IsFirstCheckFault (ConflictAt (map fields ds)) s.greatest_batch (tariff_of s) (version_of s) n plan c fault) (sym (length-map ds fields)) h

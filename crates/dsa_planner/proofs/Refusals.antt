@@ -6,7 +6,7 @@ use Rattle.dsa_descriptor.specs.Descriptors.{fields}
 use Rattle.dsa_image.specs.Memory.{Memory}
 use Rattle.dsa_image.proofs.Holdings.{first_is_one, none_outside}
 use Rattle.dsa_plan.specs.Plan.{Plan, plan_cost}
-use Rattle.dsa_plan.specs.Settings.{Limits, AreInLimits, prices_of, version_of}
+use Rattle.dsa_plan.specs.Settings.{Limits, AreInLimits, tariff_of, version_of}
 use Rattle.dsa_plan.specs.Legal.{IsLegal}
 use Rattle.dsa_plan.specs.Emission.{portal_bytes, staging_bytes}
 use Rattle.dsa_splitter.specs.Pieces.{all_pieces}
@@ -139,7 +139,7 @@ found_submission bytes s pieces plan are (prices, pairs, chosen) =
       pieces = pieces;
       plan = plan;
       certificate = record { version = version_of s; prices = prices; pairs = pairs };
-      cost = plan_cost (prices_of s) plan;
+      cost = plan_cost (tariff_of s) plan;
       portal = portal_bytes s plan (map fields pieces);
       staging = staging_bytes plan (map fields pieces);
     } in (

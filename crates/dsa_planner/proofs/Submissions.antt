@@ -7,7 +7,7 @@ use Rattle.dsa_descriptor.specs.Descriptors.{fields}
 use Rattle.dsa_descriptor.specs.Lists.{HaveOneOwner, list_spelling}
 use Rattle.dsa_descriptor.proofs.Entries.{one_list_spelling}
 use Rattle.dsa_ranges.specs.Ranges.{ConflictAt}
-use Rattle.dsa_plan.specs.Settings.{Limits, prices_of}
+use Rattle.dsa_plan.specs.Settings.{Limits, tariff_of}
 use Rattle.dsa_plan.specs.Plan.{Plan, plan_cost}
 use Rattle.dsa_plan.specs.Legal.{IsLegal, IsLeast}
 use Rattle.dsa_plan.specs.LegalFaults.{HasGroupShapes}
@@ -84,10 +84,10 @@ same_submission p q a b v c d e f g =
 one_submission : (s : Limits) (fs : List Fields) (p q : Submission) → IsSubmissionOf s fs p → IsSubmissionOf s fs q → p ≡ q
 one_submission s fs p q h k =
     let pieces : p.pieces ≡ q.pieces = same_pieces p.pieces q.pieces (h.pieces_are ∙ sym k.pieces_are) in
-    let chosen = subst (λ (ds : List Descriptor). IsChosen (ConflictAt (map fields ds)) (prices_of s) (length ds) q.certificate.prices q.certificate.pairs q.plan) (sym pieces) k.chosen in
-    let same = one_chosen (ConflictAt (map fields p.pieces)) (prices_of s) (length p.pieces) p.certificate.prices q.certificate.prices p.certificate.pairs q.certificate.pairs p.plan q.plan h.chosen chosen in
+    let chosen = subst (λ (ds : List Descriptor). IsChosen (ConflictAt (map fields ds)) s.greatest_batch (tariff_of s) (length ds) q.certificate.prices q.certificate.pairs q.plan) (sym pieces) k.chosen in
+    let same = one_chosen (ConflictAt (map fields p.pieces)) s.greatest_batch (tariff_of s) (length p.pieces) p.certificate.prices q.certificate.prices p.certificate.pairs q.certificate.pairs p.plan q.plan h.chosen chosen in
     same_submission p q pieces same.2 (h.version_is ∙ sym k.version_is) same.0 same.1
-    (h.cost_is ∙ ap (plan_cost (prices_of s)) same.2 ∙ sym k.cost_is)
+    (h.cost_is ∙ ap (plan_cost (tariff_of s)) same.2 ∙ sym k.cost_is)
     (h.portal_is ∙ ap (λ (x : Plan). portal_bytes s x (map fields p.pieces)) same.2 ∙ ap (λ (x : List Descriptor). portal_bytes s q.plan (map fields x)) pieces ∙ sym k.portal_is)
     (h.staging_is ∙ ap (λ (x : Plan). staging_bytes x (map fields p.pieces)) same.2 ∙ ap (λ (x : List Descriptor). staging_bytes q.plan (map fields x)) pieces ∙ sym k.staging_is)
 
@@ -124,9 +124,9 @@ submission_shown : (s : Limits) (fs : List Fields) (p : Submission) → HaveOneO
 submission_shown s fs p owner sub =
     let count : length (map fields p.pieces) ≡ length p.pieces = length-map p.pieces fields in
     let C = ConflictAt (map fields p.pieces) in
-    let least = chosen_is_least C (prices_of s) (length p.pieces) p.certificate.prices p.certificate.pairs p.plan sub.chosen in
-    let good = chosen_is_good C (prices_of s) (length p.pieces) p.certificate.prices p.certificate.pairs sub.chosen.has_costs sub.chosen.has_pairs in
-    let good' = subst (λ (w : ℕ). IsGood C (prices_of s) (length p.pieces) p.certificate.prices p.certificate.pairs w) (sym least.1 ∙ sym sub.cost_is) good in
+    let least = chosen_is_least C s.greatest_batch (tariff_of s) (length p.pieces) p.certificate.prices p.certificate.pairs p.plan sub.chosen in
+    let good = chosen_is_good C s.greatest_batch (tariff_of s) (length p.pieces) p.certificate.prices p.certificate.pairs sub.chosen.has_costs sub.chosen.has_pairs in
+    let good' = subst (λ (w : ℕ). IsGood C s.greatest_batch (tariff_of s) (length p.pieces) p.certificate.prices p.certificate.pairs w) (sym least.1 ∙ sym sub.cost_is) good in
     let legal = subst (λ (n : ℕ). IsLegal C s.greatest_batch n p.plan) (sym count) least.0.legal in
     let can = can_emit C s (map fields p.pieces) p.plan (pieces_can s fs (map fields p.pieces) owner sub.split sub.pieces_are) legal in
     record {
@@ -139,7 +139,7 @@ submission_shown s fs p owner sub =
         record {
           legal = legal;
           version = sub.version_is;
-          good = subst (λ (n : ℕ). IsGood C (prices_of s) n p.certificate.prices p.certificate.pairs p.cost) (sym count) good';
+          good = subst (λ (n : ℕ). IsGood C s.greatest_batch (tariff_of s) n p.certificate.prices p.certificate.pairs p.cost) (sym count) good';
           is_cost = sub.cost_is;
         },
       );
@@ -151,7 +151,7 @@ planned_is_least_and_shown bytes s p (inr (ds, list, sub)) = submission_shown s 
 
 -- the found plan of these pieces can be emitted
 pub can_emit_found : (s : Limits) (pieces ds es : List Descriptor) (plan : Plan) → CanBePlanned s (map fields pieces) → ds ≡ pieces → es ≡ pieces
-    → IsLeast (ConflictAt (map fields ds)) (prices_of s) (length ds) plan → CanBeEmitted s plan (map fields es)
+    → IsLeast (ConflictAt (map fields ds)) s.greatest_batch (tariff_of s) (length ds) plan → CanBeEmitted s plan (map fields es)
 can_emit_found s pieces ds es plan can same same' least =
     let here : IsLegal (ConflictAt (map fields pieces)) s.greatest_batch (length pieces) plan =
     subst (λ (xs : List Descriptor). IsLegal (ConflictAt (map fields xs)) s.greatest_batch (length xs) plan) same least.legal in

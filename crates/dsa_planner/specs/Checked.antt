@@ -4,7 +4,7 @@ use Rattle.dsa_descriptor.specs.declared.descriptor.Descriptor.{Descriptor}
 use Rattle.dsa_descriptor.specs.Fields.{Fields}
 use Rattle.dsa_descriptor.specs.Descriptors.{fields}
 use Rattle.dsa_ranges.specs.Ranges.{ConflictAt}
-use Rattle.dsa_plan.specs.Settings.{Limits, prices_of, version_of}
+use Rattle.dsa_plan.specs.Settings.{Limits, tariff_of, version_of}
 use Rattle.dsa_plan.specs.Plan.{Plan, plan_cost}
 use Rattle.dsa_plan.specs.Legal.{IsLegal}
 use Rattle.dsa_plan.specs.Certificate.{IsGood}
@@ -21,14 +21,15 @@ use Rattle.dsa_planner.specs.declared.fault.PlanFault.TheVariants.{Emission, Che
 pub record IsShownLeast (s : Limits) (pieces : List Fields) (plan : Plan) (c : Contents) (cost : ℕ) : Type 0 where
   pub legal : IsLegal (ConflictAt pieces) s.greatest_batch (length pieces) plan
   pub version : c.version ≡ version_of s
-  pub good : IsGood (ConflictAt pieces) (prices_of s) (length pieces) c.prices c.pairs cost
-  pub is_cost : cost ≡ plan_cost (prices_of s) plan
+  pub good : IsGood (ConflictAt pieces) s.greatest_batch (tariff_of s) (length pieces) c.prices c.pairs cost
+  pub is_cost : cost ≡ plan_cost (tariff_of s) plan
 
 -- the outcome of checking this plan of the pieces: its cost where the certificate shows it, and else the first fault
 abbrev pub ChecksPlan : Limits → List Fields → Plan → Contents → Result ℕ PlanFault → Type 0
 ChecksPlan s pieces plan c (Ok cost) = IsShownLeast s pieces plan c cost
 ChecksPlan s pieces plan c (Err cause) =
-    (fault : CheckFault) × (cause ≡ Check fault) × IsFirstCheckFault (ConflictAt pieces) (prices_of s) (version_of s) (length pieces) plan c fault
+    (fault : CheckFault) × (cause ≡ Check fault)
+    × IsFirstCheckFault (ConflictAt pieces) s.greatest_batch (tariff_of s) (version_of s) (length pieces) plan c fault
 
 -- the outcome of checking these bytes: their first fault as an emission, or that of checking the plan that they are the
 -- emission of

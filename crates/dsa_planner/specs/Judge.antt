@@ -2,7 +2,7 @@
 use Rattle.std.specs.Prelude.{◌≡◌, ◌⊎◌, ℕ, ◌<◌, ◌≤◌, List, length, slice_get, Option, Some, None, Result, Ok, Err}
 use Rattle.dsa_descriptor.specs.Fields.{Fields}
 use Rattle.dsa_ranges.specs.Ranges.{ConflictAt}
-use Rattle.dsa_plan.specs.Settings.{Limits, prices_of}
+use Rattle.dsa_plan.specs.Settings.{Limits, tariff_of}
 use Rattle.dsa_plan.specs.Plan.{Plan, plan_cost}
 use Rattle.dsa_plan.specs.Legal.{IsLegal}
 use Rattle.dsa_legal.specs.declared.legal.LegalFault.{LegalFault}
@@ -31,7 +31,9 @@ pub record IsFirstOver (greatest : ℕ) (pieces : List Fields) (i : ℕ) : Type 
 -- in the order of the number of pieces, their sizes and the faults of the plan (this project's choice)
 abbrev pub JudgesPieces : List Fields → Plan → Limits → Result ℕ PlanFault → Type 0
 JudgesPieces pieces plan settings (Ok cost) =
-    (length pieces ≤ most_pieces) × FitTransfer settings.greatest_transfer pieces × IsLegal (ConflictAt pieces) settings.greatest_batch (length pieces) plan × (cost ≡ plan_cost (prices_of settings) plan)
+    (length pieces ≤ most_pieces) × FitTransfer settings.greatest_transfer pieces
+    × IsLegal (ConflictAt pieces) settings.greatest_batch (length pieces) plan
+    × (cost ≡ plan_cost (tariff_of settings) plan)
 JudgesPieces pieces plan settings (Err cause) =
     ((cause ≡ Split TooManyPieces) × (most_pieces < length pieces))
     ⊎ ((i : ℕ) × (cause ≡ OverTransfer i) × (length pieces ≤ most_pieces) × IsFirstOver settings.greatest_transfer pieces i)

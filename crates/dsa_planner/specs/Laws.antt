@@ -2,7 +2,7 @@
 use Rattle.std.specs.Prelude.{◌≡◌, ◌⊎◌, ℕ, All, List, length, map, Result, Ok, Err}
 use Rattle.dsa_descriptor.specs.Descriptors.{fields}
 use Rattle.dsa_ranges.specs.Ranges.{ConflictAt}
-use Rattle.dsa_plan.specs.Settings.{Limits, AreInLimits, prices_of}
+use Rattle.dsa_plan.specs.Settings.{Limits, AreInLimits, tariff_of}
 use Rattle.dsa_image.specs.Memory.{Memory, HoldsRanges}
 use Rattle.dsa_image.specs.declared.partial.Partial.{Partial}
 use Rattle.dsa_descriptor.specs.declared.descriptor.Descriptor.{Descriptor}
@@ -38,8 +38,10 @@ OneChecked = (portal staging : List ℕ) (s : Limits) (c : Contents) (outcome ot
 -- in one group, and no legal plan of them costs less; and checking the bytes that submit it, with its certificate,
 -- answers its cost.
 pub record IsLeastAndShown (s : Limits) (p : Submission) : Type 0 where
-  pub least : IsLeast (ConflictAt (map fields p.pieces)) (prices_of s) (length p.pieces) p.plan
-  pub good : IsGood (ConflictAt (map fields p.pieces)) (prices_of s) (length p.pieces) p.certificate.prices p.certificate.pairs p.cost
+  pub least : IsLeast (ConflictAt (map fields p.pieces)) s.greatest_batch (tariff_of s) (length p.pieces) p.plan
+  pub good :
+      IsGood (ConflictAt (map fields p.pieces)) s.greatest_batch (tariff_of s) (length p.pieces)
+      p.certificate.prices p.certificate.pairs p.cost
   pub shown : Checks p.portal p.staging s p.certificate (Ok p.cost)
 
 -- where planning answers, that is so

@@ -6,7 +6,7 @@ use Rattle.dsa_descriptor.specs.Descriptors.{fields}
 use Rattle.dsa_descriptor.specs.Lists.{HaveOneOwner}
 use Rattle.dsa_descriptor.specs.Spans.{InSpan}
 use Rattle.dsa_ranges.specs.Ranges.{ConflictAt, Touches}
-use Rattle.dsa_plan.specs.Settings.{Limits, prices_of, version_of}
+use Rattle.dsa_plan.specs.Settings.{Limits, tariff_of, version_of}
 use Rattle.dsa_plan.specs.Plan.{Plan, plan_cost}
 use Rattle.dsa_plan.specs.Chain.{Pairs}
 use Rattle.dsa_plan.specs.Emission.{portal_bytes, staging_bytes, staging_span}
@@ -37,9 +37,11 @@ pub record Submission : Type 0 where
 pub record IsSubmissionOf (s : Limits) (fs : List Fields) (p : Submission) : Type 0 where
   pub split : IsSplit s.greatest_transfer s.staging fs
   pub pieces_are : map fields p.pieces ≡ all_pieces fs s.greatest_transfer
-  pub chosen : IsChosen (ConflictAt (map fields p.pieces)) (prices_of s) (length p.pieces) p.certificate.prices p.certificate.pairs p.plan
+  pub chosen :
+      IsChosen (ConflictAt (map fields p.pieces)) s.greatest_batch (tariff_of s) (length p.pieces)
+      p.certificate.prices p.certificate.pairs p.plan
   pub version_is : p.certificate.version ≡ version_of s
-  pub cost_is : p.cost ≡ plan_cost (prices_of s) p.plan
+  pub cost_is : p.cost ≡ plan_cost (tariff_of s) p.plan
   pub portal_is : p.portal ≡ portal_bytes s p.plan (map fields p.pieces)
   pub staging_is : p.staging ≡ staging_bytes p.plan (map fields p.pieces)
 
@@ -89,13 +91,16 @@ SplitsList s bytes (Err fault) = Plans bytes s (Err fault)
 
 -- the submission of these pieces
 pub record IsSubmissionOfPieces (s : Limits) (p : Submission) : Type 0 where
-  pub chosen : IsChosen (ConflictAt (map fields p.pieces)) (prices_of s) (length p.pieces) p.certificate.prices p.certificate.pairs p.plan
+  pub chosen :
+      IsChosen (ConflictAt (map fields p.pieces)) s.greatest_batch (tariff_of s) (length p.pieces)
+      p.certificate.prices p.certificate.pairs p.plan
   pub version_is : p.certificate.version ≡ version_of s
-  pub cost_is : p.cost ≡ plan_cost (prices_of s) p.plan
+  pub cost_is : p.cost ≡ plan_cost (tariff_of s) p.plan
   pub portal_is : p.portal ≡ portal_bytes s p.plan (map fields p.pieces)
   pub staging_is : p.staging ≡ staging_bytes p.plan (map fields p.pieces)
 
 -- the chosen plan of these pieces, with some prices and pairs
 abbrev pub IsPlanOf : Limits → List Descriptor → Plan → Type 0
 IsPlanOf s pieces plan =
-    (prices : List ℕ) × (pairs : Pairs) × IsChosen (ConflictAt (map fields pieces)) (prices_of s) (length pieces) prices pairs plan
+    (prices : List ℕ) × (pairs : Pairs)
+    × IsChosen (ConflictAt (map fields pieces)) s.greatest_batch (tariff_of s) (length pieces) prices pairs plan

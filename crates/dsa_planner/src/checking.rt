@@ -7,7 +7,7 @@ ghost use Rattle.dsa_ranges.specs.Ranges.{ConflictAt};
 ghost use Rattle.dsa_plan.specs.EmissionFaults.{IsEmission};
 ghost use Rattle.dsa_plan.specs.Legal.{IsLeast};
 ghost use Rattle.dsa_plan.specs.Plan.{Plan};
-ghost use Rattle.dsa_plan.specs.Settings.{prices_of};
+ghost use Rattle.dsa_plan.specs.Settings.{tariff_of};
 ghost use Rattle.dsa_cert.specs.Certificates.{contents};
 ghost use Rattle.dsa_planner.specs.declared.fault.PlanFault.{PlanFault};
 ghost use Rattle.dsa_planner.specs.Lists.{OrMemory, IsOrMemory};
@@ -42,7 +42,8 @@ pub fn check_bytes(
     // Where it answers, no legal plan of these pieces costs less, whoever wrote the certificate.
     ensures least { (plan : Plan) (ds : List Descriptor) →
         IsEmission settings.now portal.now staging.now plan ds → IsOk result →
-        IsLeast (ConflictAt (map fields ds)) (prices_of settings.now) (length ds) plan }
+        IsLeast (ConflictAt (map fields ds))
+        settings.now.greatest_batch (tariff_of settings.now) (length ds) plan }
 {
     let (plan, pieces) = read_emission(alloc, portal, staging, settings)?;
     check_plan(&pieces, settings, &plan, certificate)

@@ -6,7 +6,7 @@ ghost use Rattle.dsa_descriptor.specs.Descriptors.{fields};
 ghost use Rattle.dsa_ranges.specs.Ranges.{ConflictAt};
 ghost use Rattle.dsa_plan.specs.Legal.{IsLeast};
 ghost use Rattle.dsa_plan.specs.Certificate.{IsGood};
-ghost use Rattle.dsa_plan.specs.Settings.{prices_of};
+ghost use Rattle.dsa_plan.specs.Settings.{tariff_of};
 ghost use Rattle.dsa_cert.specs.Certificates.{contents};
 ghost use Rattle.dsa_planner.specs.declared.fault.PlanFault.{PlanFault};
 ghost use Rattle.dsa_planner.specs.Lists.{OrMemory, IsOrMemory};
@@ -95,11 +95,12 @@ pub fn plan_list(alloc: Global, list: &[u8], settings: &Settings) -> Result<Plan
         Plans list.now settings.now outcome → IsOrMemory submission_of outcome result }
     // The plan is legal, and no legal plan of the pieces costs less.
     ensures least { IfOk result (λ p. IsLeast (ConflictAt (map fields p.pieces.items))
-        (prices_of settings.now) (length p.pieces.items) p.plan) }
+        settings.now.greatest_batch (tariff_of settings.now) (length p.pieces.items) p.plan) }
     // The certificate is good for the cost.
     ensures certificate_good { IfOk result
-        (λ p. IsGood (ConflictAt (map fields p.pieces.items)) (prices_of settings.now)
-        (length p.pieces.items) p.certificate.prices.items p.certificate.pairs.items p.cost) }
+        (λ p. IsGood (ConflictAt (map fields p.pieces.items))
+        settings.now.greatest_batch (tariff_of settings.now) (length p.pieces.items)
+        p.certificate.prices.items p.certificate.pairs.items p.cost) }
     // Checking the emission with the certificate answers the cost.
     ensures certificate_checks { IfOk result (λ p. Checks p.emission.portal.items
         p.emission.staging.items settings.now (contents p.certificate) (Ok p.cost)) }

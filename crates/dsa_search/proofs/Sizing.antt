@@ -4,13 +4,13 @@ use Rattle.std.proofs.lemmas.Bool.{cases_lt, cases_eq}
 use Rattle.dsa_plan.specs.Chain.{Pairs, GoForward, LeadsTo, IsLastBelow, HasCountBelow}
 use Rattle.dsa_plan.proofs.Chains.{LeadsTo-same}
 use Rattle.std.proofs.Math.Nat.{mul-le-mul_left}
-use Rattle.dsa_plan.specs.Plan.{Prices}
+use Rattle.dsa_plan.specs.Plan.{Tariff}
 use Rattle.dsa_plan.proofs.Fences.{price_of-batch}
 use Rattle.dsa_plan.specs.Settings.{greatest_price}
 use Rattle.dsa_search.specs.Filled.{HasOffers}
 use Rattle.dsa_search.proofs.Filling.{offers_each}
 use Rattle.dsa_plan.proofs.Joined.{last_fits, last_joined, last_led, count_one_more, count_none}
-use Rattle.dsa_plan.specs.Settings.{sized_prices}
+use Rattle.dsa_plan.specs.Settings.{sized_tariff}
 use Rattle.dsa_search.specs.Sized.{past_block, HasRows}
 
 pub past_block_later : (x : ℕ) → (x < past_block x) × (past_block x ≤ x + 64)
@@ -128,18 +128,18 @@ module _ (pairs : Pairs) (forward : GoForward pairs) (start end count piece : �
       let le : count ≤ 65536 = omega (arith, fits, few, within) in
       omega (arith, mul-le-mul_left fence le, cheap)
 
-  pub cost_fits : (prices : Prices) (fence : ℕ) (costs : List ℕ) → start < end → fence ≤ greatest_price → HasOffers prices pairs start end costs → slice_index costs start + fence * count ≤ 1000000000000000
-  cost_fits prices fence costs later cheap h = omega (arith, fences_fit fence cheap, h.small start (omega arith) (omega arith))
+  pub cost_fits : (greatest_batch : ℕ) (tariff : Tariff) (fence : ℕ) (costs : List ℕ) → start < end → fence ≤ greatest_price → HasOffers greatest_batch tariff pairs start end costs → slice_index costs start + fence * count ≤ 1000000000000000
+  cost_fits greatest_batch tariff fence costs later cheap h = omega (arith, fences_fit fence cheap, h.small start (omega arith) (omega arith))
 
 module _ (lone fence : ℕ) (table : List ℕ) (pairs : Pairs) (forward : GoForward pairs) (start : ℕ) (costs : List ℕ) where
   -- to each of some ends the group's price is offered, by its size and its fences
-  pub offers_sized : (end to : ℕ) (count v : ℕ → ℕ) → start + 2 ≤ end → to ≤ start + length table + 2 → HasOffers (sized_prices lone fence table) pairs start end costs
+  pub offers_sized : (end to : ℕ) (count v : ℕ → ℕ) → start + 2 ≤ end → to ≤ start + length table + 2 → HasOffers (length table + 1) (sized_tariff lone fence table) pairs start end costs
       → ((k : ℕ) → end ≤ k → k < to → HasCountBelow pairs start k (count k))
       → ((k : ℕ) → end ≤ k → k < to → slice_index costs start + (slice_index table (k - start - 2) + fence * count k) ≡ v k)
       → (costs' : List ℕ) → length costs' ≡ length costs → ((k : ℕ) → end ≤ k → k < to → slice_index costs' k ≡ min (slice_index costs k) (v k))
-      → ((k : ℕ) → (k < end) ⊎ (to ≤ k) → slice_index costs' k ≡ slice_index costs k) → HasOffers (sized_prices lone fence table) pairs start to costs'
+      → ((k : ℕ) → (k < end) ⊎ (to ≤ k) → slice_index costs' k ≡ slice_index costs k) → HasOffers (length table + 1) (sized_tariff lone fence table) pairs start to costs'
   offers_sized end to count v late far h counted is =
-      offers_each (sized_prices lone fence table) pairs forward start costs end to v (omega arith) h
+      offers_each (length table + 1) (sized_tariff lone fence table) pairs forward start costs end to v (omega arith) h
       (λ k from lt. (
         slice_index table (k - start - 2) + fence * count k,
         record {
@@ -147,7 +147,7 @@ module _ (lone fence : ℕ) (table : List ℕ) (pairs : Pairs) (forward : GoForw
           fits = omega arith;
           count = count k;
           has_count = counted k from lt;
-          is_cost = price_of-batch (sized_prices lone fence table) (k - start) (count k) (omega arith);
+          is_cost = price_of-batch (sized_tariff lone fence table) (k - start) (count k) (omega arith);
         },
         is k from lt,
       ))
@@ -169,10 +169,10 @@ module _ (pairs : Pairs) (forward : GoForward pairs) (start : ℕ) (rows lasts :
 module _ (lone fence : ℕ) (table : List ℕ) (pairs : Pairs) (forward : GoForward pairs) (start : ℕ) (costs : List ℕ) (rows lasts : List ℕ) (has : HasRows pairs 0 rows lasts) (end count piece : ℕ) (chain : IsLastBelow pairs start end count piece) where
   -- the ends of a block have their offers
   pub offers_row : (to past : ℕ) → past ≡ past_block piece → start + 2 ≤ end → to ≤ start + length table + 2 → to ≤ past + 1 → to ≤ length pairs + 1
-      → HasOffers (sized_prices lone fence table) pairs start end costs
+      → HasOffers (length table + 1) (sized_tariff lone fence table) pairs start end costs
       → (costs' : List ℕ) → length costs' ≡ length costs
       → ((k : ℕ) → end ≤ k → k < to → slice_index costs' k ≡ min (slice_index costs k) (slice_index costs start + fence * count + slice_index table (k - start - 2) + fence * slice_index rows (64 * piece + (end + 63 - past) + (k - end))))
-      → ((k : ℕ) → (k < end) ⊎ (to ≤ k) → slice_index costs' k ≡ slice_index costs k) → HasOffers (sized_prices lone fence table) pairs start to costs'
+      → ((k : ℕ) → (k < end) ⊎ (to ≤ k) → slice_index costs' k ≡ slice_index costs k) → HasOffers (length table + 1) (sized_tariff lone fence table) pairs start to costs'
   offers_row to past is late far near within h =
       offers_sized lone fence table pairs forward start costs end to
       (λ k. count + slice_index rows (64 * piece + (k + 63 - past)))

@@ -4,7 +4,7 @@ ghost use Rattle.std.specs.Prelude.{◌≡◌, ◌⊎◌, ℕ, ◌+◌, ◌-◌,
 ghost use Rattle.dsa_plan.specs.Chain.{GoForward, IsLastBelow};
 ghost use Rattle.dsa_search.specs.Filled.{HasOffers, IsFilled, past_reach};
 ghost use Rattle.dsa_plan.specs.Settings.{ArePrices};
-ghost use Rattle.dsa_plan.specs.Settings.{sized_prices};
+ghost use Rattle.dsa_plan.specs.Settings.{sized_tariff};
 ghost use Rattle.dsa_search.specs.Sized.{HasRows, past_block};
 
 use crate::table::{UNREACHED, lower};
@@ -151,16 +151,16 @@ fn offer_row(
     requires late { start + 2 ≤ end }
     requires chain { IsLastBelow pairs.now start end chain.1 chain.0 }
     requires near { end ≤ past_block chain.0 }
-    requires within { end < past_reach
-        (sized_prices lone fence table.now) (length pairs.now) start }
-    requires table { HasOffers (sized_prices lone fence table.now) pairs.now start end costs.old }
+    requires within { end < past_reach (length table.now + 1) (length pairs.now) start }
+    requires table { HasOffers (length table.now + 1) (sized_tariff lone fence table.now)
+        pairs.now start end costs.old }
     ensures further { end < result.2 }
-    ensures within { result.2 ≤ past_reach
-        (sized_prices lone fence table.now) (length pairs.now) start }
+    ensures within { result.2 ≤ past_reach (length table.now + 1) (length pairs.now) start }
     ensures table { HasOffers
-        (sized_prices lone fence table.now) pairs.now start result.2 costs.new }
-    ensures chain { result.2 < past_reach (sized_prices lone fence table.now)
-        (length pairs.now) start → IsLastBelow pairs.now start result.2 result.1 result.0 }
+        (length table.now + 1) (sized_tariff lone fence table.now)
+        pairs.now start result.2 costs.new }
+    ensures chain { result.2 < past_reach (length table.now + 1) (length pairs.now) start →
+        IsLastBelow pairs.now start result.2 result.1 result.0 }
 {
     let (piece, fences) = chain;
     let reach = pairs.len().min(start + table.len() + 1);
@@ -196,14 +196,14 @@ fn offer_run(
     requires fence { fence ≤ 1000000000 }
     requires late { start + 2 ≤ end }
     requires chain { IsLastBelow pairs.now start end chain.1 chain.0 }
-    requires within { end < past_reach
-        (sized_prices lone fence table.now) (length pairs.now) start }
-    requires table { HasOffers (sized_prices lone fence table.now) pairs.now start end costs.old }
+    requires within { end < past_reach (length table.now + 1) (length pairs.now) start }
+    requires table { HasOffers (length table.now + 1) (sized_tariff lone fence table.now)
+        pairs.now start end costs.old }
     ensures further { end < result.2 }
-    ensures within { result.2 ≤ past_reach
-        (sized_prices lone fence table.now) (length pairs.now) start }
+    ensures within { result.2 ≤ past_reach (length table.now + 1) (length pairs.now) start }
     ensures table { HasOffers
-        (sized_prices lone fence table.now) pairs.now start result.2 costs.new }
+        (length table.now + 1) (sized_tariff lone fence table.now)
+        pairs.now start result.2 costs.new }
     ensures chain { IsLastBelow pairs.now start result.2 result.1 result.0 }
 {
     let (piece, fences) = chain;
@@ -235,9 +235,11 @@ fn offer_sizes(
     requires lone { lone ≤ 1000000000 }
     requires inside { start < length pairs.now }
     requires table { HasOffers
-        (sized_prices lone fence table.now) pairs.now start (start + 1) costs.old }
+        (length table.now + 1) (sized_tariff lone fence table.now)
+        pairs.now start (start + 1) costs.old }
     ensures { HasOffers
-        (sized_prices lone fence table.now) pairs.now (start + 1) (start + 2) costs.new }
+        (length table.now + 1) (sized_tariff lone fence table.now)
+        pairs.now (start + 1) (start + 2) costs.new }
 {
     let cost = costs[start] + lone;
     lower(costs, start + 1, start + 2, cost);
@@ -274,8 +276,10 @@ fn fill_sizes(
     requires prices { ArePrices table.now }
     requires fence { fence ≤ 1000000000 }
     requires lone { lone ≤ 1000000000 }
-    requires table { HasOffers (sized_prices lone fence table.now) pairs.now 0 1 costs.old }
-    ensures { IsFilled (sized_prices lone fence table.now) pairs.now costs.new }
+    requires table { HasOffers (length table.now + 1) (sized_tariff lone fence table.now)
+        pairs.now 0 1 costs.old }
+    ensures { IsFilled (length table.now + 1) (sized_tariff lone fence table.now)
+        pairs.now costs.new }
 {
     for start in 0..pairs.len() {
         offer_sizes(pairs, rows, lasts, lone, fence, table, start, costs);
@@ -301,7 +305,8 @@ pub(crate) fn table_by_size(
     requires fence { fence ≤ 1000000000 }
     requires lone { lone ≤ 1000000000 }
     ensures { IfOk result
-        (λ costs. IsFilled (sized_prices lone fence table.now) pairs.now costs.items) }
+        (λ costs. IsFilled (length table.now + 1) (sized_tariff lone fence table.now)
+        pairs.now costs.items) }
 {
     let mut rows = vec![in alloc; 0u8; BLOCK * pairs.len()]?;
     let mut lasts = vec![in alloc; 0u32; pairs.len()]?;

@@ -2,7 +2,7 @@
 use Rattle.std.proofs.Common.{ℕ, zero, suc, ◌≡◌, ◌+◌, ◌<◌, ◌≤◌, [], ◌∷◌, ◌++◌, length, take, Some, refl, sym, ap, ◌∙◌, subst, slice_get, sum_by, add-zero, zero-add, arith}
 use Rattle.std.proofs.lemmas.List.Sums.{sum_by-cons, sum_by_push, sum_by_more}
 use Rattle.std.proofs.lemmas.Option.{same_Some, none-some, slice_get_within, get_or_from_slice_get}
-use Rattle.dsa_settings.specs.Plan.{Prices, Group, Plan, group_cost, plan_cost, piece_count, start_of}
+use Rattle.dsa_settings.specs.Plan.{Tariff, Group, Plan, group_cost, plan_cost, piece_count, start_of}
 use Rattle.dsa_settings.specs.Legal.{IsLegalGroup, IsLegal}
 
 -- each group has the fact, at the piece that it begins with, where the plan begins with piece `start`
@@ -95,8 +95,8 @@ legal_push C greatest_batch n plan g h last = record {
       (let same : n ≡ 0 + piece_count plan = omega (arith, h.covers) in subst (λ (z : ℕ). IsLegalGroup C greatest_batch z g) same last));
 }
 
-pub plan_cost-push : (prices : Prices) (plan : Plan) (g : Group) → plan_cost prices (plan ++ g ∷ []) ≡ plan_cost prices plan + group_cost prices g
-plan_cost-push prices plan g = sum_by_push (group_cost prices) plan g
+pub plan_cost-push : (tariff : Tariff) (plan : Plan) (g : Group) → plan_cost tariff (plan ++ g ∷ []) ≡ plan_cost tariff plan + group_cost tariff g
+plan_cost-push tariff plan g = sum_by_push (group_cost tariff) plan g
 
 -- where a legal plan has a piece, a group may have one
 pub group_holds_one : (C : ℕ → ℕ → Type 0) (greatest_batch n : ℕ) (plan : Plan) → IsLegal C greatest_batch n plan → 0 < n → 0 < greatest_batch

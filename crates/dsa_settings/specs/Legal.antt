@@ -1,6 +1,6 @@
 -- Which plans are legal, and which of them are least. `C a b` says that the pieces a and b conflict.
 use Rattle.std.specs.Prelude.{ℕ, ◌≡◌, ◌+◌, ◌-◌, ◌<◌, ◌≤◌, true, false, length, slice_get, Some}
-use Rattle.dsa_settings.specs.Plan.{Prices, Group, Plan, group_cost, plan_cost, piece_count, start_of}
+use Rattle.dsa_settings.specs.Plan.{Tariff, Group, Plan, group_cost, plan_cost, piece_count, start_of}
 
 -- in a group that begins with piece `start`, piece k is fenced
 abbrev pub IsFenced : ℕ → Group → ℕ → Type 0
@@ -44,20 +44,20 @@ pub record IsLegal (C : ℕ → ℕ → Type 0) (greatest_batch n : ℕ) (plan :
       IsLegalGroup C greatest_batch (start_of plan number) group
 
 -- a plan is legal, and no legal plan of as many pieces costs less
-pub record IsLeast (C : ℕ → ℕ → Type 0) (prices : Prices) (n : ℕ) (plan : Plan) : Type 0 where
-  pub legal : IsLegal C prices.greatest_batch n plan
-  pub least : (other : Plan) → IsLegal C prices.greatest_batch n other → plan_cost prices plan ≤ plan_cost prices other
+pub record IsLeast (C : ℕ → ℕ → Type 0) (greatest_batch : ℕ) (tariff : Tariff) (n : ℕ) (plan : Plan) : Type 0 where
+  pub legal : IsLegal C greatest_batch n plan
+  pub least : (other : Plan) → IsLegal C greatest_batch n other → plan_cost tariff plan ≤ plan_cost tariff other
 
 -- some legal plan of n pieces costs that much, and none costs less
-pub record IsLeastCost (C : ℕ → ℕ → Type 0) (prices : Prices) (n cost : ℕ) : Type 0 where
-  pub reached : (plan : Plan) × IsLegal C prices.greatest_batch n plan × (plan_cost prices plan ≡ cost)
-  pub least : (plan : Plan) → IsLegal C prices.greatest_batch n plan → cost ≤ plan_cost prices plan
+pub record IsLeastCost (C : ℕ → ℕ → Type 0) (greatest_batch : ℕ) (tariff : Tariff) (n cost : ℕ) : Type 0 where
+  pub reached : (plan : Plan) × IsLegal C greatest_batch n plan × (plan_cost tariff plan ≡ cost)
+  pub least : (plan : Plan) → IsLegal C greatest_batch n plan → cost ≤ plan_cost tariff plan
 
 -- some legal group of the pieces from `start` to below `end` costs that much, and none costs less
-pub record IsLeastGroupCost (C : ℕ → ℕ → Type 0) (prices : Prices) (start end cost : ℕ) : Type 0 where
+pub record IsLeastGroupCost (C : ℕ → ℕ → Type 0) (greatest_batch : ℕ) (tariff : Tariff) (start end cost : ℕ) : Type 0 where
   pub reached :
-      (group : Group) × (start + length group ≡ end) × IsLegalGroup C prices.greatest_batch start group ×
-      (group_cost prices group ≡ cost)
+      (group : Group) × (start + length group ≡ end) × IsLegalGroup C greatest_batch start group ×
+      (group_cost tariff group ≡ cost)
   pub least :
-      (group : Group) → start + length group ≡ end → IsLegalGroup C prices.greatest_batch start group →
-      cost ≤ group_cost prices group
+      (group : Group) → start + length group ≡ end → IsLegalGroup C greatest_batch start group →
+      cost ≤ group_cost tariff group

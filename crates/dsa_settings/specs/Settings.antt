@@ -1,6 +1,6 @@
 -- The settings of a planner, and their limits.
 use Rattle.std.specs.Prelude.{◌≡◌, ℕ, ◌+◌, ◌-◌, ◌^◌, ◌%◌, ◌<◌, ◌≤◌, List, length, slice_index}
-use Rattle.dsa_settings.specs.Plan.{Prices}
+use Rattle.dsa_settings.specs.Plan.{Tariff}
 
 -- what batches cost, without their fences: all the same, or by size, where the first price of the table is that of a
 -- batch of two, and each later one that of one piece more (this project's choice)
@@ -69,8 +69,8 @@ pub record AreInLimits (s : Limits) : Type 0 where
   pub staging_by_lines : s.staging % 64 ≡ 0
 
 -- what submissions cost under the settings
-abbrev pub prices_of : Limits → Prices
-prices_of s = record { greatest_batch = s.greatest_batch; lone = s.lone; fence = s.fence; batch = batch_price s.batch }
+abbrev pub tariff_of : Limits → Tariff
+tariff_of s = record { lone = s.lone; fence = s.fence; batch = batch_price s.batch }
 
 -- the version of settings with such prices: 1 with one price for all batches, 2 with a price for each size
 abbrev pub version_with : BatchPrices → ℕ
@@ -85,7 +85,6 @@ version_of s = version_with s.batch
 abbrev pub HasSamePrice : Limits → Type 0
 HasSamePrice s = (size other : ℕ) → batch_price s.batch size ≡ batch_price s.batch other
 
--- what submissions cost where batches have the prices of this table, and as many pieces at most as it has prices, and one
-abbrev pub sized_prices : ℕ → ℕ → List ℕ → Prices
-sized_prices lone fence table =
-    record { greatest_batch = length table + 1; lone = lone; fence = fence; batch = batch_price (BySize table) }
+-- what submissions cost where batches have the prices of this table
+abbrev pub sized_tariff : ℕ → ℕ → List ℕ → Tariff
+sized_tariff lone fence table = record { lone = lone; fence = fence; batch = batch_price (BySize table) }

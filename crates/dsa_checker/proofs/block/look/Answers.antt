@@ -1,7 +1,7 @@
 use Rattle.std.proofs.Common.{ℕ, ◌≡◌, ◌+◌, ◌-◌, ◌*◌, ◌≤◌, max, inl, inr, length, slice_index, refl, subst, sym, arith}
 use Rattle.std.proofs.lemmas.Bool.{cases_eq}
 use Rattle.dsa_plan.specs.Plan.{price_of}
-use Rattle.dsa_plan.specs.Settings.{sized_prices}
+use Rattle.dsa_plan.specs.Settings.{sized_tariff}
 use Rattle.dsa_checker.specs.Steps.{StepHolds}
 use Rattle.dsa_checker.specs.Blocks.{place}
 use Rattle.dsa_checker.proofs.Led.{first_step}
@@ -24,27 +24,27 @@ returns-clause-chain c =
 pub returns-clause-held : goal.returns-clause-held
 returns-clause-held c = λ end late le reach.
     let pairs = c.args.pairs.now in
-    let costs = c.args.prices.now in
+    let prices = c.args.prices.now in
     let table = c.args.table.now in
     let start = c.args.start in
     let first = c.args.first in
-    let prices = sized_prices c.args.lone c.args.fence table in
+    let tariff = sized_tariff c.args.lone c.args.fence table in
     let one : start + 1 - start ≡ 1 = omega arith in
-    let low : slice_index costs (start + 1) ≤ slice_index costs start + price_of prices (start + 1 - start) 0 =
+    let low : slice_index prices (start + 1) ≤ slice_index prices start + price_of tariff (start + 1 - start) 0 =
     rw one (omega (arith, c.if-prices-start.false, c.saturating_add.ensures)) in
     elim (cases_eq end (start + 1)) [
-      | inl next ↦ subst (λ (z : ℕ). StepHolds prices pairs costs start z) (sym next) (first_step prices pairs costs (length pairs) c.requires.forward start low)
+      | inl next ↦ subst (λ (z : ℕ). StepHolds tariff pairs prices start z) (sym next) (first_step tariff pairs prices (length pairs) c.requires.forward start low)
       | inr other ↦
           let from = max first (start + 1) in
           let far : start + 2 ≤ end = omega (arith, reach.nonempty, other) in
-          let (more, counted, is) = c.follow-row.ensures.row costs c.args.fence start from c.requires.rows c.requires.chain end late (omega (arith, far, late)) le in
+          let (more, counted, is) = c.follow-row.ensures.row prices c.args.fence start from c.requires.rows c.requires.chain end late (omega (arith, far, late)) le in
           let row = c.follow-row.result.0 in
           let low_end = c.max-low.result in
           let at : 64 * row + (low_end - first - 1) + (end - low_end) ≡ place first row end = omega (arith, c.max-low.ensures, late, far) in
           let size : low_end - start - 2 + (end - low_end) ≡ end - start - 2 = omega (arith, c.max-low.ensures, late, far) in
           let within : slice_index c.args.block.now.rows (place first row end) ≤ c.saturating_add-most.result + slice_index table (end - start - 2) =
           rw (at, size) at (c.if-not-are_within.ensures refl (end - low_end) (omega (arith, c.max-low.ensures, c.min-high.ensures, late, far, le, reach.fits))) in
-          step_by_row c.args.lone c.args.fence table pairs costs (length pairs) c.requires.forward start end c.args.chain.1 more c.saturating_add-most.result
+          step_by_row c.args.lone c.args.fence table pairs prices (length pairs) c.requires.forward start end c.args.chain.1 more c.saturating_add-most.result
           (slice_index c.args.block.now.rows (place first row end)) far counted
           (rw (← c.requires.rows.unfenced end late le) is) within (omega (arith, c.saturating_add-most.ensures, c.saturating_mul.ensures))
     ]

@@ -1,5 +1,5 @@
-use Rattle.std.proofs.Common.{ℕ, ◌-◌, ◌≤◌, length}
-use Rattle.dsa_plan.specs.Settings.{sized_prices}
+use Rattle.std.proofs.Common.{ℕ, ◌+◌, ◌-◌, ◌≤◌, length}
+use Rattle.dsa_plan.specs.Settings.{sized_tariff}
 use Rattle.dsa_checker.specs.Steps.{IsReach, StepHolds}
 use Rattle.dsa_checker.specs.Blocks.{AreChains}
 use Rattle.dsa_checker.proofs.held.held_starts.Given as goal
@@ -8,7 +8,7 @@ use Rattle.dsa_checker.proofs.held.held_starts.Given as goal
 abbrev pub invariant-loop-first : goal.invariant-loop-first
 invariant-loop-first l = record {
   within : l.first ≤ length l.pairs;
-  held : (i j : ℕ) → j ≤ l.first → IsReach (sized_prices l.lone l.fence l.table) (length l.pairs) i j → StepHolds (sized_prices l.lone l.fence l.table) l.pairs l.prices i j;
+  held : (i j : ℕ) → j ≤ l.first → IsReach (length l.table + 1) (length l.pairs) i j → StepHolds (sized_tariff l.lone l.fence l.table) l.pairs l.prices i j;
   chains : AreChains l.pairs (l.first - length l.table) l.first l.first l.chains.fences l.chains.pieces;
 }
 

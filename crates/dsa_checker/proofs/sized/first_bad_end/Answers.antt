@@ -3,7 +3,7 @@ use Rattle.std.proofs.lemmas.Bool.{cases_lt}
 use Rattle.dsa_plan.specs.Plan.{price_of}
 use Rattle.dsa_plan.specs.Chain.{IsLastBelow}
 use Rattle.dsa_plan.proofs.Chains.{IsLastBelow-start}
-use Rattle.dsa_plan.specs.Settings.{sized_prices}
+use Rattle.dsa_plan.specs.Settings.{sized_tariff}
 use Rattle.dsa_checker.specs.Steps.{StepHolds}
 use Rattle.dsa_checker.proofs.Led.{first_step}
 use Rattle.dsa_plan.proofs.Joined.{last_fits}
@@ -24,15 +24,15 @@ returns-then-prices-start c = record {
 
 pub loop-end-init : goal.loop-end-init
 loop-end-init c =
-    let prices = sized_prices c.args.lone c.args.fence c.args.table.now in
+    let tariff = sized_tariff c.args.lone c.args.fence c.args.table.now in
     let one : c.args.start + 1 - c.args.start ≡ 1 = omega arith in
-    let low : slice_index c.args.prices.now (c.args.start + 1) ≤ slice_index c.args.prices.now c.args.start + price_of prices (c.args.start + 1 - c.args.start) 0 =
+    let low : slice_index c.args.prices.now (c.args.start + 1) ≤ slice_index c.args.prices.now c.args.start + price_of tariff (c.args.start + 1 - c.args.start) 0 =
     rw one (omega (arith, c.if-prices-start.false, c.saturating_add.ensures)) in
-    let first : StepHolds prices c.args.pairs.now c.args.prices.now c.args.start (c.args.start + 1) =
-    first_step prices c.args.pairs.now c.args.prices.now (length c.args.pairs.now) c.requires.forward c.args.start low in
+    let first : StepHolds tariff c.args.pairs.now c.args.prices.now c.args.start (c.args.start + 1) =
+    first_step tariff c.args.pairs.now c.args.prices.now (length c.args.pairs.now) c.requires.forward c.args.start low in
     let two : c.args.start + 1 + 1 ≡ c.args.start + 2 = omega arith in
     record {
-      held = λ k lt reach. let is : c.args.start + 1 ≡ k = omega (arith, lt, reach.nonempty) in subst (λ (z : ℕ). StepHolds prices c.args.pairs.now c.args.prices.now c.args.start z) is first;
+      held = λ k lt reach. let is : c.args.start + 1 ≡ k = omega (arith, lt, reach.nonempty) in subst (λ (z : ℕ). StepHolds tariff c.args.pairs.now c.args.prices.now c.args.start z) is first;
       chain = rw two at (c.chain_step-piece.ensures.chain c.args.start c.requires.forward (IsLastBelow-start c.args.pairs.now c.requires.forward c.args.start));
       late = omega arith;
       within = omega (arith, c.min-reach.ensures, c.requires.inside);
@@ -41,7 +41,7 @@ loop-end-init c =
 pub returns-in-Some : goal.returns-in-Some
 returns-in-Some c =
     let pairs = c.args.pairs.now in
-    let costs = c.args.prices.now in
+    let prices = c.args.prices.now in
     let first = c.in-Some.ensures in
     let last = c.last_of_run-last.result in
     let bad = c.in-Some.bad in
@@ -53,12 +53,12 @@ returns-in-Some c =
         fits = omega (arith, first.high, c.last_of_run-last.ensures.inside, c.min-reach.ensures);
         inside = omega (arith, first.high, c.last_of_run-last.ensures.inside, c.min-reach.ensures);
       };
-      bad = run_breaks c.args.lone c.args.fence c.args.table.now pairs costs (length pairs) c.requires.forward c.args.start c.loop-end.end last c.loop-end.fences c.loop-end.piece low c.loop-end.invariant.chain c.last_of_run-last.ensures.before
+      bad = run_breaks c.args.lone c.args.fence c.args.table.now pairs prices (length pairs) c.requires.forward c.args.start c.loop-end.end last c.loop-end.fences c.loop-end.piece low c.loop-end.invariant.chain c.last_of_run-last.ensures.before
           c.saturating_add-most.result bad first (omega (arith, first.above, fits, c.saturating_add-most.ensures, c.saturating_mul.ensures));
       before = λ k lt reach. elim (cases_lt k c.loop-end.end) [
         | inl less ↦ c.loop-end.invariant.held k less reach
         | inr more ↦
-            run_holds c.args.lone c.args.fence c.args.table.now pairs costs (length pairs) c.requires.forward c.args.start c.loop-end.end k c.loop-end.fences c.loop-end.piece low c.loop-end.invariant.chain
+            run_holds c.args.lone c.args.fence c.args.table.now pairs prices (length pairs) c.requires.forward c.args.start c.loop-end.end k c.loop-end.fences c.loop-end.piece low c.loop-end.invariant.chain
             (λ b leads. omega (arith, c.last_of_run-last.ensures.before b leads, lt, first.high)) c.saturating_add-most.result (omega (arith, c.saturating_add-most.ensures, c.saturating_mul.ensures))
             (λ j from to. first.before j from (omega (arith, to, lt))) k more (omega arith)
       ];
@@ -77,7 +77,7 @@ loop-end-smaller c =
 pub loop-end-preserved : goal.loop-end-preserved
 loop-end-preserved c =
     let pairs = c.args.pairs.now in
-    let costs = c.args.prices.now in
+    let prices = c.args.prices.now in
     let last = c.last_of_run-last.result in
     let end = c.loop-end.end in
     let fences = c.loop-end.fences in
@@ -90,7 +90,7 @@ loop-end-preserved c =
       held = λ k lt reach. elim (cases_lt k end) [
         | inl less ↦ c.loop-end.invariant.held k less reach
         | inr more ↦
-            run_holds c.args.lone c.args.fence c.args.table.now pairs costs (length pairs) c.requires.forward c.args.start end last fences piece c.loop-end.invariant.late chain before
+            run_holds c.args.lone c.args.fence c.args.table.now pairs prices (length pairs) c.requires.forward c.args.start end last fences piece c.loop-end.invariant.late chain before
             c.saturating_add-most.result (omega (arith, c.saturating_add-most.ensures, c.saturating_mul.ensures)) c.in_default.ensures k more (omega (arith, lt))
       ];
       chain = c.chain_step.ensures.chain c.args.start c.requires.forward upto;

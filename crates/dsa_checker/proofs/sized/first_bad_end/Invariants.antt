@@ -1,13 +1,13 @@
 use Rattle.std.proofs.Common.{ℕ, ◌+◌, ◌-◌, ◌<◌, ◌≤◌, length}
 use Rattle.dsa_plan.specs.Chain.{IsLastBelow}
 use Rattle.dsa_checker.specs.Steps.{IsReach, StepHolds}
-use Rattle.dsa_plan.specs.Settings.{sized_prices}
+use Rattle.dsa_plan.specs.Settings.{sized_tariff}
 use Rattle.dsa_checker.proofs.sized.first_bad_end.Given as goal
 
 -- the steps to the ends so far hold
 abbrev pub invariant-loop-end : goal.invariant-loop-end
 invariant-loop-end l = record {
-  held : (k : ℕ) → k < l.end → IsReach (sized_prices l.lone l.fence l.table) (length l.pairs) l.start k → StepHolds (sized_prices l.lone l.fence l.table) l.pairs l.prices l.start k;
+  held : (k : ℕ) → k < l.end → IsReach (length l.table + 1) (length l.pairs) l.start k → StepHolds (sized_tariff l.lone l.fence l.table) l.pairs l.prices l.start k;
   chain : IsLastBelow l.pairs l.start l.end l.fences l.piece;
   late : l.start + 2 ≤ l.end;
   within : l.end ≤ l.reach + 1;

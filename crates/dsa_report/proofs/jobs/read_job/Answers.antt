@@ -1,6 +1,6 @@
 use Rattle.std.proofs.Common.{arith}
 use Rattle.serde_json.specs.View.{view}
-use Rattle.dsa_report.proofs.Told.{read_value}
+use Rattle.dsa_report.proofs.Outcomes.{read_value}
 use Rattle.dsa_report.proofs.jobs.read_job.Goals as goal
 
 pub returns-in-Ok : goal.returns-in-Ok

@@ -1,0 +1,53 @@
+-- What is proved of each job by a line of its own.
+use Rattle.std.proofs.Common.{◌≡◌, ◌≢◌, ◌⊎◌, inl, inr, Result, Err, sym, ap, ◌∙◌}
+use Rattle.serde_json.specs.Data.{Data}
+use Rattle.dsa_planner.specs.declared.fault.PlanFault.{PlanFault}
+use Rattle.dsa_planner.specs.Laws.{HasBrokenOff}
+use Rattle.dsa_planner.specs.Judge.{Judges}
+use Rattle.dsa_planner.specs.Planned.{Plans}
+use Rattle.dsa_planner.specs.Checked.{Checks}
+use Rattle.dsa_planner.specs.Runs.{Left, Replays}
+use Rattle.dsa_planner.proofs.JudgedOnce.{one_judged}
+use Rattle.dsa_planner.proofs.Submissions.{one_planned}
+use Rattle.dsa_planner.proofs.CheckedOnce.{one_checked}
+use Rattle.dsa_planner.proofs.Histories.{one_replayed, one_run}
+use Rattle.dsa_report.specs.declared.job.JobName.TheVariants.{Judge, Plan, Check, Replay, Run}
+use Rattle.dsa_report.specs.Calls.{Call, Outcome, OutcomeOf, outcome_of, cost_value, planned_value, left_value, AnswersCall}
+use Rattle.dsa_report.specs.Laws.{CutsShort}
+
+-- ---- one outcome
+
+-- no allocation failed and no run broke off
+abbrev pub IsWhole : Outcome → Type 0
+IsWhole outcome = (fault : PlanFault) → CutsShort fault → outcome ≢ Err fault
+
+-- the outcome of a run that broke off is not whole
+not_broken : (outcome : Outcome) (found : Result Left PlanFault) → outcome ≡ outcome_of left_value found → HasBrokenOff found → IsWhole outcome → ⊥
+not_broken outcome found is (fault, broke, breaks) whole =
+    whole fault (inr breaks) (is ∙ ap (λ (o : Result Left PlanFault). outcome_of left_value o) broke)
+
+-- where a call finds one thing, it has one outcome
+one_found : {X : Type 0} (value : X → Data) (Finds : Result X PlanFault → Type 0) → ((o p : Result X PlanFault) → Finds o → Finds p → o ≡ p)
+    → (outcome other : Outcome) → OutcomeOf value Finds outcome → OutcomeOf value Finds other → outcome ≡ other
+one_found {X} value Finds one outcome other (found, finds, is) (found', finds', is') =
+    is ∙ ap (λ (o : Result X PlanFault). outcome_of value o) (one found found' finds finds') ∙ sym is'
+
+-- a call has one outcome, unless it is cut short
+pub one_outcome_of_call : (call : Call) (outcome other : Outcome) → AnswersCall call outcome → AnswersCall call other → IsWhole outcome → IsWhole other → outcome ≡ other
+one_outcome_of_call (Judge, a) outcome other says says' _ _ =
+    one_found cost_value (λ o. Judges a.list a.plan a.settings o) (λ o p. one_judged a.list a.plan a.settings o p) outcome other says says'
+one_outcome_of_call (Plan, a) outcome other says says' _ _ =
+    one_found planned_value (λ o. Plans a.list a.settings o) (λ o p. one_planned a.list a.settings o p) outcome other says says'
+one_outcome_of_call (Check, a) outcome other says says' _ _ =
+    one_found cost_value (λ o. Checks a.portal a.staging a.settings a.certificate o) (λ o p. one_checked a.portal a.staging a.settings a.certificate o p)
+    outcome other says says'
+one_outcome_of_call (Replay, a) outcome other says says' _ _ =
+    one_found left_value (λ o. Replays a.list a.settings a.image a.engines a.trace o) (λ o p. one_replayed a.list a.settings a.image a.engines a.trace o p)
+    outcome other says says'
+one_outcome_of_call (Run, a) outcome other (found, runs, is) (found', runs', is') whole whole' =
+    go (one_run a.list a.settings a.image a.engines found found' runs runs')
+  where
+    go : (found ≡ found') ⊎ (HasBrokenOff found ⊎ HasBrokenOff found') → outcome ≡ other
+    go (inl same) = is ∙ ap (λ (o : Result Left PlanFault). outcome_of left_value o) same ∙ sym is'
+    go (inr (inl broken)) = absurd (not_broken outcome found is broken whole)
+    go (inr (inr broken)) = absurd (not_broken other found' is' broken whole')

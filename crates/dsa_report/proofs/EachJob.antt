@@ -11,7 +11,7 @@ use Rattle.dsa_planner.proofs.JudgedOnce.{one_judged}
 use Rattle.dsa_planner.proofs.Submissions.{one_planned}
 use Rattle.dsa_planner.proofs.CheckedOnce.{one_checked}
 use Rattle.dsa_planner.proofs.Histories.{one_replayed, one_run}
-use Rattle.dsa_report.specs.declared.job.JobName.TheVariants.{Judge, Plan, Check, Replay, Run}
+use Rattle.dsa_report.specs.declared.jobs.JobName.TheVariants.{Judge, Plan, Check, Replay, Run}
 use Rattle.dsa_report.specs.Calls.{Call, Outcome, OutcomeOf, outcome_of, cost_value, planned_value, left_value, AnswersCall}
 use Rattle.dsa_report.specs.Laws.{CutsShort}
 

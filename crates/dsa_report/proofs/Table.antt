@@ -6,8 +6,8 @@ use Rattle.serde_json.specs.Find.{get, as_object}
 use Rattle.serde_json.specs.View.{view}
 use Rattle.dsa_json.specs.Spelled.{whole, member_names}
 use Rattle.dsa_json.proofs.Objects.{are_apart, object_spelled}
-use Rattle.dsa_report.specs.declared.job.JobName.{JobName}
-use Rattle.dsa_report.specs.declared.job.JobName.TheVariants.{Judge, Plan, Check, Replay, Run}
+use Rattle.dsa_report.specs.declared.jobs.JobName.{JobName}
+use Rattle.dsa_report.specs.declared.jobs.JobName.TheVariants.{Judge, Plan, Check, Replay, Run}
 use Rattle.dsa_report.specs.declared.members.Members.{Members}
 use Rattle.dsa_report.specs.Image.{image_shown, image_value}
 use Rattle.dsa_report.specs.Plan.{plan_value}

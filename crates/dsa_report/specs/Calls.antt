@@ -14,8 +14,8 @@ use Rattle.dsa_planner.specs.Judge.{Judges}
 use Rattle.dsa_planner.specs.Planned.{Submission, Plans}
 use Rattle.dsa_planner.specs.Checked.{Checks}
 use Rattle.dsa_planner.specs.Runs.{Left, Replays, Runs}
-use Rattle.dsa_report.specs.declared.job.JobName.{JobName}
-use Rattle.dsa_report.specs.declared.job.JobName.TheVariants.{Judge, Plan, Check, Replay, Run}
+use Rattle.dsa_report.specs.declared.jobs.JobName.{JobName}
+use Rattle.dsa_report.specs.declared.jobs.JobName.TheVariants.{Judge, Plan, Check, Replay, Run}
 use Rattle.dsa_report.specs.declared.jobs.Job.{Job}
 use Rattle.dsa_report.specs.declared.jobs.Job.TheVariants.{Judge as JudgeList, Plan as PlanList, Check as CheckBytes, Replay as ReplayEvents, Run as RunEngines}
 use Rattle.dsa_report.specs.Settings.{limits_of}

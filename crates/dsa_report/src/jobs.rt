@@ -1,20 +1,39 @@
-//! A job, read from its text.
+//! A job: its name, its reader, and its line.
 
-ghost use Rattle.std.specs.Prelude.{◌≡◌, ◌⊎◌};
+ghost use Rattle.std.specs.Prelude.{◌≡◌, ◌⊎◌, MatchOption};
 ghost use Rattle.serde_json.specs.Errors.{IsMemory};
 ghost use Rattle.serde_json.specs.View.{view};
+ghost use Rattle.dsa_report.specs.Calls.{AnswersRead};
+ghost use Rattle.dsa_report.specs.Gives.{GivesLine};
+ghost use Rattle.dsa_report.specs.Job.{HasName, NamesJob};
 ghost use Rattle.dsa_report.specs.Read.{IsJob, ReadsJob, ReadsJobText};
 
-use crate::check_job::{CheckJob, check_of};
-use crate::job::{JobName, job_name};
-use crate::judge_job::{JudgeJob, judge_of};
-use crate::plan_job::{PlanJob, plan_job_of};
+use crate::check_job::{CheckJob, check_line, check_of};
+use crate::judge_job::{JudgeJob, judge_line, judge_of};
+use crate::plan_job::{PlanJob, plan_job_of, plan_line};
 use crate::reading::LONGEST_TEXT;
-use crate::replay_job::{ReplayJob, replay_of};
-use crate::run_job::{RunJob, run_of};
+use crate::replay_job::{ReplayJob, replay_line, replay_of};
+use crate::run_job::{RunJob, run_line, run_of};
 use dsa_planner::PlanFault;
 use serde_json::{Error, Value};
 use std::alloc::Global;
+use std::sync::Wait;
+use std::thread::Threads;
+
+/// The names that a job may go by.
+#[derive(Clone, Copy, Debug, PartialEq, Eq)]
+pub enum JobName {
+    /// `judge`: the cost of a plan of listed pieces.
+    Judge,
+    /// `plan`: a plan of a list, with its certificate and the bytes that submit it.
+    Plan,
+    /// `check`: the cost of the plan that bytes submit, where a certificate shows that none costs less.
+    Check,
+    /// `replay`: what a run of a planned list leaves, where a trace is a complete one.
+    Replay,
+    /// `run`: what engines leave that run a planned list.
+    Run,
+}
 
 /// A job that was read.
 #[derive(Drop)]
@@ -63,6 +82,26 @@ fn job_of(alloc: Global, value: &Value) -> Result<Job, PlanFault>
     }
 }
 
+/// The name that stands under `do`.
+fn job_name(value: &Value) -> Option<JobName>
+    ensures { MatchOption result (¬ NamesJob (view value.now)) (HasName (view value.now)) }
+{
+    let name = value.get("do")?.as_str()?;
+    if name == "judge" {
+        Some(JobName::Judge)
+    } else if name == "plan" {
+        Some(JobName::Plan)
+    } else if name == "check" {
+        Some(JobName::Check)
+    } else if name == "replay" {
+        Some(JobName::Replay)
+    } else if name == "run" {
+        Some(JobName::Run)
+    } else {
+        None
+    }
+}
+
 /// Why a text was not read as JSON.
 fn json_fault(e: &Error) -> PlanFault
     ensures { ((result ≡ PlanFault.Memory) × IsMemory e.now)
@@ -72,5 +111,31 @@ fn json_fault(e: &Error) -> PlanFault
         PlanFault::Memory
     } else {
         PlanFault::Json
+    }
+}
+
+/// The line that answers a job. A job to run starts its engines by the handle.
+// The job has all that is used of the text. Its memory serves a long line: memory that is new costs more than writing
+// to it. Where the line is short, the text is dropped at once.
+pub(crate) fn job_line<H: Threads + Wait + Sync>(
+    rt: &H,
+    alloc: Global,
+    job: &Job,
+    text: Vec<u8>,
+) -> Result<Vec<u8>, PlanFault>
+    ensures { GivesLine (AnswersRead job.now) result }
+{
+    match job {
+        Job::Judge(job) => {
+            drop(text);
+            judge_line(alloc, job)
+        }
+        Job::Plan(job) => plan_line(alloc, job, text),
+        Job::Check(job) => {
+            drop(text);
+            check_line(alloc, job)
+        }
+        Job::Replay(job) => replay_line(alloc, job, text),
+        Job::Run(job) => run_line(rt, alloc, job, text),
     }
 }

@@ -14,7 +14,7 @@ ghost use Rattle.dsa_report.specs.Read.{members_shown, ReadsIf};
 ghost use Rattle.dsa_report.specs.Settings.{settings_shown, settings_value};
 
 use crate::image::{ImageMembers, image_at};
-use crate::job::JobName;
+use crate::jobs::JobName;
 use crate::plan::plan_at;
 use crate::settings::{Numbers, settings_at};
 use dsa_json::{has_names, number_at, text_at};

@@ -1,0 +1,35 @@
+//! The line of the answer to a job to judge or to check.
+
+ghost use Rattle.std.specs.Prelude.{◌≡◌, false, Ok, IfOk};
+ghost use Rattle.serde_json.specs.View.{view};
+ghost use Rattle.serde_json.specs.Written.{has_float};
+ghost use Rattle.dsa_report.specs.Answer.{line_of};
+ghost use Rattle.dsa_report.specs.Calls.{cost_value};
+
+use serde_json::{Value, json};
+use std::alloc::{AllocError, Global};
+
+/// The line of a cost.
+pub(crate) fn cost_line(alloc: Global, cost: u64) -> Result<Vec<u8>, AllocError>
+    ensures { IfOk result (λ line. line.items ≡ line_of (Ok (cost_value cost))) }
+{
+    let value = cost_json(alloc, cost)?;
+    line_of_value(alloc, &value)
+}
+
+/// The object of a cost.
+fn cost_json(alloc: Global, cost: u64) -> Result<Value, AllocError>
+    ensures { IfOk result (λ value. view value ≡ cost_value cost) }
+{
+    json!(in alloc; {"cost": cost})
+}
+
+// The compact text of a value with no float in it, as a line.
+fn line_of_value(alloc: Global, value: &Value) -> Result<Vec<u8>, AllocError>
+    requires { has_float (view value.now) ≡ false }
+    ensures { IfOk result (λ line. line.items ≡ line_of (Ok (view value.now))) }
+{
+    let mut line = value.to_vec(alloc)?;
+    line.push(b'\n')?;
+    Ok(line)
+}

@@ -1,5 +1,6 @@
 -- What is proved of each job by a line of its own.
-use Rattle.std.proofs.Common.{◌≡◌, ◌≢◌, ◌⊎◌, inl, inr, Result, Err, sym, ap, ◌∙◌}
+use Rattle.std.proofs.Common.{◌≡◌, ◌≢◌, ◌⊎◌, inl, inr, List, map, true, true≢false, Result, Err, refl, sym, ap, ◌∙◌}
+use Rattle.std.proofs.lemmas.Slice.Eq.{bytes_eq-Decides}
 use Rattle.serde_json.specs.Data.{Data}
 use Rattle.dsa_planner.specs.declared.fault.PlanFault.{PlanFault}
 use Rattle.dsa_planner.specs.Laws.{HasBrokenOff}
@@ -11,9 +12,40 @@ use Rattle.dsa_planner.proofs.JudgedOnce.{one_judged}
 use Rattle.dsa_planner.proofs.Submissions.{one_planned}
 use Rattle.dsa_planner.proofs.CheckedOnce.{one_checked}
 use Rattle.dsa_planner.proofs.Histories.{one_replayed, one_run}
+use Rattle.dsa_json.proofs.Objects.{are_apart}
+use Rattle.dsa_report.specs.declared.jobs.JobName.{JobName}
 use Rattle.dsa_report.specs.declared.jobs.JobName.TheVariants.{Judge, Plan, Check, Replay, Run}
+use Rattle.dsa_report.specs.Job.{Member, the_name, the_settings, members_of, member_name, is_among, name_text}
 use Rattle.dsa_report.specs.Calls.{Call, Outcome, OutcomeOf, outcome_of, cost_value, planned_value, left_value, AnswersCall}
 use Rattle.dsa_report.specs.Laws.{CutsShort}
+
+-- ---- one row
+
+-- a name is spelled in one way
+pub same_name : (name other : JobName) → name_text name ≡ name_text other → name ≡ other
+same_name Judge Judge e = refl
+same_name Judge _ e = absurd (true≢false (sym ((bytes_eq-Decides _ _).1 e)))
+same_name Plan Plan e = refl
+same_name Plan _ e = absurd (true≢false (sym ((bytes_eq-Decides _ _).1 e)))
+same_name Check Check e = refl
+same_name Check _ e = absurd (true≢false (sym ((bytes_eq-Decides _ _).1 e)))
+same_name Replay Replay e = refl
+same_name Replay _ e = absurd (true≢false (sym ((bytes_eq-Decides _ _).1 e)))
+same_name Run Run e = refl
+same_name Run _ e = absurd (true≢false (sym ((bytes_eq-Decides _ _).1 e)))
+
+-- the members are a row: they have the name and the settings, and no member twice
+pub record IsRow (members : List Member) : Type 0 where
+  pub named : is_among the_name members ≡ true
+  pub set : is_among the_settings members ≡ true
+  pub apart : are_apart (map member_name members) ≡ true
+
+pub row : (name : JobName) → IsRow (members_of name)
+row Judge = record { named = refl; set = refl; apart = refl }
+row Plan = record { named = refl; set = refl; apart = refl }
+row Check = record { named = refl; set = refl; apart = refl }
+row Replay = record { named = refl; set = refl; apart = refl }
+row Run = record { named = refl; set = refl; apart = refl }
 
 -- ---- one outcome
 

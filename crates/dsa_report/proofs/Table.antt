@@ -7,42 +7,16 @@ use Rattle.serde_json.specs.View.{view}
 use Rattle.dsa_json.specs.Spelled.{whole, member_names}
 use Rattle.dsa_json.proofs.Objects.{are_apart, object_spelled}
 use Rattle.dsa_report.specs.declared.jobs.JobName.{JobName}
-use Rattle.dsa_report.specs.declared.jobs.JobName.TheVariants.{Judge, Plan, Check, Replay, Run}
 use Rattle.dsa_report.specs.declared.members.Members.{Members}
 use Rattle.dsa_report.specs.Image.{image_shown, image_value}
 use Rattle.dsa_report.specs.Plan.{plan_value}
 use Rattle.dsa_report.specs.Settings.{settings_shown, settings_value}
 use Rattle.dsa_report.specs.Job.{Member, the_certificate, the_name, the_engines, the_image, the_list, the_plan, the_portal, the_settings, the_staging, the_trace, members_of, member_name, is_same, is_among, has, HeldIf, JobMembers, value_if, member_value, job_fields, named_value, HasName}
 use Rattle.dsa_report.specs.Read.{held_if, members_shown, ReadsIf}
+use Rattle.dsa_report.proofs.EachJob.{row}
+use Rattle.dsa_report.proofs.SameJobs.{get_among}
 
 -- ---- what stands at the name of a member
-
--- of a job that has the member
-get_listed : (name : JobName) (m : Member) (j : JobMembers name) → has name m ≡ true → get (member_name m) (named_value name j) ≡ Some (member_value name j m)
-get_listed Judge the_name j there = refl
-get_listed Judge the_list j there = refl
-get_listed Judge the_plan j there = refl
-get_listed Judge the_settings j there = refl
-get_listed Plan the_name j there = refl
-get_listed Plan the_list j there = refl
-get_listed Plan the_settings j there = refl
-get_listed Check the_certificate j there = refl
-get_listed Check the_name j there = refl
-get_listed Check the_portal j there = refl
-get_listed Check the_settings j there = refl
-get_listed Check the_staging j there = refl
-get_listed Replay the_name j there = refl
-get_listed Replay the_engines j there = refl
-get_listed Replay the_image j there = refl
-get_listed Replay the_list j there = refl
-get_listed Replay the_settings j there = refl
-get_listed Replay the_trace j there = refl
-get_listed Run the_name j there = refl
-get_listed Run the_engines j there = refl
-get_listed Run the_image j there = refl
-get_listed Run the_list j there = refl
-get_listed Run the_settings j there = refl
-get_listed _ _ j there = absurd (true≢false (sym there))
 
 -- where what stands there spells nothing, the value spells no job
 apart : {A : Type 0} (there : Bool) (spelling : A → Data) (held : HeldIf there A) (found : Option Data) → (there ≡ true → found ≡ Some (value_if there spelling held))
@@ -61,7 +35,7 @@ pub no_such_job : {X Y : Type 0} (m : Member) (spelling : Y → Data) (shown : X
     → (j : JobMembers name) → d ≢ named_value name j
 no_such_job m spelling shown d name held is none j e =
     let (there, other) = nothing_read (has name m) (member_name m) spelling shown d none in
-    apart (has name m) spelling (held j) (get (member_name m) d) (λ listed. ap (get (member_name m)) e ∙ get_listed name m j listed ∙ ap Some (is j)) there other
+    apart (has name m) spelling (held j) (get (member_name m) d) (λ listed. ap (get (member_name m)) e ∙ get_among (member_value name j) (members_of name) m listed ∙ ap Some (is j)) there other
 
 -- ---- the whole of a job
 
@@ -93,19 +67,10 @@ all_found d f (m ∷ ms) found = (
   all_found d f ms (λ n among. found n (or_right (is_same n m) (is_among n ms) among)),
 )
 
-names_apart : (name : JobName) (j : JobMembers name) → are_apart (map (λ field. field.0) (job_fields name j)) ≡ true
-names_apart Judge j = refl
-names_apart Plan j = refl
-names_apart Check j = refl
-names_apart Replay j = refl
-names_apart Run j = refl
-
-same_names : (name : JobName) (j : JobMembers name) → map member_name (members_of name) ≡ map (λ field. field.0) (job_fields name j)
-same_names Judge j = refl
-same_names Plan j = refl
-same_names Check j = refl
-same_names Replay j = refl
-same_names Run j = refl
+-- the names of the members of a row
+row_names : (f : Member → Data) (ms : List Member) → map (λ (field : List ℕ × Data). field.0) (map (λ m. (member_name m, f m)) ms) ≡ map member_name ms
+row_names f [] = refl
+row_names f (m ∷ ms) = ap (λ (names : List (List ℕ)). member_name m ∷ names) (row_names f ms)
 
 -- what was read of a member is what it spells
 read_value : {X Y : Type 0} (there : Bool) (name : List ℕ) (spelling : Y → Data) (shown : X → Y) (d : Data) (x : X) → ReadsIf there name spelling shown d (Some x)
@@ -127,7 +92,8 @@ pub members_spelled : (d : Data) (name : JobName) (m : Members) → option_map m
     → d ≡ named_value name (members_shown name m)
 members_spelled d name m names named settings certificate engines image list plan portal staging trace =
     let j = members_shown name m in
-    object_spelled d (job_fields name j) (names ∙ ap Some (same_names name j)) (names_apart name j) (all_found d (member_value name j) (members_of name) at)
+    let same = row_names (member_value name j) (members_of name) in
+    object_spelled d (job_fields name j) (names ∙ ap Some (sym same)) (ap are_apart same ∙ (row name).apart) (all_found d (member_value name j) (members_of name) at)
   where
     at : (n : Member) → has name n ≡ true → get (member_name n) d ≡ Some (member_value name (members_shown name m) n)
     at the_certificate there = read_value (has name the_certificate) (codes "certificate") (λ x. x) (λ found. view found.now) d m.certificate certificate there

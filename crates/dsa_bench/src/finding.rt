@@ -1,6 +1,7 @@
 //! Last conflicts of lists of several shapes, short and long.
 
 ghost use Rattle.std.specs.Prelude.{◌≤◌, length};
+ghost use Rattle.dsa_descriptor.specs.Pieces.{most_pieces};
 
 use crate::operation::operation_of;
 use dsa_conflicts::last_conflicts;
@@ -115,7 +116,7 @@ fn find<R: Runtime + Alloc<A = Global>>(
     window: u32,
     times: u64,
 ) -> io::Result<u128>
-    requires { length pieces.now ≤ 65536 }
+    requires { length pieces.now ≤ most_pieces }
 {
     let start = Instant::now(rt)?;
     for _ in 0..times {
@@ -132,7 +133,7 @@ fn plan<R: Runtime + Alloc<A = Global>>(
     settings: &Settings,
     times: u64,
 ) -> io::Result<u128>
-    requires { length pieces.now ≤ 65536 }
+    requires { length pieces.now ≤ most_pieces }
 {
     let start = Instant::now(rt)?;
     for _ in 0..times {

@@ -1,5 +1,5 @@
 -- How much room the bytes to submit need.
-use Rattle.std.specs.Prelude.{◌≡◌, ℕ, ◌*◌, ◌<◌, ◌≤◌, List, length, Option, Some, None}
+use Rattle.std.specs.Prelude.{◌+◌, ◌≡◌, ℕ, ◌*◌, ◌<◌, ◌≤◌, List, length, Option, Some, None}
 use Rattle.std.specs.List.{sum_by}
 use Rattle.dsa_descriptor.specs.Places.{u32_at}
 use Rattle.dsa_descriptor.specs.Lists.{entries}
@@ -7,6 +7,7 @@ use Rattle.dsa_image.specs.Lines.{quotient_up}
 use Rattle.dsa_planner.specs.Planned.{Submission}
 use Rattle.dsa_c.specs.declared.settings.RawSettings.{RawSettings}
 use Rattle.dsa_c.specs.Raw.{AreSettings}
+use Rattle.dsa_descriptor.specs.Pieces.{most_pieces}
 
 -- the transfer size of an entry of a list
 abbrev pub size_of : List ℕ → ℕ
@@ -23,8 +24,8 @@ count_of greatest list = sum_by (pieces_of greatest) (entries list)
 -- what counting answers: 0 for numbers that are no settings; else how many pieces, or 65,537 for more than may be planned
 pub record IsCount (s : RawSettings) (table list : List ℕ) (n : ℕ) : Type 0 where
   pub no_settings : (¬ AreSettings s table) → n ≡ 0
-  pub few : AreSettings s table → count_of s.greatest_transfer list ≤ 65536 → n ≡ count_of s.greatest_transfer list
-  pub many : AreSettings s table → 65536 < count_of s.greatest_transfer list → n ≡ 65537
+  pub few : AreSettings s table → count_of s.greatest_transfer list ≤ most_pieces → n ≡ count_of s.greatest_transfer list
+  pub many : AreSettings s table → most_pieces < count_of s.greatest_transfer list → n ≡ (most_pieces + 1)
 
 -- 64 bytes a piece are enough for the portal, and 80 for the staging area
 pub record HasRoom (p : Submission) : Type 0 where
@@ -35,5 +36,5 @@ pub record HasRoom (p : Submission) : Type 0 where
 
 -- how many pieces the entries have, or none for more than may be planned
 abbrev pub CountsEntries : ℕ → List (List ℕ) → Option ℕ → Type 0
-CountsEntries greatest entries None = 65536 < sum_by (pieces_of greatest) entries
-CountsEntries greatest entries (Some n) = (n ≤ 65536) × (n ≡ sum_by (pieces_of greatest) entries)
+CountsEntries greatest entries None = most_pieces < sum_by (pieces_of greatest) entries
+CountsEntries greatest entries (Some n) = (n ≤ most_pieces) × (n ≡ sum_by (pieces_of greatest) entries)

@@ -5,6 +5,7 @@ ghost use Rattle.dsa_plan.specs.Chain.{GoForward, LeadsTo, IsLastBelow};
 ghost use Rattle.dsa_plan.specs.Settings.{sized_tariff};
 ghost use Rattle.dsa_checker.specs.Steps.{HoldsWithin};
 ghost use Rattle.dsa_checker.specs.Blocks.{place, HasRows, IsFilled, IsRowOf};
+ghost use Rattle.dsa_descriptor.specs.Pieces.{most_pieces};
 
 /// How many pieces a block has.
 pub(crate) const BLOCK: usize = 64;
@@ -59,7 +60,7 @@ fn fill_row(
     block: &mut Block,
 )
     requires forward { GoForward pairs.now }
-    requires few { length pairs.now ≤ 65536 }
+    requires few { length pairs.now ≤ most_pieces }
     requires begun { first ≤ piece }
     requires inside { piece < past }
     requires within { past ≤ length pairs.now }
@@ -111,7 +112,7 @@ pub(crate) fn fill(
     block: &mut Block,
 )
     requires forward { GoForward pairs.now }
-    requires few { length pairs.now ≤ 65536 }
+    requires few { length pairs.now ≤ most_pieces }
     requires count { length prices.now ≡ length pairs.now + 1 }
     requires order { first ≤ past }
     requires within { past ≤ length pairs.now }
@@ -136,7 +137,7 @@ fn follow(
 ) -> (usize, (usize, u64))
     requires inside { chain.0 < length pairs.now }
     requires size { past ≤ first + 64 }
-    requires few { chain.1 ≤ 65536 }
+    requires few { chain.1 ≤ most_pieces }
     requires late { (b : ℕ) → LeadsTo pairs.now chain.0 b → first ≤ b }
     ensures inside { result.0 ≤ 64 }
     ensures row { (prices : List ℕ) (fence start from : ℕ) →
@@ -191,7 +192,7 @@ pub(crate) fn look(
     chain: (usize, u64),
 ) -> Option<(usize, u64)>
     requires forward { GoForward pairs.now }
-    requires few { length pairs.now ≤ 65536 }
+    requires few { length pairs.now ≤ most_pieces }
     requires count { length prices.now ≡ length pairs.now + 1 }
     requires limit { (k : ℕ) → k < length table.now → limit + slice_index table.now k < 2 ^ 64 }
     requires begun { start < past }

@@ -5,6 +5,7 @@ ghost use Rattle.dsa_plan.specs.Chain.{GoForward, IsLastBelow};
 ghost use Rattle.dsa_plan.specs.Settings.{sized_tariff};
 ghost use Rattle.dsa_checker.specs.Steps.{HoldsWithin, StepsHoldFrom};
 ghost use Rattle.dsa_checker.specs.Blocks.{IsFilled, AreChains};
+ghost use Rattle.dsa_descriptor.specs.Pieces.{most_pieces};
 
 use crate::block::{BLOCK, Block, fill, look};
 
@@ -51,7 +52,7 @@ fn block_holds(
     chains: &mut Chains,
 ) -> bool
     requires forward { GoForward pairs.now }
-    requires few { length pairs.now ≤ 65536 }
+    requires few { length pairs.now ≤ most_pieces }
     requires count { length prices.now ≡ length pairs.now + 1 }
     requires sizes { length table.now ≤ 1023 }
     requires limit { (k : ℕ) → k < length table.now → limit + slice_index table.now k < 2 ^ 64 }
@@ -103,7 +104,7 @@ pub(crate) fn held_starts(
     table: &[u64],
 ) -> usize
     requires forward { GoForward pairs.now }
-    requires few { length pairs.now ≤ 65536 }
+    requires few { length pairs.now ≤ most_pieces }
     requires count { length prices.now ≡ length pairs.now + 1 }
     requires sizes { length table.now ≤ 1023 }
     ensures inside { result ≤ length pairs.now }

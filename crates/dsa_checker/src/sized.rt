@@ -5,6 +5,7 @@ ghost use Rattle.dsa_plan.specs.Chain.{GoForward, LeadsTo};
 ghost use Rattle.dsa_checker.specs.Steps.{StepsHold, StepsHoldFrom, IsFirstBadEnd, IsFirstBadStep};
 ghost use Rattle.dsa_plan.specs.Settings.{sized_tariff};
 ghost use Rattle.dsa_checker.specs.Sized.{AreWithin, IsFirstAbove};
+ghost use Rattle.dsa_descriptor.specs.Pieces.{most_pieces};
 
 use crate::held::held_starts;
 use dsa_plan::{chain_step, last_of_run};
@@ -47,7 +48,7 @@ fn first_bad_end(
     start: usize,
 ) -> Option<usize>
     requires forward { GoForward pairs.now }
-    requires few { length pairs.now ≤ 65536 }
+    requires few { length pairs.now ≤ most_pieces }
     requires inside { start < length pairs.now }
     requires count { length prices.now ≡ length pairs.now + 1 }
     requires sizes { length table.now ≤ 1023 }
@@ -84,7 +85,7 @@ fn starts_passed(
     table: &[u64],
 ) -> usize
     requires forward { GoForward pairs.now }
-    requires few { length pairs.now ≤ 65536 }
+    requires few { length pairs.now ≤ most_pieces }
     requires count { length prices.now ≡ length pairs.now + 1 }
     requires sizes { length table.now ≤ 1023 }
     ensures { (i : ℕ) → i < result → StepsHoldFrom
@@ -107,7 +108,7 @@ pub(crate) fn first_bad_sized_step(
     table: &[u64],
 ) -> Option<(usize, usize)>
     requires forward { GoForward pairs.now }
-    requires few { length pairs.now ≤ 65536 }
+    requires few { length pairs.now ≤ most_pieces }
     requires count { length prices.now ≡ length pairs.now + 1 }
     requires sizes { length table.now ≤ 1023 }
     ensures { MatchOption result

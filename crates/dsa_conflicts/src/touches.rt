@@ -6,6 +6,7 @@ ghost use Rattle.dsa_descriptor.specs.Descriptors.{fields};
 ghost use Rattle.std.specs.List.{Contains};
 ghost use Rattle.dsa_conflicts.specs.declared.touches.Touch.{Touch};
 ghost use Rattle.dsa_conflicts.specs.Touches.{HasKind, HasTouches, IsTouchOf, access_of, spans_of, touch};
+ghost use Rattle.dsa_descriptor.specs.Pieces.{most_pieces};
 
 use crate::access::Access;
 use arrayvec::ArrayVec;
@@ -77,7 +78,7 @@ fn push_touches(
 
 /// Appends what the pieces touch of this kind.
 fn push_kind(touches: &mut Vec<Touch>, pieces: &[Descriptor], kind: Kind) -> Result<(), AllocError>
-    requires few { length pieces.now ≤ 65536 }
+    requires few { length pieces.now ≤ most_pieces }
     requires known { All (IsTouchOf (map fields pieces.now)) touches.old.items }
     ensures known { OnOk result (All (IsTouchOf (map fields pieces.now)) touches.new.items) }
     ensures kept { OnOk result
@@ -94,7 +95,7 @@ fn push_kind(touches: &mut Vec<Touch>, pieces: &[Descriptor], kind: Kind) -> Res
 
 /// What the pieces touch, in the order of first addresses.
 pub(crate) fn touches_of(alloc: Global, pieces: &[Descriptor]) -> Result<Vec<Touch>, AllocError>
-    requires { length pieces.now ≤ 65536 }
+    requires { length pieces.now ≤ most_pieces }
     ensures sorted { IfOk result (λ touches. IsNonDecreasingBy (λ t. t.span.first) touches.items) }
     ensures known { IfOk result (λ touches. All (IsTouchOf (map fields pieces.now)) touches.items) }
     ensures all { IfOk result

@@ -7,12 +7,13 @@ use Rattle.dsa_image.specs.Memory.{HoldsRanges, Memory}
 use Rattle.dsa_settings.specs.Plan.{Plan}
 use Rattle.dsa_settings.specs.Legal.{IsLegal}
 use Rattle.dsa_core.specs.Accounts.{most_members}
+use Rattle.dsa_descriptor.specs.Pieces.{most_pieces}
 
 -- what is asked before engines run the pieces under the plan, from the memory m
 pub record IsRunnable (m : Memory) (plan : Plan) (pieces : List Descriptor) (engines : ℕ)
     : Type 0 where
   -- there are at most 65,536 pieces (this project's choice)
-  pub few : length pieces ≤ 65536
+  pub few : length pieces ≤ most_pieces
   -- the plan is legal for them, with batches of at most as many members as a room takes
   pub legal : IsLegal (ConflictAt (map fields pieces)) most_members (length pieces) plan
   -- the memory has each address that they read or write

@@ -12,6 +12,7 @@ use Rattle.dsa_emission.specs.declared.place.Place.{Place}
 use Rattle.dsa_settings.specs.Plan.{Group, Plan, piece_count, start_of}
 use Rattle.dsa_settings.specs.Shapes.{HasGroupShapes}
 use Rattle.dsa_settings.specs.Settings.{Limits}
+use Rattle.dsa_descriptor.specs.Pieces.{most_pieces}
 
 -- a group of more than one piece is submitted as a batch
 abbrev pub is_batch : Group → Bool
@@ -97,7 +98,7 @@ staging_span s pieces = span s.staging (96 * length pieces)
 -- that reads or writes the staging area
 pub record CanBeEmitted (s : Limits) (plan : Plan) (pieces : List Fields) : Type 0 where
   pub covers : piece_count plan ≡ length pieces
-  pub few : length pieces ≤ 65536
+  pub few : length pieces ≤ most_pieces
   pub shapes : HasGroupShapes s.greatest_batch plan
   pub one_owner : HaveOneOwner pieces
   pub short : All (λ d. d.size ≤ s.greatest_transfer) pieces

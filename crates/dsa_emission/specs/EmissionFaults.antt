@@ -18,6 +18,7 @@ use Rattle.dsa_emission.specs.declared.emission_fault.EmissionFault.TheVariants.
 use Rattle.dsa_settings.specs.Plan.{Group, Plan}
 use Rattle.dsa_settings.specs.Settings.{Limits}
 use Rattle.dsa_emission.specs.Emission.{batch_spelling, portal_bytes, staging_bytes, CanBeEmitted}
+use Rattle.dsa_descriptor.specs.Pieces.{most_pieces}
 
 -- ---- what entries tell
 
@@ -139,7 +140,7 @@ IsFirstGroupFault demands bytes number start size Memory = ⊥
 -- the staging area has 64 bytes for each piece in a batch and 32 for each batch, and there are at most 65,536 pieces
 pub record HasStagingLength (es : List (List ℕ)) (staging : List ℕ) : Type 0 where
   pub long : length staging ≡ 64 * (told_end es).batched + 32 * (told_end es).batches
-  pub few : (told_end es).start ≤ 65536
+  pub few : (told_end es).start ≤ most_pieces
 
 -- where the entry is that of a batch, it has from 2 pieces to as many as a batch may have, and the bytes of its place
 pub record IsBatchAt (s : Limits) (owner : List ℕ) (total : ℕ) (place : Place) (entry : List ℕ) : Type 0 where

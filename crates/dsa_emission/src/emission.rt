@@ -6,6 +6,7 @@ ghost use Rattle.dsa_descriptor.specs.Spelling.{spelling};
 ghost use Rattle.dsa_emission.specs.Emission.{place_of, with_fence, batch_spelling, portal_entry, fenced_spelling, staged, portal_bytes, staging_bytes, CanBeEmitted};
 ghost use Rattle.dsa_settings.specs.Plan.{piece_count};
 ghost use Rattle.dsa_settings.specs.Shapes.{HasGroupShapes};
+ghost use Rattle.dsa_descriptor.specs.Pieces.{most_pieces};
 
 use crate::place::Place;
 use dsa_descriptor::Descriptor;
@@ -75,7 +76,7 @@ fn batch_bytes(first: &Descriptor, record_at: u64, list_at: u64, count: u32) -> 
 
 /// What stands before the end of the groups.
 fn end_of(groups: &[Group]) -> Place
-    requires { piece_count groups.now ≤ 65536 }
+    requires { piece_count groups.now ≤ most_pieces }
     ensures { result ≡ place_of groups.now (length groups.now) }
 {
     let mut place = Place::default();
@@ -95,10 +96,10 @@ fn entry_bytes(
 ) -> [u8; 64]
     requires nonempty { 0 < length group.now }
     requires within { place.start + length group.now ≤ length pieces.now }
-    requires few { length pieces.now ≤ 65536 }
-    requires batches { place.batches ≤ 65536 }
-    requires batched { place.batched ≤ 65536 }
-    requires total { total ≤ 65536 }
+    requires few { length pieces.now ≤ most_pieces }
+    requires batches { place.batches ≤ most_pieces }
+    requires batched { place.batched ≤ most_pieces }
+    requires total { total ≤ most_pieces }
     ensures { result ≡ portal_entry settings.now total place group.now (map fields pieces.now) }
 {
     if group.len() > 1 {
@@ -119,7 +120,7 @@ fn portal_bytes(
     settings: &Settings,
 ) -> Result<Vec<u8>, AllocError>
     requires covers { piece_count groups.now ≡ length pieces.now }
-    requires few { length pieces.now ≤ 65536 }
+    requires few { length pieces.now ≤ most_pieces }
     requires shapes { HasGroupShapes settings.now.greatest_batch groups.now }
     ensures { IfOk result (λ portal.
         portal.items ≡ portal_bytes settings.now groups.now (map fields pieces.now)) }
@@ -186,7 +187,7 @@ fn staging_bytes(
     pieces: &[Descriptor],
 ) -> Result<Vec<u8>, AllocError>
     requires covers { piece_count groups.now ≡ length pieces.now }
-    requires few { length pieces.now ≤ 65536 }
+    requires few { length pieces.now ≤ most_pieces }
     ensures { IfOk result
         (λ staging. staging.items ≡ staging_bytes groups.now (map fields pieces.now)) }
 {

@@ -2,6 +2,7 @@
 
 ghost use Rattle.std.specs.Prelude.{◌≡◌, ◌+◌, ◌≤◌, length};
 ghost use Rattle.dsa_settings.specs.Plan.{piece_count};
+ghost use Rattle.dsa_descriptor.specs.Pieces.{most_pieces};
 
 use dsa_settings::Group;
 
@@ -21,7 +22,7 @@ impl Place {
 
     /// The place of the group after this one.
     pub fn after(self, group: &Group) -> Place
-        requires few { self.start + length group.now ≤ 65536 }
+        requires few { self.start + length group.now ≤ most_pieces }
         requires batches { self.batches ≤ self.start }
         requires batched { self.batched ≤ self.start }
         ensures { result ≡ place_after self group.now }

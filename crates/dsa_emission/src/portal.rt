@@ -7,14 +7,13 @@ ghost use Rattle.dsa_descriptor.specs.Places.{u32_at};
 ghost use Rattle.dsa_emission.specs.declared.emission_fault.EmissionFault.TheVariants.{Memory};
 ghost use Rattle.dsa_emission.specs.Emission.{batch_spelling};
 ghost use Rattle.dsa_emission.specs.EmissionFaults.{is_batch_entry, told_size, told_after, told_end, piece_bytes, owner_at, IsBatchAt, IsRightAt, HasLengths, HasZeroRecord, IsFirstLengthFault};
+ghost use Rattle.dsa_descriptor.specs.Pieces.{most_pieces};
 
 use crate::emission::batch_entry;
 use crate::emission_fault::EmissionFault;
 use crate::place::Place;
+use dsa_descriptor::MOST_PIECES;
 use dsa_settings::Settings;
-
-/// The greatest number of pieces of an emission.
-const GREATEST_COUNT: usize = 65536;
 
 /// Whether the entry is that of a batch.
 pub(crate) fn is_batch_entry(entry: &[u8; 64]) -> bool
@@ -45,7 +44,7 @@ pub(crate) fn told_size(entry: &[u8; 64]) -> usize
 
 /// What stands after the entry.
 pub(crate) fn after_entry(place: Place, entry: &[u8; 64]) -> Place
-    requires few { place.start ≤ 65536 }
+    requires few { place.start ≤ most_pieces }
     requires batches { place.batches < 2 ^ 60 }
     requires batched { place.batched ≤ place.start }
     ensures { result ≡ told_after place entry.now }
@@ -69,13 +68,13 @@ pub(crate) fn after_entry(place: Place, entry: &[u8; 64]) -> Place
 /// What stands in all entries, if that isn't too much.
 pub(crate) fn told_end(all: &[[u8; 64]]) -> Option<Place>
     requires { length all.now < 2 ^ 58 }
-    ensures { MatchOption result (65536 < (told_end all.now).start)
-        (λ end. (end ≡ told_end all.now) × (end.start ≤ 65536)) }
+    ensures { MatchOption result (most_pieces < (told_end all.now).start)
+        (λ end. (end ≡ told_end all.now) × (end.start ≤ most_pieces)) }
 {
     let mut place = Place::default();
     for entry in all {
         place = after_entry(place, entry);
-        if place.start > GREATEST_COUNT {
+        if place.start > MOST_PIECES {
             return None;
         }
     }
@@ -123,9 +122,9 @@ fn is_batch_at(
     owner: &[u8; 4],
     settings: &Settings,
 ) -> bool
-    requires total { total ≤ 65536 }
-    requires batches { place.batches ≤ 65536 }
-    requires batched { place.batched ≤ 65536 }
+    requires total { total ≤ most_pieces }
+    requires batches { place.batches ≤ most_pieces }
+    requires batched { place.batched ≤ most_pieces }
     ensures { IsTrue result ↔ IsBatchAt settings.now owner.now total place entry.now }
 {
     let count = count_at(entry);
@@ -146,9 +145,9 @@ fn is_right_at(
     owner: &[u8; 4],
     settings: &Settings,
 ) -> bool
-    requires total { total ≤ 65536 }
-    requires batches { place.batches ≤ 65536 }
-    requires batched { place.batched ≤ 65536 }
+    requires total { total ≤ most_pieces }
+    requires batches { place.batches ≤ most_pieces }
+    requires batched { place.batched ≤ most_pieces }
     ensures { IsTrue result ↔
         (is_batch_entry entry.now ≡ true → IsBatchAt settings.now owner.now total place entry.now) }
 {
@@ -165,7 +164,7 @@ pub(crate) fn wrong_batch(
     owner: &[u8; 4],
     settings: &Settings,
 ) -> Option<usize>
-    requires few { (told_end all.now).start ≤ 65536 }
+    requires few { (told_end all.now).start ≤ most_pieces }
     requires total { total ≡ (told_end all.now).batched }
     ensures { MatchOption result ((number : ℕ) → number < length all.now →
         IsRightAt settings.now all.now owner.now number) (λ number. (number < length all.now) ×

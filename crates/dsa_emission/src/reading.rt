@@ -8,6 +8,7 @@ ghost use Rattle.dsa_ranges.specs.Ranges.{Touches};
 ghost use Rattle.dsa_emission.specs.declared.emission_fault.EmissionFault.{EmissionFault};
 ghost use Rattle.dsa_emission.specs.declared.emission_fault.EmissionFault.TheVariants.{Memory};
 ghost use Rattle.dsa_emission.specs.EmissionFaults.{is_batch_entry, told_size, bytes_at, is_fenced, unfenced, Spells, IsOwned, IsFit, IsFirstEntryFault, IsFirstGroupFault, IsFirstPortalFault, IsGroupRead, IsRead, told_end, IsEmission, IsFirstEmissionFault};
+ghost use Rattle.dsa_descriptor.specs.Pieces.{most_pieces};
 
 use crate::demands::Demands;
 use crate::emission_fault::{EmissionFault, EntryFault};
@@ -104,7 +105,7 @@ fn read_group(
     demands: &Demands,
 ) -> Result<Group, EmissionFault>
     requires nonempty { 0 < told_size entry.now }
-    requires few { place.start + told_size entry.now ≤ 65536 }
+    requires few { place.start + told_size entry.now ≤ most_pieces }
     requires inside { is_batch_entry entry.now ≡ true →
         place.batched + told_size entry.now ≤ length staged.now }
     ensures ok { IfOk result (λ group. (ds : List Descriptor) ×
@@ -137,7 +138,7 @@ fn read_groups(
     staged: &[[u8; 64]],
     demands: &Demands,
 ) -> Result<(Plan, Vec<Descriptor>), EmissionFault>
-    requires few { (told_end all.now).start ≤ 65536 }
+    requires few { (told_end all.now).start ≤ most_pieces }
     requires inside { (told_end all.now).batched ≤ length staged.now }
     requires sized { (g : ℕ) → g < length all.now → 0 < told_size (slice_index_or all.now g []) }
     ensures ok { IfOk result

@@ -14,10 +14,7 @@ use Rattle.dsa_explain.specs.declared.prices.Prices.{Prices}
 use Rattle.dsa_explain.specs.declared.explanation.Explanation.{Explanation}
 use Rattle.dsa_explain.specs.declared.explanation.ExplainFault.{ExplainFault}
 use Rattle.dsa_explain.specs.declared.explanation.ExplainFault.TheVariants.{TooManyPieces, Legal, Memory}
-
--- the most pieces of a plan that is explained (this project's choice)
-abbrev pub most_pieces : ℕ
-most_pieces = 65536
+use Rattle.dsa_descriptor.specs.Pieces.{most_pieces}
 
 -- the costs of the groups and of the plan, and that of so many lone submissions
 pub record ArePrices (s : Limits) (pieces : ℕ) (plan : Plan) (prices : Prices) : Type 0 where

@@ -7,12 +7,9 @@ ghost use Rattle.dsa_explain.specs.Explained.{Explains};
 use crate::cells::{Cell, lay_out};
 use crate::fences::{Fence, fences_of};
 use crate::prices::{Prices, price_plan};
-use dsa_descriptor::Descriptor;
+use dsa_descriptor::{Descriptor, MOST_PIECES};
 use dsa_plan::{LegalFault, Plan, Settings, is_legal};
 use std::alloc::{AllocError, Global};
-
-/// The most pieces of a plan that is explained.
-pub const MOST_PIECES: usize = 65_536;
 
 /// What a plan costs, why its fences stand, and where its pieces stand in a picture.
 #[derive(Debug, Drop)]

@@ -4,6 +4,7 @@ ghost use Rattle.std.specs.Prelude.{◌≡◌, ◌+◌, ◌≤◌, ◌++◌, IfO
 ghost use Rattle.dsa_descriptor.specs.Descriptors.{fields};
 ghost use Rattle.dsa_plan.specs.Plan.{piece_count};
 ghost use Rattle.dsa_explain.specs.Fences.{AddsExplained, AreFencesOf, fence_places, fenced_in};
+ghost use Rattle.dsa_descriptor.specs.Pieces.{most_pieces};
 
 use crate::reason::{Reason, reason_of};
 use dsa_descriptor::Descriptor;
@@ -27,7 +28,7 @@ fn push_fences(
     start: usize,
 ) -> Result<(), AllocError>
     requires known { start + length group.now ≤ length pieces.now }
-    requires few { length pieces.now ≤ 65536 }
+    requires few { length pieces.now ≤ most_pieces }
     ensures places { OnOk result (fence_places fences.new.items ≡
         fence_places fences.old.items ++ fenced_in start group.now) }
     ensures explained { OnOk result (AddsExplained (map fields pieces.now)
@@ -52,7 +53,7 @@ pub fn fences_of(
     pieces: &[Descriptor],
 ) -> Result<Vec<Fence>, AllocError>
     requires all { piece_count plan.now ≡ length pieces.now }
-    requires few { length pieces.now ≤ 65536 }
+    requires few { length pieces.now ≤ most_pieces }
     ensures { IfOk result
         (λ fences. AreFencesOf (map fields pieces.now) plan.now fences.items) }
 {

@@ -12,7 +12,8 @@ mod reason;
 mod words;
 
 pub use cells::{Cell, lay_out};
-pub use explanation::{ExplainFault, Explanation, MOST_PIECES, explain};
+pub use dsa_descriptor::MOST_PIECES;
+pub use explanation::{ExplainFault, Explanation, explain};
 pub use fences::{Fence, fences_of};
 pub use laws::{
     cells_are_pieces_and_fences, each_fence_once, group_costs_add_up, least_plans_save,

@@ -6,6 +6,7 @@ ghost use Rattle.dsa_plan.specs.LegalFaults.{HasGroupShape, HasGroupShapes};
 ghost use Rattle.dsa_plan.specs.Settings.{tariff_of};
 ghost use Rattle.dsa_explain.specs.Costs.{group_price, group_prices};
 ghost use Rattle.dsa_explain.specs.Explained.{ArePrices};
+ghost use Rattle.dsa_descriptor.specs.Pieces.{most_pieces};
 
 use dsa_plan::{Group, Plan, Settings, cost, group_price};
 use std::alloc::{AllocError, Global};
@@ -42,7 +43,7 @@ fn fence_count(group: &Group) -> usize
 /// The price of a group.
 fn price(group: &Group, settings: &Settings) -> GroupPrice
     requires shape { HasGroupShape settings.now.greatest_batch group.now }
-    requires few { length group.now ≤ 65536 }
+    requires few { length group.now ≤ most_pieces }
     ensures { result ≡ group_price (tariff_of settings.now) group.now }
 {
     let (size, fences) = (group.len(), fence_count(group));
@@ -59,7 +60,7 @@ fn group_prices(
     plan: &Plan,
     settings: &Settings,
 ) -> Result<Vec<GroupPrice>, AllocError>
-    requires pieces { piece_count plan.now ≤ 65536 }
+    requires pieces { piece_count plan.now ≤ most_pieces }
     requires shapes { HasGroupShapes settings.now.greatest_batch plan.now }
     ensures { IfOk result
         (λ groups. groups.items ≡ group_prices (tariff_of settings.now) plan.now) }
@@ -79,7 +80,7 @@ pub fn price_plan(
     settings: &Settings,
 ) -> Result<Prices, AllocError>
     requires all { piece_count plan.now ≡ pieces }
-    requires few { pieces ≤ 65536 }
+    requires few { pieces ≤ most_pieces }
     requires shapes { HasGroupShapes settings.now.greatest_batch plan.now }
     ensures { IfOk result (ArePrices settings.now pieces plan.now) }
 {

@@ -4,6 +4,7 @@ ghost use Rattle.std.specs.Prelude.{◌≡◌, ℕ, ◌+◌, ◌^◌, ◌<◌, �
 ghost use Rattle.dsa_descriptor.specs.Descriptors.{fields};
 ghost use Rattle.dsa_plan.specs.Legal.{IsFenced};
 ghost use Rattle.dsa_explain.specs.Reasons.{FindsEarlier, FindsNone, IsOpen, IsReasonFor};
+ghost use Rattle.dsa_descriptor.specs.Pieces.{most_pieces};
 
 use dsa_descriptor::Descriptor;
 use dsa_hazards::{Hazard, find_hazard};
@@ -33,7 +34,7 @@ fn last_before(
     requires behind { at ≤ later }
     requires within { later < start + length fences.now }
     requires known { start + length fences.now ≤ length pieces.now }
-    requires few { length pieces.now ≤ 65536 }
+    requires few { length pieces.now ≤ most_pieces }
     ensures { MatchOption result
         (FindsNone (map fields pieces.now) start fences.now at later)
         (λ found. FindsEarlier (map fields pieces.now) start fences.now at later found.0 found.1) }
@@ -74,7 +75,7 @@ fn next_fence(fences: &[bool], start: usize, at: usize) -> usize
 /// later piece, and for it the greatest earlier one. None where no conflict needs the fence alone.
 pub fn reason_of(fences: &[bool], pieces: &[Descriptor], start: usize, at: usize) -> Option<Reason>
     requires known { start + length fences.now ≤ length pieces.now }
-    requires few { length pieces.now ≤ 65536 }
+    requires few { length pieces.now ≤ most_pieces }
     requires fenced { IsFenced start fences.now at }
     ensures { IsReasonFor (map fields pieces.now) start fences.now at result }
 {

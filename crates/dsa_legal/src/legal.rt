@@ -9,6 +9,7 @@ ghost use Rattle.dsa_settings.specs.Shapes.{HasGroupShapes};
 ghost use Rattle.dsa_legal.specs.LegalFaults.{IsShapeFault, HasNoUnfenced, IsLastUnfenced, IsFencedWithin, IsFirstUnfencedWithin, IsFencedThroughout, IsFirstUnfenced, IsFirstLegalFault};
 ghost use Rattle.dsa_legal.specs.Causes.{legal_number, legal_name, legal_indices};
 ghost use Rattle.dsa_settings.specs.Plan.{piece_count};
+ghost use Rattle.dsa_descriptor.specs.Pieces.{most_pieces};
 
 use crate::sweep::{Access, ROOM, is_seen_fenced};
 use arrayvec::ArrayVec;
@@ -184,7 +185,7 @@ fn first_unfenced_of(
     accesses: &mut ArrayVec<Access, ROOM>,
 ) -> Option<(usize, usize)>
     requires known { start + length group.now ≤ length pieces.now }
-    requires few { length pieces.now ≤ 65536 }
+    requires few { length pieces.now ≤ most_pieces }
     ensures { MatchOption result
         (IsFencedWithin (ConflictAt (map fields pieces.now)) start group.now)
         (λ p. IsFirstUnfencedWithin (ConflictAt (map fields pieces.now)) start group.now p.0 p.1) }
@@ -199,7 +200,7 @@ fn first_unfenced_of(
 #[inline(never)]
 fn first_unfenced(groups: &[Group], pieces: &[Descriptor]) -> Option<(usize, usize)>
     requires all { piece_count groups.now ≡ length pieces.now }
-    requires few { length pieces.now ≤ 65536 }
+    requires few { length pieces.now ≤ most_pieces }
     ensures { MatchOption result
         (IsFencedThroughout (ConflictAt (map fields pieces.now)) groups.now)
         (λ p. IsFirstUnfenced (ConflictAt (map fields pieces.now)) groups.now p.0 p.1) }
@@ -220,7 +221,7 @@ fn first_unfenced(groups: &[Group], pieces: &[Descriptor]) -> Option<(usize, usi
 /// between, is fenced. Else its first fault: `Count`; then for the least group `GroupSize` before `FirstFence`; then
 /// `Unfenced` with the least second piece, and for it the greatest first.
 pub fn is_legal(plan: &Plan, pieces: &[Descriptor], settings: &Settings) -> Result<(), LegalFault>
-    requires { length pieces.now ≤ 65536 }
+    requires { length pieces.now ≤ most_pieces }
     ensures legal { IsOk result ↔ IsLegal (ConflictAt (map fields pieces.now))
         settings.now.greatest_batch (length pieces.now) plan.now }
     ensures fault { (f : LegalFault) → (result ≡ Err f) ↔

@@ -9,6 +9,7 @@ ghost use Rattle.dsa_ranges.specs.Ranges.{ConflictAt};
 ghost use Rattle.dsa_legal.specs.declared.sweep.Access.{Access};
 ghost use Rattle.dsa_legal.specs.LegalFaults.{IsFencedWithin};
 ghost use Rattle.dsa_legal.specs.Sweeps.{access, access_end, first_of, Clash, Covers, IsOrdered, HasSeen, HasAccesses, HasNoClash};
+ghost use Rattle.dsa_descriptor.specs.Pieces.{most_pieces};
 
 use arrayvec::ArrayVec;
 use dsa_descriptor::Descriptor;
@@ -202,7 +203,7 @@ pub(crate) fn is_seen_fenced(
     accesses: &mut ArrayVec<Access, ROOM>,
 ) -> bool
     requires known { start + length group.now ≤ length pieces.now }
-    requires few { length pieces.now ≤ 65536 }
+    requires few { length pieces.now ≤ most_pieces }
     ensures { IsTrue result → IsFencedWithin (ConflictAt (map fields pieces.now)) start group.now }
 {
     accesses.clear();

@@ -10,7 +10,8 @@ use Rattle.dsa_plan.specs.LegalFaults.{IsFirstLegalFault}
 use Rattle.dsa_splitter.specs.declared.fault.SplitFault.TheVariants.{TooManyPieces}
 use Rattle.dsa_planner.specs.declared.fault.PlanFault.{PlanFault}
 use Rattle.dsa_planner.specs.declared.fault.PlanFault.TheVariants.{Split, OverTransfer, Legal}
-use Rattle.dsa_planner.specs.Lists.{most_pieces, OverList}
+use Rattle.dsa_planner.specs.Lists.{OverList}
+use Rattle.dsa_descriptor.specs.Pieces.{most_pieces}
 
 -- no descriptor is longer than the greatest transfer
 abbrev pub FitTransfer : ℕ → List Fields → Type 0

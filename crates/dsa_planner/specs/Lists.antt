@@ -9,10 +9,6 @@ use Rattle.dsa_descriptor.specs.Lists.{list_spelling, HaveOneOwner, IsFirstListF
 use Rattle.dsa_planner.specs.declared.fault.PlanFault.{PlanFault}
 use Rattle.dsa_planner.specs.declared.fault.PlanFault.TheVariants.{List as InList, Memory}
 
--- the most pieces that are planned (this project's choice)
-abbrev pub most_pieces : ℕ
-most_pieces = 65536
-
 -- the bytes spell these descriptors, all of one owner
 pub record IsListOf (bytes : List ℕ) (ds : List Descriptor) : Type 0 where
   pub spelled : bytes ≡ list_spelling (map fields ds)

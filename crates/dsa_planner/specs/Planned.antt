@@ -21,6 +21,7 @@ use Rattle.dsa_planner.specs.declared.fault.PlanFault.{PlanFault}
 use Rattle.dsa_planner.specs.declared.planning.Planned.{Planned}
 use Rattle.dsa_planner.specs.declared.fault.PlanFault.TheVariants.{Split}
 use Rattle.dsa_planner.specs.Lists.{IsListOf, OverList}
+use Rattle.dsa_descriptor.specs.Pieces.{most_pieces}
 
 -- what planning answers: the pieces of the listed operations, their plan, its certificate and its cost, and the bytes
 -- that submit it
@@ -79,7 +80,7 @@ submission_of p =
 
 -- the pieces of a list can be planned and their plan emitted: they are few, of one owner, short, and clear of the staging area
 pub record CanBePlanned (s : Limits) (pieces : List Fields) : Type 0 where
-  pub few : length pieces ≤ 65536
+  pub few : length pieces ≤ most_pieces
   pub one_owner : HaveOneOwner pieces
   pub short : All (λ d. d.size ≤ s.greatest_transfer) pieces
   pub clear : All (λ d. (address : ℕ) → InSpan (staging_span s pieces) address → ¬ Touches d address) pieces

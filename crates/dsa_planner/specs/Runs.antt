@@ -11,7 +11,7 @@ use Rattle.dsa_splitter.specs.Pieces.{all_whole, whole_statuses}
 use Rattle.dsa_core.specs.declared.event.Event.{Event}
 use Rattle.dsa_core.specs.declared.outcome.Outcome.{Outcome}
 use Rattle.dsa_core.specs.declared.fault.CoreFault.TheVariants.{TooLong, NotAStep, Incomplete}
-use Rattle.dsa_core.specs.PieceRuns.{event_count}
+use Rattle.dsa_core.specs.PieceRuns.{event_count, most_events}
 use Rattle.dsa_core.specs.Accounts.{IsOutcome, IsUnfinished}
 use Rattle.dsa_core.specs.Outcomes.{room_with, IsFirstRefused}
 use Rattle.dsa_engines.specs.declared.fault.RoomFault.TheVariants.{GateShut, Stale, Mixed}
@@ -29,10 +29,6 @@ pub record Left : Type 0 where
 -- an outcome, as contracts see it
 abbrev pub left_of : Outcome → Left
 left_of o = record { image = o.image; finished = o.finished; batch_records = o.batch_records.items }
-
--- the most events of one run (this project's choice)
-abbrev pub most_events : ℕ
-most_events = 4194304
 
 -- 1 to 64 engines (this project's choice)
 pub record AreEngines (engines : ℕ) : Type 0 where

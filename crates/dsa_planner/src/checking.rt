@@ -12,6 +12,7 @@ ghost use Rattle.dsa_cert.specs.Certificates.{contents};
 ghost use Rattle.dsa_planner.specs.declared.fault.PlanFault.{PlanFault};
 ghost use Rattle.dsa_planner.specs.Lists.{OrMemory, IsOrMemory};
 ghost use Rattle.dsa_planner.specs.Checked.{Checks, ChecksPlan};
+ghost use Rattle.dsa_descriptor.specs.Pieces.{most_pieces};
 
 use crate::fault::PlanFault;
 use dsa_cert::Certificate;
@@ -56,7 +57,7 @@ fn check_plan(
     plan: &Plan,
     certificate: &Certificate,
 ) -> Result<u64, PlanFault>
-    requires { length pieces.now ≤ 65536 }
+    requires { length pieces.now ≤ most_pieces }
     ensures { ChecksPlan settings.now
         (map fields pieces.now) plan.now (contents certificate.now) result }
 {

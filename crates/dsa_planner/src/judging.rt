@@ -7,13 +7,10 @@ ghost use Rattle.dsa_planner.specs.Judge.{Judges, JudgesPieces, FindsOver};
 ghost use Rattle.dsa_planner.specs.Lists.{OrMemory, IsOrMemory};
 
 use crate::fault::PlanFault;
-use dsa_descriptor::{Descriptor, read_list};
+use dsa_descriptor::{Descriptor, MOST_PIECES, read_list};
 use dsa_plan::{Plan, Settings, cost, is_legal};
 use dsa_splitter::SplitFault;
 use std::alloc::Global;
-
-/// The most pieces that are planned.
-pub const MOST_PIECES: usize = 65_536;
 
 /// The cost of the plan for the pieces that the bytes spell, or the first cause to refuse it: that of the list, then
 /// more than 65,536 pieces, then the first piece longer than the greatest transfer, then that of the plan. Memory is

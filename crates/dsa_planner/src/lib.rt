@@ -12,8 +12,9 @@ mod replaying;
 mod running;
 
 pub use checking::check_bytes;
+pub use dsa_descriptor::MOST_PIECES;
 pub use fault::{InnerFault, PlanFault};
-pub use judging::{MOST_PIECES, judge_bytes};
+pub use judging::judge_bytes;
 pub use laws::{
     one_checked, one_judged, one_planned, one_replayed, one_run, planned_is_least_and_shown,
     planned_runs_leave_whole, replays_follow_plans, runs_follow_plans,

@@ -12,6 +12,7 @@ ghost use Rattle.dsa_planner.specs.Lists.{OrMemory, IsOrMemory};
 ghost use Rattle.dsa_plan.specs.Settings.{AreInLimits};
 ghost use Rattle.dsa_planner.specs.Planned.{IsPlanOf};
 ghost use Rattle.dsa_planner.specs.Runs.{BeginsWith, CanBegin, IsReady, Left, LeavesWhole, RefusesRun, Replays, ReplaysPieces, left_of};
+ghost use Rattle.dsa_descriptor.specs.Pieces.{most_pieces};
 
 use crate::fault::PlanFault;
 use crate::planning::pieces_of;
@@ -56,7 +57,7 @@ fn chosen_plan(
     pieces: &[Descriptor],
     settings: &Settings,
 ) -> Result<Plan, AllocError>
-    requires { length pieces.now ≤ 65536 }
+    requires { length pieces.now ≤ most_pieces }
     ensures chosen { IfOk result (λ plan. IsPlanOf settings.now pieces.now plan) }
     ensures legal { IfOk result (λ plan.
         IsLegal (ConflictAt (map fields pieces.now)) most_members (length pieces.now) plan) }

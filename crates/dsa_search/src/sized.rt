@@ -3,9 +3,10 @@
 ghost use Rattle.std.specs.Prelude.{◌≡◌, ◌⊎◌, ℕ, ◌+◌, ◌-◌, ◌*◌, ◌<◌, ◌≤◌, min, length, slice_index, IfOk};
 ghost use Rattle.dsa_plan.specs.Chain.{GoForward, IsLastBelow};
 ghost use Rattle.dsa_search.specs.Filled.{HasOffers, IsFilled, past_reach};
-ghost use Rattle.dsa_plan.specs.Settings.{ArePrices};
+ghost use Rattle.dsa_plan.specs.Settings.{ArePrices, greatest_price};
 ghost use Rattle.dsa_plan.specs.Settings.{sized_tariff};
 ghost use Rattle.dsa_search.specs.Sized.{HasRows, past_block};
+ghost use Rattle.dsa_descriptor.specs.Pieces.{most_pieces};
 
 use crate::table::{UNREACHED, lower};
 use dsa_plan::{chain_step, last_of_run};
@@ -16,7 +17,7 @@ const BLOCK: usize = 64;
 
 /// The first piece past the block of this one.
 fn block_end(piece: usize) -> usize
-    requires { piece ≤ 65536 }
+    requires { piece ≤ most_pieces }
     ensures value { result ≡ past_block piece }
     ensures later { piece < result }
     ensures near { result ≤ piece + 64 }
@@ -43,7 +44,7 @@ fn copy_counts(rows: &mut [u8], to: usize, from: usize, count: usize)
 /// Makes the row of a piece from that of the piece that its pair leads to, if that is in its block.
 fn fill_row(pairs: &[Option<(u32, u32)>], rows: &mut [u8], lasts: &mut [u32], piece: usize)
     requires forward { GoForward pairs.now }
-    requires few { length pairs.now ≤ 65536 }
+    requires few { length pairs.now ≤ most_pieces }
     requires inside { piece < length pairs.now }
     requires later { HasRows pairs.now (piece + 1) rows.old lasts.old }
     ensures { HasRows pairs.now piece rows.new lasts.new }
@@ -64,7 +65,7 @@ fn fill_row(pairs: &[Option<(u32, u32)>], rows: &mut [u8], lasts: &mut [u32], pi
 /// Makes the rows of all pieces, from the last to the first.
 fn fill_rows(pairs: &[Option<(u32, u32)>], rows: &mut [u8], lasts: &mut [u32])
     requires forward { GoForward pairs.now }
-    requires few { length pairs.now ≤ 65536 }
+    requires few { length pairs.now ≤ most_pieces }
     requires blank { HasRows pairs.now (length pairs.now) rows.old lasts.old }
     ensures { HasRows pairs.now 0 rows.new lasts.new }
 {
@@ -92,7 +93,7 @@ fn lower_row(
     requires sizes { to ≤ start + 2 + length table.now }
     requires counts { at + to ≤ from + length rows.now }
     requires prices { ArePrices table.now }
-    requires fence { fence ≤ 1000000000 }
+    requires fence { fence ≤ greatest_price }
     requires small { cost ≤ 1000000000000000 }
     ensures count { length costs.new ≡ length costs.old }
     ensures inside { (k : ℕ) → from ≤ k → k < to →
@@ -143,11 +144,11 @@ fn offer_row(
     costs: &mut [u64],
 ) -> (usize, u64, usize)
     requires forward { GoForward pairs.now }
-    requires few { length pairs.now ≤ 65536 }
+    requires few { length pairs.now ≤ most_pieces }
     requires rows { HasRows pairs.now 0 rows.now lasts.now }
     requires sizes { length table.now ≤ 1023 }
     requires prices { ArePrices table.now }
-    requires fence { fence ≤ 1000000000 }
+    requires fence { fence ≤ greatest_price }
     requires late { start + 2 ≤ end }
     requires chain { IsLastBelow pairs.now start end chain.1 chain.0 }
     requires near { end ≤ past_block chain.0 }
@@ -190,10 +191,10 @@ fn offer_run(
     costs: &mut [u64],
 ) -> (usize, u64, usize)
     requires forward { GoForward pairs.now }
-    requires few { length pairs.now ≤ 65536 }
+    requires few { length pairs.now ≤ most_pieces }
     requires sizes { length table.now ≤ 1023 }
     requires prices { ArePrices table.now }
-    requires fence { fence ≤ 1000000000 }
+    requires fence { fence ≤ greatest_price }
     requires late { start + 2 ≤ end }
     requires chain { IsLastBelow pairs.now start end chain.1 chain.0 }
     requires within { end < past_reach (length table.now + 1) (length pairs.now) start }
@@ -227,12 +228,12 @@ fn offer_sizes(
     costs: &mut [u64],
 )
     requires forward { GoForward pairs.now }
-    requires few { length pairs.now ≤ 65536 }
+    requires few { length pairs.now ≤ most_pieces }
     requires rows { HasRows pairs.now 0 rows.now lasts.now }
     requires sizes { length table.now ≤ 1023 }
     requires prices { ArePrices table.now }
-    requires fence { fence ≤ 1000000000 }
-    requires lone { lone ≤ 1000000000 }
+    requires fence { fence ≤ greatest_price }
+    requires lone { lone ≤ greatest_price }
     requires inside { start < length pairs.now }
     requires table { HasOffers
         (length table.now + 1) (sized_tariff lone fence table.now)
@@ -270,12 +271,12 @@ fn fill_sizes(
     costs: &mut [u64],
 )
     requires forward { GoForward pairs.now }
-    requires few { length pairs.now ≤ 65536 }
+    requires few { length pairs.now ≤ most_pieces }
     requires rows { HasRows pairs.now 0 rows.now lasts.now }
     requires sizes { length table.now ≤ 1023 }
     requires prices { ArePrices table.now }
-    requires fence { fence ≤ 1000000000 }
-    requires lone { lone ≤ 1000000000 }
+    requires fence { fence ≤ greatest_price }
+    requires lone { lone ≤ greatest_price }
     requires table { HasOffers (length table.now + 1) (sized_tariff lone fence table.now)
         pairs.now 0 1 costs.old }
     ensures { IsFilled (length table.now + 1) (sized_tariff lone fence table.now)
@@ -299,11 +300,11 @@ pub(crate) fn table_by_size(
     table: &[u64],
 ) -> Result<Vec<u64>, AllocError>
     requires forward { GoForward pairs.now }
-    requires few { length pairs.now ≤ 65536 }
+    requires few { length pairs.now ≤ most_pieces }
     requires sizes { length table.now ≤ 1023 }
     requires prices { ArePrices table.now }
-    requires fence { fence ≤ 1000000000 }
-    requires lone { lone ≤ 1000000000 }
+    requires fence { fence ≤ greatest_price }
+    requires lone { lone ≤ greatest_price }
     ensures { IfOk result
         (λ costs. IsFilled (length table.now + 1) (sized_tariff lone fence table.now)
         pairs.now costs.items) }

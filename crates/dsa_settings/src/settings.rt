@@ -1,7 +1,7 @@
 //! The settings of a planner.
 
 ghost use Rattle.std.specs.Prelude.{◌≡◌, ℕ, ◌≤◌, ◌↔◌, length, IsTrue, MatchOption, MatchResult};
-ghost use Rattle.dsa_settings.specs.Settings.{AreInLimits, ArePrices, batch_price, limits, version_of};
+ghost use Rattle.dsa_settings.specs.Settings.{AreInLimits, ArePrices, batch_price, limits, version_of, greatest_price};
 ghost use Rattle.dsa_settings.specs.Settings.BatchPrices.{BySize, SamePrice};
 
 use arrayvec::ArrayVec;
@@ -195,7 +195,7 @@ impl Settings {
         requires some { 2 ≤ size }
         requires fits { size ≤ self.now.greatest_batch }
         ensures value { result ≡ batch_price self.now.batch size }
-        ensures small { result ≤ 1000000000 }
+        ensures small { result ≤ greatest_price }
     {
         if self.table.is_empty() {
             return self.same;

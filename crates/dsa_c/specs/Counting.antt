@@ -3,11 +3,11 @@ use Rattle.std.specs.Prelude.{◌+◌, ◌≡◌, ℕ, ◌*◌, ◌<◌, ◌≤�
 use Rattle.std.specs.List.{sum_by}
 use Rattle.dsa_descriptor.specs.Places.{u32_at}
 use Rattle.dsa_descriptor.specs.Lists.{entries}
+use Rattle.dsa_descriptor.specs.Pieces.{most_pieces}
 use Rattle.dsa_image.specs.Lines.{quotient_up}
 use Rattle.dsa_planner.specs.Planned.{Submission}
 use Rattle.dsa_c.specs.declared.settings.RawSettings.{RawSettings}
 use Rattle.dsa_c.specs.Raw.{AreSettings}
-use Rattle.dsa_descriptor.specs.Pieces.{most_pieces}
 
 -- the transfer size of an entry of a list
 abbrev pub size_of : List ℕ → ℕ

@@ -57,6 +57,6 @@ pub extern "C" fn dsa_count_pieces(settings: &RawSettings, table: &[u64], list: 
     let (entries, _) = list.as_chunks::<64>();
     match count(entries, checked.greatest_transfer()) {
         Some(pieces) => pieces,
-        None => 65_537,
+        None => MOST_PIECES as u64 + 1,
     }
 }

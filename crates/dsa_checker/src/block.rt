@@ -1,11 +1,11 @@
 //! The prices at the ends of a block of pieces, less the fences of each chain that comes into it.
 
 ghost use Rattle.std.specs.Prelude.{◌≡◌, ◌⊎◌, ℕ, ◌+◌, ◌-◌, ◌^◌, ◌<◌, ◌≤◌, max, List, length, slice_index, IsTrue, IfSome};
+ghost use Rattle.dsa_descriptor.specs.Pieces.{most_pieces};
 ghost use Rattle.dsa_plan.specs.Chain.{GoForward, LeadsTo, IsLastBelow};
 ghost use Rattle.dsa_plan.specs.Settings.{sized_tariff};
 ghost use Rattle.dsa_checker.specs.Steps.{HoldsWithin};
 ghost use Rattle.dsa_checker.specs.Blocks.{place, HasRows, IsFilled, IsRowOf};
-ghost use Rattle.dsa_descriptor.specs.Pieces.{most_pieces};
 
 /// How many pieces a block has.
 pub(crate) const BLOCK: usize = 64;

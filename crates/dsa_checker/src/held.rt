@@ -1,11 +1,11 @@
 //! The starts whose steps all hold, where a batch has a price by its size: block by block of ends.
 
 ghost use Rattle.std.specs.Prelude.{◌≡◌, ℕ, ◌+◌, ◌-◌, ◌%◌, ◌^◌, ◌<◌, ◌≤◌, length, slice_index, IsTrue};
+ghost use Rattle.dsa_descriptor.specs.Pieces.{most_pieces};
 ghost use Rattle.dsa_plan.specs.Chain.{GoForward, IsLastBelow};
 ghost use Rattle.dsa_plan.specs.Settings.{sized_tariff};
 ghost use Rattle.dsa_checker.specs.Steps.{HoldsWithin, StepsHoldFrom};
 ghost use Rattle.dsa_checker.specs.Blocks.{IsFilled, AreChains};
-ghost use Rattle.dsa_descriptor.specs.Pieces.{most_pieces};
 
 use crate::block::{BLOCK, Block, fill, look};
 

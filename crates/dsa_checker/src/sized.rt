@@ -1,11 +1,11 @@
 //! The steps of a certificate's prices where a batch has a price by its size.
 
 ghost use Rattle.std.specs.Prelude.{◌≡◌, ℕ, ◌+◌, ◌<◌, ◌≤◌, length, MatchOption};
+ghost use Rattle.dsa_descriptor.specs.Pieces.{most_pieces};
 ghost use Rattle.dsa_plan.specs.Chain.{GoForward, LeadsTo};
 ghost use Rattle.dsa_checker.specs.Steps.{StepsHold, StepsHoldFrom, IsFirstBadEnd, IsFirstBadStep};
 ghost use Rattle.dsa_plan.specs.Settings.{sized_tariff};
 ghost use Rattle.dsa_checker.specs.Sized.{AreWithin, IsFirstAbove};
-ghost use Rattle.dsa_descriptor.specs.Pieces.{most_pieces};
 
 use crate::held::held_starts;
 use dsa_plan::{chain_step, last_of_run};

@@ -3,10 +3,10 @@
 ghost use Rattle.std.specs.Prelude.{◌≡◌, ℕ, ◌<◌, ◌≤◌, ◌++◌, List, All, length, map, slice_get, Some, IfOk, OnOk};
 ghost use Rattle.std.specs.List.Sorted.{IsNonDecreasingBy};
 ghost use Rattle.dsa_descriptor.specs.Descriptors.{fields};
+ghost use Rattle.dsa_descriptor.specs.Pieces.{most_pieces};
 ghost use Rattle.std.specs.List.{Contains};
 ghost use Rattle.dsa_conflicts.specs.declared.touches.Touch.{Touch};
 ghost use Rattle.dsa_conflicts.specs.Touches.{HasKind, HasTouches, IsTouchOf, access_of, spans_of, touch};
-ghost use Rattle.dsa_descriptor.specs.Pieces.{most_pieces};
 
 use crate::access::Access;
 use arrayvec::ArrayVec;

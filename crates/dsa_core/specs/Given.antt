@@ -2,12 +2,12 @@
 use Rattle.std.specs.Prelude.{ℕ, ◌<◌, ◌≤◌, All, List, length, map}
 use Rattle.dsa_descriptor.specs.declared.descriptor.Descriptor.{Descriptor}
 use Rattle.dsa_descriptor.specs.Descriptors.{fields}
+use Rattle.dsa_descriptor.specs.Pieces.{most_pieces}
 use Rattle.dsa_ranges.specs.Ranges.{ConflictAt}
 use Rattle.dsa_image.specs.Memory.{HoldsRanges, Memory}
 use Rattle.dsa_settings.specs.Plan.{Plan}
 use Rattle.dsa_settings.specs.Legal.{IsLegal}
 use Rattle.dsa_core.specs.Accounts.{most_members}
-use Rattle.dsa_descriptor.specs.Pieces.{most_pieces}
 
 -- what is asked before engines run the pieces under the plan, from the memory m
 pub record IsRunnable (m : Memory) (plan : Plan) (pieces : List Descriptor) (engines : ℕ)

@@ -7,12 +7,12 @@ use Rattle.dsa_descriptor.specs.Fields.{Fields}
 use Rattle.dsa_descriptor.specs.Lists.{list_spelling, HaveOneOwner}
 use Rattle.dsa_descriptor.specs.Spans.{span, InSpan}
 use Rattle.dsa_descriptor.specs.Spelling.{spelling}
+use Rattle.dsa_descriptor.specs.Pieces.{most_pieces}
 use Rattle.dsa_ranges.specs.Ranges.{Touches}
 use Rattle.dsa_emission.specs.declared.place.Place.{Place}
 use Rattle.dsa_settings.specs.Plan.{Group, Plan, piece_count, start_of}
 use Rattle.dsa_settings.specs.Shapes.{HasGroupShapes}
 use Rattle.dsa_settings.specs.Settings.{Limits}
-use Rattle.dsa_descriptor.specs.Pieces.{most_pieces}
 
 -- a group of more than one piece is submitted as a batch
 abbrev pub is_batch : Group → Bool

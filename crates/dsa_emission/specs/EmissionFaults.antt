@@ -8,6 +8,7 @@ use Rattle.dsa_descriptor.specs.Lists.{entries}
 use Rattle.dsa_descriptor.specs.Places.{u32_at, pasid_at, privileged_at}
 use Rattle.dsa_descriptor.specs.Spans.{span, InSpan}
 use Rattle.dsa_descriptor.specs.Spelling.{spelling}
+use Rattle.dsa_descriptor.specs.Pieces.{most_pieces}
 use Rattle.dsa_ranges.specs.Ranges.{Touches}
 use Rattle.dsa_emission.specs.declared.place.Place.{Place}
 use Rattle.dsa_emission.specs.declared.demands.Demands.{Demands}
@@ -18,7 +19,6 @@ use Rattle.dsa_emission.specs.declared.emission_fault.EmissionFault.TheVariants.
 use Rattle.dsa_settings.specs.Plan.{Group, Plan}
 use Rattle.dsa_settings.specs.Settings.{Limits}
 use Rattle.dsa_emission.specs.Emission.{batch_spelling, portal_bytes, staging_bytes, CanBeEmitted}
-use Rattle.dsa_descriptor.specs.Pieces.{most_pieces}
 
 -- ---- what entries tell
 

@@ -3,10 +3,10 @@
 ghost use Rattle.std.specs.Prelude.{◌≡◌, ◌+◌, ◌*◌, ◌<◌, ◌≤◌, ◌++◌, drop, map, length, take, IfOk, OnOk, replicate};
 ghost use Rattle.dsa_descriptor.specs.Descriptors.{fields};
 ghost use Rattle.dsa_descriptor.specs.Spelling.{spelling};
+ghost use Rattle.dsa_descriptor.specs.Pieces.{most_pieces};
 ghost use Rattle.dsa_emission.specs.Emission.{place_of, with_fence, batch_spelling, portal_entry, fenced_spelling, staged, portal_bytes, staging_bytes, CanBeEmitted};
 ghost use Rattle.dsa_settings.specs.Plan.{piece_count};
 ghost use Rattle.dsa_settings.specs.Shapes.{HasGroupShapes};
-ghost use Rattle.dsa_descriptor.specs.Pieces.{most_pieces};
 
 use crate::place::Place;
 use dsa_descriptor::Descriptor;

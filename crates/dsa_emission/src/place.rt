@@ -1,8 +1,8 @@
 //! Where the groups of a plan stand.
 
 ghost use Rattle.std.specs.Prelude.{◌≡◌, ◌+◌, ◌≤◌, length};
-ghost use Rattle.dsa_settings.specs.Plan.{piece_count};
 ghost use Rattle.dsa_descriptor.specs.Pieces.{most_pieces};
+ghost use Rattle.dsa_settings.specs.Plan.{piece_count};
 
 use dsa_settings::Group;
 

@@ -4,10 +4,10 @@ ghost use Rattle.std.specs.Prelude.{◌≡◌, ◌≢◌, ℕ, true, ◌+◌, �
 ghost use Rattle.dsa_descriptor.specs.Faults.{AreZero};
 ghost use Rattle.dsa_descriptor.specs.Lists.{entries};
 ghost use Rattle.dsa_descriptor.specs.Places.{u32_at};
+ghost use Rattle.dsa_descriptor.specs.Pieces.{most_pieces};
 ghost use Rattle.dsa_emission.specs.declared.emission_fault.EmissionFault.TheVariants.{Memory};
 ghost use Rattle.dsa_emission.specs.Emission.{batch_spelling};
 ghost use Rattle.dsa_emission.specs.EmissionFaults.{is_batch_entry, told_size, told_after, told_end, piece_bytes, owner_at, IsBatchAt, IsRightAt, HasLengths, HasZeroRecord, IsFirstLengthFault};
-ghost use Rattle.dsa_descriptor.specs.Pieces.{most_pieces};
 
 use crate::emission::batch_entry;
 use crate::emission_fault::EmissionFault;

@@ -4,11 +4,11 @@ ghost use Rattle.std.specs.Prelude.{◌≡◌, ◌≢◌, ℕ, true, ◌+◌, �
 ghost use Rattle.dsa_descriptor.specs.declared.descriptor.Descriptor.{Descriptor};
 ghost use Rattle.dsa_descriptor.specs.Descriptors.{fields};
 ghost use Rattle.dsa_descriptor.specs.Spans.{InSpan};
+ghost use Rattle.dsa_descriptor.specs.Pieces.{most_pieces};
 ghost use Rattle.dsa_ranges.specs.Ranges.{Touches};
 ghost use Rattle.dsa_emission.specs.declared.emission_fault.EmissionFault.{EmissionFault};
 ghost use Rattle.dsa_emission.specs.declared.emission_fault.EmissionFault.TheVariants.{Memory};
 ghost use Rattle.dsa_emission.specs.EmissionFaults.{is_batch_entry, told_size, bytes_at, is_fenced, unfenced, Spells, IsOwned, IsFit, IsFirstEntryFault, IsFirstGroupFault, IsFirstPortalFault, IsGroupRead, IsRead, told_end, IsEmission, IsFirstEmissionFault};
-ghost use Rattle.dsa_descriptor.specs.Pieces.{most_pieces};
 
 use crate::demands::Demands;
 use crate::emission_fault::{EmissionFault, EntryFault};

@@ -2,9 +2,9 @@
 
 ghost use Rattle.std.specs.Prelude.{◌≡◌, ◌+◌, ◌≤◌, ◌++◌, IfOk, OnOk, length, map};
 ghost use Rattle.dsa_descriptor.specs.Descriptors.{fields};
+ghost use Rattle.dsa_descriptor.specs.Pieces.{most_pieces};
 ghost use Rattle.dsa_plan.specs.Plan.{piece_count};
 ghost use Rattle.dsa_explain.specs.Fences.{AddsExplained, AreFencesOf, fence_places, fenced_in};
-ghost use Rattle.dsa_descriptor.specs.Pieces.{most_pieces};
 
 use crate::reason::{Reason, reason_of};
 use dsa_descriptor::Descriptor;

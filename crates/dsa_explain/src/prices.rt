@@ -1,12 +1,12 @@
 //! What each group of a plan costs, and what the plan saves.
 
 ghost use Rattle.std.specs.Prelude.{◌≡◌, ◌≤◌, IfOk, length};
+ghost use Rattle.dsa_descriptor.specs.Pieces.{most_pieces};
 ghost use Rattle.dsa_plan.specs.Plan.{fence_count, piece_count};
 ghost use Rattle.dsa_plan.specs.LegalFaults.{HasGroupShape, HasGroupShapes};
 ghost use Rattle.dsa_plan.specs.Settings.{tariff_of};
 ghost use Rattle.dsa_explain.specs.Costs.{group_price, group_prices};
 ghost use Rattle.dsa_explain.specs.Explained.{ArePrices};
-ghost use Rattle.dsa_descriptor.specs.Pieces.{most_pieces};
 
 use dsa_plan::{Group, Plan, Settings, cost, group_price};
 use std::alloc::{AllocError, Global};

@@ -2,9 +2,9 @@
 
 ghost use Rattle.std.specs.Prelude.{◌≡◌, ℕ, ◌+◌, ◌^◌, ◌<◌, ◌≤◌, map, length, MatchOption};
 ghost use Rattle.dsa_descriptor.specs.Descriptors.{fields};
+ghost use Rattle.dsa_descriptor.specs.Pieces.{most_pieces};
 ghost use Rattle.dsa_plan.specs.Legal.{IsFenced};
 ghost use Rattle.dsa_explain.specs.Reasons.{FindsEarlier, FindsNone, IsOpen, IsReasonFor};
-ghost use Rattle.dsa_descriptor.specs.Pieces.{most_pieces};
 
 use dsa_descriptor::Descriptor;
 use dsa_hazards::{Hazard, find_hazard};

@@ -2,6 +2,7 @@
 
 ghost use Rattle.std.specs.Prelude.{◌≡◌, ◌+◌, ◌<◌, ◌≤◌, ◌↔◌, map, length, IsOk, IfOk, IsTrue, Err, MatchOption};
 ghost use Rattle.dsa_descriptor.specs.Descriptors.{fields};
+ghost use Rattle.dsa_descriptor.specs.Pieces.{most_pieces};
 ghost use Rattle.dsa_ranges.specs.Ranges.{ConflictAt};
 ghost use Rattle.dsa_legal.specs.declared.legal.LegalFault.{LegalFault};
 ghost use Rattle.dsa_settings.specs.Legal.{IsLegal, HasGroupSize, BeginsUnfenced};
@@ -9,7 +10,6 @@ ghost use Rattle.dsa_settings.specs.Shapes.{HasGroupShapes};
 ghost use Rattle.dsa_legal.specs.LegalFaults.{IsShapeFault, HasNoUnfenced, IsLastUnfenced, IsFencedWithin, IsFirstUnfencedWithin, IsFencedThroughout, IsFirstUnfenced, IsFirstLegalFault};
 ghost use Rattle.dsa_legal.specs.Causes.{legal_number, legal_name, legal_indices};
 ghost use Rattle.dsa_settings.specs.Plan.{piece_count};
-ghost use Rattle.dsa_descriptor.specs.Pieces.{most_pieces};
 
 use crate::sweep::{Access, ROOM, is_seen_fenced};
 use arrayvec::ArrayVec;

@@ -5,11 +5,11 @@ ghost use Rattle.std.specs.List.{Contains};
 ghost use Rattle.std.specs.List.Sorted.{IsNonDecreasingBy};
 ghost use Rattle.arrayvec.specs.ArrayVec.{array_vec_len};
 ghost use Rattle.dsa_descriptor.specs.Descriptors.{fields};
+ghost use Rattle.dsa_descriptor.specs.Pieces.{most_pieces};
 ghost use Rattle.dsa_ranges.specs.Ranges.{ConflictAt};
 ghost use Rattle.dsa_legal.specs.declared.sweep.Access.{Access};
 ghost use Rattle.dsa_legal.specs.LegalFaults.{IsFencedWithin};
 ghost use Rattle.dsa_legal.specs.Sweeps.{access, access_end, first_of, Clash, Covers, IsOrdered, HasSeen, HasAccesses, HasNoClash};
-ghost use Rattle.dsa_descriptor.specs.Pieces.{most_pieces};
 
 use arrayvec::ArrayVec;
 use dsa_descriptor::Descriptor;

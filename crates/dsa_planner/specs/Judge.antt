@@ -1,6 +1,7 @@
 -- What judging says of the bytes of a list, a plan and the settings.
 use Rattle.std.specs.Prelude.{◌≡◌, ◌⊎◌, ℕ, ◌<◌, ◌≤◌, List, length, slice_get, Option, Some, None, Result, Ok, Err}
 use Rattle.dsa_descriptor.specs.Fields.{Fields}
+use Rattle.dsa_descriptor.specs.Pieces.{most_pieces}
 use Rattle.dsa_ranges.specs.Ranges.{ConflictAt}
 use Rattle.dsa_plan.specs.Settings.{Limits, tariff_of}
 use Rattle.dsa_plan.specs.Plan.{Plan, plan_cost}
@@ -11,7 +12,6 @@ use Rattle.dsa_splitter.specs.declared.fault.SplitFault.TheVariants.{TooManyPiec
 use Rattle.dsa_planner.specs.declared.fault.PlanFault.{PlanFault}
 use Rattle.dsa_planner.specs.declared.fault.PlanFault.TheVariants.{Split, OverTransfer, Legal}
 use Rattle.dsa_planner.specs.Lists.{OverList}
-use Rattle.dsa_descriptor.specs.Pieces.{most_pieces}
 
 -- no descriptor is longer than the greatest transfer
 abbrev pub FitTransfer : ℕ → List Fields → Type 0

@@ -5,6 +5,7 @@ use Rattle.dsa_descriptor.specs.Fields.{Fields}
 use Rattle.dsa_descriptor.specs.Descriptors.{fields}
 use Rattle.dsa_descriptor.specs.Lists.{HaveOneOwner}
 use Rattle.dsa_descriptor.specs.Spans.{InSpan}
+use Rattle.dsa_descriptor.specs.Pieces.{most_pieces}
 use Rattle.dsa_ranges.specs.Ranges.{ConflictAt, Touches}
 use Rattle.dsa_plan.specs.Settings.{Limits, tariff_of, version_of}
 use Rattle.dsa_plan.specs.Plan.{Plan, plan_cost}
@@ -21,7 +22,6 @@ use Rattle.dsa_planner.specs.declared.fault.PlanFault.{PlanFault}
 use Rattle.dsa_planner.specs.declared.planning.Planned.{Planned}
 use Rattle.dsa_planner.specs.declared.fault.PlanFault.TheVariants.{Split}
 use Rattle.dsa_planner.specs.Lists.{IsListOf, OverList}
-use Rattle.dsa_descriptor.specs.Pieces.{most_pieces}
 
 -- what planning answers: the pieces of the listed operations, their plan, its certificate and its cost, and the bytes
 -- that submit it

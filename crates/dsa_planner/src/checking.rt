@@ -3,6 +3,7 @@
 ghost use Rattle.std.specs.Prelude.{◌≤◌, length, map, ℕ, IsOk, List, Result};
 ghost use Rattle.dsa_descriptor.specs.declared.descriptor.Descriptor.{Descriptor};
 ghost use Rattle.dsa_descriptor.specs.Descriptors.{fields};
+ghost use Rattle.dsa_descriptor.specs.Pieces.{most_pieces};
 ghost use Rattle.dsa_ranges.specs.Ranges.{ConflictAt};
 ghost use Rattle.dsa_plan.specs.EmissionFaults.{IsEmission};
 ghost use Rattle.dsa_plan.specs.Legal.{IsLeast};
@@ -12,7 +13,6 @@ ghost use Rattle.dsa_cert.specs.Certificates.{contents};
 ghost use Rattle.dsa_planner.specs.declared.fault.PlanFault.{PlanFault};
 ghost use Rattle.dsa_planner.specs.Lists.{OrMemory, IsOrMemory};
 ghost use Rattle.dsa_planner.specs.Checked.{Checks, ChecksPlan};
-ghost use Rattle.dsa_descriptor.specs.Pieces.{most_pieces};
 
 use crate::fault::PlanFault;
 use dsa_cert::Certificate;
@@ -25,8 +25,8 @@ use std::alloc::Global;
 /// shows that no legal plan of its pieces costs less.
 ///
 /// # Errors
-/// The first fault of the bytes as an emission, as [`read_emission`] tells it; else the first fault of the plan or the
-/// certificate, as [`check`] tells it; [`PlanFault::Memory`] where a growth is refused.
+/// The first fault of the bytes as an emission, as [`read_emission`] reports it; else the first fault of the plan or the
+/// certificate, as [`check`] reports it; [`PlanFault::Memory`] where an allocation fails.
 pub fn check_bytes(
     alloc: Global,
     portal: &[u8],

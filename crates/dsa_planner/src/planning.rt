@@ -86,8 +86,8 @@ fn plan_pieces(
 /// late as it can, and so back to the first.
 ///
 /// # Errors
-/// The first fault of the bytes as a list, as [`read_list`] tells it; else the first fault of splitting the operations,
-/// as [`pieces`](dsa_splitter::pieces()) tells it; [`PlanFault::Memory`] at the first growth that is refused.
+/// The first fault of the bytes as a list, as [`read_list`] reports it; else the first fault of splitting the operations,
+/// as [`pieces`](dsa_splitter::pieces()) reports it; [`PlanFault::Memory`] at the first allocation that fails.
 pub fn plan_list(alloc: Global, list: &[u8], settings: &Settings) -> Result<Planned, PlanFault>
     ensures answer { OrMemory submission_of (Plans list.now settings.now) result }
     // What it answers is the one outcome, but for an allocation failure.

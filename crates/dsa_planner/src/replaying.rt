@@ -2,6 +2,7 @@
 
 ghost use Rattle.std.specs.Prelude.{◌≡◌, ◌≤◌, ◌⊎◌, IfOk, MatchResult, Result, length, map};
 ghost use Rattle.dsa_descriptor.specs.Descriptors.{fields};
+ghost use Rattle.dsa_descriptor.specs.Pieces.{most_pieces};
 ghost use Rattle.dsa_ranges.specs.Ranges.{ConflictAt};
 ghost use Rattle.dsa_plan.specs.Legal.{IsLegal};
 ghost use Rattle.dsa_core.specs.Accounts.{most_members};
@@ -12,7 +13,6 @@ ghost use Rattle.dsa_planner.specs.Lists.{OrMemory, IsOrMemory};
 ghost use Rattle.dsa_plan.specs.Settings.{AreInLimits};
 ghost use Rattle.dsa_planner.specs.Planned.{IsPlanOf};
 ghost use Rattle.dsa_planner.specs.Runs.{BeginsWith, CanBegin, IsReady, Left, LeavesWhole, RefusesRun, Replays, ReplaysPieces, left_of};
-ghost use Rattle.dsa_descriptor.specs.Pieces.{most_pieces};
 
 use crate::fault::PlanFault;
 use crate::planning::pieces_of;

@@ -1,4 +1,4 @@
--- What is proved of each job by a line of its own.
+-- What is proved of each job by a case of its own.
 use Rattle.std.proofs.Common.{◌≡◌, ◌≢◌, ◌⊎◌, inl, inr, List, map, true, true≢false, Result, Err, refl, sym, ap, ◌∙◌}
 use Rattle.std.proofs.lemmas.Slice.Eq.{bytes_eq-Decides}
 use Rattle.serde_json.specs.Data.{Data}
@@ -16,7 +16,7 @@ use Rattle.dsa_json.proofs.Objects.{are_apart}
 use Rattle.dsa_report.specs.declared.jobs.JobName.{JobName}
 use Rattle.dsa_report.specs.declared.jobs.JobName.TheVariants.{Judge, Plan, Check, Replay, Run}
 use Rattle.dsa_report.specs.Job.{Member, the_name, the_settings, members_of, member_name, is_among, name_text}
-use Rattle.dsa_report.specs.Calls.{Call, Outcome, OutcomeOf, outcome_of, cost_value, planned_value, left_value, AnswersCall}
+use Rattle.dsa_report.specs.Calls.{Call, JobOutcome, JobOutcomeOf, job_outcome_of, cost_value, planned_value, left_value, AnswersCall}
 use Rattle.dsa_report.specs.Laws.{CutsShort}
 
 -- ---- one row
@@ -50,22 +50,22 @@ row Run = record { named = refl; set = refl; apart = refl }
 -- ---- one outcome
 
 -- no allocation failed and no run broke off
-abbrev pub IsWhole : Outcome → Type 0
+abbrev pub IsWhole : JobOutcome → Type 0
 IsWhole outcome = (fault : PlanFault) → CutsShort fault → outcome ≢ Err fault
 
 -- the outcome of a run that broke off is not whole
-not_broken : (outcome : Outcome) (found : Result Left PlanFault) → outcome ≡ outcome_of left_value found → HasBrokenOff found → IsWhole outcome → ⊥
+not_broken : (outcome : JobOutcome) (found : Result Left PlanFault) → outcome ≡ job_outcome_of left_value found → HasBrokenOff found → IsWhole outcome → ⊥
 not_broken outcome found is (fault, broke, breaks) whole =
-    whole fault (inr breaks) (is ∙ ap (λ (o : Result Left PlanFault). outcome_of left_value o) broke)
+    whole fault (inr breaks) (is ∙ ap (λ (o : Result Left PlanFault). job_outcome_of left_value o) broke)
 
 -- where a call finds one thing, it has one outcome
 one_found : {X : Type 0} (value : X → Data) (Finds : Result X PlanFault → Type 0) → ((o p : Result X PlanFault) → Finds o → Finds p → o ≡ p)
-    → (outcome other : Outcome) → OutcomeOf value Finds outcome → OutcomeOf value Finds other → outcome ≡ other
+    → (outcome other : JobOutcome) → JobOutcomeOf value Finds outcome → JobOutcomeOf value Finds other → outcome ≡ other
 one_found {X} value Finds one outcome other (found, finds, is) (found', finds', is') =
-    is ∙ ap (λ (o : Result X PlanFault). outcome_of value o) (one found found' finds finds') ∙ sym is'
+    is ∙ ap (λ (o : Result X PlanFault). job_outcome_of value o) (one found found' finds finds') ∙ sym is'
 
 -- a call has one outcome, unless it is cut short
-pub one_outcome_of_call : (call : Call) (outcome other : Outcome) → AnswersCall call outcome → AnswersCall call other → IsWhole outcome → IsWhole other → outcome ≡ other
+pub one_outcome_of_call : (call : Call) (outcome other : JobOutcome) → AnswersCall call outcome → AnswersCall call other → IsWhole outcome → IsWhole other → outcome ≡ other
 one_outcome_of_call (Judge, a) outcome other says says' _ _ =
     one_found cost_value (λ o. Judges a.list a.plan a.settings o) (λ o p. one_judged a.list a.plan a.settings o p) outcome other says says'
 one_outcome_of_call (Plan, a) outcome other says says' _ _ =
@@ -80,6 +80,6 @@ one_outcome_of_call (Run, a) outcome other (found, runs, is) (found', runs', is'
     go (one_run a.list a.settings a.image a.engines found found' runs runs')
   where
     go : (found ≡ found') ⊎ (HasBrokenOff found ⊎ HasBrokenOff found') → outcome ≡ other
-    go (inl same) = is ∙ ap (λ (o : Result Left PlanFault). outcome_of left_value o) same ∙ sym is'
+    go (inl same) = is ∙ ap (λ (o : Result Left PlanFault). job_outcome_of left_value o) same ∙ sym is'
     go (inr (inl broken)) = absurd (not_broken outcome found is broken whole)
     go (inr (inr broken)) = absurd (not_broken other found' is' broken whole')

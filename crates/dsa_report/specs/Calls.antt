@@ -139,8 +139,8 @@ pub record AreArguments (name : JobName) (j : JobMembers name) (a : Arguments na
 -- ---- what a call answers
 
 -- the outcome of a text: the value of an answer, or a refusal
-abbrev pub Outcome : Type 0
-Outcome = Result Data PlanFault
+abbrev pub JobOutcome : Type 0
+JobOutcome = Result Data PlanFault
 
 -- the object that answers a job to judge or to check (this project's choice)
 abbrev pub cost_value : ℕ → Data
@@ -164,22 +164,22 @@ left_value left =
     ((codes "batch_records", records_value left.batch_records) ∷ (codes "finished", whole left.finished)
     ∷ (codes "image", string (encode_lower left.image.bytes)) ∷ [])
 
--- the outcome of a call that found this: the value of its answer, or its refusal
-abbrev pub outcome_of : {X : Type 0} → (X → Data) → Result X PlanFault → Outcome
-outcome_of value found = result_map_both value (λ fault. fault) found
+-- the outcome of a call with this result: the value of its answer, or its refusal
+abbrev pub job_outcome_of : {X : Type 0} → (X → Data) → Result X PlanFault → JobOutcome
+job_outcome_of value found = result_map_both value (λ fault. fault) found
 
--- it is the outcome of what such a call finds
-abbrev pub OutcomeOf : {X : Type 0} → (X → Data) → (Result X PlanFault → Type 0) → Outcome → Type 0
-OutcomeOf {X} value Finds outcome = (found : Result X PlanFault) × Finds found × (outcome ≡ outcome_of value found)
+-- the outcome is that of some result that the call may have
+abbrev pub JobOutcomeOf : {X : Type 0} → (X → Data) → (Result X PlanFault → Type 0) → JobOutcome → Type 0
+JobOutcomeOf {X} value Finds outcome = (found : Result X PlanFault) × Finds found × (outcome ≡ job_outcome_of value found)
 
 -- the outcome of the call
-abbrev pub AnswersCall : Call → Outcome → Type 0
-AnswersCall (Judge, a) outcome = OutcomeOf cost_value (λ o. Judges a.list a.plan a.settings o) outcome
-AnswersCall (Plan, a) outcome = OutcomeOf planned_value (λ o. Plans a.list a.settings o) outcome
-AnswersCall (Check, a) outcome = OutcomeOf cost_value (λ o. Checks a.portal a.staging a.settings a.certificate o) outcome
-AnswersCall (Replay, a) outcome = OutcomeOf left_value (λ o. Replays a.list a.settings a.image a.engines a.trace o) outcome
-AnswersCall (Run, a) outcome = OutcomeOf left_value (λ o. Runs a.list a.settings a.image a.engines o) outcome
+abbrev pub AnswersCall : Call → JobOutcome → Type 0
+AnswersCall (Judge, a) outcome = JobOutcomeOf cost_value (λ o. Judges a.list a.plan a.settings o) outcome
+AnswersCall (Plan, a) outcome = JobOutcomeOf planned_value (λ o. Plans a.list a.settings o) outcome
+AnswersCall (Check, a) outcome = JobOutcomeOf cost_value (λ o. Checks a.portal a.staging a.settings a.certificate o) outcome
+AnswersCall (Replay, a) outcome = JobOutcomeOf left_value (λ o. Replays a.list a.settings a.image a.engines a.trace o) outcome
+AnswersCall (Run, a) outcome = JobOutcomeOf left_value (λ o. Runs a.list a.settings a.image a.engines o) outcome
 
 -- the outcome of the call of a job that was read
-unfoldable pub AnswersRead : Job → Outcome → Type 0
+unfoldable pub AnswersRead : Job → JobOutcome → Type 0
 AnswersRead job outcome = AnswersCall (call_of job) outcome

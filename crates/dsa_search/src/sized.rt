@@ -1,12 +1,11 @@
 //! The table of least costs where a batch has a price by its size.
 
 ghost use Rattle.std.specs.Prelude.{◌≡◌, ◌⊎◌, ℕ, ◌+◌, ◌-◌, ◌*◌, ◌<◌, ◌≤◌, min, length, slice_index, IfOk};
+ghost use Rattle.dsa_descriptor.specs.Pieces.{most_pieces};
 ghost use Rattle.dsa_plan.specs.Chain.{GoForward, IsLastBelow};
 ghost use Rattle.dsa_search.specs.Filled.{HasOffers, IsFilled, past_reach};
-ghost use Rattle.dsa_plan.specs.Settings.{ArePrices, greatest_price};
-ghost use Rattle.dsa_plan.specs.Settings.{sized_tariff};
+ghost use Rattle.dsa_plan.specs.Settings.{ArePrices, greatest_price, sized_tariff};
 ghost use Rattle.dsa_search.specs.Sized.{HasRows, past_block};
-ghost use Rattle.dsa_descriptor.specs.Pieces.{most_pieces};
 
 use crate::table::{UNREACHED, lower};
 use dsa_plan::{chain_step, last_of_run};

@@ -13,7 +13,7 @@ abbrev pub batch_price : BatchPrices → ℕ → ℕ
 batch_price (SamePrice price) size = price
 batch_price (BySize table) size = slice_index table (size - 2)
 
--- what a planner is told: sizes, prices, and where its batches are written
+-- what a caller sets: sizes, prices, and where the batches are written
 pub record Limits : Type 0 where
   -- the greatest number of pieces of a batch
   pub greatest_batch : ℕ

@@ -75,9 +75,31 @@ is_old() {
     [ ! -e "$1" ] || [ -n "$(find crates -name out -prune -o -type f -newer "$1" -print | head -1)" ]
 }
 
-# Both builds prove first; what was proved before is kept.
+# follows_ci: the libraries are those that `rt ci` has proved and built, which have no stamp for `rt lib` to know them by.
+follows_ci() {
+    [ -d crates/dsa_planner/out/rlib/dsa_planner.rlib ] && [ ! -e crates/dsa_planner/out/rlib/stamp ]
+}
+
+# build_over_ci: proves dsa_c alone, over these libraries, and builds the archive. `rt lib` would prove them all again.
+build_over_ci() {
+    for library in $(sed -n 's/^dsa_c staticlib: //p' crates.txt); do
+        set -- "$@" --extern "$library=../$library/out/rlib/$library.rlib"
+    done
+    for folder in "$kit/rlibs" "$(pwd)"/crates/*/out/rlib; do
+        set -- "$@" -L "dependency=$folder"
+    done
+    (cd crates/dsa_c && "$kit/bin/rattle" build --crate-name dsa_c src/lib.rt --crate-type staticlib "$@" \
+        --extern "std=$kit/rlibs/std.rlib" --antt-project "$kit/rattle/logic/antt-project.json" \
+        --logic-built "$kit/logic_built" --toolchain "$kit/toolchain" --backend llvm -o "$archive")
+}
+
+# Each build proves first; what was proved before is kept.
 if is_old "$archive"; then
-    (cd crates/dsa_c && rt lib) > "$work/build" 2>&1 || { tail -20 "$work/build" >&2; exit 1; }
+    if follows_ci && build_over_ci > "$work/build" 2>&1; then
+        echo 'tests/bindings.sh: dsa_c is built over the libraries of rt ci'
+    else
+        (cd crates/dsa_c && rt lib) > "$work/build" 2>&1 || { tail -20 "$work/build" >&2; exit 1; }
+    fi
 fi
 if is_old crates/dsa/out/dsa; then
     (cd crates/dsa && rt run < ../../examples/judge.job) > "$work/build" 2>&1 || { tail -20 "$work/build" >&2; exit 1; }

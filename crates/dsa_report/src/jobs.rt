@@ -1,11 +1,11 @@
 //! A job: its name, its reader, and its line.
 
-ghost use Rattle.std.specs.Prelude.{◌≡◌, ◌⊎◌, MatchOption};
+ghost use Rattle.std.specs.Prelude.{◌≡◌, ◌⊎◌, ◌↔◌, IsTrue, MatchOption};
 ghost use Rattle.serde_json.specs.Errors.{IsMemory};
 ghost use Rattle.serde_json.specs.View.{view};
 ghost use Rattle.dsa_report.specs.Calls.{AnswersRead};
 ghost use Rattle.dsa_report.specs.Gives.{GivesLine};
-ghost use Rattle.dsa_report.specs.Job.{HasName, NamesJob};
+ghost use Rattle.dsa_report.specs.Job.{HasMembers, HasName, NamesJob};
 ghost use Rattle.dsa_report.specs.Read.{IsJob, ReadsJob, ReadsJobText};
 
 use crate::check_job::{CheckJob, check_line, check_of};
@@ -14,6 +14,7 @@ use crate::plan_job::{PlanJob, plan_job_of, plan_line};
 use crate::reading::LONGEST_TEXT;
 use crate::replay_job::{ReplayJob, replay_line, replay_of};
 use crate::run_job::{RunJob, run_line, run_of};
+use dsa_json::has_names;
 use dsa_planner::PlanFault;
 use serde_json::{Error, Value};
 use std::alloc::Global;
@@ -99,6 +100,25 @@ fn job_name(value: &Value) -> Option<JobName>
         Some(JobName::Run)
     } else {
         None
+    }
+}
+
+/// Whether the value is an object with the members of such a job, and with no other.
+pub(crate) fn has_members(value: &Value, name: JobName) -> bool
+    ensures { IsTrue result ↔ HasMembers (view value.now) name }
+{
+    match name {
+        JobName::Judge => has_names(value, &["do", "list", "plan", "settings"]),
+        JobName::Plan => has_names(value, &["do", "list", "settings"]),
+        JobName::Check => has_names(
+            value,
+            &["certificate", "do", "portal", "settings", "staging"],
+        ),
+        JobName::Replay => has_names(
+            value,
+            &["do", "engines", "image", "list", "settings", "trace"],
+        ),
+        JobName::Run => has_names(value, &["do", "engines", "image", "list", "settings"]),
     }
 }
 

@@ -1,23 +1,21 @@
 //! The members of a job, which its row in the table lists.
 
-ghost use Rattle.std.specs.Prelude.{◌≡◌, ◌↔◌, IfOk, IsTrue, Some, codes, map, option_map};
+ghost use Rattle.std.specs.Prelude.{◌≡◌, IfOk, Some, codes};
 ghost use Rattle.serde_json.specs.Data.{string};
-ghost use Rattle.serde_json.specs.Find.{as_object, get};
+ghost use Rattle.serde_json.specs.Find.{get};
 ghost use Rattle.serde_json.specs.View.{view};
-ghost use Rattle.dsa_json.specs.Spelled.{member_names, whole, Reads};
+ghost use Rattle.dsa_json.specs.Spelled.{whole, Reads};
 ghost use Rattle.dsa_report.specs.Image.{image_shown, image_value};
-ghost use Rattle.dsa_report.specs.Job.{has, member_name, members_of, named_value, HasName};
-ghost use Rattle.dsa_report.specs.Job.{the_certificate, the_engines, the_image, the_list};
-ghost use Rattle.dsa_report.specs.Job.{the_plan, the_portal, the_staging, the_trace};
+ghost use Rattle.dsa_report.specs.Job.{named_value, HasMembers, HasName};
 ghost use Rattle.dsa_report.specs.Plan.{plan_value};
-ghost use Rattle.dsa_report.specs.Read.{members_shown, ReadsIf};
+ghost use Rattle.dsa_report.specs.Read.{members_shown, ReadsHeld};
 ghost use Rattle.dsa_report.specs.Settings.{settings_shown, settings_value};
 
 use crate::image::{ImageMembers, image_at};
-use crate::jobs::JobName;
+use crate::jobs::{JobName, has_members};
 use crate::plan::plan_at;
 use crate::settings::{Numbers, settings_at};
-use dsa_json::{has_names, number_at, text_at};
+use dsa_json::{number_at, text_at};
 use dsa_plan::Plan;
 use serde_json::Value;
 use std::alloc::{AllocError, Global};
@@ -46,151 +44,97 @@ pub(crate) fn members_at(
     requires { HasName (view value.now) name }
     ensures { IfOk result (Reads (named_value name) (members_shown name) (view value.now)) }
 {
+    if !has_members(value, name) {
+        return Ok(None);
+    }
     let Some(settings) = settings_at(alloc, value)? else {
         return Ok(None);
     };
-    let Some(plan) = plan_of_job(alloc, value, name)? else {
+    let Some(plan) = plan_held(alloc, value)? else {
         return Ok(None);
     };
-    Ok(members_with(value, name, settings, plan))
+    Ok(members_with(value, settings, plan))
 }
 
-/// The same, with these settings and this plan.
-fn members_with(value: &Value, name: JobName, settings: Numbers, plan: Plan) -> Option<Members<'_>>
-    requires named { HasName (view value.now) name }
+/// The same, with these settings and this plan, of a value that has the members of a job.
+fn members_with(value: &Value, settings: Numbers, plan: Plan) -> Option<Members<'_>>
     requires settings { get (codes "settings") (view value.now) ≡
         Some (settings_value (settings_shown settings)) }
-    requires plan { ReadsIf (has name the_plan) (codes "plan") plan_value (λ plan. plan)
+    requires plan { ReadsHeld (codes "plan") plan_value (λ plan. plan)
         (view value.now) (Some plan) }
-    ensures { Reads (named_value name) (members_shown name) (view value.now) result }
+    ensures { (name : JobName) → HasName (view value.now) name → HasMembers (view value.now) name
+        → Reads (named_value name) (members_shown name) (view value.now) result }
 {
-    if !has_members(value, name) {
-        return None;
-    }
+    let certificate = value_held(value, "certificate");
+    let engines = number_held(value, "engines")?;
+    let image = image_held(value)?;
+    let list = text_held(value, "list")?;
+    let portal = text_held(value, "portal")?;
+    let staging = text_held(value, "staging")?;
+    let trace = value_held(value, "trace");
     Some(Members {
-        certificate: certificate_of_job(value, name)?,
-        engines: engines_of_job(value, name)?,
-        image: image_of_job(value, name)?,
-        list: list_of_job(value, name)?,
-        portal: portal_of_job(value, name)?,
-        staging: staging_of_job(value, name)?,
-        trace: trace_of_job(value, name)?,
         settings,
+        certificate,
+        engines,
+        image,
+        list,
         plan,
+        portal,
+        staging,
+        trace,
     })
 }
 
-/// Whether the value is an object with the members of such a job, and with no other.
-fn has_members(value: &Value, name: JobName) -> bool
-    ensures { IsTrue result ↔ (option_map member_names
-        (as_object (view value.now)) ≡ Some (map member_name (members_of name))) }
+// Each member, where the value has it; else what is empty, which nothing looks at.
+
+/// What stands at a name.
+fn value_held<'v>(value: &'v Value, name: &str) -> &'v Value
+    ensures { ReadsHeld name.now (λ d. d) (λ found. view found.now)
+        (view value.now) (Some result) }
 {
-    match name {
-        JobName::Judge => has_names(value, &["do", "list", "plan", "settings"]),
-        JobName::Plan => has_names(value, &["do", "list", "settings"]),
-        JobName::Check => has_names(
-            value,
-            &["certificate", "do", "portal", "settings", "staging"],
-        ),
-        JobName::Replay => has_names(
-            value,
-            &["do", "engines", "image", "list", "settings", "trace"],
-        ),
-        JobName::Run => has_names(value, &["do", "engines", "image", "list", "settings"]),
+    match value.get(name) {
+        Some(found) => found,
+        None => value,
     }
 }
 
-// Each member, where a job of this name has it; else what is empty, which nothing looks at.
-
-/// The value of the certificate, of a job that has one.
-fn certificate_of_job(value: &Value, name: JobName) -> Option<&Value>
-    ensures { ReadsIf (has name the_certificate) (codes "certificate")
-        (λ d. d) (λ found. view found.now) (view value.now) result }
+/// The number at a name.
+fn number_held(value: &Value, name: &str) -> Option<u64>
+    ensures { ReadsHeld name.now whole (λ n. n) (view value.now) result }
 {
-    match name {
-        JobName::Check => value.get("certificate"),
-        JobName::Judge | JobName::Plan | JobName::Replay | JobName::Run => Some(value),
+    match value.get(name) {
+        Some(_) => number_at(value, name),
+        None => Some(0),
     }
 }
 
-/// The number of engines, of a job that has one.
-fn engines_of_job(value: &Value, name: JobName) -> Option<u64>
-    ensures { ReadsIf (has name the_engines) (codes "engines") whole (λ n. n)
-        (view value.now) result }
+/// The text at a name.
+fn text_held<'v>(value: &'v Value, name: &str) -> Option<&'v str>
+    ensures { ReadsHeld name.now string (λ text. text.now) (view value.now) result }
 {
-    match name {
-        JobName::Replay | JobName::Run => number_at(value, "engines"),
-        JobName::Judge | JobName::Plan | JobName::Check => Some(0),
+    match value.get(name) {
+        Some(_) => text_at(value, name),
+        None => Some(""),
     }
 }
 
-/// The image, of a job that has one.
-fn image_of_job(value: &Value, name: JobName) -> Option<ImageMembers<'_>>
-    ensures { ReadsIf (has name the_image) (codes "image") image_value image_shown
-        (view value.now) result }
+/// The image.
+fn image_held(value: &Value) -> Option<ImageMembers<'_>>
+    ensures { ReadsHeld (codes "image") image_value image_shown (view value.now) result }
 {
-    match name {
-        JobName::Replay | JobName::Run => image_at(value),
-        JobName::Judge | JobName::Plan | JobName::Check => Some(ImageMembers {
-            base: 0,
-            bytes: "",
-        }),
+    match value.get("image") {
+        Some(_) => image_at(value),
+        None => Some(ImageMembers { base: 0, bytes: "" }),
     }
 }
 
-/// The text of the list, of a job that has one.
-fn list_of_job(value: &Value, name: JobName) -> Option<&str>
-    ensures { ReadsIf (has name the_list) (codes "list") string (λ text. text.now)
-        (view value.now) result }
+/// The plan.
+fn plan_held(alloc: Global, value: &Value) -> Result<Option<Plan>, AllocError>
+    ensures { IfOk result (ReadsHeld (codes "plan") plan_value (λ plan. plan)
+        (view value.now)) }
 {
-    match name {
-        JobName::Judge | JobName::Plan | JobName::Replay | JobName::Run => text_at(value, "list"),
-        JobName::Check => Some(""),
-    }
-}
-
-/// The plan, of a job that has one.
-fn plan_of_job(alloc: Global, value: &Value, name: JobName) -> Result<Option<Plan>, AllocError>
-    ensures { IfOk result (ReadsIf (has name the_plan) (codes "plan") plan_value
-        (λ plan. plan) (view value.now)) }
-{
-    match name {
-        JobName::Judge => plan_at(alloc, value),
-        JobName::Plan | JobName::Check | JobName::Replay | JobName::Run => Ok(Some(Plan::new(
-            Vec::new(alloc),
-        ))),
-    }
-}
-
-/// The text of the portal, of a job that has one.
-fn portal_of_job(value: &Value, name: JobName) -> Option<&str>
-    ensures { ReadsIf (has name the_portal) (codes "portal") string (λ text. text.now)
-        (view value.now) result }
-{
-    match name {
-        JobName::Check => text_at(value, "portal"),
-        JobName::Judge | JobName::Plan | JobName::Replay | JobName::Run => Some(""),
-    }
-}
-
-/// The text of the staging area, of a job that has one.
-fn staging_of_job(value: &Value, name: JobName) -> Option<&str>
-    ensures { ReadsIf (has name the_staging) (codes "staging") string (λ text. text.now)
-        (view value.now) result }
-{
-    match name {
-        JobName::Check => text_at(value, "staging"),
-        JobName::Judge | JobName::Plan | JobName::Replay | JobName::Run => Some(""),
-    }
-}
-
-/// The value of the trace, of a job that has one.
-fn trace_of_job(value: &Value, name: JobName) -> Option<&Value>
-    ensures { ReadsIf (has name the_trace) (codes "trace") (λ d. d) (λ found. view found.now)
-        (view value.now) result }
-{
-    match name {
-        JobName::Replay => value.get("trace"),
-        JobName::Judge | JobName::Plan | JobName::Check | JobName::Run => Some(value),
+    match value.get("plan") {
+        Some(_) => plan_at(alloc, value),
+        None => Ok(Some(Plan::new(Vec::new(alloc)))),
     }
 }

@@ -11,6 +11,7 @@ import subprocess
 import sys
 from concurrent.futures import ThreadPoolExecutor
 from dataclasses import dataclass, field
+from glob import glob
 from itertools import count as numbers
 
 ALL = 1 << 60
@@ -26,7 +27,7 @@ PAIRS = dict(
 )
 ENDS = dict(zip(LISTS, [(0, 0), (2, 6), (4, 12), (1, 4), (2, 6)]))
 RECORDS = dict(zip(LISTS, [None, (1, 2), (1, 4), (5, 1), (1, 2)]))
-JOBS = [f"examples/{name}.job" for name in ("plan", "check", "judge", "replay", "run")] + [
+JOBS = sorted(glob("examples/*.job")) + [
     f"tests/jobs/{name}.job"
     for name in (
         "plan-nothing", "check-nothing", "replay-nothing", "plan-two-pairs", "check-two-pairs", "plan-delta-and-move",

@@ -9,9 +9,10 @@ import os
 import subprocess
 import sys
 from concurrent.futures import ThreadPoolExecutor
+from glob import glob
 
 TURNS = 1048576
-JOBS = [f"examples/{name}.job" for name in ("plan", "check", "judge", "replay", "run")] + [
+JOBS = sorted(glob("examples/*.job")) + [
     f"tests/jobs/{name}.job" for name in ("judge-unfenced", "check-fence-left-out", "plan-nothing", "no-do", "nothing")
 ]
 

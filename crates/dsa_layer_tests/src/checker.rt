@@ -2,7 +2,7 @@ use crate::given::{moves, plan_of};
 use dsa_cert::Certificate;
 use dsa_checker::{CheckFault, check};
 use dsa_descriptor::{Descriptor, read_list};
-use dsa_plan::{Group, LegalFault, Plan, Settings};
+use dsa_plan::{Group, Plan, Settings};
 use std::alloc::{AllocError, Global};
 use std::process::Abort;
 use std::test::Fail;
@@ -48,14 +48,6 @@ fn expect(
     expect_under(rt, alloc, &settings, question, expected)
 }
 
-/// Four moves with the conflicts of the second with the third and of the first with the fourth.
-const CROSSED: [(u64, u64); 4] = [
-    (0x1000, 0x2000),
-    (0x3000, 0x4000),
-    (0x4000, 0x5000),
-    (0x2000, 0x6000),
-];
-
 const FIVE: [(u64, u64); 5] = [
     (0x1000, 0x2000),
     (0x1100, 0x2100),
@@ -64,58 +56,8 @@ const FIVE: [(u64, u64); 5] = [
     (0x1400, 0x2400),
 ];
 
-/// Two moves that don't conflict, and two that do.
+/// Two moves that don't conflict.
 const FREE: [(u64, u64); 2] = [(0x1000, 0x2000), (0x3000, 0x4000)];
-
-const BOUND: [(u64, u64); 2] = [(0x1000, 0x2000), (0x2000, 0x4000)];
-
-#[test]
-fn a_good_certificate_of_other_pairs(rt: HostRuntime) -> Result<(), Fail> {
-    let question = Question {
-        moves: &CROSSED,
-        plan: &[&[false, false, true, false]],
-        version: 1,
-        prices: &[0, 10, 14, 14, 17],
-        pairs: &[Some((0, 3)), Some((1, 2)), None, None],
-    };
-    expect(&rt, rt.alloc(), &question, Ok(17))
-}
-
-#[test]
-fn a_price_too_high_for_the_chain(rt: HostRuntime) -> Result<(), Fail> {
-    let question = Question {
-        moves: &CROSSED,
-        plan: &[&[false, false, true, false]],
-        version: 1,
-        prices: &[0, 10, 14, 17, 17],
-        pairs: &[Some((0, 3)), Some((1, 2)), None, None],
-    };
-    expect(&rt, rt.alloc(), &question, Err(CheckFault::Price(0, 3)))
-}
-
-#[test]
-fn another_plan_of_the_least_cost(rt: HostRuntime) -> Result<(), Fail> {
-    let question = Question {
-        moves: &FIVE,
-        plan: &[&[false], &[false, false, false, false]],
-        version: 1,
-        prices: &[0, 10, 14, 14, 14, 24],
-        pairs: &[None, None, None, None, None],
-    };
-    expect(&rt, rt.alloc(), &question, Ok(24))
-}
-
-#[test]
-fn a_legal_plan_that_costs_more(rt: HostRuntime) -> Result<(), Fail> {
-    let question = Question {
-        moves: &BOUND,
-        plan: &[&[false], &[false]],
-        version: 1,
-        prices: &[0, 10, 17],
-        pairs: &[Some((0, 1)), None],
-    };
-    expect(&rt, rt.alloc(), &question, Err(CheckFault::Total))
-}
 
 #[test]
 fn its_own_certificate(rt: HostRuntime) -> Result<(), Fail> {
@@ -142,54 +84,6 @@ fn a_pair_that_does_not_conflict(rt: HostRuntime) -> Result<(), Fail> {
 }
 
 #[test]
-fn a_price_too_high(rt: HostRuntime) -> Result<(), Fail> {
-    let question = Question {
-        moves: &FREE,
-        plan: &[&[false, false]],
-        version: 1,
-        prices: &[0, 10, 15],
-        pairs: &[None, None],
-    };
-    expect(&rt, rt.alloc(), &question, Err(CheckFault::Price(0, 2)))
-}
-
-#[test]
-fn a_price_too_low(rt: HostRuntime) -> Result<(), Fail> {
-    let question = Question {
-        moves: &FREE,
-        plan: &[&[false, false]],
-        version: 1,
-        prices: &[0, 10, 13],
-        pairs: &[None, None],
-    };
-    expect(&rt, rt.alloc(), &question, Err(CheckFault::Total))
-}
-
-#[test]
-fn another_version(rt: HostRuntime) -> Result<(), Fail> {
-    let question = Question {
-        moves: &FREE,
-        plan: &[&[false, false]],
-        version: 2,
-        prices: &[0, 10, 14],
-        pairs: &[None, None],
-    };
-    expect(&rt, rt.alloc(), &question, Err(CheckFault::Version))
-}
-
-#[test]
-fn a_missing_price(rt: HostRuntime) -> Result<(), Fail> {
-    let question = Question {
-        moves: &FREE,
-        plan: &[&[false, false]],
-        version: 1,
-        prices: &[0, 10],
-        pairs: &[None, None],
-    };
-    expect(&rt, rt.alloc(), &question, Err(CheckFault::Lengths))
-}
-
-#[test]
 fn a_missing_pair(rt: HostRuntime) -> Result<(), Fail> {
     let question = Question {
         moves: &FREE,
@@ -199,102 +93,6 @@ fn a_missing_pair(rt: HostRuntime) -> Result<(), Fail> {
         pairs: &[None],
     };
     expect(&rt, rt.alloc(), &question, Err(CheckFault::Lengths))
-}
-
-#[test]
-fn a_pair_turned(rt: HostRuntime) -> Result<(), Fail> {
-    let question = Question {
-        moves: &BOUND,
-        plan: &[&[false, true]],
-        version: 1,
-        prices: &[0, 10, 17],
-        pairs: &[Some((1, 0)), None],
-    };
-    expect(&rt, rt.alloc(), &question, Err(CheckFault::Pair(0)))
-}
-
-#[test]
-fn a_pair_past_the_pieces(rt: HostRuntime) -> Result<(), Fail> {
-    let question = Question {
-        moves: &BOUND,
-        plan: &[&[false, true]],
-        version: 1,
-        prices: &[0, 10, 17],
-        pairs: &[Some((0, 4294967295)), None],
-    };
-    expect(&rt, rt.alloc(), &question, Err(CheckFault::Pair(0)))
-}
-
-#[test]
-fn a_huge_price(rt: HostRuntime) -> Result<(), Fail> {
-    let question = Question {
-        moves: &BOUND,
-        plan: &[&[false, true]],
-        version: 1,
-        prices: &[0, 18446744073709551615, 17],
-        pairs: &[Some((0, 1)), None],
-    };
-    expect(&rt, rt.alloc(), &question, Err(CheckFault::Price(0, 1)))
-}
-
-#[test]
-fn a_first_price(rt: HostRuntime) -> Result<(), Fail> {
-    let question = Question {
-        moves: &BOUND,
-        plan: &[&[false, true]],
-        version: 1,
-        prices: &[18446744073709551615, 10, 17],
-        pairs: &[Some((0, 1)), None],
-    };
-    expect(&rt, rt.alloc(), &question, Err(CheckFault::Price(0, 0)))
-}
-
-#[test]
-fn a_plan_without_its_fence(rt: HostRuntime) -> Result<(), Fail> {
-    let question = Question {
-        moves: &BOUND,
-        plan: &[&[false, false]],
-        version: 1,
-        prices: &[0, 10, 17],
-        pairs: &[Some((0, 1)), None],
-    };
-    expect(
-        &rt,
-        rt.alloc(),
-        &question,
-        Err(CheckFault::Plan(LegalFault::Unfenced(0, 1))),
-    )
-}
-
-/// Asks of five moves in batches of three and of two, where batches of 2, 3 and 4 pieces cost 14, 16 and 30.
-fn expect_by_size(
-    rt: &impl Abort,
-    alloc: Global,
-    version: u64,
-    prices: &[u64],
-    expected: Result<u64, CheckFault>,
-) -> Result<(), Fail> {
-    let question = Question {
-        moves: &FIVE,
-        plan: &[&[false, false, false], &[false, false]],
-        version,
-        prices,
-        pairs: &[None, None, None, None, None],
-    };
-    let settings = Settings::with_table(4, 4096, 10, &[14, 16, 30], 3, 65536)?;
-    expect_under(rt, alloc, &settings, &question, expected)
-}
-
-#[test]
-fn prices_by_size(rt: HostRuntime) -> Result<(), Fail> {
-    let alloc = rt.alloc();
-    expect_by_size(&rt, alloc, 2, &[0, 10, 14, 16, 26, 30], Ok(30))?;
-    let version = Err(CheckFault::Version);
-    expect_by_size(&rt, alloc, 1, &[0, 10, 14, 16, 26, 30], version)?;
-    let third = Err(CheckFault::Price(0, 3));
-    expect_by_size(&rt, alloc, 2, &[0, 10, 14, 17, 26, 30], third)?;
-    let last = Err(CheckFault::Price(2, 5));
-    expect_by_size(&rt, alloc, 2, &[0, 10, 14, 16, 26, 31], last)
 }
 
 /// Moves of so many pieces, no two of which conflict.

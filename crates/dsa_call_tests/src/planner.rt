@@ -18,8 +18,6 @@ use std::test::Fail;
 use std::thread;
 use std::time::Duration;
 
-mod rows;
-
 /// Two moves, the second of which reads what the first writes.
 fn two_moves(alloc: Global) -> Result<Vec<u8>, AllocError> {
     let mut list = Vec::new(alloc);
@@ -62,35 +60,24 @@ fn certificate(alloc: Global, last: u64) -> Result<Certificate, AllocError> {
 }
 
 #[test]
-fn plans_two_moves(rt: HostRuntime) -> Result<(), Fail> {
-    let alloc = rt.alloc();
+fn two_moves_are_planned_judged_and_checked(rt: HostRuntime) -> Result<(), Fail> {
+    let (alloc, settings) = (rt.alloc(), settings()?);
     let list = two_moves(alloc)?;
-    let planned = plan_list(alloc, &list, &settings()?)?;
+    let planned = plan_list(alloc, &list, &settings)?;
     assert_eq!(rt; planned.cost, 17);
     assert_eq!(rt; planned.pieces.len(), 2);
-    assert!(rt; planned.certificate == certificate(alloc, 17)?);
+    let certificate = certificate(alloc, 17)?;
+    assert!(rt; planned.certificate == certificate);
     assert_eq!(rt; planned.plan.groups().len(), 1);
     assert!(rt; planned.plan.groups()[0].fences() == &[false, true][..]);
     let (portal, staging) = two_moves_emitted(alloc)?;
     assert!(rt; planned.emission.portal == portal);
     assert!(rt; planned.emission.staging == staging);
-    Ok(())
-}
-
-#[test]
-fn refuses_what_cannot_be_planned(rt: HostRuntime) -> Result<(), Fail> {
-    let alloc = rt.alloc();
-    let mut list = two_moves(alloc)?;
-    let meets = Settings::new(4, 4096, 10, 14, 3, 0x4000)?;
-    match plan_list(alloc, &list, &meets) {
-        Err(fault) => assert_eq!(rt; fault, PlanFault::Split(SplitFault::StagingMeets(1))),
-        Ok(_) => assert!(rt; false),
-    }
-    list.push(0)?;
-    match plan_list(alloc, &list, &settings()?) {
-        Err(fault) => assert_eq!(rt; fault, PlanFault::List(ListFault::Length)),
-        Ok(_) => assert!(rt; false),
-    }
+    assert_eq!(rt; judge_bytes(alloc, &list, &planned.plan, &settings), Ok(17));
+    assert_eq!(rt;
+        check_bytes(alloc, &portal, &staging, &settings, &certificate),
+        Ok(17)
+    );
     Ok(())
 }
 
@@ -182,56 +169,6 @@ fn as_many_engines_run_as_are_asked_for(rt: HostRuntime) -> Result<(), Fail> {
     let image = zeros(alloc, 256)?;
     let outcome = run_gated(&rt, alloc, &list, &settings()?, &image, 3, &gate)?;
     assert_eq!(rt; outcome.finished, 3);
-    Ok(())
-}
-
-#[test]
-fn checks_two_moves(rt: HostRuntime) -> Result<(), Fail> {
-    let alloc = rt.alloc();
-    let (portal, mut staging) = two_moves_emitted(alloc)?;
-    let good = check_bytes(
-        alloc,
-        &portal,
-        &staging,
-        &settings()?,
-        &certificate(alloc, 17)?,
-    );
-    assert_eq!(rt; good, Ok(17));
-    let other = check_bytes(
-        alloc,
-        &portal,
-        &staging,
-        &settings()?,
-        &certificate(alloc, 16)?,
-    );
-    assert_eq!(rt; other, Err(PlanFault::Check(CheckFault::Total)));
-    let _last = staging.pop();
-    let short = check_bytes(
-        alloc,
-        &portal,
-        &staging,
-        &settings()?,
-        &certificate(alloc, 17)?,
-    );
-    assert_eq!(rt;
-        short,
-        Err(PlanFault::Emission(EmissionFault::StagingLength))
-    );
-    Ok(())
-}
-
-#[test]
-fn judges_two_moves(rt: HostRuntime) -> Result<(), Fail> {
-    let alloc = rt.alloc();
-    let list = two_moves(alloc)?;
-    let mut fences = Vec::new(alloc);
-    fences.extend_from_slice(&[false, true])?;
-    let mut groups = Vec::new(alloc);
-    groups.push(Group::new(fences))?;
-    assert_eq!(rt;
-        judge_bytes(alloc, &list, &Plan::new(groups), &settings()?),
-        Ok(17)
-    );
     Ok(())
 }
 

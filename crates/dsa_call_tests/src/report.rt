@@ -1,114 +1,102 @@
-use dsa_report::{Served, serve};
-use std::alloc::{AllocError, Global};
-use std::process::Abort;
-use std::sync::Wait;
-use std::thread::Threads;
+//! Texts of jobs, slow readers and narrow writers. What the program answers is in `tests/jobs.py` and `tests/jobs`.
 
-mod checking;
-mod judging;
-mod lines;
-mod planning;
-mod replaying;
-mod running;
-mod streams;
-mod texts;
+use dsa_report::{Job, PlanFault, Served, read_job, serve};
+use std::io;
+use std::io::{ErrorKind, Read, Write};
 
-/// A move of 64 bytes from 0x1000 to 0x2000, with its record at 0x8000.
-const FIRST: &str = "000000000c000003 0080000000000000 0010000000000000 0020000000000000 40000000";
+/// Judges one batch of two moves, the second of which reads what the first writes and is fenced.
+const JUDGE: &[u8] =
+    b"{\"do\":\"judge\",\"list\":\"000000000c0000030080000000000000001000000000000000200000000000004000000000000000000000000000000000000000000000000000000000000000000000000c0000032080000000000000002000000000000000400000000000004000000000000000000000000000000000000000000000000000000000000000\",\"plan\":[[false,true]],\"settings\":{\"version\":1,\"greatest_batch\":4,\"greatest_transfer\":4096,\"lone\":10,\"batch\":14,\"fence\":3,\"staging\":65536}}";
 
-/// A move of 64 bytes from 0x2000 to 0x4000, with its record at 0x8020. It reads what the first writes.
-const AFTER: &str = "000000000c000003 2080000000000000 0020000000000000 0040000000000000 40000000";
-
-/// A move of 64 bytes from 0x3000 to 0x4000, with its record at 0x8020.
-const APART: &str = "000000000c000003 2080000000000000 0030000000000000 0040000000000000 40000000";
-
-/// [`AFTER`] with a fence.
-const AFTER_FENCE: &str =
-    "000000000d000003 2080000000000000 0020000000000000 0040000000000000 40000000";
-
-/// A batch of two.
-const PAIR: &str = "000000000c000001 8000010000000000 0000010000000000 0000000000000000 02000000";
-
-/// The digits of the record bytes of a batch.
-const RECORD: &str = "0000000000000000000000000000000000000000000000000000000000000000";
-
-/// The members of settings, but for `greatest_batch`.
-const REST: &str =
-    "\"version\":1,\"greatest_transfer\":4096,\"lone\":10,\"batch\":14,\"fence\":3,\"staging\":65536";
-
-/// Settings with batches of at most four.
-const SETTINGS: &str =
-    "\"version\":1,\"greatest_batch\":4,\"greatest_transfer\":4096,\"lone\":10,\"batch\":14,\"fence\":3,\"staging\":65536";
-
-/// The digits of 64 bytes: those of the text without its blanks, and zeros.
-fn entry(alloc: Global, digits: &str) -> Result<String, AllocError> {
-    let mut text = String::new(alloc);
-    for part in digits.split(' ') {
-        text.push_str(part)?;
+#[test]
+fn reads_a_job(rt: HostRuntime) {
+    let alloc = rt.alloc();
+    match &read_job(alloc, JUDGE) {
+        Ok(Job::Judge(job)) => assert_eq!(rt; job.list.len(), 128),
+        _ => assert!(rt; false),
     }
-    for _ in text.len()..128 {
-        text.push_str("0")?;
-    }
-    Ok(text)
+    assert!(rt; matches!(read_job(alloc, b"{"), Err(PlanFault::Json)));
+    assert!(rt; matches!(read_job(alloc, b"\"judge\""), Err(PlanFault::Member)));
 }
 
-/// The digits of entries.
-fn entries(alloc: Global, all: &[&str]) -> Result<String, AllocError> {
-    let mut text = String::new(alloc);
-    for digits in all {
-        let more = entry(alloc, digits)?;
-        text.push_str(&more)?;
-    }
-    Ok(text)
+/// Gives so many blanks, one a turn. It fails where more than 65,536 are asked for.
+#[derive(Drop)]
+struct Blanks {
+    left: usize,
 }
 
-/// The digits of a list of two entries at most.
-fn list(alloc: Global, first: &str, second: Option<&str>) -> Result<String, AllocError> {
-    match second {
-        Some(digits) => entries(alloc, &[first, digits]),
-        None => entry(alloc, first),
-    }
-}
-
-/// The digits of so many bytes: those of each part from its place on, and zeros. The parts are in order, apart, and end
-/// in time.
-fn digits_at(alloc: Global, parts: &[(usize, &str)], bytes: usize) -> Result<String, AllocError> {
-    let mut text = String::new(alloc);
-    for (place, digits) in parts {
-        for _ in text.len() / 2..*place {
-            text.push_str("00")?;
+impl Read for Blanks {
+    fn read(&mut self, buf: &mut [u8]) -> io::Result<usize> {
+        if buf.len() > 65_536 {
+            return Err(io::Error::from(ErrorKind::InvalidInput));
         }
-        text.push_str(digits)?;
+        let count = buf.len().min(1).min(self.left);
+        for byte in &mut buf[..count] {
+            *byte = b' ';
+        }
+        self.left -= count;
+        Ok(count)
     }
-    for _ in text.len() / 2..bytes {
-        text.push_str("00")?;
-    }
-    Ok(text)
 }
 
-/// The text of a job to judge. What follows the settings is given as it stands.
-fn judge(
-    alloc: Global,
-    settings: &str,
-    list: &str,
-    plan: &str,
-    more: &str,
-) -> Result<String, AllocError> {
-    format!(in alloc;
-        "{{\"do\":\"judge\",\"list\":\"{list}\",\"plan\":{plan},\"settings\":{{{settings}}}{more}}}"
-    )
+#[test]
+fn counts_turns(rt: HostRuntime) {
+    for (blanks, wanted) in [(1_048_575, Served::Refused), (1_048_576, Served::ReadFault)] {
+        let mut reader = Blanks { left: blanks };
+        let mut written = Vec::new(rt.alloc());
+        assert_eq!(rt; serve(&rt, &mut reader, &mut written), wanted);
+        assert_eq!(rt; written.is_empty(), wanted == Served::ReadFault);
+    }
 }
 
-/// Serves the text, and looks for the line and what is said of it.
-fn expect(rt: &(impl AllocGlobal + Abort + Threads + Wait + Sync), text: &[u8], line: &str) {
-    let mut reader = text;
-    let mut written = Vec::new(rt.alloc());
-    let found = serve(rt, &mut reader, &mut written);
-    assert_eq!(rt; &written[..], line.as_bytes());
-    let served = if line.starts_with("refused") {
-        Served::Refused
-    } else {
-        Served::Answered
-    };
-    assert_eq!(rt; found, served);
+/// Takes one byte a turn, and fails where there is no room, but not again.
+#[derive(Drop)]
+struct Narrow {
+    taken: Vec<u8>,
+    room: usize,
+    is_silent: bool,
+}
+
+impl Write for Narrow {
+    fn write(&mut self, buf: &[u8]) -> io::Result<usize> {
+        if self.room == 0 {
+            self.room = usize::MAX;
+            return if self.is_silent {
+                Ok(0)
+            } else {
+                Err(io::Error::from(ErrorKind::Interrupted))
+            };
+        }
+        let count = buf.len().min(1);
+        self.taken.extend_from_slice(&buf[..count])?;
+        self.room -= count;
+        Ok(count)
+    }
+
+    fn flush(&mut self) -> io::Result<()> {
+        Ok(())
+    }
+}
+
+#[test]
+fn writes_in_pieces(rt: HostRuntime) {
+    let line = b"{\"cost\":17}\n";
+    for is_silent in [false, true] {
+        for room in 0..=line.len() {
+            let mut reader = JUDGE;
+            let mut writer = Narrow {
+                taken: Vec::new(rt.alloc()),
+                room,
+                is_silent,
+            };
+            let served = serve(&rt, &mut reader, &mut writer);
+            let wanted = if room == line.len() {
+                Served::Answered
+            } else {
+                Served::WriteFault
+            };
+            assert_eq!(rt; served, wanted);
+            assert_eq!(rt; &writer.taken[..], &line[..room]);
+        }
+    }
 }

@@ -54,22 +54,6 @@ fn compare(rt: &(impl Abort + AllocGlobal), pieces: &[Descriptor]) -> Result<(),
     Ok(())
 }
 
-/// The second move writes the last eight addresses, which the first reads.
-#[test]
-fn conflict_at_the_top_of_the_addresses(rt: HostRuntime) -> Result<(), Fail> {
-    let pieces = moves(
-        rt.alloc(),
-        &[
-            (0xffff_ffff_ffff_fff8, 0x2000, 8, 0x8000),
-            (0x3000, 0xffff_ffff_ffff_fff8, 8, 0x8020),
-        ],
-    )?;
-    assert!(rt; pieces.len() <= 65536);
-    let lasts = last_conflicts(rt.alloc(), &pieces, 1)?;
-    assert_eq!(rt; lasts.as_slice(), [None, Some(0)].as_slice());
-    Ok(())
-}
-
 /// The third move writes what both others read: the later of the two is its last conflict.
 #[test]
 fn last_of_two_readers(rt: HostRuntime) -> Result<(), Fail> {
@@ -93,10 +77,11 @@ fn last_of_two_readers(rt: HostRuntime) -> Result<(), Fail> {
 }
 
 /// Lists of moves: pieces that are free, that conflict in turn, that conflict with the one but last, and the pieces of a
-/// move that overlaps itself.
+/// move that overlaps itself; then ranges that are just what an earlier one is, a part of it at either end or within, or
+/// meet several: at the last addresses, at the first ones, and between.
 #[test]
 fn lists_of_moves(rt: HostRuntime) -> Result<(), Fail> {
-    let lists: [&[(u64, u64, u32, u64)]; 6] = [
+    let lists: [&[(u64, u64, u32, u64)]; 9] = [
         &[(0x1000, 0x2000, 64, 0x8000), (0x3000, 0x4000, 64, 0x8020)],
         &[(0x1000, 0x2000, 64, 0x8000), (0x2000, 0x4000, 64, 0x8020)],
         &[
@@ -123,18 +108,6 @@ fn lists_of_moves(rt: HostRuntime) -> Result<(), Fail> {
             (0x2000, 0x2008, 4096, 0x8020),
             (0x1000, 0x1008, 4096, 0x8000),
         ],
-    ];
-    for list in lists {
-        compare(&rt, &moves(rt.alloc(), list)?)?;
-    }
-    Ok(())
-}
-
-/// Ranges that are just a segment, a part of one at either end or within, or several: at the last addresses, at the first
-/// ones, and between.
-#[test]
-fn ranges_against_segments(rt: HostRuntime) -> Result<(), Fail> {
-    let lists: [&[(u64, u64, u32, u64)]; 3] = [
         &[
             (0x1000, 0xffff_ffff_ffff_ffc0, 64, 0x8000),
             (0xffff_ffff_ffff_ffc0, 0x2000, 64, 0x8020),
@@ -166,19 +139,6 @@ fn ranges_against_segments(rt: HostRuntime) -> Result<(), Fail> {
     for list in lists {
         compare(&rt, &moves(rt.alloc(), list)?)?;
     }
-    Ok(())
-}
-
-/// The compare reads the record of the move, and nothing else of it.
-#[test]
-fn conflict_by_a_record_alone(rt: HostRuntime) -> Result<(), Fail> {
-    let mut pieces = Vec::new(rt.alloc());
-    pieces.push(Descriptor::read(&bytes_of(MOVE, 0x9000, 0x1000, 0x2000, 0, 64))?)?;
-    pieces.push(Descriptor::read(&bytes_of(5, 0x9100, 0x9000, 0xa000, 0, 32))?)?;
-    assert!(rt; pieces.len() <= 65536);
-    let lasts = last_conflicts(rt.alloc(), &pieces, 1)?;
-    assert_eq!(rt; lasts.as_slice(), [None, Some(0)].as_slice());
-    compare(&rt, &pieces)?;
     Ok(())
 }
 

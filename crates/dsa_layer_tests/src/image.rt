@@ -1,6 +1,6 @@
 use crate::given::{descriptor, put};
 use dsa_descriptor::{Descriptor, FieldFault, Record, Span};
-use dsa_image::{Image, ImageFault, Partial, lines};
+use dsa_image::{Image, Partial, lines};
 use std::alloc::Global;
 use std::test::Fail;
 
@@ -109,6 +109,7 @@ fn delta_that_fills_its_destination(rt: HostRuntime) -> Result<(), Fail> {
     put(&mut after, 0x2000, &[0x77; 2048]);
     put(&mut after, 0x3000, &[1]);
     assert!(rt; image.bytes() == after.as_slice());
+    assert!(rt; image.into_bytes() == after);
     Ok(())
 }
 
@@ -133,95 +134,6 @@ fn fill_in_two_pieces(rt: HostRuntime) -> Result<(), Fail> {
 }
 
 #[test]
-fn faulty_delta(rt: HostRuntime) -> Result<(), Fail> {
-    let mut before = vec![in rt.alloc(); 0; 256]?;
-    put(
-        &mut before,
-        0,
-        &[2, 0, 0x11, 0x11, 0x11, 0x11, 0x11, 0x11, 0x11, 0x11],
-    );
-    put(
-        &mut before,
-        10,
-        &[2, 0, 0x22, 0x22, 0x22, 0x22, 0x22, 0x22, 0x22, 0x22],
-    );
-    let mut image = Image::new(0x1000, before.to_vec(rt.alloc())?)?;
-    let d = descriptor(8, 0x0c, 0x1080, 32, [0x1000, 0x1040, 20])?;
-    assert_eq!(rt; run(&mut image, &d), Some(plain(7)));
-    let mut after = before;
-    put(&mut after, 0x80, &[7]);
-    assert!(rt; image.into_bytes() == after);
-    Ok(())
-}
-
-#[test]
-fn checked_compare(rt: HostRuntime) -> Result<(), Fail> {
-    let mut before = vec![in rt.alloc(); 0; 64]?;
-    put(
-        &mut before,
-        0,
-        &[1, 2, 3, 4, 5, 6, 7, 8, 1, 2, 3, 4, 0xff, 6, 7, 8],
-    );
-    let mut image = Image::new(0, before.to_vec(rt.alloc())?)?;
-    let d = descriptor(5, 0x8c, 0x20, 8, [0, 8, 0])?;
-    let record = Record {
-        status: 2,
-        result: 1,
-        bytes_completed: 4,
-    };
-    assert_eq!(rt; run(&mut image, &d), Some(record));
-    let mut after = before;
-    put(&mut after, 0x20, &[2, 1, 0, 0, 4, 0, 0, 0]);
-    assert!(rt; image.bytes() == after.as_slice());
-    Ok(())
-}
-
-/// The bytes 01 to 08 and 01 02 03 05, compared with the pattern of 01 to 08: byte 11 is another.
-#[test]
-fn compare_with_a_pattern(rt: HostRuntime) -> Result<(), Fail> {
-    let mut before = vec![in rt.alloc(); 0; 64]?;
-    put(&mut before, 0, &[1, 2, 3, 4, 5, 6, 7, 8, 1, 2, 3, 5]);
-    for (flags, status) in [(0x0c, 1), (0x8c, 2)] {
-        let mut image = Image::new(0, before.to_vec(rt.alloc())?)?;
-        let d = descriptor(6, flags, 0x20, 12, [0, 0x0807060504030201, 0])?;
-        let record = Record {
-            status,
-            result: 1,
-            bytes_completed: 11,
-        };
-        assert_eq!(rt; run(&mut image, &d), Some(record));
-        assert_eq!(rt; image.read_byte(0x20), Some(status));
-        assert_eq!(rt; image.read_byte(0x21), Some(1));
-        assert_eq!(rt; image.read_byte(0x24), Some(11));
-        let equal = descriptor(6, flags, 0x20, 11, [0, 0x0807060504030201, 0])?;
-        assert_eq!(rt; run(&mut image, &equal), Some(plain(1)));
-    }
-    Ok(())
-}
-
-/// Whether a move of 8 bytes over 01 to 0c leaves these bytes at the start, and its record at 0x20.
-fn move_leaves(alloc: Global, src: u64, dst: u64, start: &[u8]) -> Result<bool, Fail> {
-    let mut bytes = vec![in alloc; 0; 64]?;
-    put(&mut bytes, 0, &[1, 2, 3, 4, 5, 6, 7, 8, 9, 10, 11, 12]);
-    let mut image = Image::new(0, bytes)?;
-    let d = descriptor(3, 0x0c, 0x20, 8, [src, dst, 0])?;
-    let record = run(&mut image, &d);
-    let mut after = vec![in alloc; 0; 64]?;
-    put(&mut after, 0, start);
-    put(&mut after, 0x20, &[1]);
-    Ok(record == Some(plain(1)) && image.bytes() == after.as_slice())
-}
-
-#[test]
-fn overlapping_moves(rt: HostRuntime) -> Result<(), Fail> {
-    let up = [1, 2, 3, 4, 1, 2, 3, 4, 5, 6, 7, 8];
-    assert!(rt; move_leaves(rt.alloc(), 0, 4, &up)?);
-    let down = [5, 6, 7, 8, 9, 10, 11, 12, 9, 10, 11, 12];
-    assert!(rt; move_leaves(rt.alloc(), 4, 0, &down)?);
-    Ok(())
-}
-
-#[test]
 fn limits_of_images(rt: HostRuntime) -> Result<(), Fail> {
     let last = 0xffff_ffff_ffff_ffff;
     assert!(rt; Image::new(last, vec![in rt.alloc(); 9; 2]?).is_err());
@@ -242,21 +154,6 @@ fn limits_of_images(rt: HostRuntime) -> Result<(), Fail> {
         })
     );
     assert!(rt; image.holds(Span { first: 0, len: 0 }));
-    Ok(())
-}
-
-#[test]
-fn first_that_does_not_fit(rt: HostRuntime) -> Result<(), Fail> {
-    let image = Image::new(0x1000, vec![in rt.alloc(); 0; 0x100]?)?;
-    let inside = descriptor(3, 0x0c, 0x1080, 8, [0x1000, 0x1008, 0])?;
-    let last = descriptor(3, 0x0c, 0x10e0, 8, [0x1000, 0x10d8, 0])?;
-    let past = descriptor(3, 0x0c, 0x1100, 8, [0x1000, 0x1008, 0])?;
-    assert_eq!(rt; image.holds_all(&[]), Ok(()));
-    assert_eq!(rt; image.holds_all(&[inside, last]), Ok(()));
-    assert_eq!(rt;
-        image.holds_all(&[inside, past, past]),
-        Err(ImageFault::OutOfImage(1))
-    );
     Ok(())
 }
 

@@ -5,8 +5,6 @@
 #[cfg(test)]
 mod cert;
 #[cfg(test)]
-mod checker;
-#[cfg(test)]
 mod conflicts;
 #[cfg(test)]
 mod descriptor;
@@ -20,7 +18,5 @@ mod plan;
 mod ranges;
 #[cfg(test)]
 mod rooms;
-#[cfg(test)]
-mod search;
 #[cfg(test)]
 mod splitter;

@@ -97,28 +97,6 @@ fn event(engine: u8, kind: Kind, piece: u32) -> Event {
     }
 }
 
-/// Replays a trace of two engines, from the image of these bytes at address 0.
-fn judge<R: Abort>(
-    rt: &R,
-    alloc: Global,
-    pieces: &[Descriptor],
-    flags: &[bool],
-    trace: &[Event],
-) -> Result<Result<Outcome, CoreFault>, Fail> {
-    let image = image_of(0, sources(alloc, 1)?)?;
-    let plan = plan_of(alloc, flags)?;
-    assert!(rt; is_runnable(&image, &plan, pieces, 2));
-    Ok(replay(alloc, &image, &plan, pieces, 2, trace))
-}
-
-/// The fault of a replay.
-fn fault_of(answer: Result<Outcome, CoreFault>) -> Option<CoreFault> {
-    match answer {
-        Ok(_outcome) => None,
-        Err(fault) => Some(fault),
-    }
-}
-
 /// The events of two engines that take turns: each takes, works and finishes the piece of its own number.
 fn trace_of(alloc: Global, turns: &[u8]) -> Result<Vec<Event>, Fail> {
     let mut trace = Vec::new(alloc);
@@ -138,91 +116,6 @@ fn trace_of(alloc: Global, turns: &[u8]) -> Result<Vec<Event>, Fail> {
         trace.push(event(*turn, kind, u32::from(*turn)))?;
     }
     Ok(trace)
-}
-
-/// The bytes that begin with a status and a count, and zeros.
-fn batch_bytes(status: u8, count: u8) -> [u8; 32] {
-    let mut bytes = [0; 32];
-    bytes[0] = status;
-    bytes[4] = count;
-    bytes
-}
-
-/// Replays the orders in which the engines take turns, and looks at what the run leaves.
-fn leaves_copies<R: Abort>(rt: &R, alloc: Global, turns: &[u8]) -> Result<(), Fail> {
-    let pieces = moves(0x40)?;
-    let trace = trace_of(alloc, turns)?;
-    let answer = judge(rt, alloc, &pieces, &[false, false], trace.as_slice())?;
-    let Ok(outcome) = answer else {
-        return Err(Fail::new("refused"));
-    };
-    let expected = copied(alloc)?;
-    assert!(rt; outcome.image.bytes() == expected.as_slice());
-    assert!(rt; outcome.finished == 2);
-    assert!(rt; outcome.batch_records.as_slice() == [batch_bytes(1, 2)].as_slice());
-    assert!(rt; outcome.history.as_slice() == trace.as_slice());
-    Ok(())
-}
-
-#[test]
-fn orders_of_the_first_engine(rt: HostRuntime) -> Result<(), Fail> {
-    leaves_copies(&rt, rt.alloc(), &[0, 1, 1, 1, 0, 0])?;
-    leaves_copies(&rt, rt.alloc(), &[0, 0, 0, 1, 1, 1])?;
-    leaves_copies(&rt, rt.alloc(), &[0, 0, 1, 0, 1, 1])?;
-    leaves_copies(&rt, rt.alloc(), &[0, 0, 1, 1, 0, 1])?;
-    leaves_copies(&rt, rt.alloc(), &[0, 0, 1, 1, 1, 0])?;
-    leaves_copies(&rt, rt.alloc(), &[0, 1, 0, 1, 0, 1])?;
-    leaves_copies(&rt, rt.alloc(), &[0, 1, 1, 0, 1, 0])?;
-    Ok(())
-}
-
-#[test]
-fn orders_of_the_second_engine(rt: HostRuntime) -> Result<(), Fail> {
-    leaves_copies(&rt, rt.alloc(), &[1, 0, 0, 0, 1, 1])?;
-    leaves_copies(&rt, rt.alloc(), &[1, 0, 0, 1, 1, 0])?;
-    leaves_copies(&rt, rt.alloc(), &[1, 0, 1, 0, 1, 0])?;
-    leaves_copies(&rt, rt.alloc(), &[1, 0, 1, 1, 0, 0])?;
-    leaves_copies(&rt, rt.alloc(), &[1, 1, 0, 0, 1, 0])?;
-    leaves_copies(&rt, rt.alloc(), &[1, 1, 1, 0, 0, 0])?;
-    Ok(())
-}
-
-#[test]
-fn a_short_trace_is_incomplete(rt: HostRuntime) -> Result<(), Fail> {
-    let pieces = moves(0x40)?;
-    let trace = trace_of(rt.alloc(), &[0, 1, 1, 1, 0])?;
-    let answer = judge(&rt, rt.alloc(), &pieces, &[false, false], trace.as_slice())?;
-    assert!(rt; fault_of(answer) == Some(CoreFault::Incomplete));
-    Ok(())
-}
-
-#[test]
-fn an_early_finish_is_no_step(rt: HostRuntime) -> Result<(), Fail> {
-    let pieces = moves(0x40)?;
-    let mut trace = trace_of(rt.alloc(), &[0, 1, 1, 1])?;
-    trace.push(event(0, Kind::Finish, 0))?;
-    trace.push(event(0, Kind::Finish, 0))?;
-    let answer = judge(&rt, rt.alloc(), &pieces, &[false, false], trace.as_slice())?;
-    assert!(rt; fault_of(answer) == Some(CoreFault::NotAStep(4)));
-    Ok(())
-}
-
-#[test]
-fn unknown_engines_take_nothing(rt: HostRuntime) -> Result<(), Fail> {
-    let pieces = moves(0x40)?;
-    let trace = [event(2, Kind::Take, 0)];
-    let answer = judge(&rt, rt.alloc(), &pieces, &[false, false], &trace)?;
-    assert!(rt; fault_of(answer) == Some(CoreFault::NotAStep(0)));
-    Ok(())
-}
-
-#[test]
-fn a_fence_holds(rt: HostRuntime) -> Result<(), Fail> {
-    let pieces = moves(0x20)?;
-    let trace = [event(0, Kind::Take, 0), event(1, Kind::Take, 1)];
-    let answer = judge(&rt, rt.alloc(), &pieces, &[false, true], &trace)?;
-    assert!(rt; fault_of(answer) == Some(CoreFault::NotAStep(1)));
-    Ok(())
 }
 
 /// A room of the two moves and two engines, of which engine 0 has taken a piece.
@@ -391,43 +284,6 @@ fn one_engine_does_all(rt: HostRuntime) -> Result<(), Fail> {
         return Err(Fail::new("unfinished"));
     };
     assert!(rt; outcome.image.bytes() == copied(rt.alloc())?.as_slice());
-    Ok(())
-}
-
-/// 256 bytes that begin with two entries of a delta for one place.
-fn two_entries(alloc: Global) -> Result<Vec<u8>, Fail> {
-    let mut bytes = vec![in alloc; 0; 256]?;
-    put(&mut bytes, 2, &[0x11; 8]);
-    put(&mut bytes, 12, &[0x22; 8]);
-    put(&mut bytes, 0, &[2]);
-    put(&mut bytes, 10, &[2]);
-    Ok(bytes)
-}
-
-#[test]
-fn a_fault_ends_its_batch(rt: HostRuntime) -> Result<(), Fail> {
-    let pieces = [
-        descriptor(8, 0x0c, 0x1080, 32, [0x1000, 0x1040, 20])?,
-        descriptor(3, 0x0c, 0x10c0, 8, [0x1040, 0x10a0, 0])?,
-    ];
-    let image = image_of(0x1000, two_entries(rt.alloc())?)?;
-    let plan = plan_of(rt.alloc(), &[false, true])?;
-    assert!(rt; is_runnable(&image, &plan, &pieces, 1));
-    let line = event(0, Kind::Line, 0);
-    let trace = [
-        event(0, Kind::Take, 0),
-        line,
-        line,
-        event(0, Kind::Finish, 0),
-    ];
-    let Ok(outcome) = replay(rt.alloc(), &image, &plan, &pieces, 1, &trace) else {
-        return Err(Fail::new("refused"));
-    };
-    let mut expected = two_entries(rt.alloc())?;
-    put(&mut expected, 0x80, &[7]);
-    assert!(rt; outcome.image.bytes() == expected.as_slice());
-    assert!(rt; outcome.finished == 1);
-    assert!(rt; outcome.batch_records.as_slice() == [batch_bytes(5, 1)].as_slice());
     Ok(())
 }
 

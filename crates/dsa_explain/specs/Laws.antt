@@ -1,22 +1,10 @@
 -- What explanations promise.
-use Rattle.std.specs.Prelude.{ℕ, ◌≡◌, ◌*◌, ◌<◌, ◌≤◌, ◌↔◌, AllPairs, Contains, List, length, map, count_by, sum_by, slice_get, Some, Ok}
-use Rattle.dsa_descriptor.specs.Descriptors.{fields}
-use Rattle.dsa_ranges.specs.Ranges.{ConflictAt}
-use Rattle.dsa_plan.specs.Settings.{Limits}
+use Rattle.std.specs.Prelude.{ℕ, ◌≡◌, ◌*◌, ◌<◌, ◌≤◌, ◌↔◌, AllPairs, Contains, length, count_by, sum_by, slice_get, Some}
 use Rattle.dsa_plan.specs.Plan.{Tariff, Group, Plan, fence_count, plan_cost, piece_count, start_of}
 use Rattle.dsa_plan.specs.Legal.{IsFenced, IsLeast}
-use Rattle.dsa_planner.specs.Planned.{Submission, Plans}
-use Rattle.dsa_explain.specs.Reasons.{NeedsFence}
 use Rattle.dsa_explain.specs.Cells.{cells_from}
 use Rattle.dsa_explain.specs.Costs.{group_prices}
 use Rattle.dsa_explain.specs.Fences.{fenced_pieces}
-
--- of a plan that planning answers, each fence is needed by the fenced piece and an earlier one
-abbrev pub PlannedFencesAreNeeded : Type 0
-PlannedFencesAreNeeded =
-    (bytes : List ℕ) (s : Limits) (p : Submission) → Plans bytes s (Ok p) →
-    (number : ℕ) (group : Group) (k : ℕ) → slice_get p.plan number ≡ Some group → IsFenced (start_of p.plan number) group k →
-    (a : ℕ) × NeedsFence (ConflictAt (map fields p.pieces)) (start_of p.plan number) group k a k
 
 -- a least plan of n pieces costs at most as much as n lone submissions
 abbrev pub LeastPlansSave : (ℕ → ℕ → Type 0) → Type 0

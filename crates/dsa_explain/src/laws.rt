@@ -1,14 +1,8 @@
 //! Laws of explanations.
 
-ghost use Rattle.dsa_explain.specs.Laws.{PlannedFencesAreNeeded, LeastPlansSave, CellsArePiecesAndFences, GroupCostsAddUp, EachFenceOnce};
+ghost use Rattle.dsa_explain.specs.Laws.{LeastPlansSave, CellsArePiecesAndFences, GroupCostsAddUp, EachFenceOnce};
 
 use dsa_plan::Conflicts;
-
-/// Each fence of a plan that planning answers separates a conflict of the fenced piece with an earlier one, which no
-/// other fence separates.
-pub fn planned_fences_are_needed()
-    ensures { PlannedFencesAreNeeded }
-{}
 
 /// A least plan costs at most what its pieces cost one by one.
 pub fn least_plans_save<C: Conflicts>()

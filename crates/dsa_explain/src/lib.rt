@@ -17,7 +17,6 @@ pub use explanation::{ExplainFault, Explanation, explain};
 pub use fences::{Fence, fences_of};
 pub use laws::{
     cells_are_pieces_and_fences, each_fence_once, group_costs_add_up, least_plans_save,
-    planned_fences_are_needed,
 };
 pub use picture::{MOST_ROWS, draw};
 pub use prices::{GroupPrice, Prices, price_plan};

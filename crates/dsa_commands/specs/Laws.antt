@@ -1,0 +1,16 @@
+-- What the explanation of a planned list promises.
+use Rattle.std.specs.Prelude.{ℕ, ◌≡◌, List, map, slice_get, Some, Ok}
+use Rattle.dsa_descriptor.specs.Descriptors.{fields}
+use Rattle.dsa_ranges.specs.Ranges.{ConflictAt}
+use Rattle.dsa_plan.specs.Settings.{Limits}
+use Rattle.dsa_plan.specs.Plan.{Group, start_of}
+use Rattle.dsa_plan.specs.Legal.{IsFenced}
+use Rattle.dsa_planner.specs.Planned.{Submission, Plans}
+use Rattle.dsa_explain.specs.Reasons.{NeedsFence}
+
+-- of a plan that planning answers, each fence is needed by the fenced piece and an earlier one
+abbrev pub PlannedFencesAreNeeded : Type 0
+PlannedFencesAreNeeded =
+    (bytes : List ℕ) (s : Limits) (p : Submission) → Plans bytes s (Ok p) →
+    (number : ℕ) (group : Group) (k : ℕ) → slice_get p.plan number ≡ Some group → IsFenced (start_of p.plan number) group k →
+    (a : ℕ) × NeedsFence (ConflictAt (map fields p.pieces)) (start_of p.plan number) group k a k

@@ -1,7 +1,7 @@
 use Rattle.std.proofs.Common.{◌≡◌, ℕ, ◌-◌, ◌%◌, List, length, take, drop, get_or, sym, ap, ◌∙◌, arith}
 use Rattle.std.proofs.lemmas.List.{take_all, length-drop}
 use Rattle.std.proofs.lemmas.Slice.Eq.{bytes_eq-Decides}
-use Rattle.dsa_image.specs.Effects.{pattern_byte}
+use Rattle.dsa_image.specs.Basics.{pattern_byte}
 use Rattle.dsa_image.proofs.Repeats.{repeats_row}
 use Rattle.dsa_image.proofs.compare.repeats.Goals as goal
 

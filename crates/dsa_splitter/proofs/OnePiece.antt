@@ -13,8 +13,9 @@ use Rattle.dsa_descriptor.specs.Data.{data_of, record_span}
 use Rattle.dsa_descriptor.specs.Profile.{IsListed}
 use Rattle.dsa_image.specs.Effects.{numbers}
 use Rattle.dsa_image.specs.Lines.{quotient_up}
-use Rattle.dsa_splitter.specs.Pieces.{moved_up, op_runs_down, piece_at, piece_count, pieces, IsSplittable}
-use Rattle.dsa_splitter.specs.Rules.{ExpectedFits, IsClear, IsFirstMeeting, MaySplit, MeetsArea}
+use Rattle.dsa_splitter.specs.Operations.{moved_up, op_runs_down, IsSplittable, ExpectedFits}
+use Rattle.dsa_splitter.specs.Pieces.{piece_at, piece_count, pieces}
+use Rattle.dsa_splitter.specs.Rules.{IsClear, IsFirstMeeting, MaySplit, MeetsArea}
 
 one_quotient : (s g c : ℕ) → 0 < s → s ≤ g → s ≤ c * g → c * g < s + g → c ≡ 1
 one_quotient s g zero some short low high = absurd (omega arith)

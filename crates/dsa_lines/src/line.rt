@@ -1,8 +1,7 @@
 //! The fields of a line, and their bytes.
 
-ghost use Rattle.std.specs.Prelude.{◌≡◌, ◌++◌, ◌<◌, ◌^◌, length, drop};
+ghost use Rattle.std.specs.Prelude.{◌≡◌, ◌<◌, ◌^◌};
 ghost use Rattle.dsa_descriptor.specs.Spelling.{owner_word, operation_word, spelling};
-ghost use Rattle.dsa_descriptor.specs.Operands.{code_of, first_field, second_field, own_bytes, own_len};
 ghost use Rattle.dsa_lines.specs.Views.{view};
 
 use dsa_descriptor::Op;
@@ -20,52 +19,6 @@ pub(crate) struct Line {
 }
 
 impl Line {
-    /// The code of an operation.
-    fn code(&self) -> u8
-        ensures { result ≡ code_of self.now.op }
-    {
-        match self.op {
-            Op::Move { .. } => 3,
-            Op::Fill { .. } => 4,
-            Op::Compare { .. } => 5,
-            Op::ComparePattern { .. } => 6,
-            Op::ApplyDelta { .. } => 8,
-            Op::Dualcast { .. } => 9,
-        }
-    }
-
-    /// What stands at the bytes 16 and 24.
-    fn first_fields(&self) -> (u64, u64)
-        ensures first { result.0 ≡ first_field self.now.op }
-        ensures second { result.1 ≡ second_field self.now.op }
-    {
-        match self.op {
-            Op::Move { src, dst } => (src, dst),
-            Op::Fill { pattern, dst } => (pattern, dst),
-            Op::Compare { src, src2, .. } => (src, src2),
-            Op::ComparePattern { src, pattern, .. } => (src, pattern),
-            Op::ApplyDelta { delta, dst, .. } => (delta, dst),
-            Op::Dualcast { src, dst, .. } => (src, dst),
-        }
-    }
-
-    /// Writes what an operation has from byte 40 on.
-    fn put_own_bytes(&self, bytes: &mut [u8])
-        requires { length bytes.old ≡ 24 }
-        ensures { bytes.new ≡ own_bytes self.now.op ++ drop (own_len self.now.op) bytes.old }
-    {
-        match self.op {
-            Op::Move { .. } => {}
-            Op::Fill { .. } => {}
-            Op::Compare { expected, .. } | Op::ComparePattern { expected, .. } => bytes[0] =
-                expected,
-            Op::ApplyDelta { record_size, .. } => {
-                bytes[..4].copy_from_slice(&record_size.to_le_bytes());
-            }
-            Op::Dualcast { dst2, .. } => bytes[..8].copy_from_slice(&dst2.to_le_bytes()),
-        }
-    }
-
     /// The first four bytes: the PASID and the privilege.
     fn owner_word(&self) -> u32
         requires { self.now.pasid < 2 ^ 20 }
@@ -83,7 +36,7 @@ impl Line {
         requires { self.now.flags < 2 ^ 16 }
         ensures { result ≡ operation_word (view self.now) }
     {
-        self.flags + (u32::from(self.code()) << 24)
+        self.flags + (u32::from(self.op.code()) << 24)
     }
 
     /// The 64 bytes of the fields.
@@ -92,7 +45,7 @@ impl Line {
         requires flags { self.now.flags < 2 ^ 16 }
         ensures { result ≡ spelling (view self.now) }
     {
-        let (first, second) = self.first_fields();
+        let (first, second) = self.op.first_fields();
         let mut bytes = [0; 64];
         bytes[0..4].copy_from_slice(&self.owner_word().to_le_bytes());
         bytes[4..8].copy_from_slice(&self.operation_word().to_le_bytes());
@@ -101,7 +54,7 @@ impl Line {
         bytes[24..32].copy_from_slice(&second.to_le_bytes());
         bytes[32..36].copy_from_slice(&self.size.to_le_bytes());
         bytes[36..38].copy_from_slice(&self.int_handle.to_le_bytes());
-        self.put_own_bytes(&mut bytes[40..]);
+        self.op.put_own_bytes(&mut bytes[40..]);
         bytes
     }
 }

@@ -1,7 +1,7 @@
 use crate::given::move_of;
 use dsa_descriptor::Descriptor;
 use dsa_explain::{
-    Cell, ExplainFault, Explanation, Fence, GroupPrice, MOST_PIECES, Reason,
+    Cell, ExplainFault, Explanation, Fence, GroupCost, MOST_PIECES, Reason,
     cells_are_pieces_and_fences, each_fence_once, explain, group_costs_add_up,
 };
 use dsa_hazards::{Hazard, HazardKind};
@@ -161,8 +161,8 @@ fn fences_of_two_groups(rt: HostRuntime) -> Result<(), Fail> {
     Ok(())
 }
 
-fn group(size: usize, fences: usize, cost: u64) -> GroupPrice {
-    GroupPrice { size, fences, cost }
+fn group(size: usize, fences: usize, cost: u64) -> GroupCost {
+    GroupCost { size, fences, cost }
 }
 
 /// A lone move costs 10; a batch of three with two fences 14 and twice 3.
@@ -170,11 +170,11 @@ fn group(size: usize, fences: usize, cost: u64) -> GroupPrice {
 fn costs_of_groups(rt: HostRuntime) -> Result<(), Fail> {
     match explained(rt.alloc(), &CHAIN, &[&[false], &[false, true, true]])? {
         Ok(explanation) => {
-            let prices = &explanation.prices;
+            let costs = &explanation.costs;
             let groups = [group(1, 0, 10), group(3, 2, 20)];
-            assert!(rt; prices.groups.as_slice() == groups.as_slice());
-            assert_eq!(rt; prices.cost, 30);
-            assert_eq!(rt; prices.lone, 40);
+            assert!(rt; costs.groups.as_slice() == groups.as_slice());
+            assert_eq!(rt; costs.cost, 30);
+            assert_eq!(rt; costs.lone, 40);
         }
         Err(fault) => assert!(rt; false, "{fault:?}"),
     }

@@ -3,5 +3,5 @@ pub mod Needed
 pub mod Singles
 pub mod Laid
 pub mod Fenced
-pub mod Costs
+pub mod CostSums
 pub mod FencedOnce

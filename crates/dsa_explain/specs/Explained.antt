@@ -9,22 +9,22 @@ use Rattle.dsa_plan.specs.Settings.{Limits, tariff_of}
 use Rattle.dsa_plan.specs.Legal.{IsLegal}
 use Rattle.dsa_plan.specs.LegalFaults.{IsFirstLegalFault}
 use Rattle.dsa_explain.specs.Cells.{cells_from}
-use Rattle.dsa_explain.specs.Costs.{group_prices}
+use Rattle.dsa_explain.specs.Costs.{costs_of_groups}
 use Rattle.dsa_explain.specs.Fences.{AreFencesOf}
-use Rattle.dsa_explain.specs.declared.prices.Prices.{Prices}
+use Rattle.dsa_explain.specs.declared.costs.Costs.{Costs}
 use Rattle.dsa_explain.specs.declared.explanation.Explanation.{Explanation}
 use Rattle.dsa_explain.specs.declared.explanation.ExplainFault.{ExplainFault}
 use Rattle.dsa_explain.specs.declared.explanation.ExplainFault.TheVariants.{TooManyPieces, Legal, Memory}
 
 -- the costs of the groups and of the plan, and that of so many lone submissions
-pub record ArePrices (s : Limits) (pieces : ℕ) (plan : Plan) (prices : Prices) : Type 0 where
-  pub groups : prices.groups.items ≡ group_prices (tariff_of s) plan
-  pub cost : prices.cost ≡ plan_cost (tariff_of s) plan
-  pub lone : prices.lone ≡ s.lone * pieces
+pub record AreCosts (s : Limits) (pieces : ℕ) (plan : Plan) (costs : Costs) : Type 0 where
+  pub groups : costs.groups.items ≡ costs_of_groups (tariff_of s) plan
+  pub cost : costs.cost ≡ plan_cost (tariff_of s) plan
+  pub lone : costs.lone ≡ s.lone * pieces
 
--- the plan's prices, its fences and its cells
+-- the plan's costs, its fences and its cells
 pub record IsExplanationOf (s : Limits) (pieces : List Descriptor) (plan : Plan) (e : Explanation) : Type 0 where
-  pub prices : ArePrices s (length pieces) plan e.prices
+  pub costs : AreCosts s (length pieces) plan e.costs
   pub fences : AreFencesOf (map fields pieces) plan e.fences.items
   pub cells : e.cells.items ≡ cells_from 0 plan
 

@@ -3,7 +3,7 @@ use Rattle.std.specs.Prelude.{ℕ, ◌≡◌, ◌*◌, ◌<◌, ◌≤◌, ◌�
 use Rattle.dsa_plan.specs.Plan.{Tariff, Group, Plan, fence_count, plan_cost, piece_count, start_of}
 use Rattle.dsa_plan.specs.Legal.{IsFenced, IsLeast}
 use Rattle.dsa_explain.specs.Cells.{cells_from}
-use Rattle.dsa_explain.specs.Costs.{group_prices}
+use Rattle.dsa_explain.specs.Costs.{costs_of_groups}
 use Rattle.dsa_explain.specs.Fences.{fenced_pieces}
 
 -- a least plan of n pieces costs at most as much as n lone submissions
@@ -22,7 +22,7 @@ CellsArePiecesAndFences =
 abbrev pub GroupCostsAddUp : Type 0
 GroupCostsAddUp =
     (tariff : Tariff) (plan : Plan) →
-    sum_by (λ group. group.cost) (group_prices tariff plan) ≡ plan_cost tariff plan
+    sum_by (λ group. group.cost) (costs_of_groups tariff plan) ≡ plan_cost tariff plan
 
 -- piece k is fenced in some group of the plan
 pub record IsFencedIn (plan : Plan) (k : ℕ) : Type 0 where

@@ -5,8 +5,8 @@ ghost use Rattle.dsa_explain.specs.declared.explanation.ExplainFault.TheVariants
 ghost use Rattle.dsa_explain.specs.Explained.{Explains};
 
 use crate::cells::{Cell, lay_out};
+use crate::costs::{Costs, plan_costs};
 use crate::fences::{Fence, fences_of};
-use crate::prices::{Prices, price_plan};
 use dsa_descriptor::{Descriptor, MOST_PIECES};
 use dsa_plan::{LegalFault, Plan, Settings, is_legal};
 use std::alloc::{AllocError, Global};
@@ -15,7 +15,7 @@ use std::alloc::{AllocError, Global};
 #[derive(Debug, Drop)]
 pub struct Explanation {
     /// What its groups cost, and what its pieces cost one by one.
-    pub prices: Prices,
+    pub costs: Costs,
     /// Its fences, in order, each with the conflict that it separates.
     pub fences: Vec<Fence>,
     /// Where its pieces and fences stand in a picture.
@@ -61,11 +61,11 @@ pub fn explain(
     if let Err(fault) = is_legal(plan, pieces, settings) {
         return Err(ExplainFault::Legal(fault));
     }
-    let prices = price_plan(alloc, plan, pieces.len(), settings)?;
+    let costs = plan_costs(alloc, plan, pieces.len(), settings)?;
     let fences = fences_of(alloc, plan, pieces)?;
     let cells = lay_out(alloc, plan)?;
     Ok(Explanation {
-        prices,
+        costs,
         fences,
         cells,
     })

@@ -3,15 +3,16 @@
 #![tactic(auto)]
 
 mod cells;
+mod costs;
 mod explanation;
 mod fences;
 mod laws;
 mod picture;
-mod prices;
 mod reason;
 mod words;
 
 pub use cells::{Cell, lay_out};
+pub use costs::{Costs, GroupCost, plan_costs};
 pub use dsa_descriptor::MOST_PIECES;
 pub use explanation::{ExplainFault, Explanation, explain};
 pub use fences::{Fence, fences_of};
@@ -19,6 +20,5 @@ pub use laws::{
     cells_are_pieces_and_fences, each_fence_once, group_costs_add_up, least_plans_save,
 };
 pub use picture::{MOST_ROWS, draw};
-pub use prices::{GroupPrice, Prices, price_plan};
 pub use reason::{Reason, reason_of};
 pub use words::{Origin, explanation_text};

@@ -38,9 +38,9 @@ fn push_head(
     explanation: &Explanation,
     pieces: usize,
 ) -> Result<(), AllocError> {
-    let rows = explanation.prices.groups.len();
+    let rows = explanation.costs.groups.len();
     let widest = explanation
-        .prices
+        .costs
         .groups
         .iter()
         .map(|group| group.size)
@@ -51,7 +51,7 @@ fn push_head(
     svg.push_str("<svg xmlns=\"http://www.w3.org/2000/svg\" role=\"img\" ")?;
     svg.push_str(&size)?;
     svg.push_str(" font-family=\"monospace\" font-size=\"11\">\n<title>")?;
-    svg.push_str(&cost_text(alloc, &explanation.prices, pieces)?)?;
+    svg.push_str(&cost_text(alloc, &explanation.costs, pieces)?)?;
     svg.push_str("</title>\n<rect width=\"100%\" height=\"100%\" fill=\"white\"/>\n")
 }
 
@@ -62,7 +62,7 @@ fn push_row(
     explanation: &Explanation,
     row: usize,
 ) -> Result<(), AllocError> {
-    let Some(group) = explanation.prices.groups.get(row) else {
+    let Some(group) = explanation.costs.groups.get(row) else {
         return Ok(());
     };
     let y = row_top(row).saturating_add(24);

@@ -1,8 +1,8 @@
 //! The words of an explanation.
 
+use crate::costs::{Costs, GroupCost};
 use crate::explanation::Explanation;
 use crate::fences::Fence;
-use crate::prices::{GroupPrice, Prices};
 use dsa_descriptor::Descriptor;
 use dsa_hazards::HazardKind;
 use dsa_lines::op_text;
@@ -30,7 +30,7 @@ pub fn kind_text(kind: HazardKind) -> &'static str {
 }
 
 /// The line of a group: its size, its fences and the epochs that they part it into, and its cost.
-pub fn group_text(alloc: Global, number: usize, group: &GroupPrice) -> Result<String, AllocError> {
+pub fn group_text(alloc: Global, number: usize, group: &GroupCost) -> Result<String, AllocError> {
     let (size, fences, cost) = (group.size, group.fences, group.cost);
     if size == 1 {
         return format!(in alloc; "group {number}: lone submission, cost {cost}");
@@ -74,8 +74,8 @@ pub fn piece_text(
 }
 
 /// The line of the costs: those of the plan, of as many lone submissions, and what is saved.
-pub fn cost_text(alloc: Global, prices: &Prices, pieces: usize) -> Result<String, AllocError> {
-    let (cost, lone) = (prices.cost, prices.lone);
+pub fn cost_text(alloc: Global, costs: &Costs, pieces: usize) -> Result<String, AllocError> {
+    let (cost, lone) = (costs.cost, costs.lone);
     let ends = if pieces == 1 { "" } else { "s" };
     let front = format!(in alloc; "cost {cost}; {pieces} lone submission{ends} cost {lone}, ")?;
     let mut text = front;
@@ -103,7 +103,7 @@ fn push_group(
     explanation: &Explanation,
     row: usize,
 ) -> Result<(), AllocError> {
-    let Some(group) = explanation.prices.groups.get(row) else {
+    let Some(group) = explanation.costs.groups.get(row) else {
         return Ok(());
     };
     push_line(text, "", &group_text(alloc, row, group)?)
@@ -156,7 +156,7 @@ pub fn explanation_text(
     push_line(
         &mut text,
         "",
-        &cost_text(alloc, &explanation.prices, pieces.len())?,
+        &cost_text(alloc, &explanation.costs, pieces.len())?,
     )?;
     Ok(text)
 }

@@ -5,15 +5,15 @@ ghost use Rattle.dsa_descriptor.specs.Pieces.{most_pieces};
 ghost use Rattle.dsa_plan.specs.Plan.{fence_count, piece_count};
 ghost use Rattle.dsa_plan.specs.LegalFaults.{HasGroupShape, HasGroupShapes};
 ghost use Rattle.dsa_plan.specs.Settings.{tariff_of};
-ghost use Rattle.dsa_explain.specs.Costs.{group_price, group_prices};
-ghost use Rattle.dsa_explain.specs.Explained.{ArePrices};
+ghost use Rattle.dsa_explain.specs.Costs.{costs_of_group, costs_of_groups};
+ghost use Rattle.dsa_explain.specs.Explained.{AreCosts};
 
 use dsa_plan::{Group, Plan, Settings, cost, group_price};
 use std::alloc::{AllocError, Global};
 
 /// A group, and what it costs.
 #[derive(Clone, Copy, Debug, PartialEq, Eq)]
-pub struct GroupPrice {
+pub struct GroupCost {
     /// The number of its pieces.
     pub size: usize,
     /// The number of its fences.
@@ -24,9 +24,9 @@ pub struct GroupPrice {
 
 /// What the groups of a plan cost, and what its pieces cost one by one.
 #[derive(Debug, Drop)]
-pub struct Prices {
+pub struct Costs {
     /// Of each group, in order.
-    pub groups: Vec<GroupPrice>,
+    pub groups: Vec<GroupCost>,
     /// Of the plan.
     pub cost: u64,
     /// Of as many lone submissions as there are pieces.
@@ -40,52 +40,52 @@ fn fence_count(group: &Group) -> usize
     group.fences().iter().filter(|fenced| **fenced).count()
 }
 
-/// The price of a group.
-fn price(group: &Group, settings: &Settings) -> GroupPrice
+/// What a group costs.
+fn costs_of_group(group: &Group, settings: &Settings) -> GroupCost
     requires shape { HasGroupShape settings.now.greatest_batch group.now }
     requires few { length group.now ≤ most_pieces }
-    ensures { result ≡ group_price (tariff_of settings.now) group.now }
+    ensures { result ≡ costs_of_group (tariff_of settings.now) group.now }
 {
     let (size, fences) = (group.len(), fence_count(group));
-    GroupPrice {
+    GroupCost {
         size,
         fences,
         cost: group_price(settings, size, fences as u64),
     }
 }
 
-/// The prices of the groups, in order.
-fn group_prices(
+/// What the groups cost, in order.
+fn costs_of_groups(
     alloc: Global,
     plan: &Plan,
     settings: &Settings,
-) -> Result<Vec<GroupPrice>, AllocError>
+) -> Result<Vec<GroupCost>, AllocError>
     requires pieces { piece_count plan.now ≤ most_pieces }
     requires shapes { HasGroupShapes settings.now.greatest_batch plan.now }
     ensures { IfOk result
-        (λ groups. groups.items ≡ group_prices (tariff_of settings.now) plan.now) }
+        (λ groups. groups.items ≡ costs_of_groups (tariff_of settings.now) plan.now) }
 {
     let mut groups = Vec::with_capacity(alloc, plan.groups().len())?;
     for group in plan.groups() {
-        groups.push(price(group, settings))?;
+        groups.push(costs_of_group(group, settings))?;
     }
     Ok(groups)
 }
 
 /// What each group of a plan costs, what the plan costs, and what as many lone submissions would cost.
-pub fn price_plan(
+pub fn plan_costs(
     alloc: Global,
     plan: &Plan,
     pieces: usize,
     settings: &Settings,
-) -> Result<Prices, AllocError>
+) -> Result<Costs, AllocError>
     requires all { piece_count plan.now ≡ pieces }
     requires few { pieces ≤ most_pieces }
     requires shapes { HasGroupShapes settings.now.greatest_batch plan.now }
-    ensures { IfOk result (ArePrices settings.now pieces plan.now) }
+    ensures { IfOk result (AreCosts settings.now pieces plan.now) }
 {
-    let groups = group_prices(alloc, plan, settings)?;
-    Ok(Prices {
+    let groups = costs_of_groups(alloc, plan, settings)?;
+    Ok(Costs {
         groups,
         cost: cost(plan, settings),
         lone: settings.lone() * pieces as u64,

@@ -1,5 +1,7 @@
 -- What is proved of each job by a case of its own.
-use Rattle.std.proofs.Common.{◌≡◌, ◌≢◌, ◌⊎◌, inl, inr, List, map, true, true≢false, Result, Err, refl, sym, ap, ◌∙◌}
+use Rattle.std.proofs.Common.{◌≡◌, ◌≢◌, ◌⊎◌, inl, inr, ℕ, Bool, ◌&&◌, List, [], ◌∷◌, map, true, true≢false, Result, Err, refl, sym, ap, ◌∙◌}
+use Rattle.std.specs.Ordering.{is_lt, nat_cmp}
+use Rattle.std.specs.Cmp.Lexicographic.{slice_cmp}
 use Rattle.std.proofs.lemmas.Slice.Eq.{bytes_eq-Decides}
 use Rattle.serde_json.specs.Data.{Data}
 use Rattle.dsa_planner.specs.declared.fault.PlanFault.{PlanFault}
@@ -34,18 +36,26 @@ same_name Replay _ e = absurd (true≢false (sym ((bytes_eq-Decides _ _).1 e)))
 same_name Run Run e = refl
 same_name Run _ e = absurd (true≢false (sym ((bytes_eq-Decides _ _).1 e)))
 
--- the members are a row: they have the name and the settings, and no member twice
+-- each name is less than the next, byte by byte, as an object lists them
+abbrev pub are_ascending : List (List ℕ) → Bool
+are_ascending [] = true
+are_ascending (name ∷ []) = true
+are_ascending (name ∷ next ∷ names) = is_lt (slice_cmp nat_cmp name next) && are_ascending (next ∷ names)
+
+-- the members are a row: they have the name and the settings, no member stands there twice, and their names ascend (no
+-- object has them in another order, so each value with such a row would be refused)
 pub record IsRow (members : List Member) : Type 0 where
   pub named : is_among the_name members ≡ true
   pub set : is_among the_settings members ≡ true
   pub apart : are_apart (map member_name members) ≡ true
+  pub ordered : are_ascending (map member_name members) ≡ true
 
 pub row : (name : JobName) → IsRow (members_of name)
-row Judge = record { named = refl; set = refl; apart = refl }
-row Plan = record { named = refl; set = refl; apart = refl }
-row Check = record { named = refl; set = refl; apart = refl }
-row Replay = record { named = refl; set = refl; apart = refl }
-row Run = record { named = refl; set = refl; apart = refl }
+row Judge = record { named = refl; set = refl; apart = refl; ordered = refl }
+row Plan = record { named = refl; set = refl; apart = refl; ordered = refl }
+row Check = record { named = refl; set = refl; apart = refl; ordered = refl }
+row Replay = record { named = refl; set = refl; apart = refl; ordered = refl }
+row Run = record { named = refl; set = refl; apart = refl; ordered = refl }
 
 -- ---- one outcome
 

@@ -21,7 +21,8 @@ use serde_json::Value;
 use std::alloc::{AllocError, Global};
 
 /// The members of a job, before the limits of the settings, the byte fields, the certificate, the trace and the size of
-/// the image are looked at. What the job does not have is empty, and nothing looks at it.
+/// the image are looked at. What the job does not have is empty, or for a certificate and a trace the job's own value, and
+/// nothing looks at it.
 #[derive(Drop)]
 pub(crate) struct Members<'v> {
     pub(crate) settings: Numbers,
@@ -85,7 +86,7 @@ fn members_with(value: &Value, settings: Numbers, plan: Plan) -> Option<Members<
     })
 }
 
-// Each member, where the value has it; else what is empty, which nothing looks at.
+// Each member, where the value has it; else what is empty, or the value itself, which nothing looks at.
 
 /// What stands at a name.
 fn value_held<'v>(value: &'v Value, name: &str) -> &'v Value

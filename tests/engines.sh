@@ -18,6 +18,13 @@ for patch in one_thread:two_engines_are_at_work_at_once locked_lines:lines_are_w
         cp -a "crates/$crate" "$copy/crates/"
     done
     cp HANDLES "$copy/"
+    # the tests of engines, which stand in a crate above, as tests of dsa_engines itself
+    sed 's/dsa_engines::/crate::/' crates/dsa_call_tests/src/engines.rt > "$copy/crates/dsa_engines/src/tests.rt"
+    mkdir "$copy/crates/dsa_engines/src/tests"
+    for module in gates runs watched; do
+        sed 's/dsa_engines::/crate::/' "crates/dsa_call_tests/src/engines/$module.rt" > "$copy/crates/dsa_engines/src/tests/$module.rt"
+    done
+    printf '\n#[cfg(test)]\nmod tests;\n' >> "$copy/crates/dsa_engines/src/lib.rt"
     (cd "$copy/crates/dsa_engines" && patch -s -p1 < "$top/tests/engines/$name.patch")
     if (cd "$copy/crates/dsa_engines" && rt try --test) > "$copy/log" 2>&1; then
         echo "tests/engines.sh: $name passes the tests" >&2

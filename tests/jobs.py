@@ -248,6 +248,26 @@ def answers():
         expect(plan(pieces, rules), raw({**answer, "portal": portal.hex(), "staging": staging.hex()}))
 
 
+def many_overlaps():
+    """Whole answers of the model for 300 pieces in which more ranges overlap than are looked at one after another: moves of
+    64 KiB that all meet, and twenty dualcasts of a byte before ten compares over all that they write, again and again."""
+    wide = [move(0x100_0000 + 0x1357 * k % 0x1_0000, 0x200_0000 + 0x2468 * k % 0x1_0000, 0x1_0000, 0x8000 + 32 * k) for k in range(300)]
+    casts = []
+    for k in range(300):
+        record_at, place = 0x8000 + 32 * k, 16 * (k % 30)
+        if k % 30 < 20:
+            casts.append(Op(DUALCAST, 1, record_at, 0x1000, 0x2000 + place, 0x3000 + place))
+        else:
+            casts.append(Op(COMPARE, 0x400, record_at, 0x2000, 0x3000))
+    area = model.Settings(4, 0x1_0000, 10, 14, 3, 0x100_0000_0000)
+    rules = settings(greatest_transfer=area.greatest_transfer, staging=area.staging)
+    for pieces in [wide, casts]:
+        groups, prices, pairs = model.chosen(pieces, area)
+        portal, staging = model.emission(groups, pieces, area)
+        answer = {"certificate": {"pairs": pairs, "prices": prices, "version": 1}, "cost": prices[-1], "plan": groups}
+        expect(plan(pieces, rules), raw({**answer, "portal": portal.hex(), "staging": staging.hex()}))
+
+
 def ask(pieces, prices, pairs, table, cause):
     """Asks for the plan of lone pieces, where batches have prices by their size. Such a plan costs more than the last price
     says: so Total is what is answered where each step holds."""
@@ -408,8 +428,8 @@ def longest():
     expect(b" " * 67_108_865, "refused 86 JobTooLong")
 
 
-PARTS = [texts, members, limits_of_settings, fields, splits, plans, answers, steps, steps_over_blocks, emissions]
-PARTS += [order_of_faults, traces, longest]
+PARTS = [texts, members, limits_of_settings, fields, splits, plans, answers, many_overlaps, steps, steps_over_blocks]
+PARTS += [emissions, order_of_faults, traces, longest]
 
 
 def main():

@@ -19,6 +19,3 @@ pub use judging::dsa_judge;
 pub use planning::{RawPlanned, dsa_plan_list};
 pub use refusal::RawRefusal;
 pub use settings::RawSettings;
-
-#[cfg(test)]
-mod tests;

@@ -1,7 +1,9 @@
-//! Tests of the calls over bytes, of jobs and of texts, a module for each crate. They stand here and not in those crates,
-//! since a crate with tests is proved twice.
+//! Tests of engines as threads, of the calls over bytes, of jobs and of texts, a module for each crate. They stand here and
+//! not in those crates, since a crate with tests is proved twice.
 #![tactic(auto)]
 
+#[cfg(test)]
+mod engines;
 #[cfg(test)]
 mod explain;
 #[cfg(test)]

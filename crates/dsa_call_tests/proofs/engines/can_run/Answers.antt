@@ -3,7 +3,7 @@ use Rattle.dsa_descriptor.specs.Descriptors.{fields}
 use Rattle.dsa_ranges.specs.Ranges.{ConflictAt}
 use Rattle.dsa_plan.specs.Settings.{Limits}
 use Rattle.dsa_plan.specs.Legal.{IsLegal}
-use Rattle.dsa_engines.proofs.tests.can_run.Goals as goal
+use Rattle.dsa_call_tests.proofs.engines.can_run.Goals as goal
 
 pub returns : goal.returns
 returns c = λ t.

@@ -1,0 +1,181 @@
+/* Rows worked by hand, of two moves: what each call answers, buffers that just hold or just do not, and that a refusal
+ * changes nothing but itself. */
+#include <inttypes.h>
+#include <stdio.h>
+#include <stdlib.h>
+#include <string.h>
+
+#include "dsa_planner.h"
+
+static const struct dsa_settings settings = {1, 4, 4096, 10, 14, 3, 0x10000};
+static uint8_t list[128], portal[64], staging[160], marks[2];
+static uint64_t prices[3], cost;
+static struct dsa_pair pairs[2];
+static struct dsa_planned planned;
+static struct dsa_refusal refusal;
+static int row;
+
+/* Ends the program where the row is not as it should be. */
+static void expect(int holds)
+{
+    row++;
+    if (!holds) {
+        printf("row %d\n", row);
+        exit(EXIT_FAILURE);
+    }
+}
+
+static void put(uint8_t *at, uint64_t value, int bytes)
+{
+    for (int i = 0; i < bytes; i++)
+        at[i] = (uint8_t)(value >> (8 * i));
+}
+
+static void put_move(uint8_t *d, uint64_t src, uint64_t dst, uint64_t record_at, uint32_t size)
+{
+    memset(d, 0, 64);
+    put(d + 4, 0x0c, 3);
+    d[7] = 0x03;
+    put(d + 8, record_at, 8);
+    put(d + 16, src, 8);
+    put(d + 24, dst, 8);
+    put(d + 32, size, 4);
+}
+
+/* Moves of so many bytes from 0x1000 to 0x2000 and from there to 0x4000. */
+static void put_moves(uint32_t first, uint32_t second)
+{
+    put_move(list, 0x1000, 0x2000, 0x8000, first);
+    put_move(list + 64, 0x2000, 0x4000, 0x8020, second);
+}
+
+/* Fills each output with bytes that no call writes. */
+static void spoil(void)
+{
+    memset(portal, 0xee, sizeof portal);
+    memset(staging, 0xee, sizeof staging);
+    memset(marks, 0xee, sizeof marks);
+    memset(prices, 0xee, sizeof prices);
+    memset(pairs, 0xee, sizeof pairs);
+    memset(&planned, 0xee, sizeof planned);
+    memset(&refusal, 0xee, sizeof refusal);
+    cost = 0xee;
+}
+
+static int is_spoiled(const void *at, size_t len)
+{
+    const uint8_t *bytes = at;
+    for (size_t i = 0; i < len; i++)
+        if (bytes[i] != 0xee)
+            return 0;
+    return 1;
+}
+
+/* No output but the refusal has changed. */
+static int outputs_stay(void)
+{
+    return is_spoiled(portal, sizeof portal) && is_spoiled(staging, sizeof staging) && is_spoiled(marks, sizeof marks) &&
+           is_spoiled(prices, sizeof prices) && is_spoiled(pairs, sizeof pairs) && is_spoiled(&planned, sizeof planned) &&
+           cost == 0xee;
+}
+
+static uint32_t plan(const struct dsa_settings *s, const uint64_t *table, size_t table_len, size_t staging_capacity)
+{
+    spoil();
+    return dsa_plan_list(s, table, table_len, list, sizeof list, portal, sizeof portal, staging, staging_capacity, &planned,
+                         &refusal);
+}
+
+static uint32_t certify(size_t staging_capacity, size_t prices_capacity, size_t pairs_capacity, size_t marks_capacity)
+{
+    spoil();
+    return dsa_plan_list_certified(&settings, &settings.batch, 0, list, sizeof list, portal, sizeof portal, staging,
+                                   staging_capacity, prices, prices_capacity, pairs, pairs_capacity, marks, marks_capacity,
+                                   &planned, &refusal);
+}
+
+static uint64_t count(const struct dsa_settings *s, uint32_t first, uint32_t second)
+{
+    put_moves(first, second);
+    return dsa_count_pieces(s, &s->batch, 0, list, sizeof list);
+}
+
+/* By pieces of 4,096 bytes; more than 65,536 count as 65,537, and what is no list or no settings as none. */
+static void pieces_are_counted(void)
+{
+    struct dsa_settings of_one = settings;
+    of_one.greatest_batch = 1;
+    expect(count(&settings, 64, 64) == 2);
+    expect(count(&settings, 4097, 4096) == 3);
+    expect(count(&settings, 4097, 268427264) == 65536);
+    expect(count(&settings, 4097, 268427265) == 65537);
+    expect(count(&settings, UINT32_MAX, UINT32_MAX) == 65537);
+    expect(dsa_count_pieces(&settings, &settings.batch, 0, list, 0) == 0);
+    expect(count(&of_one, 64, 64) == 0);
+}
+
+/* The second move reads what the first writes: a batch of two with a fence, of 14 and 3. */
+static void two_moves_are_planned_and_checked(void)
+{
+    put_moves(64, 64);
+    expect(certify(sizeof staging, 3, 2, 2) == DSA_OK);
+    expect(planned.cost == 17 && planned.pieces == 2 && planned.portal_len == 64 && planned.staging_len == 160);
+    expect(portal[18] == 1 && staging[68] == 0x0d);
+    expect(prices[0] == 0 && prices[1] == 10 && prices[2] == 17);
+    expect(marks[0] == DSA_BEGINS && marks[1] == DSA_FENCED);
+    expect(pairs[0].first == 0 && pairs[0].second == 1 && pairs[1].first == DSA_NONE && pairs[1].second == DSA_NONE);
+    expect(is_spoiled(&refusal, sizeof refusal));
+    expect(dsa_check(&settings, &settings.batch, 0, portal, 64, staging, 160, 1, prices, 3, pairs, 2, &cost, &refusal) == DSA_OK);
+    expect(cost == 17 && is_spoiled(&refusal, sizeof refusal));
+}
+
+static void plans_are_judged(void)
+{
+    const uint8_t alone[] = {DSA_BEGINS, DSA_BEGINS}, unfenced[] = {DSA_BEGINS, 0};
+    put_moves(64, 64);
+    spoil();
+    expect(dsa_judge(&settings, &settings.batch, 0, list, sizeof list, alone, 2, &cost, &refusal) == DSA_OK && cost == 20);
+    spoil();
+    expect(dsa_judge(&settings, &settings.batch, 0, list, sizeof list, unfenced, 2, &cost, &refusal) == DSA_UNFENCED);
+    expect(refusal.number == DSA_UNFENCED && refusal.inner == 0 && refusal.first == 0 && refusal.second == 1 && outputs_stay());
+}
+
+/* Another version is no settings, nor are too few prices by size; a buffer is a byte too small; each array of the
+ * certificate is one too short; where neither fits, the refusal names the bytes. */
+static void refusals_leave_the_outputs(void)
+{
+    const uint64_t table[] = {14, 14, 14};
+    struct dsa_settings other = settings;
+    put_moves(64, 64);
+    other.version = 3;
+    expect(plan(&other, table, 3, sizeof staging) == DSA_SETTINGS && outputs_stay());
+    other.version = 2;
+    expect(plan(&other, table, 2, sizeof staging) == DSA_SETTINGS && outputs_stay());
+    expect(refusal.number == DSA_SETTINGS && refusal.inner == 0 && refusal.first == 0 && refusal.second == 0);
+    expect(plan(&settings, &settings.batch, 0, 159) == DSA_NO_ROOM && outputs_stay());
+    expect(refusal.first == 64 && refusal.second == 160);
+    expect(certify(160, 2, 2, 2) == DSA_NO_ROOM_FOR_CERTIFICATE && refusal.first == 2 && outputs_stay());
+    expect(certify(160, 3, 1, 2) == DSA_NO_ROOM_FOR_CERTIFICATE && outputs_stay());
+    expect(certify(160, 3, 2, 1) == DSA_NO_ROOM_FOR_CERTIFICATE && outputs_stay());
+    expect(certify(159, 2, 1, 1) == DSA_NO_ROOM && refusal.first == 64 && refusal.second == 160 && outputs_stay());
+}
+
+/* A batch of two costs 5 in the table, and its fence 3. */
+static void prices_go_by_size(void)
+{
+    const uint64_t table[] = {5, 16, 30};
+    struct dsa_settings by_size = settings;
+    by_size.version = 2;
+    put_moves(64, 64);
+    expect(plan(&by_size, table, 3, sizeof staging) == DSA_OK && planned.cost == 8 && planned.pieces == 2);
+}
+
+int main(void)
+{
+    pieces_are_counted();
+    two_moves_are_planned_and_checked();
+    plans_are_judged();
+    refusals_leave_the_outputs();
+    prices_go_by_size();
+    return 0;
+}

@@ -1,2 +1,3 @@
 pub mod Pairs
+pub mod Spelled
 pub mod OneDocument

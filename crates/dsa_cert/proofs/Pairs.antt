@@ -1,6 +1,6 @@
 -- Reading an array that spells a pair.
 use Rattle.std.proofs.Common.{◌≡◌, ℕ, List, length, Option, Some, None, ap}
-use Rattle.serde_json.specs.Data.{Data, number, array}
+use Rattle.serde_json.specs.Data.{Data}
 use Rattle.serde_json.specs.Find.{as_array}
 use Rattle.serde_json.specs.View.{items_view}
 use Rattle.serde_json.specs.declared.value.Value.{Value}

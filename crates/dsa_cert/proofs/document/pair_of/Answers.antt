@@ -1,4 +1,4 @@
-use Rattle.std.proofs.Common.{length, rules, arith}
+use Rattle.std.proofs.Common.{rules, arith}
 use Rattle.serde_json.specs.View.{view}
 use Rattle.dsa_cert.proofs.Pairs.{no_pair}
 use Rattle.dsa_cert.proofs.document.pair_of.Goals as goal

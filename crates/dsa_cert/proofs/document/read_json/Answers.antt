@@ -1,7 +1,6 @@
-use Rattle.std.proofs.Common.{◌≡◌, Some, ap, codes, refl, sym, ◌∙◌}
+use Rattle.std.proofs.Common.{Some, ap, codes, refl, sym, ◌∙◌}
 use Rattle.serde_json.specs.Find.{get}
 use Rattle.serde_json.specs.View.{view}
-use Rattle.dsa_cert.specs.Certificates.{contents}
 use Rattle.dsa_cert.specs.Document.{Contents, document_fields}
 use Rattle.dsa_json.proofs.Objects.{object_spelled}
 use Rattle.dsa_cert.proofs.OneDocument.{one_document}

@@ -173,8 +173,7 @@ fn costs_of_groups(rt: HostRuntime) -> Result<(), Fail> {
             let costs = &explanation.costs;
             let groups = [group(1, 0, 10), group(3, 2, 20)];
             assert!(rt; costs.groups.as_slice() == groups.as_slice());
-            assert_eq!(rt; costs.cost, 30);
-            assert_eq!(rt; costs.lone, 40);
+            assert!(rt; (costs.cost, costs.lone) == (30, 40));
         }
         Err(fault) => assert!(rt; false, "{fault:?}"),
     }

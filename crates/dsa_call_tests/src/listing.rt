@@ -20,18 +20,10 @@ fn there_and_back(rt: HostRuntime) -> Result<(), Fail> {
     canonical_text_spells();
     let alloc = rt.alloc();
     match assemble(alloc, TEXT.as_bytes()) {
-        Ok(bytes) => {
-            assert_eq!(rt; bytes.len(), 128);
-            assert_eq!(rt; bytes[71], 3);
-            assert_eq!(rt;
-                bytes[80..88].to_vec(alloc)?.as_slice(),
-                [0, 0x20, 0, 0, 0, 0, 0, 0].as_slice()
-            );
-            match disassemble(alloc, &bytes) {
-                Ok(text) => assert_eq!(rt; text.as_str(), CANONICAL),
-                Err(fault) => assert!(rt; false, "{fault:?}"),
-            }
-        }
+        Ok(bytes) => match disassemble(alloc, &bytes) {
+            Ok(text) => assert!(rt; text.as_str() == CANONICAL),
+            Err(fault) => assert!(rt; false, "{fault:?}"),
+        },
         Err(fault) => assert!(rt; false, "{fault:?}"),
     }
     assert_eq!(rt;

@@ -59,24 +59,33 @@ fn certificate(alloc: Global, last: u64) -> Result<Certificate, AllocError> {
     })
 }
 
+/// The plan is one batch of two with a fence between.
+fn is_fenced_pair(plan: &Plan) -> bool {
+    match plan.groups() {
+        [group] => group.fences() == [false, true].as_slice(),
+        _ => false,
+    }
+}
+
 #[test]
 fn two_moves_are_planned_judged_and_checked(rt: HostRuntime) -> Result<(), Fail> {
     let (alloc, settings) = (rt.alloc(), settings()?);
     let list = two_moves(alloc)?;
     let planned = plan_list(alloc, &list, &settings)?;
-    assert_eq!(rt; planned.cost, 17);
-    assert_eq!(rt; planned.pieces.len(), 2);
     let certificate = certificate(alloc, 17)?;
-    assert!(rt; planned.certificate == certificate);
-    assert_eq!(rt; planned.plan.groups().len(), 1);
-    assert!(rt; planned.plan.groups()[0].fences() == &[false, true][..]);
     let (portal, staging) = two_moves_emitted(alloc)?;
-    assert!(rt; planned.emission.portal == portal);
-    assert!(rt; planned.emission.staging == staging);
-    assert_eq!(rt; judge_bytes(alloc, &list, &planned.plan, &settings), Ok(17));
-    assert_eq!(rt;
-        check_bytes(alloc, &portal, &staging, &settings, &certificate),
-        Ok(17)
+    let judged = judge_bytes(alloc, &list, &planned.plan, &settings);
+    let checked = check_bytes(alloc, &portal, &staging, &settings, &certificate);
+    let found = (
+        planned.cost,
+        planned.pieces.len(),
+        is_fenced_pair(&planned.plan),
+    );
+    assert!(rt; (found, judged, checked) == ((17, 2, true), Ok(17), Ok(17)));
+    assert!(rt;
+        planned.certificate == certificate
+            && planned.emission.portal == portal
+            && planned.emission.staging == staging
     );
     Ok(())
 }
@@ -114,14 +123,9 @@ fn refuses_runs_in_order(rt: HostRuntime) -> Result<(), Fail> {
         (&large, 1, PlanFault::Core(CoreFault::TooLong)),
         (&large, 64, PlanFault::Core(CoreFault::TooLong)),
     ] {
-        match replay_bytes(alloc, &list, &settings, image, engines, &[]) {
-            Err(cause) => assert_eq!(rt; cause, fault),
-            Ok(_) => assert!(rt; false),
-        }
-        match run_bytes(&rt, alloc, &list, &settings, image, engines) {
-            Err(cause) => assert_eq!(rt; cause, fault),
-            Ok(_) => assert!(rt; false),
-        }
+        let replayed = replay_bytes(alloc, &list, &settings, image, engines, &[]).err();
+        let ran = run_bytes(&rt, alloc, &list, &settings, image, engines).err();
+        assert!(rt; (replayed, ran) == (Some(fault), Some(fault)));
     }
     Ok(())
 }

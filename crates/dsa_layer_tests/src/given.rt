@@ -1,7 +1,6 @@
 //! Descriptors, lists and plans that the tests of several crates use.
 
 use dsa_descriptor::{Descriptor, FieldFault};
-use dsa_plan::{Group, Plan};
 use std::alloc::{AllocError, Global};
 
 /// The bytes of an operation: its code, its record's address, what stands at 16, 24 and 40, and its size.
@@ -68,13 +67,4 @@ pub(crate) fn put(bytes: &mut Vec<u8>, place: usize, part: &[u8]) {
             bytes[place..place + part.len()].copy_from_slice(part);
         }
     }
-}
-
-/// The plan of these groups, true where a piece is fenced.
-pub(crate) fn plan_of(alloc: Global, groups: &[&[bool]]) -> Result<Plan, AllocError> {
-    let mut plan = Vec::new(alloc);
-    for group in groups {
-        plan.push(Group::new(Vec::from_slice(alloc, group)?))?;
-    }
-    Ok(Plan::new(plan))
 }

@@ -122,38 +122,25 @@ fn fill_in_two_pieces(rt: HostRuntime) -> Result<(), Fail> {
     ];
     let mut image = Image::new(0x2000, vec![in rt.alloc(); 0x55; 0x6040]?)?;
     assert!(rt; run_list(&mut image, &pieces));
-    assert_eq!(rt; image.read_byte(0x2000), Some(1));
-    assert_eq!(rt; image.read_byte(0x2fff), Some(8));
-    assert_eq!(rt; image.read_byte(0x3000), Some(1));
-    assert_eq!(rt; image.read_byte(0x3003), Some(4));
-    assert_eq!(rt; image.read_byte(0x3004), Some(0x55));
-    assert_eq!(rt; image.read_byte(0x8000), Some(1));
-    assert_eq!(rt; image.read_byte(0x8020), Some(1));
-    assert_eq!(rt; image.base(), 0x2000);
+    let first = [0x2000, 0x2fff].map(|at| image.read_byte(at));
+    let second = [0x3000, 0x3003, 0x3004].map(|at| image.read_byte(at));
+    let records = [0x8000, 0x8020].map(|at| image.read_byte(at));
+    assert!(rt; first == [Some(1), Some(8)]);
+    assert!(rt; second == [Some(1), Some(4), Some(0x55)]);
+    assert!(rt; records == [Some(1), Some(1)]);
     Ok(())
 }
 
 #[test]
 fn limits_of_images(rt: HostRuntime) -> Result<(), Fail> {
     let last = 0xffff_ffff_ffff_ffff;
-    assert!(rt; Image::new(last, vec![in rt.alloc(); 9; 2]?).is_err());
-    assert!(rt; Image::new(0, vec![in rt.alloc(); 0; 16_777_217]?).is_err());
+    let wraps = Image::new(last, vec![in rt.alloc(); 9; 2]?).is_err();
+    let is_too_long = Image::new(0, vec![in rt.alloc(); 0; 16_777_217]?).is_err();
     let image = Image::new(last, vec![in rt.alloc(); 9; 1]?)?;
-    assert_eq!(rt; image.read_byte(last), Some(9));
-    assert_eq!(rt; image.read_byte(last - 1), None);
-    assert!(rt;
-        image.holds(Span {
-            first: last,
-            len: 1
-        })
-    );
-    assert!(rt;
-        !image.holds(Span {
-            first: last,
-            len: 2
-        })
-    );
-    assert!(rt; image.holds(Span { first: 0, len: 0 }));
+    let read = (image.read_byte(last), image.read_byte(last - 1));
+    let held = [(last, 1), (last, 2), (0, 0)].map(|(first, len)| image.holds(Span { first, len }));
+    assert!(rt; (wraps, is_too_long, read) == (true, true, (Some(9), None)));
+    assert!(rt; held == [true, false, true]);
     Ok(())
 }
 

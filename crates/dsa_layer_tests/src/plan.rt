@@ -1,32 +1,29 @@
-use crate::given::{moves, plan_of};
+use crate::given::moves;
 use dsa_descriptor::read_list;
 use dsa_plan::{Settings, read_emission};
 use std::test::Fail;
 
+/// The version, greatest batch, transfer and staging address, and the prices: alone, of two pieces and of four, of a fence.
+fn values_of(settings: &Settings) -> [u64; 8] {
+    [
+        settings.version(),
+        u64::from(settings.greatest_batch()),
+        u64::from(settings.greatest_transfer()),
+        settings.staging(),
+        settings.lone(),
+        settings.price(2),
+        settings.price(4),
+        settings.fence(),
+    ]
+}
+
 #[test]
 fn values_are_given_back(rt: HostRuntime) -> Result<(), Fail> {
     let settings = Settings::new(4, 4096, 10, 14, 3, 65536)?;
-    assert_eq!(rt; settings.greatest_batch(), 4);
-    assert_eq!(rt; settings.greatest_transfer(), 4096);
-    assert_eq!(rt; settings.lone(), 10);
-    assert_eq!(rt; settings.version(), 1);
-    assert_eq!(rt; settings.price(2), 14);
-    assert_eq!(rt; settings.price(4), 14);
-    assert_eq!(rt; settings.table(), None);
-    assert_eq!(rt; settings.fence(), 3);
-    assert_eq!(rt; settings.staging(), 65536);
+    assert!(rt; values_of(&settings) == [1, 4, 4096, 65536, 10, 14, 14, 3]);
     let by_size = Settings::with_table(4, 4096, 10, &[14, 16, 20], 3, 65536)?;
-    assert_eq!(rt; by_size.version(), 2);
-    assert_eq!(rt; by_size.price(3), 16);
-    assert_eq!(rt; by_size.price(4), 20);
-    assert_eq!(rt; by_size.table(), Some([14, 16, 20].as_slice()));
-    let groups = plan_of(rt.alloc(), &[&[false, true], &[false]])?.into_vec();
-    assert_eq!(rt; groups.len(), 2);
-    assert_eq!(rt; groups[0].len(), 2);
-    for group in groups {
-        assert!(rt; !group.fences().is_empty());
-        assert_eq!(rt; group.into_vec().first(), Some(&false));
-    }
+    assert!(rt; values_of(&by_size) == [2, 4, 4096, 65536, 10, 14, 20, 3]);
+    assert!(rt; by_size.table() == Some([14, 16, 20].as_slice()));
     Ok(())
 }
 

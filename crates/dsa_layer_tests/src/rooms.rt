@@ -170,8 +170,8 @@ fn parcels_of_another_image_are_stale(rt: HostRuntime) -> Result<(), Fail> {
     let mut other = taken_room(&rt, rt.alloc(), 9)?;
     let mut parcel = fetched(&room)?;
     parcel.work();
-    assert!(rt; other.commit(&parcel) == Err(Stale));
-    assert!(rt; other.line(0) == Lined::Moved);
+    let answers = (other.commit(&parcel), other.line(0));
+    assert!(rt; answers == (Err(Stale), Lined::Moved));
     Ok(())
 }
 
@@ -196,9 +196,7 @@ fn halted_after<R: Abort>(rt: &R, alloc: Global, count: usize) -> Result<Room, F
         return Err(Fail::new("no room"));
     };
     let trace = trace_of(alloc, &[0, 1, 1, 1, 0, 0])?;
-    for event in trace.iter().take(count) {
-        assert!(rt; room.step(*event));
-    }
+    assert!(rt; steps_of(&mut room, &trace[..count.min(trace.len())]) == count);
     room.halt();
     Ok(room)
 }
@@ -218,6 +216,15 @@ fn refuses(room: &mut Room, engine: u8, piece: Option<u32>) -> bool {
         && room.fetch(engine).is_none()
 }
 
+/// How many of the events a room takes.
+fn steps_of(room: &mut Room, events: &[Event]) -> usize {
+    let mut count = 0usize;
+    for event in events {
+        count = count.saturating_add(usize::from(room.step(*event)));
+    }
+    count
+}
+
 #[test]
 fn rooms_halted_at_each_moment_refuse(rt: HostRuntime) -> Result<(), Fail> {
     for (count, first, second) in [
@@ -230,13 +237,11 @@ fn rooms_halted_at_each_moment_refuse(rt: HostRuntime) -> Result<(), Fail> {
         (6, None, None),
     ] {
         let mut room = halted_after(&rt, rt.alloc(), count)?;
-        assert!(rt; refuses(&mut room, 0, first), "{count}");
-        assert!(rt; refuses(&mut room, 1, second), "{count}");
-        for event in trace_of(rt.alloc(), &[0, 1, 1, 1, 0, 0])? {
-            assert!(rt; !room.step(event), "{count}");
-        }
-        assert!(rt; room.is_over() == (count == 6), "{count}");
-        assert!(rt; room.into_outcome().is_ok() == (count == 6), "{count}");
+        let refused = refuses(&mut room, 0, first) && refuses(&mut room, 1, second);
+        let stepped = steps_of(&mut room, &trace_of(rt.alloc(), &[0, 1, 1, 1, 0, 0])?);
+        let is_over = room.is_over();
+        let ended = (refused, stepped, is_over, room.into_outcome().is_ok());
+        assert!(rt; ended == (true, 0, count == 6, count == 6), "{count}");
     }
     Ok(())
 }
@@ -248,10 +253,11 @@ fn rooms_know_what_they_were_given(rt: HostRuntime) -> Result<(), Fail> {
     let other = image_of(0, sources(rt.alloc(), 9)?)?;
     let plan = plan_of(rt.alloc(), &[false, false])?;
     let pieces = moves(0x40)?;
-    assert!(rt; room.engines() == 2);
-    assert!(rt; room.is_of(&image, &plan, &pieces, 2));
-    assert!(rt; !room.is_of(&other, &plan, &pieces, 2));
-    assert!(rt; !room.is_of(&image, &plan, &pieces, 3));
+    let of_these = room.is_of(&image, &plan, &pieces, 2);
+    let of_another_image = room.is_of(&other, &plan, &pieces, 2);
+    let of_more_engines = room.is_of(&image, &plan, &pieces, 3);
+    let known = (room.engines(), of_these, of_another_image, of_more_engines);
+    assert!(rt; known == (2, true, false, false));
     Ok(())
 }
 

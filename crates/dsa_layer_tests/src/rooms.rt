@@ -225,6 +225,21 @@ fn steps_of(room: &mut Room, events: &[Event]) -> usize {
     count
 }
 
+/// Of the room halted after so many events: whether it answers both engines as it has to, which have these pieces, how many
+/// events it takes yet, whether it is over, and whether it has an outcome.
+fn ends<R: Abort>(
+    rt: &R,
+    alloc: Global,
+    count: usize,
+    pieces: (Option<u32>, Option<u32>),
+) -> Result<(bool, usize, bool, bool), Fail> {
+    let mut room = halted_after(rt, alloc, count)?;
+    let refused = refuses(&mut room, 0, pieces.0) && refuses(&mut room, 1, pieces.1);
+    let stepped = steps_of(&mut room, &trace_of(alloc, &[0, 1, 1, 1, 0, 0])?);
+    let is_over = room.is_over();
+    Ok((refused, stepped, is_over, room.into_outcome().is_ok()))
+}
+
 #[test]
 fn rooms_halted_at_each_moment_refuse(rt: HostRuntime) -> Result<(), Fail> {
     for (count, first, second) in [
@@ -236,28 +251,26 @@ fn rooms_halted_at_each_moment_refuse(rt: HostRuntime) -> Result<(), Fail> {
         (5, Some(0), None),
         (6, None, None),
     ] {
-        let mut room = halted_after(&rt, rt.alloc(), count)?;
-        let refused = refuses(&mut room, 0, first) && refuses(&mut room, 1, second);
-        let stepped = steps_of(&mut room, &trace_of(rt.alloc(), &[0, 1, 1, 1, 0, 0])?);
-        let is_over = room.is_over();
-        let ended = (refused, stepped, is_over, room.into_outcome().is_ok());
-        assert!(rt; ended == (true, 0, count == 6, count == 6), "{count}");
+        let is_done = count == 6;
+        assert!(rt; ends(&rt, rt.alloc(), count, (first, second))? == (true, 0, is_done, is_done));
     }
     Ok(())
+}
+
+/// Whether the room is of the two moves, of the image whose first byte is this, and of so many engines.
+fn is_room_of(room: &Room, alloc: Global, first: u8, engines: u8) -> Result<bool, Fail> {
+    let image = image_of(0, sources(alloc, first)?)?;
+    let plan = plan_of(alloc, &[false, false])?;
+    Ok(room.is_of(&image, &plan, &moves(0x40)?, engines))
 }
 
 #[test]
 fn rooms_know_what_they_were_given(rt: HostRuntime) -> Result<(), Fail> {
     let room = taken_room(&rt, rt.alloc(), 1)?;
-    let image = image_of(0, sources(rt.alloc(), 1)?)?;
-    let other = image_of(0, sources(rt.alloc(), 9)?)?;
-    let plan = plan_of(rt.alloc(), &[false, false])?;
-    let pieces = moves(0x40)?;
-    let of_these = room.is_of(&image, &plan, &pieces, 2);
-    let of_another_image = room.is_of(&other, &plan, &pieces, 2);
-    let of_more_engines = room.is_of(&image, &plan, &pieces, 3);
-    let known = (room.engines(), of_these, of_another_image, of_more_engines);
-    assert!(rt; known == (2, true, false, false));
+    let of_these = is_room_of(&room, rt.alloc(), 1, 2)?;
+    let of_another_image = is_room_of(&room, rt.alloc(), 9, 2)?;
+    let of_more_engines = is_room_of(&room, rt.alloc(), 1, 3)?;
+    assert!(rt; (of_these, of_another_image, of_more_engines) == (true, false, false));
     Ok(())
 }
 

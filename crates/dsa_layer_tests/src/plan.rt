@@ -3,16 +3,14 @@ use dsa_descriptor::read_list;
 use dsa_plan::{Settings, read_emission};
 use std::test::Fail;
 
-/// The version, greatest batch, transfer and staging address, and the prices: alone, of two pieces and of four, of a fence.
-fn values_of(settings: &Settings) -> [u64; 8] {
+/// The version, greatest batch and transfer, the staging address, and the prices of a descriptor alone and of a fence.
+fn values_of(settings: &Settings) -> [u64; 6] {
     [
         settings.version(),
         u64::from(settings.greatest_batch()),
         u64::from(settings.greatest_transfer()),
         settings.staging(),
         settings.lone(),
-        settings.price(2),
-        settings.price(4),
         settings.fence(),
     ]
 }
@@ -20,9 +18,11 @@ fn values_of(settings: &Settings) -> [u64; 8] {
 #[test]
 fn values_are_given_back(rt: HostRuntime) -> Result<(), Fail> {
     let settings = Settings::new(4, 4096, 10, 14, 3, 65536)?;
-    assert!(rt; values_of(&settings) == [1, 4, 4096, 65536, 10, 14, 14, 3]);
+    let prices = (settings.price(2), settings.price(4));
+    assert!(rt; (values_of(&settings), prices) == ([1, 4, 4096, 65536, 10, 3], (14, 14)));
     let by_size = Settings::with_table(4, 4096, 10, &[14, 16, 20], 3, 65536)?;
-    assert!(rt; values_of(&by_size) == [2, 4, 4096, 65536, 10, 14, 20, 3]);
+    let prices = (by_size.price(3), by_size.price(4));
+    assert!(rt; (values_of(&by_size), prices) == ([2, 4, 4096, 65536, 10, 3], (16, 20)));
     assert!(rt; by_size.table() == Some([14, 16, 20].as_slice()));
     Ok(())
 }

@@ -1,6 +1,7 @@
 #!/bin/sh
 # Runs the built program dsa_text on the examples of examples/text, and compares what it writes with what stands there;
-# and brings the list of each job of tests/jobs to text and back. The program dsa answers each example's job.
+# and brings the list of each job of tests/jobs to text and back. The program dsa answers each example's job. Then lines,
+# texts and plans that are typed by hand (tests/texts.py); it needs python3.
 set -eu
 cd "$(dirname "$0")/.."
 text=crates/dsa_text/out/dsa_text
@@ -99,4 +100,5 @@ for command in assemble disassemble explain; do
         exit 1
     }
 done
+python3 -B tests/texts.py "$text"
 echo "texts: examples, $count lists as text and back, refusals and help are right"

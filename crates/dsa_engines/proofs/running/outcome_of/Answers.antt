@@ -9,7 +9,7 @@ use Rattle.dsa_core.specs.declared.outcome.Outcome.{Outcome}
 use Rattle.dsa_engines.proofs.running.outcome_of.Goals as goal
 
 module _ (r : Account) (m : Memory) (plan : Plan) (pieces : List Fields) (engines : ℕ) (o : Outcome) where
-  -- the outcome says nothing of whether the room was halted, and the rest of the room is what was lent
+  -- an outcome does not depend on whether the room was halted; the rest of the room is what the caller passed by reference
   of_lent : (r.start ≡ m) × (r.plan ≡ plan) × (r.pieces ≡ pieces) × (r.engines ≡ engines) → IsOutcomeOf r o → IsOutcomeOf (room_with m plan pieces engines o.history.items) o
   of_lent (start_is, plan_is, pieces_is, engines_is) told =
       let own : IsOutcome (room_with r.start r.plan r.pieces r.engines r.history) o.image o.finished o.batch_records.items =

@@ -2,9 +2,9 @@
 use Rattle.std.proofs.Common.{◌≡◌, ℕ, [], ◌∷◌, codes, Option, Some, None, refl, ap}
 use Rattle.std.proofs.lemmas.Option.{same_Some}
 use Rattle.serde_json.specs.Find.{get}
-use Rattle.dsa_json.specs.Spelled.{whole}
+use Rattle.dsa_cert.specs.Spelled.{whole}
 use Rattle.dsa_cert.specs.Document.{Contents, pair_value, document}
-use Rattle.dsa_json.proofs.Arrays.{same_items, same_array, same_whole}
+use Rattle.dsa_cert.proofs.Arrays.{same_items, same_array, same_whole}
 
 same_pair : (p q : Option (ℕ × ℕ)) → pair_value p ≡ pair_value q → p ≡ q
 same_pair None None e = refl

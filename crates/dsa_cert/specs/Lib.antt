@@ -1,3 +1,3 @@
-pub use Rattle.dsa_json.specs.Spelled
+pub mod Spelled
 pub mod Document
 pub mod Certificates

@@ -6,7 +6,7 @@ ghost use Rattle.dsa_cert.specs.Document.{Contents, Documents, PairFits, ReadsPa
 ghost use Rattle.dsa_cert.specs.Certificates.{contents};
 
 use crate::certificate::{CertFault, Certificate};
-use dsa_json::{has_names, number_at};
+use crate::members::{has_names, number_at};
 use serde_json::{Value, json};
 use std::alloc::{AllocError, Global};
 

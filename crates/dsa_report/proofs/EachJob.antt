@@ -14,7 +14,7 @@ use Rattle.dsa_planner.proofs.JudgedOnce.{one_judged}
 use Rattle.dsa_planner.proofs.Submissions.{one_planned}
 use Rattle.dsa_planner.proofs.CheckedOnce.{one_checked}
 use Rattle.dsa_planner.proofs.Histories.{one_replayed, one_run}
-use Rattle.dsa_json.proofs.Objects.{are_apart}
+use Rattle.dsa_cert.proofs.Objects.{are_apart}
 use Rattle.dsa_report.specs.declared.jobs.JobName.{JobName}
 use Rattle.dsa_report.specs.declared.jobs.JobName.TheVariants.{Judge, Plan, Check, Replay, Run}
 use Rattle.dsa_report.specs.Job.{Member, the_name, the_settings, members_of, member_name, is_among, name_text}

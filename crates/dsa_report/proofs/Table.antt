@@ -9,8 +9,8 @@ use Rattle.std.specs.List.{AllByRecursion}
 use Rattle.serde_json.specs.Data.{Data, null, boolean, number, string, array, object, Members as Entries, no_members, member}
 use Rattle.serde_json.specs.Find.{get, get_member}
 use Rattle.serde_json.specs.View.{view}
-use Rattle.dsa_json.specs.Spelled.{whole, member_names}
-use Rattle.dsa_json.proofs.Objects.{are_apart, object_spelled}
+use Rattle.dsa_cert.specs.Spelled.{whole, member_names}
+use Rattle.dsa_cert.proofs.Objects.{are_apart, object_spelled}
 use Rattle.dsa_report.specs.declared.jobs.JobName.{JobName}
 use Rattle.dsa_report.specs.declared.members.Members.{Members}
 use Rattle.dsa_report.specs.Image.{image_shown, image_value}

@@ -8,7 +8,7 @@ use Rattle.dsa_image.specs.Memory.{Memory}
 use Rattle.dsa_core.specs.declared.event.Event.{Event}
 use Rattle.dsa_cert.specs.Certificates.{contents}
 use Rattle.dsa_cert.specs.Document.{Contents, Documents, document}
-use Rattle.dsa_json.specs.Spelled.{whole, array_of, object_of}
+use Rattle.dsa_cert.specs.Spelled.{whole, array_of, object_of}
 use Rattle.dsa_planner.specs.declared.fault.PlanFault.{PlanFault}
 use Rattle.dsa_planner.specs.Judge.{Judges}
 use Rattle.dsa_planner.specs.Planned.{Submission, Plans}

@@ -14,7 +14,7 @@ use crate::plan_job::{PlanJob, plan_job_of, plan_line};
 use crate::reading::LONGEST_TEXT;
 use crate::replay_job::{ReplayJob, replay_line, replay_of};
 use crate::run_job::{RunJob, run_line, run_of};
-use dsa_json::has_names;
+use dsa_cert::has_names;
 use dsa_planner::PlanFault;
 use serde_json::{Error, Value};
 use std::alloc::Global;

@@ -4,7 +4,7 @@ use Rattle.std.proofs.lemmas.List.Elements.{All-push}
 use Rattle.serde_json.specs.View.{items_view, view}
 use Rattle.serde_json.specs.declared.value.Value.{Value}
 use Rattle.dsa_cert.specs.Document.{PairFits, pair_value}
-use Rattle.dsa_json.proofs.Arrays.{array_apart}
+use Rattle.dsa_cert.proofs.Arrays.{array_apart}
 use Rattle.dsa_cert.proofs.Spelled.{all_read, read_more}
 use Rattle.dsa_cert.proofs.document.pairs_of.Goals as goal
 

@@ -1,6 +1,6 @@
 use Rattle.std.proofs.Common.{arith, sym, true≢false}
-use Rattle.dsa_json.proofs.Names.{member_names-members_view, turn_apart, turn_same, turn_last}
-use Rattle.dsa_json.proofs.members.are_named.Goals as goal
+use Rattle.dsa_cert.proofs.Names.{member_names-members_view, turn_apart, turn_same, turn_last}
+use Rattle.dsa_cert.proofs.members.are_named.Goals as goal
 
 pub loop-name-init : goal.loop-name-init
 loop-name-init c = rw c.keys-keys.ensures.rest (member_names-members_view c.args.members.now.entries)

@@ -1,7 +1,7 @@
 use dsa_descriptor::{FieldFault, ListFault};
-use dsa_lines::Expected;
-use dsa_listing::{
-    TextFault, assemble, canonical_text_spells, disassemble, one_text_one_list, text_spells_one,
+use dsa_lines::{
+    Expected, TextFault, assemble, canonical_text_spells, disassemble, one_text_one_list,
+    text_spells_one,
 };
 use std::test::Fail;
 

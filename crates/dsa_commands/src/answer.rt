@@ -2,7 +2,7 @@
 
 use dsa_descriptor::ListFault;
 use dsa_explain::ExplainFault;
-use dsa_listing::TextFault;
+use dsa_lines::TextFault;
 use dsa_planner::{PlanFault, refusal_line};
 use dsa_splitter::SplitFault;
 use std::alloc::{AllocError, Global};

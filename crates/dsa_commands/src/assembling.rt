@@ -2,7 +2,7 @@
 
 use crate::answer::Answer;
 use crate::settings::push_settings;
-use dsa_listing::assemble;
+use dsa_lines::assemble;
 use dsa_plan::Settings;
 use std::alloc::{AllocError, Global};
 

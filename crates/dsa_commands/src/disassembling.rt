@@ -3,8 +3,7 @@
 use crate::answer::Answer;
 use crate::bytes::{bytes_of, number_in};
 use dsa_descriptor::{Descriptor, FieldFault, ListFault};
-use dsa_lines::line_of;
-use dsa_listing::disassemble;
+use dsa_lines::{disassemble, line_of};
 use dsa_plan::EmissionFault;
 use dsa_planner::PlanFault;
 use std::alloc::{AllocError, Global};

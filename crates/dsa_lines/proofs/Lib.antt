@@ -3,3 +3,7 @@ pub mod NumberLemmas
 pub mod FlagLemmas
 pub mod RoundTrip
 pub mod OneLine
+pub mod LineLemmas
+pub mod TextLemmas
+pub mod AnswerLemmas
+pub mod OneText

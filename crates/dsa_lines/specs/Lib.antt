@@ -5,3 +5,5 @@ pub mod Grammar
 pub mod Text
 pub mod Views
 pub mod Answers
+pub mod Texts
+pub mod Assembled

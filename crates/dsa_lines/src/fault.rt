@@ -1,7 +1,8 @@
-//! Why a line spells no descriptor.
+//! Why a line spells no descriptor, and a text no list.
 
 use crate::words::skip_blanks;
-use dsa_descriptor::FieldFault;
+use dsa_descriptor::{FieldFault, ListFault};
+use std::alloc::AllocError;
 
 /// What the grammar has at a place of a line.
 #[derive(Clone, Copy, Debug, PartialEq, Eq)]
@@ -81,6 +82,23 @@ pub enum LineFault {
     Grammar(usize, Expected),
     /// The fields that it spells are no listed descriptor.
     Field(FieldFault),
+}
+
+/// Why a text spells no list. Lines and columns are counted from 1.
+#[derive(Clone, Copy, Debug, PartialEq, Eq)]
+pub enum TextFault {
+    /// The line leaves the grammar at the column, where this was expected.
+    Grammar(usize, usize, Expected),
+    /// The operations are no list: the fault names one of them by its index, and stands on this line.
+    List(usize, ListFault),
+    /// A growth of memory was refused.
+    Memory,
+}
+
+impl From<AllocError> for TextFault {
+    fn from(_: AllocError) -> TextFault {
+        TextFault::Memory
+    }
 }
 
 /// Where reading stopped: so many bytes before the end of the line, where this was expected.

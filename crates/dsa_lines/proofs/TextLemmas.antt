@@ -15,9 +15,9 @@ use Rattle.dsa_lines.specs.Grammar.{op_at, fields_of, ◌>>=◌}
 use Rattle.dsa_lines.specs.Text.{line_text}
 use Rattle.dsa_lines.proofs.WordLemmas.{both}
 use Rattle.dsa_lines.proofs.RoundTrip.{line_spells}
-use Rattle.dsa_listing.specs.Texts.{with_byte, lines_of, line_fields, with_fields, all_fields, TextSpells, text_line, list_text, line_len, lines_behind}
-use Rattle.dsa_listing.specs.Answers.{LeavesGrammarAt}
-use Rattle.dsa_listing.proofs.LineLemmas.{is_line, canonical_is_line}
+use Rattle.dsa_lines.specs.Texts.{with_byte, lines_of, line_fields, with_fields, all_fields, TextSpells, text_line, list_text, line_len, lines_behind}
+use Rattle.dsa_lines.specs.Assembled.{LeavesGrammarAt}
+use Rattle.dsa_lines.proofs.LineLemmas.{is_line, canonical_is_line}
 
 -- ---- lines
 

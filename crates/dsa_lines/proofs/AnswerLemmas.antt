@@ -9,12 +9,12 @@ use Rattle.dsa_descriptor.specs.Fields.{Fields}
 use Rattle.dsa_descriptor.specs.Spelling.{spelling}
 use Rattle.dsa_lines.specs.Words.{Word}
 use Rattle.dsa_lines.specs.Grammar.{fields_of}
-use Rattle.dsa_listing.specs.Texts.{all_fields, line_fields}
-use Rattle.dsa_listing.proofs.TextLemmas.{leaves_none, spelt_line}
+use Rattle.dsa_lines.specs.Texts.{all_fields, line_fields}
+use Rattle.dsa_lines.proofs.TextLemmas.{leaves_none, spelt_line}
 use Rattle.dsa_descriptor.specs.Lists.{list_spelling, IsFirstListFault}
-use Rattle.dsa_listing.specs.declared.fault.TextFault.{TextFault}
-use Rattle.dsa_listing.specs.declared.fault.TextFault.TheVariants.{Grammar, List as Listed, Memory}
-use Rattle.dsa_listing.specs.Answers.{Assembles, IsTextFault, LeavesGrammarAt, Pushes, Stops, StopsAt}
+use Rattle.dsa_lines.specs.declared.fault.TextFault.{TextFault}
+use Rattle.dsa_lines.specs.declared.fault.TextFault.TheVariants.{Grammar, List as Listed, Memory}
+use Rattle.dsa_lines.specs.Assembled.{Assembles, IsTextFault, LeavesGrammarAt, Pushes, Stops, StopsAt}
 
 pub stops_told : {X : Type 0} (shown : X → List ℕ) (lines : List (List ℕ)) (fault : TextFault) → Stops lines fault → Assembles shown lines (Err fault)
 stops_told shown lines (Grammar line column what) e = e

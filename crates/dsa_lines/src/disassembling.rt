@@ -6,10 +6,10 @@ ghost use Rattle.dsa_descriptor.specs.declared.fault.ListFault.{ListFault};
 ghost use Rattle.dsa_descriptor.specs.declared.fault.ListFault.TheVariants.{Memory};
 ghost use Rattle.dsa_descriptor.specs.Descriptors.{fields};
 ghost use Rattle.dsa_descriptor.specs.Lists.{list_spelling, HaveOneOwner, IsFirstListFault};
-ghost use Rattle.dsa_listing.specs.Texts.{list_text, text_line};
+ghost use Rattle.dsa_lines.specs.Texts.{list_text, text_line};
 
+use crate::writing::line_of;
 use dsa_descriptor::{Descriptor, ListFault, read_list};
-use dsa_lines::line_of;
 use std::alloc::{AllocError, Global};
 
 /// Writes the canonical line of a descriptor and a newline.

@@ -1,8 +1,8 @@
 use Rattle.std.proofs.Common.{ap, sym, ◌++◌, ◌∙◌, List, ℕ}
 use Rattle.dsa_descriptor.specs.Descriptors.{fields}
-use Rattle.dsa_listing.specs.Texts.{text_line}
-use Rattle.dsa_listing.proofs.TextLemmas.{no_text, text_more}
-use Rattle.dsa_listing.proofs.disassembling.text_of_list.Goals as goal
+use Rattle.dsa_lines.specs.Texts.{text_line}
+use Rattle.dsa_lines.proofs.TextLemmas.{no_text, text_more}
+use Rattle.dsa_lines.proofs.disassembling.text_of_list.Goals as goal
 
 pub loop-d-init : goal.loop-d-init
 loop-d-init c = c.new-text.ensures.bytes ∙ sym no_text

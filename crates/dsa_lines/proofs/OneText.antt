@@ -11,8 +11,8 @@ use Rattle.dsa_descriptor.specs.Spelling.{spelling}
 use Rattle.dsa_lines.specs.Words.{Word, words_of}
 use Rattle.dsa_lines.specs.Grammar.{fields_of}
 use Rattle.dsa_lines.proofs.OneLine.{Fit, listed_fit, one_spelling, spelling_stands, words_fit}
-use Rattle.dsa_listing.specs.Answers.{IsListing}
-use Rattle.dsa_listing.specs.Texts.{all_fields, line_fields, lines_of, with_fields, TextSpells}
+use Rattle.dsa_lines.specs.Assembled.{IsListing}
+use Rattle.dsa_lines.specs.Texts.{all_fields, line_fields, lines_of, with_fields, TextSpells}
 
 -- ---- the operations of lines fit their places
 

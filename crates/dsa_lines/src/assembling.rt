@@ -5,14 +5,14 @@ ghost use Rattle.dsa_descriptor.specs.declared.descriptor.Descriptor.{Descriptor
 ghost use Rattle.dsa_descriptor.specs.Descriptors.{fields};
 ghost use Rattle.dsa_descriptor.specs.Lists.{list_spelling, HaveOneOwner};
 ghost use Rattle.dsa_lines.specs.Words.{words_of};
-ghost use Rattle.dsa_listing.specs.declared.fault.TextFault.TheVariants.{Memory};
-ghost use Rattle.dsa_listing.specs.Texts.{all_fields, line_fields, lines_of, list_text};
-ghost use Rattle.dsa_listing.specs.Answers.{Assembles, Gathers, IsTextFault, Pushes};
+ghost use Rattle.dsa_lines.specs.declared.fault.TextFault.TheVariants.{Memory};
+ghost use Rattle.dsa_lines.specs.Texts.{all_fields, line_fields, lines_of, list_text};
+ghost use Rattle.dsa_lines.specs.Assembled.{Assembles, Gathers, IsTextFault, Pushes};
 
 use crate::fault::TextFault;
 use crate::lines::line_len;
+use crate::reading::line_bytes;
 use dsa_descriptor::{ListFault, read_list};
-use dsa_lines::{LineFault, line_bytes};
 use std::alloc::Global;
 
 /// Writes the bytes at the end.

@@ -7,9 +7,9 @@ use Rattle.dsa_descriptor.specs.Fields.{Fields}
 use Rattle.dsa_descriptor.specs.Descriptors.{fields}
 use Rattle.dsa_descriptor.specs.Lists.{list_spelling, HaveOneOwner, IsFirstListFault}
 use Rattle.dsa_lines.specs.Words.{words_of}
-use Rattle.dsa_listing.specs.Texts.{all_fields, line_fields}
-use Rattle.dsa_listing.specs.declared.fault.TextFault.{TextFault}
-use Rattle.dsa_listing.specs.declared.fault.TextFault.TheVariants.{Grammar, List as Listed, Memory}
+use Rattle.dsa_lines.specs.Texts.{all_fields, line_fields}
+use Rattle.dsa_lines.specs.declared.fault.TextFault.{TextFault}
+use Rattle.dsa_lines.specs.declared.fault.TextFault.TheVariants.{Grammar, List as Listed, Memory}
 
 -- the lines spell a list, and these are its bytes
 pub record IsListing (lines : List (List ℕ)) (bytes : List ℕ) : Type 0 where

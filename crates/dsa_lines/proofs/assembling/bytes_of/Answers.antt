@@ -2,11 +2,11 @@ use Rattle.std.proofs.Common.{◌≡◌, ℕ, ◌+◌, ◌<◌, List, [], ◌∷
 use Rattle.std.proofs.lemmas.Result.{err_from_is_err_and}
 use Rattle.dsa_descriptor.specs.Lists.{list_spelling}
 use Rattle.dsa_lines.specs.Words.{words_of}
-use Rattle.dsa_listing.specs.Texts.{lines_of, lines_behind, all_fields, line_fields}
-use Rattle.dsa_listing.specs.Answers.{LeavesGrammarAt}
-use Rattle.dsa_listing.proofs.AnswerLemmas.{stops_there}
-use Rattle.dsa_listing.proofs.TextLemmas.{fields_more, first_line, last_line, more_lines, next_shorter, no_fields, spelling_append}
-use Rattle.dsa_listing.proofs.assembling.bytes_of.Goals as goal
+use Rattle.dsa_lines.specs.Texts.{lines_of, lines_behind, all_fields, line_fields}
+use Rattle.dsa_lines.specs.Assembled.{LeavesGrammarAt}
+use Rattle.dsa_lines.proofs.AnswerLemmas.{stops_there}
+use Rattle.dsa_lines.proofs.TextLemmas.{fields_more, first_line, last_line, more_lines, next_shorter, no_fields, spelling_append}
+use Rattle.dsa_lines.proofs.assembling.bytes_of.Goals as goal
 
 pub lines-init : goal.lines-init
 lines-init c =

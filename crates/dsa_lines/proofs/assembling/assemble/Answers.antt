@@ -2,11 +2,11 @@ use Rattle.std.proofs.Common.{sym, ◌∙◌}
 use Rattle.std.specs.Prelude.{map}
 use Rattle.std.proofs.lemmas.Result.{err_from_is_err_and}
 use Rattle.dsa_descriptor.specs.Descriptors.{fields}
-use Rattle.dsa_listing.specs.Texts.{all_fields, lines_of}
-use Rattle.dsa_listing.proofs.AnswerLemmas.{memory_told, same_fields, stops_memory}
-use Rattle.dsa_listing.proofs.OneText.{listed}
-use Rattle.dsa_listing.proofs.TextLemmas.{text_is_read}
-use Rattle.dsa_listing.proofs.assembling.assemble.Goals as goal
+use Rattle.dsa_lines.specs.Texts.{all_fields, lines_of}
+use Rattle.dsa_lines.proofs.AnswerLemmas.{memory_told, same_fields, stops_memory}
+use Rattle.dsa_lines.proofs.OneText.{listed}
+use Rattle.dsa_lines.proofs.TextLemmas.{text_is_read}
+use Rattle.dsa_lines.proofs.assembling.assemble.Goals as goal
 
 pub returns-in_err-bytes-clause-again : goal.returns-in_err-bytes-clause-again
 returns-in_err-bytes-clause-again c = λ ds owner e.

@@ -1,6 +1,6 @@
 use Rattle.dsa_lines.specs.Words.{words_of}
-use Rattle.dsa_listing.proofs.AnswerLemmas.{pushed}
-use Rattle.dsa_listing.proofs.assembling.push_line.Goals as goal
+use Rattle.dsa_lines.proofs.AnswerLemmas.{pushed}
+use Rattle.dsa_lines.proofs.assembling.push_line.Goals as goal
 
 pub returns-in-Ok-Some : goal.returns-in-Ok-Some
 returns-in-Ok-Some c =

@@ -1,4 +1,0 @@
-pub mod LineLemmas
-pub mod TextLemmas
-pub mod AnswerLemmas
-pub mod OneText

@@ -140,6 +140,15 @@ static void plans_are_judged(void)
     expect(refusal.number == DSA_UNFENCED && refusal.inner == 0 && refusal.first == 0 && refusal.second == 1 && outputs_stay());
 }
 
+/* The first mark begins a group though its bit is 0, and bits 2 and up count for nothing. */
+static void other_bits_of_marks_do_not_count(void)
+{
+    const uint8_t fenced[] = {0, 0xfc | DSA_FENCED}, alone[] = {8, 4 | DSA_BEGINS};
+    put_moves(64, 64);
+    expect(dsa_judge(&settings, &settings.batch, 0, list, sizeof list, fenced, 2, &cost, &refusal) == DSA_OK && cost == 17);
+    expect(dsa_judge(&settings, &settings.batch, 0, list, sizeof list, alone, 2, &cost, &refusal) == DSA_OK && cost == 20);
+}
+
 /* Another version is no settings, nor are too few prices by size; a buffer is a byte too small; each array of the
  * certificate is one too short; where neither fits, the refusal names the bytes. */
 static void refusals_leave_the_outputs(void)
@@ -175,6 +184,7 @@ int main(void)
     pieces_are_counted();
     two_moves_are_planned_and_checked();
     plans_are_judged();
+    other_bits_of_marks_do_not_count();
     refusals_leave_the_outputs();
     prices_go_by_size();
     return 0;

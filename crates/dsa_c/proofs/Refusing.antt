@@ -14,7 +14,7 @@ use Rattle.dsa_c.specs.declared.settings.RawSettings.{RawSettings}
 use Rattle.dsa_c.specs.declared.refusal.RawRefusal.{RawRefusal}
 use Rattle.dsa_c.specs.Raw.{limits_of, AreSettings, refusal_of, no_room}
 use Rattle.dsa_plan.specs.Plan.{Plan}
-use Rattle.dsa_marks.specs.Marks.{plan_of}
+use Rattle.dsa_c.specs.Marks.{plan_of}
 use Rattle.dsa_planner.specs.Judge.{Judges}
 use Rattle.dsa_c.specs.Checking.{RefusesCheck}
 use Rattle.dsa_c.specs.Judging.{RefusesJudge}

@@ -1,6 +1,6 @@
 -- What judging promises.
 use Rattle.std.specs.Prelude.{◌≡◌, ◌⊎◌, ℕ, List, Ok, Err}
-use Rattle.dsa_marks.specs.Marks.{plan_of}
+use Rattle.dsa_c.specs.Marks.{plan_of}
 use Rattle.dsa_planner.specs.declared.fault.PlanFault.{PlanFault}
 use Rattle.dsa_planner.specs.declared.fault.PlanFault.TheVariants.{Memory, Settings}
 use Rattle.dsa_planner.specs.Judge.{Judges}

@@ -5,7 +5,7 @@ use Rattle.dsa_ranges.specs.Ranges.{ConflictAt}
 use Rattle.dsa_plan.specs.Settings.{tariff_of}
 use Rattle.dsa_plan.specs.Legal.{IsLeast}
 use Rattle.dsa_plan.specs.Certificate.{IsGood}
-use Rattle.dsa_marks.specs.Marks.{marks_of}
+use Rattle.dsa_c.specs.Marks.{marks_of}
 use Rattle.dsa_planner.specs.declared.fault.PlanFault.{PlanFault}
 use Rattle.dsa_planner.specs.declared.fault.PlanFault.TheVariants.{Memory, Settings}
 use Rattle.dsa_planner.specs.Planned.{Submission, Plans}

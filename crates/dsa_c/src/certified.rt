@@ -1,16 +1,16 @@
 //! Planning a list, with the certificate of the plan and the marks of its groups and fences.
 
 ghost use Rattle.std.specs.Prelude.{◌≡◌, ◌≢◌, ◌<◌, length, MatchResult};
-ghost use Rattle.dsa_marks.specs.Marks.{marks_of};
+ghost use Rattle.dsa_c.specs.Marks.{marks_of};
 ghost use Rattle.dsa_planner.specs.Planned.{submission_of};
 ghost use Rattle.dsa_c.specs.Planning.{IsPlannedFor, FitsIn, CertificateFitsIn, IsCertifiedWritten, RefusesCertified};
 
 use crate::buffer::put;
 use crate::certificate::{RawPair, put_pairs};
+use crate::marks::marks_of;
 use crate::planning::{RawPlanned, plan_for, summary};
 use crate::refusal::{RawRefusal, no_room_for_certificate, refusal};
 use crate::settings::RawSettings;
-use dsa_marks::marks_of;
 use dsa_planner::{PlanFault, Planned};
 use std::alloc::Global;
 

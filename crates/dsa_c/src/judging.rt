@@ -3,9 +3,9 @@
 ghost use Rattle.std.specs.Prelude.{◌≡◌, ◌≢◌, ◌<◌, MatchResult};
 ghost use Rattle.dsa_c.specs.Judging.{IsJudgedCost, RefusesJudge};
 
+use crate::marks::plan_of;
 use crate::refusal::{RawRefusal, refusal};
 use crate::settings::{RawSettings, settings_of};
-use dsa_marks::plan_of;
 use dsa_planner::{PlanFault, judge_bytes};
 use std::alloc::Global;
 

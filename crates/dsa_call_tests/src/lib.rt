@@ -15,8 +15,6 @@ mod lines;
 #[cfg(test)]
 mod listing;
 #[cfg(test)]
-mod marks;
-#[cfg(test)]
 mod planner;
 #[cfg(test)]
 mod report;

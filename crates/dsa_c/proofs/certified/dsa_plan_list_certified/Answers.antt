@@ -1,5 +1,5 @@
 use Rattle.std.proofs.Common.{length, ap, ◌∙◌, arith}
-use Rattle.dsa_marks.proofs.Agreeing.{marks_count}
+use Rattle.dsa_c.proofs.Agreeing.{marks_count}
 use Rattle.dsa_c.proofs.certified.dsa_plan_list_certified.Goals as goal
 
 pub put-requires-in-Ok-3 : goal.put-requires-in-Ok-3

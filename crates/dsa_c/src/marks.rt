@@ -1,17 +1,15 @@
 //! A plan as one byte for each piece, its mark: whether the piece begins a group, and whether it is fenced.
-#![tactic(auto)]
 
 ghost use Rattle.std.specs.Prelude.{◌≡◌, ◌++◌, IfOk};
-ghost use Rattle.dsa_marks.specs.Marks.{mark, group_marks, marks_of, begins_group, is_fenced, plan_of};
-ghost use Rattle.dsa_marks.specs.Laws.{MarksSpellPlans, PlansSpellMarks};
+ghost use Rattle.dsa_c.specs.Marks.{mark, group_marks, marks_of, begins_group, is_fenced, plan_of};
 
-use dsa_settings::{Group, Plan};
+use dsa_plan::{Group, Plan};
 use std::alloc::{AllocError, Global};
 
 /// The mark of a piece that begins a group.
-pub const BEGINS: u8 = 1;
+const BEGINS: u8 = 1;
 /// The mark of a piece that is fenced.
-pub const FENCED: u8 = 2;
+const FENCED: u8 = 2;
 
 /// The mark of a piece.
 fn mark(begins: bool, fenced: bool) -> u8
@@ -51,7 +49,7 @@ fn push_group(marks: &mut Vec<u8>, group: &[bool]) -> Result<(), AllocError>
 
 /// The marks of the plan's pieces, in order: [`BEGINS`] for one that begins a group, and [`FENCED`] added for one that
 /// is fenced.
-pub fn marks_of(alloc: Global, plan: &Plan) -> Result<Vec<u8>, AllocError>
+pub(crate) fn marks_of(alloc: Global, plan: &Plan) -> Result<Vec<u8>, AllocError>
     ensures { IfOk result (λ marks. marks.items ≡ marks_of plan.now) }
 {
     let mut marks = Vec::new(alloc);
@@ -63,7 +61,7 @@ pub fn marks_of(alloc: Global, plan: &Plan) -> Result<Vec<u8>, AllocError>
 
 /// The plan that these marks spell. The first piece begins a group, whatever its mark; of each mark the bits [`BEGINS`]
 /// and [`FENCED`] count alone.
-pub fn plan_of(alloc: Global, marks: &[u8]) -> Result<Plan, AllocError>
+pub(crate) fn plan_of(alloc: Global, marks: &[u8]) -> Result<Plan, AllocError>
     ensures { IfOk result (λ plan. plan ≡ plan_of marks.now) }
 {
     let mut groups = Vec::new(alloc);
@@ -80,15 +78,3 @@ pub fn plan_of(alloc: Global, marks: &[u8]) -> Result<Plan, AllocError>
     }
     Ok(Plan::new(groups))
 }
-
-/// A plan whose groups are not empty is the plan that its marks spell, and it has as many marks as pieces. This is a
-/// law: the body is empty, and the clause is what the proof shows.
-pub fn marks_spell_plans()
-    ensures { MarksSpellPlans }
-{}
-
-/// Marks of two bits, the first of which begins a group, are the marks of the plan that they spell: so there is one
-/// such list for each plan. This is a law too.
-pub fn plans_spell_marks()
-    ensures { PlansSpellMarks }
-{}

@@ -1,7 +1,7 @@
 -- Marks and plans spell each other.
 use Rattle.std.specs.Prelude.{◌≡◌, ℕ, ◌<◌, true, List, [], ◌∷◌, All, length}
-use Rattle.dsa_settings.specs.Plan.{Plan, piece_count}
-use Rattle.dsa_marks.specs.Marks.{marks_of, plan_of, begins_group}
+use Rattle.dsa_plan.specs.Plan.{Plan, piece_count}
+use Rattle.dsa_c.specs.Marks.{marks_of, plan_of, begins_group}
 
 -- a plan whose groups are not empty is what its marks spell, and it has as many marks as pieces
 pub record AreSpelt (plan : Plan) : Type 0 where

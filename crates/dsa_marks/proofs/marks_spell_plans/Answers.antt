@@ -1,5 +1,0 @@
-use Rattle.dsa_marks.proofs.Agreeing.{marks_spell_plans}
-use Rattle.dsa_marks.proofs.marks_spell_plans.Goals as goal
-
-pub returns : goal.returns
-returns c = marks_spell_plans

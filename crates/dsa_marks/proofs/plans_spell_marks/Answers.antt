@@ -1,5 +1,0 @@
-use Rattle.dsa_marks.proofs.Agreeing.{plans_spell_marks}
-use Rattle.dsa_marks.proofs.plans_spell_marks.Goals as goal
-
-pub returns : goal.returns
-returns c = plans_spell_marks

@@ -1,14 +1,24 @@
 //! Descriptors as text: `assemble`, `disassemble` and `explain`, from standard input to standard output.
 #![tactic(auto)]
 
+mod answer;
+mod assembling;
+mod bytes;
+mod disassembling;
+mod explaining;
+pub mod laws;
+mod numbers;
+mod settings;
+
+use crate::answer::Answer;
+use crate::assembling::{assemble_job, assemble_list};
+use crate::disassembling::{disassemble_list, disassemble_portal, disassemble_staging};
+use crate::explaining::{explain_checked, explain_judged, explain_list, explain_text};
+use crate::numbers::number_of;
+use crate::settings::{SettingsWords, settings_of};
 use clap::error::ErrorKind;
 use clap::parser::ValueSource;
 use clap::{Arg, ArgAction, ArgMatches, Command};
-use dsa_commands::{
-    Answer, SettingsWords, assemble_job, assemble_list, disassemble_list, disassemble_portal,
-    disassemble_staging, explain_checked, explain_judged, explain_list, explain_text, number_of,
-    settings_of,
-};
 use dsa_plan::Settings;
 use dsa_planner::{PlanFault, refusal_line};
 use dsa_report::{Job, Stop, read_job, read_text, write_line};
@@ -185,7 +195,11 @@ fn explain(alloc: Global, matches: &ArgMatches<'_>, text: &[u8]) -> Result<Answe
 }
 
 /// What the command of the matches answers.
-fn answer(alloc: Global, matches: &ArgMatches<'_>, text: &[u8]) -> Result<Answer, AllocError> {
+fn answer_command(
+    alloc: Global,
+    matches: &ArgMatches<'_>,
+    text: &[u8],
+) -> Result<Answer, AllocError> {
     match matches.subcommand() {
         Some(("assemble", options)) => assemble(alloc, options, text),
         Some(("disassemble", options)) => disassemble(alloc, options, text),
@@ -241,7 +255,7 @@ fn run(rt: &HostRuntime) -> Result<ExitCode, AllocError> {
     };
     match read_text(alloc, &mut rt.reader()) {
         Ok(text) => {
-            let answer = answer(alloc, &matches, &text)?;
+            let answer = answer_command(alloc, &matches, &text)?;
             Ok(ended(rt, &answer.text, answer.status))
         }
         Err(Stop::Refusal(fault)) => Ok(refuse(rt, fault)),

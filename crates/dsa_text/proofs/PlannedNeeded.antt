@@ -9,7 +9,7 @@ use Rattle.dsa_plan.specs.Settings.{Limits}
 use Rattle.dsa_planner.specs.Planned.{Submission, IsSubmissionOf}
 use Rattle.dsa_explain.specs.Reasons.{NeedsFence}
 use Rattle.dsa_explain.proofs.Needed.{chain_needed}
-use Rattle.dsa_commands.specs.Laws.{PlannedFencesAreNeeded}
+use Rattle.dsa_text.specs.Laws.{PlannedFencesAreNeeded}
 
 submission_needed : (s : Limits) (p : Submission) (fs : _) → IsSubmissionOf s fs p → (number : ℕ) (group : Group) (k : ℕ)
     → slice_get p.plan number ≡ Some group → IsFenced (start_of p.plan number) group k

@@ -4,8 +4,8 @@ use dsa_explain::{
     Cell, ExplainFault, Explanation, Fence, GroupCost, MOST_PIECES, Reason,
     cells_are_pieces_and_fences, each_fence_once, explain, group_costs_add_up,
 };
-use dsa_hazards::{Hazard, HazardKind};
 use dsa_plan::{Group, LegalFault, Plan, Settings, SettingsFault};
+use dsa_ranges::{Hazard, HazardKind};
 use std::alloc::{AllocError, Global};
 use std::test::Fail;
 

@@ -1,7 +1,6 @@
 use crate::given::move_of;
 use dsa_descriptor::Descriptor;
-use dsa_hazards::{HazardKind, find_hazard};
-use dsa_ranges::touched;
+use dsa_ranges::{HazardKind, find_hazard, touched};
 use std::test::Fail;
 
 /// The earlier move reads from 0x1000 to below 0x1040, and writes from 0x2000 to below 0x2040. With

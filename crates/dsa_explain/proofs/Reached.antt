@@ -6,14 +6,14 @@ use Rattle.dsa_descriptor.specs.declared.descriptor.Descriptor.{Descriptor}
 use Rattle.dsa_descriptor.specs.declared.span.Span.{Span}
 use Rattle.dsa_descriptor.specs.Descriptors.{fields}
 use Rattle.dsa_descriptor.specs.Fields.{Fields}
+use Rattle.dsa_ranges.specs.declared.hazards.HazardKind.{HazardKind}
+use Rattle.dsa_ranges.specs.declared.hazards.HazardKind.TheVariants.{ReadAfterWrite, WriteAfterRead, WriteAfterWrite}
+use Rattle.dsa_ranges.specs.declared.hazards.Hazard.{Hazard}
 use Rattle.dsa_ranges.specs.Ranges.{read_spans, written_spans, SpansConflict, ConflictAt}
+use Rattle.dsa_ranges.specs.Hazards.{IsHazard}
 use Rattle.dsa_ranges.proofs.Places.{fields_at}
 use Rattle.dsa_plan.specs.Plan.{Group}
 use Rattle.dsa_plan.specs.Legal.{IsFenced}
-use Rattle.dsa_hazards.specs.declared.HazardKind.{HazardKind}
-use Rattle.dsa_hazards.specs.declared.HazardKind.TheVariants.{ReadAfterWrite, WriteAfterRead, WriteAfterWrite}
-use Rattle.dsa_hazards.specs.declared.Hazard.{Hazard}
-use Rattle.dsa_hazards.specs.Hazards.{IsHazard}
 use Rattle.dsa_explain.specs.declared.reason.Reason.{Reason}
 use Rattle.dsa_explain.specs.Reasons.{NeedsFence, IsHazardOf, IsReason, IsReached, FindsNone, FindsEarlier, IsOpen}
 

@@ -4,8 +4,8 @@ use Rattle.dsa_descriptor.specs.Fields.{Fields}
 use Rattle.dsa_ranges.specs.Ranges.{read_spans, written_spans, ConflictAt}
 use Rattle.dsa_plan.specs.Plan.{Group}
 use Rattle.dsa_plan.specs.Legal.{IsFenced, ConflictsWithin}
-use Rattle.dsa_hazards.specs.declared.Hazard.{Hazard}
-use Rattle.dsa_hazards.specs.Hazards.{IsHazard}
+use Rattle.dsa_ranges.specs.declared.hazards.Hazard.{Hazard}
+use Rattle.dsa_ranges.specs.Hazards.{IsHazard}
 use Rattle.dsa_explain.specs.declared.reason.Reason.{Reason}
 
 -- in a group that begins with piece `start`, the pieces a and b conflict, and of all fences the one at piece k alone

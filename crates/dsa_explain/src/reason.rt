@@ -7,8 +7,7 @@ ghost use Rattle.dsa_plan.specs.Legal.{IsFenced};
 ghost use Rattle.dsa_explain.specs.Reasons.{FindsEarlier, FindsNone, IsOpen, IsReasonFor};
 
 use dsa_descriptor::Descriptor;
-use dsa_hazards::{Hazard, find_hazard};
-use dsa_ranges::touched;
+use dsa_ranges::{Hazard, find_hazard, touched};
 
 /// The conflict that a fence separates. Pieces are numbered from 0.
 #[derive(Clone, Copy, Debug, PartialEq, Eq)]

@@ -4,9 +4,9 @@ use crate::costs::{Costs, GroupCost};
 use crate::explanation::Explanation;
 use crate::fences::Fence;
 use dsa_descriptor::Descriptor;
-use dsa_hazards::HazardKind;
 use dsa_lines::op_text;
 use dsa_plan::Settings;
+use dsa_ranges::HazardKind;
 use std::alloc::{AllocError, Global};
 
 /// Of which operation a piece is, where that was split.

@@ -1,7 +1,7 @@
 use Rattle.std.proofs.Common.{ℕ, ◌<◌, get_or, arith}
 use Rattle.dsa_descriptor.specs.Spans.{InSpan, span}
 use Rattle.dsa_ranges.proofs.SpanLists.{some_at, none_at}
-use Rattle.dsa_hazards.proofs.shared_by.Goals as goal
+use Rattle.dsa_ranges.proofs.hazards.shared_by.Goals as goal
 
 pub returns-in-Some : goal.returns-in-Some
 returns-in-Some c = (some_at c.args.first.now c.loop-span.span-index (span 0 0) c.in-Some.address c.loop-span-test.true c.in-Some.ensures.0, c.in-Some.ensures.1)

@@ -1,12 +1,13 @@
 //! Where two descriptors conflict (a read after write, write after read or write after write hazard).
-#![tactic(auto)]
 
 ghost use Rattle.std.specs.Prelude.{MatchOption, ℕ, ◌≡◌};
 ghost use Rattle.dsa_descriptor.specs.Spans.{InSome, InSpan};
 ghost use Rattle.dsa_ranges.specs.Ranges.{SpansConflict};
-ghost use Rattle.dsa_hazards.specs.Hazards.{IsHazard, AreApart, AreApartFrom};
+ghost use Rattle.dsa_ranges.specs.Hazards.{IsHazard, AreApart, AreApartFrom};
 
-use dsa_ranges::{Span, Touched, meets};
+use crate::access::Touched;
+use crate::span::meets;
+use dsa_descriptor::Span;
 
 /// Why the later of two descriptors has to wait for the earlier.
 #[derive(Clone, Copy, Debug, PartialEq, Eq)]

@@ -1,7 +1,7 @@
 use Rattle.std.proofs.Common.{ℕ, ◌<◌, get_or, below_more, arith}
 use Rattle.dsa_descriptor.specs.Spans.{InSpan, span}
 use Rattle.dsa_ranges.proofs.SpanLists.{some_at, none_at}
-use Rattle.dsa_hazards.proofs.shared_with.Goals as goal
+use Rattle.dsa_ranges.proofs.hazards.shared_with.Goals as goal
 
 pub returns-in-Some : goal.returns-in-Some
 returns-in-Some c = (c.in-Some.ensures.0, some_at c.args.spans.now c.loop-other.other-index (span 0 0) c.in-Some.address c.loop-other-test.true c.in-Some.ensures.1)

@@ -2,8 +2,8 @@
 use Rattle.std.specs.Prelude.{ℕ, List}
 use Rattle.dsa_descriptor.specs.declared.span.Span.{Span}
 use Rattle.dsa_descriptor.specs.Spans.{InSpan, InSome}
-use Rattle.dsa_hazards.specs.declared.HazardKind.{HazardKind}
-use Rattle.dsa_hazards.specs.declared.HazardKind.TheVariants.{ReadAfterWrite, WriteAfterRead, WriteAfterWrite}
+use Rattle.dsa_ranges.specs.declared.hazards.HazardKind.{HazardKind}
+use Rattle.dsa_ranges.specs.declared.hazards.HazardKind.TheVariants.{ReadAfterWrite, WriteAfterRead, WriteAfterWrite}
 
 -- no address lies in the span and in one of the spans, or in one of each
 abbrev pub AreApartFrom : Span → List Span → Type 0

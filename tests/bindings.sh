@@ -77,7 +77,7 @@ is_old() {
 
 # follows_ci: the libraries are those that `rt ci` has proved and built, which have no stamp for `rt lib` to know them by.
 follows_ci() {
-    [ -d crates/dsa_planner/out/rlib/dsa_planner.rlib ] && [ ! -e crates/dsa_planner/out/rlib/stamp ]
+    [ -d crates/dsa_calls/out/rlib/dsa_calls.rlib ] && [ ! -e crates/dsa_planner/out/rlib/stamp ]
 }
 
 # build_over_ci: proves dsa_c alone, over these libraries, and builds the archive. `rt lib` would prove them all again.

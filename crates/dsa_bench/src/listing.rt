@@ -1,8 +1,8 @@
 //! Lists planned whole: read, split, searched, and the bytes that submit the plan.
 
 use crate::planning::moves;
+use dsa_calls::plan_list;
 use dsa_plan::Settings;
-use dsa_planner::plan_list;
 use std::alloc::{Alloc, Global};
 use std::io;
 use std::rt::Runtime;

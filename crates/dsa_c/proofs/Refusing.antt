@@ -6,16 +6,16 @@ use Rattle.dsa_plan.specs.Settings.{Limits, tariff_of}
 use Rattle.dsa_plan.specs.Legal.{IsLeast}
 use Rattle.dsa_plan.specs.Certificate.{IsGood}
 use Rattle.dsa_cert.specs.Document.{Contents}
-use Rattle.dsa_planner.specs.declared.fault.PlanFault.{PlanFault}
-use Rattle.dsa_planner.specs.declared.fault.PlanFault.TheVariants.{Memory}
-use Rattle.dsa_planner.specs.Planned.{Submission, Plans}
-use Rattle.dsa_planner.specs.Checked.{Checks}
+use Rattle.dsa_calls.specs.declared.fault.PlanFault.{PlanFault}
+use Rattle.dsa_calls.specs.declared.fault.PlanFault.TheVariants.{Memory}
+use Rattle.dsa_calls.specs.Planned.{Submission, Plans}
+use Rattle.dsa_calls.specs.Checked.{Checks}
 use Rattle.dsa_c.specs.declared.settings.RawSettings.{RawSettings}
 use Rattle.dsa_c.specs.declared.refusal.RawRefusal.{RawRefusal}
 use Rattle.dsa_c.specs.Raw.{limits_of, AreSettings, refusal_of, no_room}
 use Rattle.dsa_plan.specs.Plan.{Plan}
 use Rattle.dsa_c.specs.Marks.{plan_of}
-use Rattle.dsa_planner.specs.Judge.{Judges}
+use Rattle.dsa_calls.specs.Judge.{Judges}
 use Rattle.dsa_c.specs.Checking.{RefusesCheck}
 use Rattle.dsa_c.specs.Judging.{RefusesJudge}
 use Rattle.dsa_c.specs.Planning.{IsPlannedFor, Refuses}

@@ -22,9 +22,9 @@ use Rattle.dsa_emission.proofs.AtPlaces.{emission_at_places}
 use Rattle.dsa_emission.proofs.Places.{batch_yes, groups_within}
 use Rattle.dsa_splitter.specs.Rules.{piece_total}
 use Rattle.dsa_splitter.proofs.Walks.{length_all}
-use Rattle.dsa_planner.specs.Planned.{Submission, Plans, CanBePlanned}
-use Rattle.dsa_planner.proofs.Submissions.{pieces_can, can_emit}
-use Rattle.dsa_planner.proofs.Submissions.{planned_is_least_and_shown}
+use Rattle.dsa_calls.specs.Planned.{Submission, Plans, CanBePlanned}
+use Rattle.dsa_calls.proofs.Submissions.{pieces_can, can_emit}
+use Rattle.dsa_calls.proofs.Submissions.{planned_is_least_and_shown}
 use Rattle.dsa_c.specs.Counting.{pieces_of, HasRoom}
 
 -- batches have two pieces at least, and no more than there are

@@ -5,7 +5,7 @@ use Rattle.dsa_descriptor.specs.Places.{u32_at}
 use Rattle.dsa_descriptor.specs.Lists.{entries}
 use Rattle.dsa_descriptor.specs.Pieces.{most_pieces}
 use Rattle.dsa_image.specs.Lines.{quotient_up}
-use Rattle.dsa_planner.specs.Planned.{Submission}
+use Rattle.dsa_calls.specs.Planned.{Submission}
 use Rattle.dsa_c.specs.declared.settings.RawSettings.{RawSettings}
 use Rattle.dsa_c.specs.Raw.{AreSettings}
 

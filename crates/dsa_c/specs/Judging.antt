@@ -1,9 +1,9 @@
 -- What judging promises.
 use Rattle.std.specs.Prelude.{◌≡◌, ◌⊎◌, ℕ, List, Ok, Err}
 use Rattle.dsa_c.specs.Marks.{plan_of}
-use Rattle.dsa_planner.specs.declared.fault.PlanFault.{PlanFault}
-use Rattle.dsa_planner.specs.declared.fault.PlanFault.TheVariants.{Memory, Settings}
-use Rattle.dsa_planner.specs.Judge.{Judges}
+use Rattle.dsa_calls.specs.declared.fault.PlanFault.{PlanFault}
+use Rattle.dsa_calls.specs.declared.fault.PlanFault.TheVariants.{Memory, Settings}
+use Rattle.dsa_calls.specs.Judge.{Judges}
 use Rattle.dsa_c.specs.declared.settings.RawSettings.{RawSettings}
 use Rattle.dsa_c.specs.declared.refusal.RawRefusal.{RawRefusal}
 use Rattle.dsa_c.specs.Raw.{limits_of, AreSettings, refusal_of}

@@ -3,9 +3,9 @@ use Rattle.std.specs.Prelude.{◌≡◌, ◌⊎◌, if◌then◌else◌, ◌==�
 use Rattle.dsa_plan.specs.Settings.{BatchPrices, Limits, AreInLimits, limits}
 use Rattle.dsa_plan.specs.Settings.BatchPrices.{SamePrice, BySize}
 use Rattle.dsa_descriptor.specs.Causes.{index_list}
-use Rattle.dsa_planner.specs.declared.fault.PlanFault.{PlanFault}
-use Rattle.dsa_planner.specs.declared.fault.InnerFault.{InnerFault}
-use Rattle.dsa_planner.specs.Fault.{fault_number, fault_indices, fault_inner, inner_number, inner_indices}
+use Rattle.dsa_calls.specs.declared.fault.PlanFault.{PlanFault}
+use Rattle.dsa_calls.specs.declared.fault.InnerFault.{InnerFault}
+use Rattle.dsa_calls.specs.Fault.{fault_number, fault_indices, fault_inner, inner_number, inner_indices}
 use Rattle.dsa_c.specs.declared.settings.RawSettings.{RawSettings}
 use Rattle.dsa_c.specs.declared.refusal.RawRefusal.{RawRefusal}
 

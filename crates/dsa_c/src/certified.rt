@@ -2,7 +2,7 @@
 
 ghost use Rattle.std.specs.Prelude.{◌≡◌, ◌≢◌, ◌<◌, length, MatchResult};
 ghost use Rattle.dsa_c.specs.Marks.{marks_of};
-ghost use Rattle.dsa_planner.specs.Planned.{submission_of};
+ghost use Rattle.dsa_calls.specs.Planned.{submission_of};
 ghost use Rattle.dsa_c.specs.Planning.{IsPlannedFor, FitsIn, CertificateFitsIn, IsCertifiedWritten, RefusesCertified};
 
 use crate::buffer::put;
@@ -11,7 +11,7 @@ use crate::marks::marks_of;
 use crate::planning::{RawPlanned, plan_for, summary};
 use crate::refusal::{RawRefusal, no_room_for_certificate, refusal};
 use crate::settings::RawSettings;
-use dsa_planner::{PlanFault, Planned};
+use dsa_calls::{PlanFault, Planned};
 use std::alloc::Global;
 
 /// A planned list, and the marks of its pieces.

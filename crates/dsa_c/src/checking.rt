@@ -7,7 +7,7 @@ ghost use Rattle.dsa_c.specs.Checking.{IsCheckedCost, RefusesCheck};
 use crate::certificate::{RawPair, certificate_of};
 use crate::refusal::{RawRefusal, refusal};
 use crate::settings::{RawSettings, settings_of};
-use dsa_planner::{PlanFault, check_bytes};
+use dsa_calls::{PlanFault, check_bytes};
 use std::alloc::Global;
 
 /// The cost of the bytes, where the certificate checks.

@@ -1,12 +1,12 @@
 //! How much room the bytes to submit need.
 
 ghost use Rattle.std.specs.Prelude.{◌≡◌, ◌<◌, ◌≤◌, ◌^◌, length, Ok};
-ghost use Rattle.dsa_planner.specs.Planned.{Submission, Plans};
+ghost use Rattle.dsa_calls.specs.Planned.{Submission, Plans};
 ghost use Rattle.dsa_c.specs.Raw.{limits_of, AreSettings};
 ghost use Rattle.dsa_c.specs.Counting.{size_of, pieces_of, CountsEntries, IsCount, HasRoom};
 
 use crate::settings::{RawSettings, settings_of};
-use dsa_planner::MOST_PIECES;
+use dsa_calls::MOST_PIECES;
 
 /// The transfer size of the entry.
 #[tactic(auto, unfolding(dsa_descriptor::specs::Places::u32_at))]

@@ -6,7 +6,7 @@ ghost use Rattle.dsa_c.specs.Judging.{IsJudgedCost, RefusesJudge};
 use crate::marks::plan_of;
 use crate::refusal::{RawRefusal, refusal};
 use crate::settings::{RawSettings, settings_of};
-use dsa_planner::{PlanFault, judge_bytes};
+use dsa_calls::{PlanFault, judge_bytes};
 use std::alloc::Global;
 
 /// The cost of the plan that the marks spell.

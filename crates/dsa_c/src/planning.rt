@@ -1,7 +1,7 @@
 //! Planning a list into buffers of the caller.
 
 ghost use Rattle.std.specs.Prelude.{◌≡◌, ◌≢◌, ℕ, ◌<◌, List, length, MatchResult};
-ghost use Rattle.dsa_planner.specs.Planned.{submission_of};
+ghost use Rattle.dsa_calls.specs.Planned.{submission_of};
 ghost use Rattle.dsa_c.specs.declared.settings.RawSettings.{RawSettings};
 ghost use Rattle.dsa_c.specs.Raw.{AreSettings, limits_of};
 ghost use Rattle.dsa_c.specs.Planning.{IsPlannedFor, FitsIn, IsWritten, Refuses, summary_of};
@@ -9,8 +9,8 @@ ghost use Rattle.dsa_c.specs.Planning.{IsPlannedFor, FitsIn, IsWritten, Refuses,
 use crate::buffer::put;
 use crate::refusal::{RawRefusal, no_room, refusal};
 use crate::settings::{RawSettings, by_size, same_price};
+use dsa_calls::{PlanFault, Planned, plan_list};
 use dsa_plan::Settings;
-use dsa_planner::{PlanFault, Planned, plan_list};
 use std::alloc::Global;
 
 /// `struct dsa_planned`: what was written, and what it costs.

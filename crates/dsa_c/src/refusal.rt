@@ -2,11 +2,11 @@
 
 ghost use Rattle.std.specs.Prelude.{◌≡◌, ◌<◌};
 ghost use Rattle.dsa_descriptor.specs.Causes.{index_list};
-ghost use Rattle.dsa_planner.specs.Fault.{fault_inner};
+ghost use Rattle.dsa_calls.specs.Fault.{fault_inner};
 ghost use Rattle.dsa_c.specs.Raw.{refusal_of, no_room, no_room_for_certificate, inner_of, ArePlaces, all_places};
 
+use dsa_calls::PlanFault;
 use dsa_descriptor::Indices;
-use dsa_planner::PlanFault;
 
 /// The number of the refusal of buffers that are too small for the bytes to submit.
 pub const NO_ROOM: u32 = 90;

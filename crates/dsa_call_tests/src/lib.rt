@@ -3,6 +3,8 @@
 #![tactic(auto)]
 
 #[cfg(test)]
+mod calls;
+#[cfg(test)]
 mod engines;
 #[cfg(test)]
 mod explain;
@@ -14,7 +16,5 @@ mod hazards;
 mod lines;
 #[cfg(test)]
 mod listing;
-#[cfg(test)]
-mod planner;
 #[cfg(test)]
 mod report;

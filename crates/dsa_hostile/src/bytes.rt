@@ -2,8 +2,8 @@
 
 use crate::cases::Case;
 use crate::telling::{mark, tell, tell_outcome};
+use dsa_calls::{PlanFault, check_bytes, judge_bytes, plan_list, replay_bytes};
 use dsa_cert::{CertFault, read_json, write_json};
-use dsa_planner::{PlanFault, check_bytes, judge_bytes, plan_list, replay_bytes};
 use dsa_search::search;
 use std::alloc::{Alloc, Global};
 use std::io;

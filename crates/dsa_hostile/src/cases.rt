@@ -1,11 +1,11 @@
 //! What calls are given.
 
 use crate::lists::{List, Operation, Part, Step};
+use dsa_calls::{Planned, plan_list};
 use dsa_cert::write_json;
 use dsa_core::Event;
 use dsa_image::Image;
 use dsa_plan::{Plan, Settings};
-use dsa_planner::{Planned, plan_list};
 use serde_json::Value;
 use std::alloc::{AllocError, Global};
 

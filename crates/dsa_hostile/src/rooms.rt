@@ -5,11 +5,11 @@ ghost use Rattle.dsa_core.specs.Given.{IsRunnable};
 
 use crate::cases::Case;
 use crate::telling::{mark, tell_outcome};
+use dsa_calls::PlanFault;
 use dsa_core::{CoreFault, Event, Finished, Kind, Outcome, Room, Taken};
 use dsa_descriptor::Descriptor;
 use dsa_image::Image;
 use dsa_plan::{Plan, Settings, is_legal};
-use dsa_planner::PlanFault;
 use std::alloc::{Alloc, Global};
 use std::io;
 use std::rt::Runtime;

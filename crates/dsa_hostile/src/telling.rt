@@ -1,7 +1,7 @@
 //! Where a call begins and ends, what it answered, and whether it left a thread.
 
+use dsa_calls::{PlanFault, refusal_line};
 use dsa_core::Outcome;
-use dsa_planner::{PlanFault, refusal_line};
 use std::fmt::Debug;
 use std::io::Read;
 use std::rt::Runtime;

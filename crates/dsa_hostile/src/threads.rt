@@ -3,8 +3,8 @@
 use crate::cases::Case;
 use crate::rooms::can_run;
 use crate::telling::{mark, tell_outcome, tell_threads};
+use dsa_calls::{PlanFault, run_bytes};
 use dsa_engines::{OpenGate, run};
-use dsa_planner::{PlanFault, run_bytes};
 use dsa_report::serve;
 use std::alloc::{Alloc, Global};
 use std::io;

@@ -4,16 +4,16 @@ use Rattle.std.specs.Ordering.{is_lt, nat_cmp}
 use Rattle.std.specs.Cmp.Lexicographic.{slice_cmp}
 use Rattle.std.proofs.lemmas.Slice.Eq.{bytes_eq-Decides}
 use Rattle.serde_json.specs.Data.{Data}
-use Rattle.dsa_planner.specs.declared.fault.PlanFault.{PlanFault}
-use Rattle.dsa_planner.specs.Laws.{HasBrokenOff}
-use Rattle.dsa_planner.specs.Judge.{Judges}
-use Rattle.dsa_planner.specs.Planned.{Plans}
-use Rattle.dsa_planner.specs.Checked.{Checks}
-use Rattle.dsa_planner.specs.Runs.{Left, Replays}
-use Rattle.dsa_planner.proofs.JudgedOnce.{one_judged}
-use Rattle.dsa_planner.proofs.Submissions.{one_planned}
-use Rattle.dsa_planner.proofs.CheckedOnce.{one_checked}
-use Rattle.dsa_planner.proofs.Histories.{one_replayed, one_run}
+use Rattle.dsa_calls.specs.declared.fault.PlanFault.{PlanFault}
+use Rattle.dsa_calls.specs.Laws.{HasBrokenOff}
+use Rattle.dsa_calls.specs.Judge.{Judges}
+use Rattle.dsa_calls.specs.Planned.{Plans}
+use Rattle.dsa_calls.specs.Checked.{Checks}
+use Rattle.dsa_calls.specs.Runs.{Left, Replays}
+use Rattle.dsa_calls.proofs.JudgedOnce.{one_judged}
+use Rattle.dsa_calls.proofs.Submissions.{one_planned}
+use Rattle.dsa_calls.proofs.CheckedOnce.{one_checked}
+use Rattle.dsa_calls.proofs.Histories.{one_replayed, one_run}
 use Rattle.dsa_cert.proofs.Objects.{are_apart}
 use Rattle.dsa_report.specs.declared.jobs.JobName.{JobName}
 use Rattle.dsa_report.specs.declared.jobs.JobName.TheVariants.{Judge, Plan, Check, Replay, Run}

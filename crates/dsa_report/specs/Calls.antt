@@ -9,11 +9,11 @@ use Rattle.dsa_core.specs.declared.event.Event.{Event}
 use Rattle.dsa_cert.specs.Certificates.{contents}
 use Rattle.dsa_cert.specs.Document.{Contents, Documents, document}
 use Rattle.dsa_cert.specs.Spelled.{whole, array_of, object_of}
-use Rattle.dsa_planner.specs.declared.fault.PlanFault.{PlanFault}
-use Rattle.dsa_planner.specs.Judge.{Judges}
-use Rattle.dsa_planner.specs.Planned.{Submission, Plans}
-use Rattle.dsa_planner.specs.Checked.{Checks}
-use Rattle.dsa_planner.specs.Runs.{Left, Replays, Runs}
+use Rattle.dsa_calls.specs.declared.fault.PlanFault.{PlanFault}
+use Rattle.dsa_calls.specs.Judge.{Judges}
+use Rattle.dsa_calls.specs.Planned.{Submission, Plans}
+use Rattle.dsa_calls.specs.Checked.{Checks}
+use Rattle.dsa_calls.specs.Runs.{Left, Replays, Runs}
 use Rattle.dsa_report.specs.declared.jobs.JobName.{JobName}
 use Rattle.dsa_report.specs.declared.jobs.JobName.TheVariants.{Judge, Plan, Check, Replay, Run}
 use Rattle.dsa_report.specs.declared.jobs.Job.{Job}

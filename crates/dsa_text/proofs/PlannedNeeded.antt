@@ -6,7 +6,7 @@ use Rattle.dsa_ranges.specs.Ranges.{ConflictAt}
 use Rattle.dsa_plan.specs.Plan.{Group, start_of}
 use Rattle.dsa_plan.specs.Legal.{IsFenced}
 use Rattle.dsa_plan.specs.Settings.{Limits}
-use Rattle.dsa_planner.specs.Planned.{Submission, IsSubmissionOf}
+use Rattle.dsa_calls.specs.Planned.{Submission, IsSubmissionOf}
 use Rattle.dsa_explain.specs.Reasons.{NeedsFence}
 use Rattle.dsa_explain.proofs.Needed.{chain_needed}
 use Rattle.dsa_text.specs.Laws.{PlannedFencesAreNeeded}

@@ -5,7 +5,7 @@ use Rattle.dsa_ranges.specs.Ranges.{ConflictAt}
 use Rattle.dsa_plan.specs.Settings.{Limits}
 use Rattle.dsa_plan.specs.Plan.{Group, start_of}
 use Rattle.dsa_plan.specs.Legal.{IsFenced}
-use Rattle.dsa_planner.specs.Planned.{Submission, Plans}
+use Rattle.dsa_calls.specs.Planned.{Submission, Plans}
 use Rattle.dsa_explain.specs.Reasons.{NeedsFence}
 
 -- of a plan that planning answers, each fence is needed by the fenced piece and an earlier one

@@ -1,9 +1,9 @@
 //! What a command answers.
 
+use dsa_calls::{PlanFault, refusal_line};
 use dsa_descriptor::ListFault;
 use dsa_explain::ExplainFault;
 use dsa_lines::TextFault;
-use dsa_planner::{PlanFault, refusal_line};
 use dsa_splitter::SplitFault;
 use std::alloc::{AllocError, Global};
 

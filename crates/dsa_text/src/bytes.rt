@@ -1,6 +1,6 @@
 //! Bytes as hexadecimal text.
 
-use dsa_planner::PlanFault;
+use dsa_calls::PlanFault;
 use std::alloc::Global;
 
 /// The text without the blanks and newlines around it.

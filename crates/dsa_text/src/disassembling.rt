@@ -2,10 +2,10 @@
 
 use crate::answer::Answer;
 use crate::bytes::{bytes_of, number_in};
+use dsa_calls::PlanFault;
 use dsa_descriptor::{Descriptor, FieldFault, ListFault};
 use dsa_lines::{disassemble, line_of};
 use dsa_plan::EmissionFault;
-use dsa_planner::PlanFault;
 use std::alloc::{AllocError, Global};
 
 /// The operation code of a batch descriptor.

@@ -1,12 +1,12 @@
 //! `explain`: what the plan of a text or a job does, in words or as a picture.
 
 use crate::answer::Answer;
+use dsa_calls::{PlanFault, check_bytes, judge_bytes, plan_list};
 use dsa_cert::Certificate;
 use dsa_descriptor::{Descriptor, read_list};
 use dsa_explain::{MOST_ROWS, Origin, draw, explain, explanation_text};
 use dsa_lines::assemble;
 use dsa_plan::{Plan, Settings, read_emission};
-use dsa_planner::{PlanFault, check_bytes, judge_bytes, plan_list};
 use std::alloc::{AllocError, Global};
 
 /// Of which operation each piece is.

@@ -1,5 +1,5 @@
 use Rattle.std.proofs.Common.{rules, ◌⊎◌, ◌<◌, inl, inr, length, arith}
-use Rattle.dsa_planner.specs.Planned.{Submission, submission_of}
+use Rattle.dsa_calls.specs.Planned.{Submission, submission_of}
 use Rattle.dsa_c.proofs.Refusing.{planned_for, refuses_list, refuses_buffers}
 use Rattle.dsa_c.proofs.planning.plan_under.Goals as goal
 use Rattle.dsa_c.proofs.planning.plan_under.Goals.{else-portal_len-portal_room-via-then-portal_len-portal_room+else-staging_len-staging_room, else-portal_len-portal_room-via-else-portal_len-portal_room}

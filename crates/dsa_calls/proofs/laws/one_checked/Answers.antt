@@ -1,0 +1,5 @@
+use Rattle.dsa_calls.proofs.CheckedOnce.{one_checked}
+use Rattle.dsa_calls.proofs.laws.one_checked.Goals as goal
+
+pub returns : goal.returns
+returns c = one_checked

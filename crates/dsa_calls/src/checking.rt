@@ -1,0 +1,68 @@
+//! Checking the bytes that submit a plan.
+
+ghost use Rattle.std.specs.Prelude.{◌≤◌, length, map, ℕ, IsOk, List, Result};
+ghost use Rattle.dsa_descriptor.specs.declared.descriptor.Descriptor.{Descriptor};
+ghost use Rattle.dsa_descriptor.specs.Descriptors.{fields};
+ghost use Rattle.dsa_descriptor.specs.Pieces.{most_pieces};
+ghost use Rattle.dsa_ranges.specs.Ranges.{ConflictAt};
+ghost use Rattle.dsa_plan.specs.EmissionFaults.{IsEmission};
+ghost use Rattle.dsa_plan.specs.Legal.{IsLeast};
+ghost use Rattle.dsa_plan.specs.Plan.{Plan};
+ghost use Rattle.dsa_plan.specs.Settings.{tariff_of};
+ghost use Rattle.dsa_cert.specs.Certificates.{contents};
+ghost use Rattle.dsa_calls.specs.declared.fault.PlanFault.{PlanFault};
+ghost use Rattle.dsa_calls.specs.Lists.{OrMemory, IsOrMemory};
+ghost use Rattle.dsa_calls.specs.Checked.{Checks, ChecksPlan};
+
+use crate::fault::PlanFault;
+use dsa_cert::Certificate;
+use dsa_checker::check;
+use dsa_descriptor::Descriptor;
+use dsa_plan::{Plan, Settings, read_emission};
+use std::alloc::Global;
+
+/// The cost of the plan that the bytes of a portal and a staging area submit, where it is legal and the certificate
+/// shows that no legal plan of its pieces costs less.
+///
+/// # Errors
+/// The first fault of the bytes as an emission, as [`read_emission`] reports it; else the first fault of the plan or the
+/// certificate, as [`check`] reports it; [`PlanFault::Memory`] where an allocation fails.
+pub fn check_bytes(
+    alloc: Global,
+    portal: &[u8],
+    staging: &[u8],
+    settings: &Settings,
+    certificate: &Certificate,
+) -> Result<u64, PlanFault>
+    ensures answer { OrMemory (λ cost. cost)
+        (Checks portal.now staging.now settings.now (contents certificate.now)) result }
+    // What it answers is the one outcome, but for an allocation failure.
+    ensures only { (outcome : Result ℕ PlanFault) →
+        Checks portal.now staging.now settings.now (contents certificate.now) outcome →
+        IsOrMemory (λ cost. cost) outcome result }
+    // Where it answers, no legal plan of these pieces costs less, whoever wrote the certificate.
+    ensures least { (plan : Plan) (ds : List Descriptor) →
+        IsEmission settings.now portal.now staging.now plan ds → IsOk result →
+        IsLeast (ConflictAt (map fields ds))
+        settings.now.greatest_batch (tariff_of settings.now) (length ds) plan }
+{
+    let (plan, pieces) = read_emission(alloc, portal, staging, settings)?;
+    check_plan(&pieces, settings, &plan, certificate)
+}
+
+/// The cost of the plan of these pieces, where the certificate shows it.
+fn check_plan(
+    pieces: &[Descriptor],
+    settings: &Settings,
+    plan: &Plan,
+    certificate: &Certificate,
+) -> Result<u64, PlanFault>
+    requires { length pieces.now ≤ most_pieces }
+    ensures { ChecksPlan settings.now
+        (map fields pieces.now) plan.now (contents certificate.now) result }
+{
+    match check(pieces, settings, plan, certificate) {
+        Ok(cost) => Ok(cost),
+        Err(fault) => Err(PlanFault::Check(fault)),
+    }
+}

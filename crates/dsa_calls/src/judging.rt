@@ -1,0 +1,57 @@
+//! Judging a plan for listed pieces.
+
+ghost use Rattle.std.specs.Prelude.{ℕ, Result, map};
+ghost use Rattle.dsa_calls.specs.declared.fault.PlanFault.{PlanFault};
+ghost use Rattle.dsa_descriptor.specs.Descriptors.{fields};
+ghost use Rattle.dsa_calls.specs.Judge.{Judges, JudgesPieces, FindsOver};
+ghost use Rattle.dsa_calls.specs.Lists.{OrMemory, IsOrMemory};
+
+use crate::fault::PlanFault;
+use dsa_descriptor::{Descriptor, MOST_PIECES, read_list};
+use dsa_plan::{Plan, Settings, cost, is_legal};
+use dsa_splitter::SplitFault;
+use std::alloc::Global;
+
+/// The cost of the plan for the pieces that the bytes spell, or the first cause to refuse it: that of the list, then
+/// more than 65,536 pieces, then the first piece longer than the greatest transfer, then that of the plan. Memory is
+/// taken once, for the pieces.
+pub fn judge_bytes(
+    alloc: Global,
+    list: &[u8],
+    plan: &Plan,
+    settings: &Settings,
+) -> Result<u64, PlanFault>
+    ensures answer { OrMemory (λ cost. cost) (Judges list.now plan.now settings.now) result }
+    // What it answers is the one outcome, but for an allocation failure.
+    ensures only { (outcome : Result ℕ PlanFault) →
+        Judges list.now plan.now settings.now outcome → IsOrMemory (λ cost. cost) outcome result }
+{
+    let pieces = read_list(alloc, list)?;
+    judge(&pieces, plan, settings)
+}
+
+/// The cost of the plan for the pieces, or the first cause to refuse it.
+fn judge(pieces: &[Descriptor], plan: &Plan, settings: &Settings) -> Result<u64, PlanFault>
+    ensures { JudgesPieces (map fields pieces.now) plan.now settings.now result }
+{
+    if pieces.len() > MOST_PIECES {
+        return Err(PlanFault::Split(SplitFault::TooManyPieces));
+    }
+    if let Some(index) = first_over(pieces, settings.greatest_transfer()) {
+        return Err(PlanFault::OverTransfer(index));
+    }
+    is_legal(plan, pieces, settings)?;
+    Ok(cost(plan, settings))
+}
+
+/// The index of the first piece longer than the greatest transfer.
+fn first_over(pieces: &[Descriptor], greatest: u64) -> Option<usize>
+    ensures { FindsOver greatest (map fields pieces.now) result }
+{
+    for (index, piece) in pieces.iter().enumerate() {
+        if u64::from(piece.size) > greatest {
+            return Some(index);
+        }
+    }
+    None
+}

@@ -1,5 +1,0 @@
-use Rattle.dsa_planner.proofs.Histories.{one_replayed}
-use Rattle.dsa_planner.proofs.laws.one_replayed.Goals as goal
-
-pub returns : goal.returns
-returns c = one_replayed

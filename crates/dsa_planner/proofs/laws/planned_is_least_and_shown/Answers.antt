@@ -1,5 +1,0 @@
-use Rattle.dsa_planner.proofs.Submissions.{planned_is_least_and_shown}
-use Rattle.dsa_planner.proofs.laws.planned_is_least_and_shown.Goals as goal
-
-pub returns : goal.returns
-returns c = planned_is_least_and_shown

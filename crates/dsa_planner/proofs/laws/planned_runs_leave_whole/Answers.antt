@@ -1,5 +1,0 @@
-use Rattle.dsa_planner.proofs.Histories.{planned_runs_leave_whole}
-use Rattle.dsa_planner.proofs.laws.planned_runs_leave_whole.Goals as goal
-
-pub returns : goal.returns
-returns c = planned_runs_leave_whole

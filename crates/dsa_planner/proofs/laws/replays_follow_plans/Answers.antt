@@ -1,5 +1,0 @@
-use Rattle.dsa_planner.proofs.Histories.{replays_follow_plans}
-use Rattle.dsa_planner.proofs.laws.replays_follow_plans.Goals as goal
-
-pub returns : goal.returns
-returns c = replays_follow_plans

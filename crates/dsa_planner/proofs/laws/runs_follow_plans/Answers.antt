@@ -1,5 +1,0 @@
-use Rattle.dsa_planner.proofs.Histories.{runs_follow_plans}
-use Rattle.dsa_planner.proofs.laws.runs_follow_plans.Goals as goal
-
-pub returns : goal.returns
-returns c = runs_follow_plans

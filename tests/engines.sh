@@ -13,12 +13,13 @@ for patch in one_thread:two_engines_are_at_work_at_once locked_lines:lines_are_w
     test=${patch#*:}
     rm -rf "$copy/crates"
     mkdir -p "$copy/crates"
-    grep -E '^(dsa_descriptor|dsa_ranges|dsa_image|dsa_settings|dsa_legal|dsa_emission|dsa_plan|dsa_core|dsa_engines):' crates.txt > "$copy/crates.txt"
+    grep -E '^(dsa_descriptor|dsa_ranges|dsa_image|dsa_settings|dsa_legal|dsa_emission|dsa_plan|dsa_core|dsa_engines):' crates.txt \
+        | sed 's/^dsa_engines:/& dsa_plan/' > "$copy/crates.txt"
     for crate in dsa_descriptor dsa_ranges dsa_image dsa_settings dsa_legal dsa_emission dsa_plan dsa_core dsa_engines; do
         cp -a "crates/$crate" "$copy/crates/"
     done
     cp HANDLES "$copy/"
-    # the tests of engines, which stand in a crate above, as tests of dsa_engines itself
+    # the tests of engines, which stand in a crate above and name plans by dsa_plan, as tests of dsa_engines itself
     sed 's/dsa_engines::/crate::/' crates/dsa_call_tests/src/engines.rt > "$copy/crates/dsa_engines/src/tests.rt"
     mkdir "$copy/crates/dsa_engines/src/tests"
     for module in gates runs watched; do

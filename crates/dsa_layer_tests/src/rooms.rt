@@ -9,8 +9,7 @@ use dsa_core::{
 };
 use dsa_descriptor::{Descriptor, Record};
 use dsa_image::Image;
-use dsa_legal::is_legal;
-use dsa_settings::{Group, Plan, Settings};
+use dsa_plan::{Group, Plan, Settings, is_legal};
 use std::alloc::Global;
 use std::process::Abort;
 use std::test::Fail;

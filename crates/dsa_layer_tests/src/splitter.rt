@@ -1,7 +1,7 @@
 use crate::given::descriptor;
 use dsa_descriptor::{Descriptor, FieldFault};
 use dsa_image::Image;
-use dsa_settings::{Settings, SettingsFault};
+use dsa_plan::{Settings, SettingsFault};
 use dsa_splitter::{SplitFault, pieces};
 use std::alloc::Global;
 use std::test::Fail;

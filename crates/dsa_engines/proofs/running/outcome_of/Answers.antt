@@ -2,7 +2,7 @@ use Rattle.std.proofs.Common.{◌≡◌, ℕ, List, map, refl, sym, subst}
 use Rattle.dsa_descriptor.specs.Fields.{Fields}
 use Rattle.dsa_descriptor.specs.Descriptors.{fields}
 use Rattle.dsa_image.specs.Memory.{Memory}
-use Rattle.dsa_plan.specs.Plan.{Plan}
+use Rattle.dsa_settings.specs.Plan.{Plan}
 use Rattle.dsa_core.specs.Accounts.{Account, IsOutcome}
 use Rattle.dsa_core.specs.Outcomes.{IsOutcomeOf, room_with}
 use Rattle.dsa_core.specs.declared.outcome.Outcome.{Outcome}

@@ -26,7 +26,7 @@ use Rattle.dsa_emission.specs.declared.place.Place.{Place}
 use Rattle.dsa_settings.specs.Plan.{Plan, start_of}
 use Rattle.dsa_settings.specs.Settings.{Limits}
 use Rattle.dsa_emission.specs.Emission.{is_batch, batch_count, batched_count, place_of, with_fence, batch_spelling}
-use Rattle.dsa_emission.specs.EmissionFaults.{is_batch_entry, told_size, told_place, told_end, piece_bytes, owner_of, demands_of, Spells, IsFit, IsFirstEntryFault, IsSoundPiece, IsSoundGroup, IsFirstPortalFault, IsRightAt, HasPieces, HasZeroRecord, records_of, IsEmission, IsFirstEmissionFault}
+use Rattle.dsa_emission.specs.EmissionFaults.{is_batch_entry, entry_size, place_before, place_at_end, piece_bytes, owner_of, demands_of, Spells, IsFit, IsFirstEntryFault, IsSoundPiece, IsSoundGroup, IsFirstPortalFault, IsRightAt, HasPieces, HasZeroRecord, records_of, IsEmission, IsFirstEmissionFault}
 use Rattle.dsa_emission.specs.EmissionLaws.{StandsAtPlaces}
 use Rattle.dsa_emission.proofs.AtPlaces.{emission_at_places}
 use Rattle.dsa_emission.proofs.Places.{batch_yes, batch_no, entry_batch}
@@ -39,7 +39,7 @@ use Rattle.dsa_emission.proofs.Told.{group_at, is_group_at, some_at, Fits, fits_
 
 pub record Sound (s : Limits) (portal staging : List ℕ) : Type 0 where
   pub pieces : HasPieces s portal staging
-  pub zeros : (b : ℕ) → b < (told_end (entries portal)).batches → HasZeroRecord (records_of portal staging) b
+  pub zeros : (b : ℕ) → b < (place_at_end (entries portal)).batches → HasZeroRecord (records_of portal staging) b
 
 pub no_entry_fault : (demands : Demands) (bytes : List ℕ) (d : Descriptor) (fault : EntryFault) → Spells bytes d → IsFit demands (fields d) → IsFirstEntryFault demands bytes fault → ⊥
 no_entry_fault demands bytes d (Field f) spelt fit stands =
@@ -96,7 +96,7 @@ module _ (s : Limits) (portal staging : List ℕ) (plan : Plan) (ds : List Descr
 
   -- what the entry of a group tells
   record Tells (k : ℕ) : Type 0 where
-    size : length (group_at plan k) ≡ told_size (entry portal k)
+    size : length (group_at plan k) ≡ entry_size (entry portal k)
     batch : is_batch (group_at plan k) ≡ is_batch_entry (entry portal k)
 
   tells_batch : (k : ℕ) → k < length (entries portal) → 1 < length (group_at plan k) → Tells k
@@ -135,18 +135,18 @@ module _ (s : Limits) (portal staging : List ℕ) (plan : Plan) (ds : List Descr
   whole_end : SameEnd (entries portal) plan
   whole_end = end_same (entries portal) plan shape
 
-  placed : (n : ℕ) → place_of plan n ≡ told_place (entries portal) n
+  placed : (n : ℕ) → place_of plan n ≡ place_before (entries portal) n
   placed n = place_same (entries portal) plan n shape
 
   -- each piece stands in its bytes
   record Piece (number k : ℕ) : Type 0 where
     piece : Descriptor
-    at : slice_get ds ((told_place (entries portal) number).start + k) ≡ Some piece
+    at : slice_get ds ((place_before (entries portal) number).start + k) ≡ Some piece
     fence : Bool
     flag : slice_get (group_at plan number) k ≡ Some fence
     bytes : piece_bytes (entries portal) (entries staging) number k ≡ spelling (with_fence fence (fields piece))
 
-  in_batch : (number k : ℕ) → number < length (entries portal) → k < length (group_at plan number) → 1 < length (group_at plan number) → (d : Descriptor) → slice_get ds ((told_place (entries portal) number).start + k) ≡ Some d → Piece number k
+  in_batch : (number k : ℕ) → number < length (entries portal) → k < length (group_at plan number) → 1 < length (group_at plan number) → (d : Descriptor) → slice_get ds ((place_before (entries portal) number).start + k) ≡ Some d → Piece number k
   in_batch number k lt inside more d at =
       let flag : slice_get (group_at plan number) k ≡ Some (get_or (group_at plan number) k false) = slice_get-get_or (group_at plan number) k false inside in
       let yes : is_batch_entry (entry portal number) ≡ true = sym (tells number lt).batch ∙ batch_yes (group_at plan number) more in
@@ -156,18 +156,18 @@ module _ (s : Limits) (portal staging : List ℕ) (plan : Plan) (ds : List Descr
         at = at;
         fence = get_or (group_at plan number) k false;
         flag = flag;
-        bytes = ap (λ (b : Bool). cond b (slice_index_or (entries staging) ((told_place (entries portal) number).batched + k) []) (entry portal number)) yes
+        bytes = ap (λ (b : Bool). cond b (slice_index_or (entries staging) ((place_before (entries portal) number).batched + k) []) (entry portal number)) yes
             ∙ ap (λ (p : Place). slice_index_or (entries staging) (p.batched + k) []) (sym (placed number)) ∙ spelt;
       }
 
-  alone : (number k : ℕ) → number < length (entries portal) → k < length (group_at plan number) → (1 < length (group_at plan number) → ⊥) → (d : Descriptor) → slice_get ds ((told_place (entries portal) number).start + k) ≡ Some d → Piece number k
+  alone : (number k : ℕ) → number < length (entries portal) → k < length (group_at plan number) → (1 < length (group_at plan number) → ⊥) → (d : Descriptor) → slice_get ds ((place_before (entries portal) number).start + k) ≡ Some d → Piece number k
   alone number k lt inside few d at =
       let f : Fits (place_of plan number) (group_at plan number) ds = fits number lt in
       let one : length (group_at plan number) ≡ 1 = omega (arith, f.nonempty) in
       let first : k ≡ 0 = omega (arith, one) in
       let no : is_batch_entry (entry portal number) ≡ false = sym (tells number lt).batch ∙ batch_no (group_at plan number) few in
       let (e, is, there) = lone_entry_is s (batched_count plan) (place_of plan number) (group_at plan number) ds f one in
-      let start : (told_place (entries portal) number).start + k ≡ start_of plan number = omega (arith, first, ap (λ (p : Place). p.start) (placed number)) in
+      let start : (place_before (entries portal) number).start + k ≡ start_of plan number = omega (arith, first, ap (λ (p : Place). p.start) (placed number)) in
       let same : e ≡ d = same_Some e d (sym (slice_get-get_or ds (start_of plan number) e (omega (arith, f.room, f.nonempty)) ∙ ap Some (sym there)) ∙ ap (slice_get ds) (sym start) ∙ at) in
       let begins : slice_get (group_at plan number) 0 ≡ Some false = (m.can_be.shapes number (group_at plan number) (here number lt)).begins in
       record {
@@ -175,17 +175,17 @@ module _ (s : Limits) (portal staging : List ℕ) (plan : Plan) (ds : List Descr
         at = at;
         fence = false;
         flag = ap (slice_get (group_at plan number)) first ∙ begins;
-        bytes = ap (λ (b : Bool). cond b (slice_index_or (entries staging) ((told_place (entries portal) number).batched + k) []) (entry portal number)) no
+        bytes = ap (λ (b : Bool). cond b (slice_index_or (entries staging) ((place_before (entries portal) number).batched + k) []) (entry portal number)) no
             ∙ stands.entries number (group_at plan number) (here number lt) ∙ is ∙ ap (λ (x : Descriptor). spelling (fields x)) same ∙ sym (unfenced_same (fields d));
       }
 
   piece_of : (number k : ℕ) → number < length (entries portal) → k < length (group_at plan number) → Piece number k
   piece_of number k lt inside =
       let f : Fits (place_of plan number) (group_at plan number) ds = fits number lt in
-      let start : start_of plan number ≡ (told_place (entries portal) number).start = ap (λ (p : Place). p.start) (placed number) in
-      let within : (told_place (entries portal) number).start + k < length ds = omega (arith, f.room, start) in
-      let (d, is) = some_at ds ((told_place (entries portal) number).start + k) within in
-      let at : slice_get ds ((told_place (entries portal) number).start + k) ≡ Some d = slice_get-get_or ds ((told_place (entries portal) number).start + k) d within ∙ ap Some (sym is) in
+      let start : start_of plan number ≡ (place_before (entries portal) number).start = ap (λ (p : Place). p.start) (placed number) in
+      let within : (place_before (entries portal) number).start + k < length ds = omega (arith, f.room, start) in
+      let (d, is) = some_at ds ((place_before (entries portal) number).start + k) within in
+      let at : slice_get ds ((place_before (entries portal) number).start + k) ≡ Some d = slice_get-get_or ds ((place_before (entries portal) number).start + k) d within ∙ ap Some (sym is) in
       elim (cases_lt 1 (length (group_at plan number))) [
         | inl more ↦ in_batch number k lt inside more d at
         | inr few ↦ alone number k lt inside (λ more. absurd (omega arith)) d at
@@ -212,7 +212,7 @@ module _ (s : Limits) (portal staging : List ℕ) (plan : Plan) (ds : List Descr
           let b : get_or (map fields ds) (suc i) (fields d) ≡ fields d = get_or-map fields ds (suc i) d (fields d) lt ∙ ap fields (get_or_from_slice_get ds (suc i) d d at) in
           (ap (λ (f : Fields). f.pasid) (sym a) ∙ both.0 ∙ ap (λ (f : Fields). f.pasid) b, ap (λ (f : Fields). f.privileged) (sym a) ∙ both.1 ∙ ap (λ (f : Fields). f.privileged) b)
 
-  count_of : length (map fields ds) ≡ (told_end (entries portal)).start
+  count_of : length (map fields ds) ≡ (place_at_end (entries portal)).start
   count_of = sym m.can_be.covers ∙ whole_end.pieces
 
   fit : 0 < length (entries portal) → (i : ℕ) (d : Descriptor) → slice_get ds i ≡ Some d → IsFit (demands_of s (entries portal) (entries staging)) (fields d)
@@ -224,7 +224,7 @@ module _ (s : Limits) (portal staging : List ℕ) (plan : Plan) (ds : List Descr
         (subst (λ (n : ℕ). InSpan (span s.staging (96 * n)) address) (sym count_of) inside);
   }
 
-  sound_piece : (number k : ℕ) → number < length (entries portal) → k < told_size (entry portal number) → IsSoundPiece (demands_of s (entries portal) (entries staging)) (piece_bytes (entries portal) (entries staging) number) k
+  sound_piece : (number k : ℕ) → number < length (entries portal) → k < entry_size (entry portal number) → IsSoundPiece (demands_of s (entries portal) (entries staging)) (piece_bytes (entries portal) (entries staging) number) k
   sound_piece number k lt inside =
       let p : Piece number k = piece_of number k lt (omega (arith, (tells number lt).size)) in
       let told = told_piece (piece_bytes (entries portal) (entries staging) number k) p.fence p.piece p.bytes in
@@ -233,7 +233,7 @@ module _ (s : Limits) (portal staging : List ℕ) (plan : Plan) (ds : List Descr
         first_unfenced = λ none. told.0 ∙ same_Some p.fence false (sym p.flag ∙ ap (slice_get (group_at plan number)) none ∙ begins);
         piece = p.piece;
         spelt = told.1;
-        fit = fit (omega arith) ((told_place (entries portal) number).start + k) p.piece p.at;
+        fit = fit (omega arith) ((place_before (entries portal) number).start + k) p.piece p.at;
       }
 
   right : (number : ℕ) → number < length (entries portal) → IsRightAt s (entries portal) (owner_of portal staging) number
@@ -254,7 +254,7 @@ module _ (s : Limits) (portal staging : List ℕ) (plan : Plan) (ds : List Descr
               ∙ ap (λ (o : List ℕ). batch_spelling o (s.staging + 64 * batched_count plan + 32 * (place_of plan number).batches) (s.staging + 64 * (place_of plan number).batched) (length (group_at plan number))) (sym owner)
               ∙ ap (λ (n : ℕ). batch_spelling (owner_of portal staging) (s.staging + 64 * batched_count plan + 32 * (place_of plan number).batches) (s.staging + 64 * (place_of plan number).batched) n) size
               ∙ ap (λ (n : ℕ). batch_spelling (owner_of portal staging) (s.staging + 64 * n + 32 * (place_of plan number).batches) (s.staging + 64 * (place_of plan number).batched) (u32_at 32 (entry portal number))) whole_end.batched_total
-              ∙ ap (λ (p : Place). batch_spelling (owner_of portal staging) (s.staging + 64 * (told_end (entries portal)).batched + 32 * p.batches) (s.staging + 64 * p.batched) (u32_at 32 (entry portal number))) (placed number);
+              ∙ ap (λ (p : Place). batch_spelling (owner_of portal staging) (s.staging + 64 * (place_at_end (entries portal)).batched + 32 * p.batches) (s.staging + 64 * p.batched) (u32_at 32 (entry portal number))) (placed number);
         }
       ]
 

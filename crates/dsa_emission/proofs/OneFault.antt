@@ -16,7 +16,7 @@ use Rattle.dsa_emission.specs.declared.emission_fault.EmissionFault.{EmissionFau
 use Rattle.dsa_emission.specs.declared.emission_fault.EmissionFault.TheVariants.{PortalLength, StagingLength, BatchFields, EntryFence, Entry, RecordBytes, Memory}
 use Rattle.dsa_settings.specs.Plan.{Plan}
 use Rattle.dsa_settings.specs.Settings.{Limits}
-use Rattle.dsa_emission.specs.EmissionFaults.{told_size, told_place, piece_bytes, demands_of, is_fenced, unfenced, Spells, IsOwned, IsFirstEntryFault, IsSoundPiece, IsFirstPieceFault, IsFirstGroupFault, IsFirstPortalFault, IsEmission, IsFirstEmissionFault}
+use Rattle.dsa_emission.specs.EmissionFaults.{entry_size, place_before, piece_bytes, demands_of, is_fenced, unfenced, Spells, IsOwned, IsFirstEntryFault, IsSoundPiece, IsFirstPieceFault, IsFirstGroupFault, IsFirstPortalFault, IsEmission, IsFirstEmissionFault}
 use Rattle.dsa_emission.proofs.NoFault.{no_entry_fault, no_portal_fault, memory_alone, emission_is_sound}
 
 -- ---- one piece
@@ -106,15 +106,15 @@ no_group_fault demands bytes number start size Memory sound p = p
 
 abbrev GroupFaultAt : Demands → List (List ℕ) → List (List ℕ) → ℕ → EmissionFault → Type 0
 GroupFaultAt demands es staged number fault =
-    IsFirstGroupFault demands (piece_bytes es staged number) number (told_place es number).start (told_size (slice_index_or es number [])) fault
+    IsFirstGroupFault demands (piece_bytes es staged number) number (place_before es number).start (entry_size (slice_index_or es number [])) fault
 
 one_portal_fault : (demands : Demands) (es staged : List (List ℕ)) (f g : EmissionFault) → IsFirstPortalFault demands es staged f → IsFirstPortalFault demands es staged g → f ≡ g
 one_portal_fault demands es staged f g p q =
     ⊎_elim (λ (e : p.number ≡ q.number).
-    one_group_fault demands (piece_bytes es staged q.number) q.number (told_place es q.number).start (told_size (slice_index_or es q.number [])) f g
+    one_group_fault demands (piece_bytes es staged q.number) q.number (place_before es q.number).start (entry_size (slice_index_or es q.number [])) f g
     (subst (λ (n : ℕ). GroupFaultAt demands es staged n f) e p.stands) q.stands)
-    (⊎_elim (λ (lt : p.number < q.number). absurd (no_group_fault demands (piece_bytes es staged p.number) p.number (told_place es p.number).start (told_size (slice_index_or es p.number [])) f (q.before p.number lt) p.stands))
-    (λ (gt : q.number < p.number). absurd (no_group_fault demands (piece_bytes es staged q.number) q.number (told_place es q.number).start (told_size (slice_index_or es q.number [])) g (p.before q.number gt) q.stands)))
+    (⊎_elim (λ (lt : p.number < q.number). absurd (no_group_fault demands (piece_bytes es staged p.number) p.number (place_before es p.number).start (entry_size (slice_index_or es p.number [])) f (q.before p.number lt) p.stands))
+    (λ (gt : q.number < p.number). absurd (no_group_fault demands (piece_bytes es staged q.number) q.number (place_before es q.number).start (entry_size (slice_index_or es q.number [])) g (p.before q.number gt) q.stands)))
     (cases_order p.number q.number)
 
 -- ---- the whole

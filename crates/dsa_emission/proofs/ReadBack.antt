@@ -11,8 +11,8 @@ use Rattle.dsa_descriptor.specs.Fields.{Fields}
 use Rattle.dsa_emission.specs.declared.demands.Demands.{Demands}
 use Rattle.dsa_emission.specs.declared.place.Place.{Place}
 use Rattle.dsa_settings.specs.Plan.{Group, Plan}
-use Rattle.dsa_emission.specs.EmissionFaults.{told_size, told_place, piece_bytes, is_fenced, Spells, IsFit, IsSoundPiece, IsSoundGroup, IsGroupRead, IsRead}
-use Rattle.dsa_emission.proofs.Shapes.{told_place-next, start_before}
+use Rattle.dsa_emission.specs.EmissionFaults.{entry_size, place_before, piece_bytes, is_fenced, Spells, IsFit, IsSoundPiece, IsSoundGroup, IsGroupRead, IsRead}
+use Rattle.dsa_emission.proofs.Shapes.{place_before-next, start_before}
 use Rattle.dsa_emission.proofs.Told.{some_at}
 
 -- ---- lists
@@ -96,29 +96,29 @@ read_none demands es staged = record {
 }
 
 pub read_more : (demands : Demands) (es staged : List (List ℕ)) (n : ℕ) (plan : Plan) (ds : List Descriptor) (g : Group) (new : List Descriptor) → n < length es → IsRead demands es staged n plan ds →
-    IsGroupRead demands (piece_bytes es staged n) (told_size (slice_index_or es n [])) g new → IsRead demands es staged (n + 1) (plan ++ g ∷ []) (ds ++ new)
+    IsGroupRead demands (piece_bytes es staged n) (entry_size (slice_index_or es n [])) g new → IsRead demands es staged (n + 1) (plan ++ g ∷ []) (ds ++ new)
 read_more demands es staged n plan ds g new inside r here = record {
   groups = omega (arith, length-append plan (g ∷ []), r.groups);
-  pieces = omega (arith, length-append ds new, r.pieces, here.pieces, ap (λ (p : Place). p.start) (told_place-next es n inside));
+  pieces = omega (arith, length-append ds new, r.pieces, here.pieces, ap (λ (p : Place). p.start) (place_before-next es n inside));
   sizes = λ number h p.
       elim (cases_lt number n) [
         | inl less ↦ r.sizes number h (sym (slice_get-left plan (g ∷ []) number (omega (arith, r.groups))) ∙ p)
         | inr most ↦
             let last = slice_get-last plan g h number (omega (arith, r.groups)) p in
             let same : n ≡ number = omega (arith, last.0, r.groups) in
-            ap length (sym last.1) ∙ here.fences ∙ ap (λ (z : ℕ). told_size (slice_index_or es z [])) same
+            ap length (sym last.1) ∙ here.fences ∙ ap (λ (z : ℕ). entry_size (slice_index_or es z [])) same
       ];
   each = λ number h k fence d p q at.
       elim (cases_lt number n) [
         | inl less ↦
             let old : slice_get plan number ≡ Some h = sym (slice_get-left plan (g ∷ []) number (omega (arith, r.groups))) ∙ p in
-            let within : k < told_size (slice_index_or es number []) = omega (arith, slice_get_within h k fence q, r.sizes number h old) in
-            let room : (told_place es number).start + told_size (slice_index_or es number []) ≤ (told_place es n).start = start_before es number n less (omega arith) in
-            r.each number h k fence d old q (sym (slice_get-left ds new ((told_place es number).start + k) (omega (arith, r.pieces))) ∙ at)
+            let within : k < entry_size (slice_index_or es number []) = omega (arith, slice_get_within h k fence q, r.sizes number h old) in
+            let room : (place_before es number).start + entry_size (slice_index_or es number []) ≤ (place_before es n).start = start_before es number n less (omega arith) in
+            r.each number h k fence d old q (sym (slice_get-left ds new ((place_before es number).start + k) (omega (arith, r.pieces))) ∙ at)
         | inr most ↦
             let last = slice_get-last plan g h number (omega (arith, r.groups)) p in
             let same : n ≡ number = omega (arith, last.0, r.groups) in
-            let there : slice_get new k ≡ Some d = sym (slice_get-right ds new ((told_place es number).start + k) k (omega (arith, r.pieces, ap (λ (z : ℕ). (told_place es z).start) same))) ∙ at in
+            let there : slice_get new k ≡ Some d = sym (slice_get-right ds new ((place_before es number).start + k) k (omega (arith, r.pieces, ap (λ (z : ℕ). (place_before es z).start) same))) ∙ at in
             subst (λ (z : ℕ). (fence ≡ is_fenced (piece_bytes es staged z k)) × Spells (piece_bytes es staged z k) d) same
             (here.each k fence d (ap (λ (z : Group). slice_get z k) last.1 ∙ q) there)
       ];
@@ -133,6 +133,6 @@ read_more demands es staged n plan ds g new inside r here = record {
         | inl less ↦ r.sound number less
         | inr most ↦
             let same : n ≡ number = omega arith in
-            subst (λ (z : ℕ). IsSoundGroup demands es staged z) same (sound_pieces demands (piece_bytes es staged n) (told_size (slice_index_or es n [])) g new here)
+            subst (λ (z : ℕ). IsSoundGroup demands es staged z) same (sound_pieces demands (piece_bytes es staged n) (entry_size (slice_index_or es n [])) g new here)
       ];
 }

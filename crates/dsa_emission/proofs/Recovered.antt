@@ -18,7 +18,7 @@ use Rattle.dsa_settings.specs.Plan.{Group, Plan, start_of}
 use Rattle.dsa_settings.specs.Shapes.{HasGroupShape}
 use Rattle.dsa_settings.specs.Settings.{Limits, AreInLimits}
 use Rattle.dsa_emission.specs.Emission.{is_batch, batched_count, place_of, with_fence, batch_spelling, portal_entry, CanBeEmitted}
-use Rattle.dsa_emission.specs.EmissionFaults.{is_batch_entry, told_size, told_place, told_end, piece_bytes, owner_of, demands_of, is_fenced, Spells, IsBatchAt, HasBatches, HasZeroRecord, records_of, IsRead, IsEmission}
+use Rattle.dsa_emission.specs.EmissionFaults.{is_batch_entry, entry_size, place_before, place_at_end, piece_bytes, owner_of, demands_of, is_fenced, Spells, IsBatchAt, HasBatches, HasZeroRecord, records_of, IsRead, IsEmission}
 use Rattle.dsa_emission.specs.EmissionLaws.{StandsAtPlaces}
 use Rattle.dsa_emission.proofs.AtPlaces.{emission_at_places}
 use Rattle.dsa_emission.proofs.Places.{batch_yes, batch_no, entry_batch, entry_lone}
@@ -53,7 +53,7 @@ pub record Whole (s : Limits) (portal staging : List ℕ) (plan : Plan) (ds : Li
   pub limits : AreInLimits s
   pub batches : HasBatches s portal staging
   pub read : IsRead (demands_of s (entries portal) (entries staging)) (entries portal) (entries staging) (length (entries portal)) plan ds
-  pub zeros : (b : ℕ) → b < (told_end (entries portal)).batches → HasZeroRecord (records_of portal staging) b
+  pub zeros : (b : ℕ) → b < (place_at_end (entries portal)).batches → HasZeroRecord (records_of portal staging) b
 
 batch_told : (b : Bool) (count : ℕ) (g : Group) → length g ≡ cond b count 1 → (b ≡ true → 2 ≤ count) → is_batch g ≡ b
 batch_told true count g size two = batch_yes g (omega (arith, two refl))
@@ -69,10 +69,10 @@ size_few false count most two few = omega arith
 
 module _ (s : Limits) (portal staging : List ℕ) (plan : Plan) (ds : List Descriptor) (w : Whole s portal staging plan ds) where
   right : (k : ℕ) → k < length (entries portal) → is_batch_entry (slice_index_or (entries portal) k []) ≡ true →
-      IsBatchAt s (owner_of portal staging) (told_end (entries portal)).batched (told_place (entries portal) k) (slice_index_or (entries portal) k [])
+      IsBatchAt s (owner_of portal staging) (place_at_end (entries portal)).batched (place_before (entries portal) k) (slice_index_or (entries portal) k [])
   right = w.batches.right
 
-  some_size : (k : ℕ) → k < length (entries portal) → 0 < told_size (slice_index_or (entries portal) k [])
+  some_size : (k : ℕ) → k < length (entries portal) → 0 < entry_size (slice_index_or (entries portal) k [])
   some_size k lt = size_some (is_batch_entry (slice_index_or (entries portal) k [])) (u32_at 32 (slice_index_or (entries portal) k [])) (λ is. (right k lt is).least)
 
   shape : SameShape (entries portal) plan
@@ -87,19 +87,19 @@ module _ (s : Limits) (portal staging : List ℕ) (plan : Plan) (ds : List Descr
   whole_end : SameEnd (entries portal) plan
   whole_end = end_same (entries portal) plan shape
 
-  placed : (n : ℕ) → place_of plan n ≡ told_place (entries portal) n
+  placed : (n : ℕ) → place_of plan n ≡ place_before (entries portal) n
   placed n = place_same (entries portal) plan n shape
 
-  piece_at : (number k : ℕ) → number < length (entries portal) → k < told_size (slice_index_or (entries portal) number []) → (d : Descriptor) × (slice_get ds ((told_place (entries portal) number).start + k) ≡ Some d)
+  piece_at : (number k : ℕ) → number < length (entries portal) → k < entry_size (slice_index_or (entries portal) number []) → (d : Descriptor) × (slice_get ds ((place_before (entries portal) number).start + k) ≡ Some d)
   piece_at number k lt inside =
-      let within : (told_place (entries portal) number).start + k < length ds = omega (arith, sized_more (entries portal) number lt, w.read.pieces) in
-      let (d, at) = some_at ds ((told_place (entries portal) number).start + k) within in
-      (d, slice_get-get_or ds ((told_place (entries portal) number).start + k) d within ∙ ap Some (sym at))
+      let within : (place_before (entries portal) number).start + k < length ds = omega (arith, sized_more (entries portal) number lt, w.read.pieces) in
+      let (d, at) = some_at ds ((place_before (entries portal) number).start + k) within in
+      (d, slice_get-get_or ds ((place_before (entries portal) number).start + k) d within ∙ ap Some (sym at))
 
   -- the first piece of each group, unfenced
   record FirstOf (number : ℕ) : Type 0 where
     piece : Descriptor
-    here : slice_get ds (told_place (entries portal) number).start ≡ Some piece
+    here : slice_get ds (place_before (entries portal) number).start ≡ Some piece
     spelt : Spells (piece_bytes (entries portal) (entries staging) number 0) piece
     unfenced : is_fenced (piece_bytes (entries portal) (entries staging) number 0) ≡ false
     begins : slice_get (group_at plan number) 0 ≡ Some false
@@ -110,7 +110,7 @@ module _ (s : Limits) (portal staging : List ℕ) (plan : Plan) (ds : List Descr
       let (d, at) = piece_at number 0 lt (some_size number lt) in
       let flag : slice_get (group_at plan number) 0 ≡ Some (get_or (group_at plan number) 0 false) = slice_get-get_or (group_at plan number) 0 false size in
       let both = w.read.each number (group_at plan number) 0 (get_or (group_at plan number) 0 false) d (is_group_at plan number (omega (arith, w.read.groups))) flag at in
-      let start : (told_place (entries portal) number).start + 0 ≡ (told_place (entries portal) number).start = omega arith in
+      let start : (place_before (entries portal) number).start + 0 ≡ (place_before (entries portal) number).start = omega arith in
       record {
         piece = d;
         here = ap (slice_get ds) (sym start) ∙ at;
@@ -121,14 +121,14 @@ module _ (s : Limits) (portal staging : List ℕ) (plan : Plan) (ds : List Descr
 
   -- it can be emitted
 
-  count_of : length (map fields ds) ≡ (told_end (entries portal)).start
+  count_of : length (map fields ds) ≡ (place_at_end (entries portal)).start
   count_of = length-map ds fields ∙ w.read.pieces
 
   shapes : (number : ℕ) (g : Group) → slice_get plan number ≡ Some g → HasGroupShape s.greatest_batch g
   shapes number g is =
       let lt : number < length (entries portal) = omega (arith, slice_get_within plan number g is, w.read.groups) in
-      let size : length g ≡ told_size (slice_index_or (entries portal) number []) = w.read.sizes number g is in
-      let few : told_size (slice_index_or (entries portal) number []) ≤ s.greatest_batch =
+      let size : length g ≡ entry_size (slice_index_or (entries portal) number []) = w.read.sizes number g is in
+      let few : entry_size (slice_index_or (entries portal) number []) ≤ s.greatest_batch =
       size_few (is_batch_entry (slice_index_or (entries portal) number [])) (u32_at 32 (slice_index_or (entries portal) number [])) s.greatest_batch w.limits.least_batch (λ batch. (right number lt batch).most) in
       record {
         size = record { nonempty = omega (arith, some_size number lt, size); fits = omega (arith, size, few) };
@@ -161,16 +161,16 @@ module _ (s : Limits) (portal staging : List ℕ) (plan : Plan) (ds : List Descr
   batch_there : (number : ℕ) (g : Group) → slice_get plan number ≡ Some g → 1 < length g → entry portal number ≡ portal_entry s (batched_count plan) (place_of plan number) g (map fields ds)
   batch_there number g is more =
       let lt : number < length (entries portal) = omega (arith, slice_get_within plan number g is, w.read.groups) in
-      let size : length g ≡ told_size (entry portal number) = w.read.sizes number g is in
+      let size : length g ≡ entry_size (entry portal number) = w.read.sizes number g is in
       let batch : is_batch_entry (entry portal number) ≡ true = sym (shape.batches number lt) ∙ ap is_batch (get_or_from_slice_get plan number g [] is) ∙ batch_yes g more in
       let here = right number lt batch in
       let (d, at, owner) = first_owner (omega arith) in
       let some : 0 < length ds = slice_get_within ds 0 d at in
       let count : u32_at 32 (entry portal number) ≡ length g = sym (size ∙ ap (λ (b : Bool). cond b (u32_at 32 (entry portal number)) 1) batch) in
       here.bytes
-      ∙ ap (λ (o : List ℕ). batch_spelling o (s.staging + 64 * (told_end (entries portal)).batched + 32 * (told_place (entries portal) number).batches) (s.staging + 64 * (told_place (entries portal) number).batched) (u32_at 32 (entry portal number))) owner
-      ∙ ap (λ (n : ℕ). batch_spelling (take 4 (spelling (fields d))) (s.staging + 64 * (told_end (entries portal)).batched + 32 * (told_place (entries portal) number).batches) (s.staging + 64 * (told_place (entries portal) number).batched) n) count
-      ∙ ap (λ (n : ℕ). batch_spelling (take 4 (spelling (fields d))) (s.staging + 64 * n + 32 * (told_place (entries portal) number).batches) (s.staging + 64 * (told_place (entries portal) number).batched) (length g)) (sym whole_end.batched_total)
+      ∙ ap (λ (o : List ℕ). batch_spelling o (s.staging + 64 * (place_at_end (entries portal)).batched + 32 * (place_before (entries portal) number).batches) (s.staging + 64 * (place_before (entries portal) number).batched) (u32_at 32 (entry portal number))) owner
+      ∙ ap (λ (n : ℕ). batch_spelling (take 4 (spelling (fields d))) (s.staging + 64 * (place_at_end (entries portal)).batched + 32 * (place_before (entries portal) number).batches) (s.staging + 64 * (place_before (entries portal) number).batched) n) count
+      ∙ ap (λ (n : ℕ). batch_spelling (take 4 (spelling (fields d))) (s.staging + 64 * n + 32 * (place_before (entries portal) number).batches) (s.staging + 64 * (place_before (entries portal) number).batched) (length g)) (sym whole_end.batched_total)
       ∙ ap (λ (p : Place). batch_spelling (take 4 (spelling (fields d))) (s.staging + 64 * batched_count plan + 32 * p.batches) (s.staging + 64 * p.batched) (length g)) (sym (placed number))
       ∙ sym (entry_batch s (batched_count plan) (place_of plan number) g ds d more some (sym (get_or_from_slice_get ds 0 d d at)))
 
@@ -180,10 +180,10 @@ module _ (s : Limits) (portal staging : List ℕ) (plan : Plan) (ds : List Descr
       let one : length g ≡ 1 = omega (arith, w.read.sizes number g is, some_size number lt) in
       let lone : is_batch_entry (entry portal number) ≡ false = sym (shape.batches number lt) ∙ ap is_batch (get_or_from_slice_get plan number g [] is) ∙ batch_no g few in
       let f : FirstOf number = first_of number lt in
-      let start : start_of plan number ≡ (told_place (entries portal) number).start = ap (λ (p : Place). p.start) (placed number) in
+      let start : start_of plan number ≡ (place_before (entries portal) number).start = ap (λ (p : Place). p.start) (placed number) in
       let at : slice_get ds (start_of plan number) ≡ Some f.piece = ap (slice_get ds) start ∙ f.here in
       let bytes : entry portal number ≡ piece_bytes (entries portal) (entries staging) number 0 =
-      ap (λ (b : Bool). cond b (slice_index_or (entries staging) ((told_place (entries portal) number).batched + 0) []) (entry portal number)) (sym lone) in
+      ap (λ (b : Bool). cond b (slice_index_or (entries staging) ((place_before (entries portal) number).batched + 0) []) (entry portal number)) (sym lone) in
       bytes ∙ plain_piece (piece_bytes (entries portal) (entries staging) number 0) f.piece f.unfenced f.spelt
       ∙ sym (entry_lone s (batched_count plan) (place_of plan number) g ds f.piece one (slice_get_within ds (start_of plan number) f.piece at) (sym (get_or_from_slice_get ds (start_of plan number) f.piece f.piece at)))
 
@@ -194,7 +194,7 @@ module _ (s : Limits) (portal staging : List ℕ) (plan : Plan) (ds : List Descr
       let batch : is_batch_entry (entry portal number) ≡ true = sym (shape.batches number lt) ∙ ap is_batch (get_or_from_slice_get plan number g [] is) ∙ batch_yes g more in
       let both = w.read.each number g k fence d is flag (ap (λ (p : Place). slice_get ds (p.start + k)) (sym (placed number)) ∙ at) in
       ap (λ (p : Place). slice_index_or (entries staging) (p.batched + k) []) (placed number)
-      ∙ ap (λ (b : Bool). cond b (slice_index_or (entries staging) ((told_place (entries portal) number).batched + k) []) (entry portal number)) (sym batch)
+      ∙ ap (λ (b : Bool). cond b (slice_index_or (entries staging) ((place_before (entries portal) number).batched + k) []) (entry portal number)) (sym batch)
       ∙ refenced (piece_bytes (entries portal) (entries staging) number k) fence d both.0 both.1
 
   stands : StandsAtPlaces s plan ds portal staging
@@ -204,7 +204,7 @@ module _ (s : Limits) (portal staging : List ℕ) (plan : Plan) (ds : List Descr
     entries = λ number g is. elim (cases_lt 1 (length g)) [ inl more ↦ batch_there number g is more | inr few ↦ lone_there number g is (λ more. absurd (omega arith)) ];
     descriptors = λ number g k fence d is more flag at. descriptor_there number g k fence d is more flag at;
     records = ap (λ (n : ℕ). drop (64 * n) staging) whole_end.batched_total
-        ∙ zero_records (told_end (entries portal)).batches (records_of portal staging) (omega (arith, length-drop (64 * (told_end (entries portal)).batched) staging, w.batches.lengths.staged.long)) w.zeros
+        ∙ zero_records (place_at_end (entries portal)).batches (records_of portal staging) (omega (arith, length-drop (64 * (place_at_end (entries portal)).batched) staging, w.batches.lengths.staged.long)) w.zeros
         ∙ ap (λ (n : ℕ). replicate (32 * n) 0) (sym whole_end.batch_total);
   }
 

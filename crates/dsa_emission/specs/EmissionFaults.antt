@@ -1,4 +1,4 @@
--- What the bytes of an emission tell, and why bytes are no emission.
+-- What the bytes of an emission say, and why bytes are no emission.
 use Rattle.std.specs.Prelude.{ℕ, ◌≡◌, ◌≢◌, ◌+◌, ◌-◌, ◌*◌, ◌%◌, ◌<◌, ◌≤◌, Bool, true, false, List, [], ◌∷◌, Some, All, length, take, drop, map, count_by, sum_by, slice_get, slice_index, slice_index_or, slice_set, ◌==◌, if◌then◌else◌}
 use Rattle.dsa_descriptor.specs.declared.descriptor.Descriptor.{Descriptor}
 use Rattle.dsa_descriptor.specs.Descriptors.{fields}
@@ -20,40 +20,40 @@ use Rattle.dsa_settings.specs.Plan.{Group, Plan}
 use Rattle.dsa_settings.specs.Settings.{Limits}
 use Rattle.dsa_emission.specs.Emission.{batch_spelling, portal_bytes, staging_bytes, CanBeEmitted}
 
--- ---- what entries tell
+-- ---- what entries say
 
 -- an entry of the portal is that of a batch where its operation code is 0x01 (linux/idxd.h)
 abbrev pub is_batch_entry : List ℕ → Bool
 is_batch_entry entry = slice_index entry 7 == 1
 
 -- how many pieces the entry submits, and how many of them are in a batch
-abbrev pub told_size : List ℕ → ℕ
-told_size entry = if is_batch_entry entry then u32_at 32 entry else 1
+abbrev pub entry_size : List ℕ → ℕ
+entry_size entry = if is_batch_entry entry then u32_at 32 entry else 1
 
-abbrev pub told_batched : List ℕ → ℕ
-told_batched entry = if is_batch_entry entry then u32_at 32 entry else 0
+abbrev pub entry_batched : List ℕ → ℕ
+entry_batched entry = if is_batch_entry entry then u32_at 32 entry else 0
 
 -- by the entries of the portal, what stands before the one of that number
-abbrev pub told_place : List (List ℕ) → ℕ → Place
-told_place es number =
+abbrev pub place_before : List (List ℕ) → ℕ → Place
+place_before es number =
     record {
-      start = sum_by told_size (take number es);
+      start = sum_by entry_size (take number es);
       batches = count_by is_batch_entry (take number es);
-      batched = sum_by told_batched (take number es);
+      batched = sum_by entry_batched (take number es);
     }
 
 -- what stands after the entry
-abbrev pub told_after : Place → List ℕ → Place
-told_after place entry =
+abbrev pub after_entry : Place → List ℕ → Place
+after_entry place entry =
     record {
-      start = place.start + told_size entry;
+      start = place.start + entry_size entry;
       batches = place.batches + (if is_batch_entry entry then 1 else 0);
-      batched = place.batched + told_batched entry;
+      batched = place.batched + entry_batched entry;
     }
 
 -- what stands in all entries
-abbrev pub told_end : List (List ℕ) → Place
-told_end es = told_place es (length es)
+abbrev pub place_at_end : List (List ℕ) → Place
+place_at_end es = place_before es (length es)
 
 -- piece k of the group with this entry: in the staging area behind those of earlier batches, or the entry itself
 abbrev pub bytes_at : List (List ℕ) → Place → List ℕ → ℕ → List ℕ
@@ -61,7 +61,7 @@ bytes_at staged place entry k = if is_batch_entry entry then slice_index_or stag
 
 -- piece k of the group of that number
 abbrev pub piece_bytes : List (List ℕ) → List (List ℕ) → ℕ → ℕ → List ℕ
-piece_bytes es staged number k = bytes_at staged (told_place es number) (slice_index_or es number []) k
+piece_bytes es staged number k = bytes_at staged (place_before es number) (slice_index_or es number []) k
 
 -- the PASID and the privilege stand in bytes 0 to 3
 abbrev pub owner_at : List ℕ → List ℕ
@@ -72,7 +72,7 @@ abbrev pub demands_of : Limits → List (List ℕ) → List (List ℕ) → Deman
 demands_of s es staged =
     record {
       owner = owner_at (piece_bytes es staged 0 0);
-      area = span s.staging (96 * (told_end es).start);
+      area = span s.staging (96 * (place_at_end es).start);
       greatest = s.greatest_transfer;
     }
 
@@ -139,8 +139,8 @@ IsFirstGroupFault demands bytes number start size Memory = ⊥
 
 -- the staging area has 64 bytes for each piece in a batch and 32 for each batch, and there are at most 65,536 pieces
 pub record HasStagingLength (es : List (List ℕ)) (staging : List ℕ) : Type 0 where
-  pub long : length staging ≡ 64 * (told_end es).batched + 32 * (told_end es).batches
-  pub few : (told_end es).start ≤ most_pieces
+  pub long : length staging ≡ 64 * (place_at_end es).batched + 32 * (place_at_end es).batches
+  pub few : (place_at_end es).start ≤ most_pieces
 
 -- where the entry is that of a batch, it has from 2 pieces to as many as a batch may have, and the bytes of its place
 pub record IsBatchAt (s : Limits) (owner : List ℕ) (total : ℕ) (place : Place) (entry : List ℕ) : Type 0 where
@@ -151,7 +151,7 @@ pub record IsBatchAt (s : Limits) (owner : List ℕ) (total : ℕ) (place : Plac
 abbrev pub IsRightAt : Limits → List (List ℕ) → List ℕ → ℕ → Type 0
 IsRightAt s es owner number =
     is_batch_entry (slice_index_or es number []) ≡ true →
-    IsBatchAt s owner (told_end es).batched (told_place es number) (slice_index_or es number [])
+    IsBatchAt s owner (place_at_end es).batched (place_before es number) (slice_index_or es number [])
 
 -- the lengths are right
 pub record HasLengths (portal staging : List ℕ) : Type 0 where
@@ -179,7 +179,7 @@ pub record HasBatches (s : Limits) (portal staging : List ℕ) : Type 0 where
 -- each piece of that group is sound
 abbrev pub IsSoundGroup : Demands → List (List ℕ) → List (List ℕ) → ℕ → Type 0
 IsSoundGroup demands es staged number =
-    (k : ℕ) → k < told_size (slice_index_or es number []) → IsSoundPiece demands (piece_bytes es staged number) k
+    (k : ℕ) → k < entry_size (slice_index_or es number []) → IsSoundPiece demands (piece_bytes es staged number) k
 
 -- so are those of the groups before one, in which the fault is the first
 pub record IsFirstPortalFault (demands : Demands) (es staged : List (List ℕ)) (fault : EmissionFault) : Type 0 where
@@ -187,8 +187,8 @@ pub record IsFirstPortalFault (demands : Demands) (es staged : List (List ℕ)) 
   pub inside : number < length es
   pub before : (g : ℕ) → g < number → IsSoundGroup demands es staged g
   pub stands :
-      IsFirstGroupFault demands (piece_bytes es staged number) number (told_place es number).start
-      (told_size (slice_index_or es number [])) fault
+      IsFirstGroupFault demands (piece_bytes es staged number) number (place_before es number).start
+      (entry_size (slice_index_or es number [])) fault
 
 -- the batches are right, and so is each piece
 pub record HasPieces (s : Limits) (portal staging : List ℕ) : Type 0 where
@@ -200,10 +200,10 @@ abbrev pub HasZeroRecord : List ℕ → ℕ → Type 0
 HasZeroRecord records batch = AreZero (take 32 (drop (32 * batch) records))
 
 abbrev pub records_of : List ℕ → List ℕ → List ℕ
-records_of portal staging = drop (64 * (told_end (entries portal)).batched) staging
+records_of portal staging = drop (64 * (place_at_end (entries portal)).batched) staging
 
 -- the fault stands in the bytes, and none before it, in this order: the length of the portal and that of the staging
--- area, the entries of batches, the pieces in order, the records of batches. Want of memory is told once the entries
+-- area, the entries of batches, the pieces in order, the records of batches. Out of memory is reported once the entries
 -- of batches are right (this project's choice)
 abbrev pub IsFirstEmissionFault : Limits → List ℕ → List ℕ → EmissionFault → Type 0
 IsFirstEmissionFault s portal staging PortalLength = IsFirstLengthFault portal staging PortalLength
@@ -219,7 +219,7 @@ IsFirstEmissionFault s portal staging (Entry q fault) =
     HasBatches s portal staging ×
     IsFirstPortalFault (demands_of s (entries portal) (entries staging)) (entries portal) (entries staging) (Entry q fault)
 IsFirstEmissionFault s portal staging (RecordBytes batch) =
-    HasPieces s portal staging × (batch < (told_end (entries portal)).batches) ×
+    HasPieces s portal staging × (batch < (place_at_end (entries portal)).batches) ×
     ((b : ℕ) → b < batch → HasZeroRecord (records_of portal staging) b) × ¬ HasZeroRecord (records_of portal staging) batch
 IsFirstEmissionFault s portal staging Memory = HasBatches s portal staging
 
@@ -231,7 +231,7 @@ pub record IsEmission (s : Limits) (portal staging : List ℕ) (plan : Plan) (ds
 
 -- ---- what was read
 
--- a group and its pieces are what these bytes tell, so far: each fence, and each descriptor, which is fit
+-- a group and its pieces are what these bytes say, so far: each fence, and each descriptor, which is fit
 pub record IsGroupRead (demands : Demands) (bytes : ℕ → List ℕ) (size : ℕ) (group : Group) (ds : List Descriptor) : Type 0 where
   pub fences : length group ≡ size
   pub pieces : length ds ≡ size
@@ -241,14 +241,14 @@ pub record IsGroupRead (demands : Demands) (bytes : ℕ → List ℕ) (size : �
       (fence ≡ is_fenced (bytes k)) × Spells (bytes k) d
   pub fit : All (IsFit demands) (map fields ds)
 
--- a plan and its pieces are what that many entries tell
+-- a plan and its pieces are what that many entries say
 pub record IsRead (demands : Demands) (es staged : List (List ℕ)) (count : ℕ) (plan : Plan) (ds : List Descriptor) : Type 0 where
   pub groups : length plan ≡ count
-  pub pieces : length ds ≡ (told_place es count).start
-  pub sizes : (number : ℕ) (group : Group) → slice_get plan number ≡ Some group → length group ≡ told_size (slice_index_or es number [])
+  pub pieces : length ds ≡ (place_before es count).start
+  pub sizes : (number : ℕ) (group : Group) → slice_get plan number ≡ Some group → length group ≡ entry_size (slice_index_or es number [])
   pub each :
       (number : ℕ) (group : Group) (k : ℕ) (fence : Bool) (d : Descriptor) → slice_get plan number ≡ Some group →
-      slice_get group k ≡ Some fence → slice_get ds ((told_place es number).start + k) ≡ Some d →
+      slice_get group k ≡ Some fence → slice_get ds ((place_before es number).start + k) ≡ Some d →
       (fence ≡ is_fenced (piece_bytes es staged number k)) × Spells (piece_bytes es staged number k) d
   pub firsts : (number : ℕ) → number < count → is_fenced (piece_bytes es staged number 0) ≡ false
   pub fit : All (IsFit demands) (map fields ds)

@@ -7,7 +7,7 @@ ghost use Rattle.dsa_descriptor.specs.Places.{u32_at};
 ghost use Rattle.dsa_descriptor.specs.Pieces.{most_pieces};
 ghost use Rattle.dsa_emission.specs.declared.emission_fault.EmissionFault.TheVariants.{Memory};
 ghost use Rattle.dsa_emission.specs.Emission.{batch_spelling};
-ghost use Rattle.dsa_emission.specs.EmissionFaults.{is_batch_entry, told_size, told_after, told_end, piece_bytes, owner_at, IsBatchAt, IsRightAt, HasLengths, HasZeroRecord, IsFirstLengthFault};
+ghost use Rattle.dsa_emission.specs.EmissionFaults.{is_batch_entry, entry_size, after_entry, place_at_end, piece_bytes, owner_at, IsBatchAt, IsRightAt, HasLengths, HasZeroRecord, IsFirstLengthFault};
 
 use crate::emission::batch_entry;
 use crate::emission_fault::EmissionFault;
@@ -31,8 +31,8 @@ fn count_at(entry: &[u8; 64]) -> u32
 }
 
 /// How many pieces the entry submits.
-pub(crate) fn told_size(entry: &[u8; 64]) -> usize
-    ensures size { result ≡ told_size entry.now }
+pub(crate) fn entry_size(entry: &[u8; 64]) -> usize
+    ensures size { result ≡ entry_size entry.now }
     ensures small { result < 2 ^ 32 }
 {
     if is_batch_entry(entry) {
@@ -47,9 +47,9 @@ pub(crate) fn after_entry(place: Place, entry: &[u8; 64]) -> Place
     requires few { place.start ≤ most_pieces }
     requires batches { place.batches < 2 ^ 60 }
     requires batched { place.batched ≤ place.start }
-    ensures { result ≡ told_after place entry.now }
+    ensures { result ≡ after_entry place entry.now }
 {
-    let size = told_size(entry);
+    let size = entry_size(entry);
     if is_batch_entry(entry) {
         Place {
             start: place.start + size,
@@ -66,10 +66,10 @@ pub(crate) fn after_entry(place: Place, entry: &[u8; 64]) -> Place
 }
 
 /// What stands in all entries, if that isn't too much.
-pub(crate) fn told_end(all: &[[u8; 64]]) -> Option<Place>
+pub(crate) fn place_at_end(all: &[[u8; 64]]) -> Option<Place>
     requires { length all.now < 2 ^ 58 }
-    ensures { MatchOption result (most_pieces < (told_end all.now).start)
-        (λ end. (end ≡ told_end all.now) × (end.start ≤ most_pieces)) }
+    ensures { MatchOption result (most_pieces < (place_at_end all.now).start)
+        (λ end. (end ≡ place_at_end all.now) × (end.start ≤ most_pieces)) }
 {
     let mut place = Place::default();
     for entry in all {
@@ -83,7 +83,7 @@ pub(crate) fn told_end(all: &[[u8; 64]]) -> Option<Place>
 
 /// What stands in all entries, where the lengths are right, and else the first fault.
 pub(crate) fn end_of_portal(portal: &[u8], staging: &[u8]) -> Result<Place, EmissionFault>
-    ensures ok { IfOk result (λ end. (end ≡ told_end (entries portal.now)) ×
+    ensures ok { IfOk result (λ end. (end ≡ place_at_end (entries portal.now)) ×
         HasLengths portal.now staging.now) }
     ensures err { IfErr result (λ fault. (fault ≢ Memory) ×
         IsFirstLengthFault portal.now staging.now fault) }
@@ -92,7 +92,7 @@ pub(crate) fn end_of_portal(portal: &[u8], staging: &[u8]) -> Result<Place, Emis
         return Err(EmissionFault::PortalLength);
     }
     let (all, _) = portal.as_chunks::<64>();
-    if let Some(end) = told_end(all) {
+    if let Some(end) = place_at_end(all) {
         if 64 * end.batched + 32 * end.batches == staging.len() {
             return Ok(end);
         }
@@ -164,8 +164,8 @@ pub(crate) fn wrong_batch(
     owner: &[u8; 4],
     settings: &Settings,
 ) -> Option<usize>
-    requires few { (told_end all.now).start ≤ most_pieces }
-    requires total { total ≡ (told_end all.now).batched }
+    requires few { (place_at_end all.now).start ≤ most_pieces }
+    requires total { total ≡ (place_at_end all.now).batched }
     ensures { MatchOption result ((number : ℕ) → number < length all.now →
         IsRightAt settings.now all.now owner.now number) (λ number. (number < length all.now) ×
         ((g : ℕ) → g < number → IsRightAt settings.now all.now owner.now g) ×

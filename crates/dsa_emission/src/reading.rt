@@ -8,13 +8,13 @@ ghost use Rattle.dsa_descriptor.specs.Pieces.{most_pieces};
 ghost use Rattle.dsa_ranges.specs.Ranges.{Touches};
 ghost use Rattle.dsa_emission.specs.declared.emission_fault.EmissionFault.{EmissionFault};
 ghost use Rattle.dsa_emission.specs.declared.emission_fault.EmissionFault.TheVariants.{Memory};
-ghost use Rattle.dsa_emission.specs.EmissionFaults.{is_batch_entry, told_size, bytes_at, is_fenced, unfenced, Spells, IsOwned, IsFit, IsFirstEntryFault, IsFirstGroupFault, IsFirstPortalFault, IsGroupRead, IsRead, told_end, IsEmission, IsFirstEmissionFault};
+ghost use Rattle.dsa_emission.specs.EmissionFaults.{is_batch_entry, entry_size, bytes_at, is_fenced, unfenced, Spells, IsOwned, IsFit, IsFirstEntryFault, IsFirstGroupFault, IsFirstPortalFault, IsGroupRead, IsRead, place_at_end, IsEmission, IsFirstEmissionFault};
 
 use crate::demands::Demands;
 use crate::emission_fault::{EmissionFault, EntryFault};
 use crate::place::Place;
 use crate::portal::{
-    after_entry, end_of_portal, first_owner, is_batch_entry, told_size, wrong_batch, wrong_record,
+    after_entry, end_of_portal, entry_size, first_owner, is_batch_entry, wrong_batch, wrong_record,
 };
 use dsa_descriptor::{Descriptor, Span};
 use dsa_ranges::{meets_some, touched};
@@ -104,20 +104,20 @@ fn read_group(
     staged: &[[u8; 64]],
     demands: &Demands,
 ) -> Result<Group, EmissionFault>
-    requires nonempty { 0 < told_size entry.now }
-    requires few { place.start + told_size entry.now ≤ most_pieces }
+    requires nonempty { 0 < entry_size entry.now }
+    requires few { place.start + entry_size entry.now ≤ most_pieces }
     requires inside { is_batch_entry entry.now ≡ true →
-        place.batched + told_size entry.now ≤ length staged.now }
+        place.batched + entry_size entry.now ≤ length staged.now }
     ensures ok { IfOk result (λ group. (ds : List Descriptor) ×
         (pieces.new.items ≡ pieces.old.items ++ ds) × IsGroupRead demands.now
-        (bytes_at staged.now place entry.now) (told_size entry.now) group ds) }
+        (bytes_at staged.now place entry.now) (entry_size entry.now) group ds) }
     ensures err { IfErr result (λ fault. (fault ≡ Memory) ⊎ IsFirstGroupFault demands.now
-        (bytes_at staged.now place entry.now) number place.start (told_size entry.now) fault) }
+        (bytes_at staged.now place entry.now) number place.start (entry_size entry.now) fault) }
 {
     if is_fenced(piece_bytes(staged, place, entry, 0)) {
         return Err(EmissionFault::EntryFence(number));
     }
-    let size = told_size(entry);
+    let size = entry_size(entry);
     let mut fences = Vec::with_capacity(alloc, size)?;
     for k in 0..size {
         let bytes = piece_bytes(staged, place, entry, k);
@@ -138,9 +138,9 @@ fn read_groups(
     staged: &[[u8; 64]],
     demands: &Demands,
 ) -> Result<(Plan, Vec<Descriptor>), EmissionFault>
-    requires few { (told_end all.now).start ≤ most_pieces }
-    requires inside { (told_end all.now).batched ≤ length staged.now }
-    requires sized { (g : ℕ) → g < length all.now → 0 < told_size (slice_index_or all.now g []) }
+    requires few { (place_at_end all.now).start ≤ most_pieces }
+    requires inside { (place_at_end all.now).batched ≤ length staged.now }
+    requires sized { (g : ℕ) → g < length all.now → 0 < entry_size (slice_index_or all.now g []) }
     ensures ok { IfOk result
         (λ read. IsRead demands.now all.now staged.now (length all.now) read.0 read.1.items) }
     ensures err { IfErr result (λ fault. (fault ≡ Memory) ⊎

@@ -11,7 +11,7 @@ use Rattle.dsa_emission.specs.declared.emission_fault.EmissionFault.{EmissionFau
 use Rattle.dsa_emission.specs.declared.emission_fault.EmissionFault.TheVariants.{PortalLength, StagingLength, BatchFields, EntryFence, Entry, RecordBytes, Memory}
 use Rattle.dsa_settings.specs.Plan.{Plan}
 use Rattle.dsa_settings.specs.Settings.{Limits}
-use Rattle.dsa_emission.specs.EmissionFaults.{told_end, piece_bytes, owner_at, owner_of, demands_of, IsRightAt, HasLengths, IsFirstLengthFault, IsFirstPortalFault, HasBatches, HasZeroRecord, records_of, IsRead, IsEmission, IsFirstEmissionFault}
+use Rattle.dsa_emission.specs.EmissionFaults.{place_at_end, piece_bytes, owner_at, owner_of, demands_of, IsRightAt, HasLengths, IsFirstLengthFault, IsFirstPortalFault, HasBatches, HasZeroRecord, records_of, IsRead, IsEmission, IsFirstEmissionFault}
 use Rattle.dsa_emission.proofs.NoFault.{memory_alone, emission_is_sound}
 use Rattle.dsa_emission.proofs.OneFault.{told_or_memory, none_to_tell}
 use Rattle.dsa_emission.proofs.Recovered.{recovered}
@@ -30,7 +30,7 @@ right_batches s portal staging owner es st p q lengths o right =
     }
 
 -- the demands, as they were made
-demands_are : (s : Limits) (owner : List ℕ) (es st : List (List ℕ)) (end : Place) (first greatest : ℕ) → owner ≡ owner_at (piece_bytes es st 0 0) → end ≡ told_end es → first ≡ s.staging → greatest ≡ s.greatest_transfer →
+demands_are : (s : Limits) (owner : List ℕ) (es st : List (List ℕ)) (end : Place) (first greatest : ℕ) → owner ≡ owner_at (piece_bytes es st 0 0) → end ≡ place_at_end es → first ≡ s.staging → greatest ≡ s.greatest_transfer →
     ◌≡◌ {A = Demands} (record { owner = owner; area = span first (96 * end.start); greatest = greatest }) (demands_of s es st)
 demands_are s owner es st end first greatest o e f g i = record { owner = o i; area = span (f i) (96 * (e i).start); greatest = g i }
 
@@ -41,18 +41,18 @@ read_whole s portal staging demands es st plan ds p q d read =
     (subst (λ (z : List (List ℕ)). IsRead (demands_of s z st) z st (length z) plan ds) p (subst (λ (z : Demands). IsRead z es st (length es) plan ds) d read))
 
 -- the records, as the code cuts them out
-records_are : (portal staging : List ℕ) (end : Place) → end ≡ told_end (entries portal) → take (length staging - 64 * end.batched) (drop (64 * end.batched) staging) ≡ records_of portal staging
+records_are : (portal staging : List ℕ) (end : Place) → end ≡ place_at_end (entries portal) → take (length staging - 64 * end.batched) (drop (64 * end.batched) staging) ≡ records_of portal staging
 records_are portal staging end e = take_rest staging (64 * end.batched) ∙ ap (λ (p : Place). drop (64 * p.batched) staging) e
 
 -- what was read, by what was found
 whole_read : (s : Limits) (portal staging owner : List ℕ) (es st : List (List ℕ)) (end : Place) (first greatest : ℕ) (plan : Plan) (ds : List Descriptor) → es ≡ entries portal → st ≡ entries staging →
-    (end ≡ told_end (entries portal)) × HasLengths portal staging → owner ≡ owner_at (piece_bytes es st 0 0) → ((number : ℕ) → number < length es → IsRightAt s es owner number) → first ≡ s.staging → greatest ≡ s.greatest_transfer →
+    (end ≡ place_at_end (entries portal)) × HasLengths portal staging → owner ≡ owner_at (piece_bytes es st 0 0) → ((number : ℕ) → number < length es → IsRightAt s es owner number) → first ≡ s.staging → greatest ≡ s.greatest_transfer →
     IsRead (record { owner = owner; area = span first (96 * end.start); greatest = greatest }) es st (length es) plan ds →
     HasBatches s portal staging × IsRead (demands_of s (entries portal) (entries staging)) (entries portal) (entries staging) (length (entries portal)) plan ds
 whole_read s portal staging owner es st end first greatest plan ds p q e o right f g read = (
   right_batches s portal staging owner es st p q e.1 o right,
   read_whole s portal staging (record { owner = owner; area = span first (96 * end.start); greatest = greatest }) es st plan ds p q
-      (demands_are s owner es st end first greatest o (e.0 ∙ ap told_end (sym p)) f g) read,
+      (demands_are s owner es st end first greatest o (e.0 ∙ ap place_at_end (sym p)) f g) read,
 )
 
 -- ---- the faults that the steps tell
@@ -119,7 +119,7 @@ group_fault c =
     let staging = c.args.staging.now in
     let demands : Demands = record { owner = c.first_owner-owner.result; area = span c.staging.result (96 * c.in_ok-end.end.start); greatest = c.greatest_transfer.result } in
     let are : demands ≡ demands_of s c.as_chunks.result.0.now c.as_chunks-2.result.0.now = demands_are s c.first_owner-owner.result c.as_chunks.result.0.now c.as_chunks-2.result.0.now c.in_ok-end.end c.staging.result c.greatest_transfer.result
-    c.first_owner-owner.ensures (c.in_ok-end.ensures.ok.0 ∙ ap told_end (sym c.as_chunks.ensures.front)) c.staging.ensures.value c.greatest_transfer.ensures.value in
+    c.first_owner-owner.ensures (c.in_ok-end.ensures.ok.0 ∙ ap place_at_end (sym c.as_chunks.ensures.front)) c.staging.ensures.value c.greatest_transfer.ensures.value in
     let batches : HasBatches s portal staging = right_batches s portal staging c.first_owner-owner.result c.as_chunks.result.0.now c.as_chunks-2.result.0.now c.as_chunks.ensures.front c.as_chunks-2.ensures.front
     c.in_ok-end.ensures.ok.1 c.first_owner-owner.ensures c.in_default.ensures in
     read_fault s portal staging demands c.as_chunks.result.0.now c.as_chunks-2.result.0.now c.in_err-read.field-0.0 c.as_chunks.ensures.front c.as_chunks-2.ensures.front are batches c.in_err-read.ensures.err

@@ -2,7 +2,7 @@ use Rattle.std.proofs.Common.{ℕ, ◌≡◌, ◌+◌, ◌++◌, inr, false, Lis
 use Rattle.std.proofs.lemmas.List.{append-nil}
 use Rattle.dsa_descriptor.specs.declared.descriptor.Descriptor.{Descriptor}
 use Rattle.dsa_settings.specs.Plan.{Group}
-use Rattle.dsa_emission.specs.EmissionFaults.{told_size, bytes_at, is_fenced, Spells, IsFirstEntryFault, IsGroupRead}
+use Rattle.dsa_emission.specs.EmissionFaults.{entry_size, bytes_at, is_fenced, Spells, IsFirstEntryFault, IsGroupRead}
 use Rattle.dsa_emission.proofs.ReadBack.{group_none, group_more, sound_pieces}
 use Rattle.dsa_emission.proofs.reading.read_group.Goals as goal
 
@@ -22,7 +22,7 @@ returns-in-Err-clause-err c =
     inr (
       c.loop-k.k,
       refl,
-      omega (arith, c.loop-k-test.true, c.told_size-size.ensures.size),
+      omega (arith, c.loop-k-test.true, c.entry_size-size.ensures.size),
       record {
         before = sound_pieces c.args.demands.now bytes c.loop-k.k c.loop-k.fences.items ds read;
         first_unfenced = λ none. subst (λ (z : ℕ). is_fenced (bytes z) ≡ false) (sym none) read.first_unfenced;
@@ -47,9 +47,9 @@ pub returns-clause-ok : goal.returns-clause-ok
 returns-clause-ok c =
     let bytes = bytes_at c.args.staged.now c.args.place c.args.entry.now in
     let (ds, added, read) = c.loop-k.invariant in
-    let all : c.loop-k.k ≡ told_size c.args.entry.now = omega (arith, c.told_size-size.ensures.size) in (
+    let all : c.loop-k.k ≡ entry_size c.args.entry.now = omega (arith, c.entry_size-size.ensures.size) in (
       ds,
       added,
-      subst (λ (g : Group). IsGroupRead c.args.demands.now bytes (told_size c.args.entry.now) g ds) (sym c.new.ensures)
+      subst (λ (g : Group). IsGroupRead c.args.demands.now bytes (entry_size c.args.entry.now) g ds) (sym c.new.ensures)
           (subst (λ (n : ℕ). IsGroupRead c.args.demands.now bytes n c.loop-k.fences.items ds) all read),
     )

@@ -8,8 +8,8 @@ use Rattle.dsa_emission.specs.declared.emission_fault.EmissionFault.{EmissionFau
 use Rattle.dsa_emission.specs.declared.emission_fault.EmissionFault.TheVariants.{Memory}
 use Rattle.dsa_emission.specs.declared.place.Place.{Place}
 use Rattle.dsa_settings.specs.Plan.{Plan}
-use Rattle.dsa_emission.specs.EmissionFaults.{is_batch_entry, told_size, told_place, told_after, told_end, bytes_at, IsFirstGroupFault, IsFirstPortalFault, IsGroupRead, IsRead}
-use Rattle.dsa_emission.proofs.Shapes.{told_place-next, sized_more, batched_more, placed_more}
+use Rattle.dsa_emission.specs.EmissionFaults.{is_batch_entry, entry_size, place_before, after_entry, place_at_end, bytes_at, IsFirstGroupFault, IsFirstPortalFault, IsGroupRead, IsRead}
+use Rattle.dsa_emission.proofs.Shapes.{place_before-next, sized_more, batched_more, placed_more}
 use Rattle.dsa_emission.proofs.ReadBack.{read_more}
 use Rattle.dsa_emission.proofs.reading.read_groups.Goals as goal
 
@@ -27,19 +27,19 @@ read_group-requires-clause-inside c =
     let es = c.args.all.now in
     let n = c.loop-number.number in
     let e = slice_index_or es n [] in
-    λ is. subst (λ (p : Place). p.batched + told_size e ≤ length c.args.staged.now) (sym c.loop-number.invariant.placed)
-    (inside (is_batch_entry e) (u32_at 32 e) (told_place es n).batched (told_end es).batched (length c.args.staged.now) (batched_more es n c.loop-number-test.true) c.requires.inside is)
+    λ is. subst (λ (p : Place). p.batched + entry_size e ≤ length c.args.staged.now) (sym c.loop-number.invariant.placed)
+    (inside (is_batch_entry e) (u32_at 32 e) (place_before es n).batched (place_at_end es).batched (length c.args.staged.now) (batched_more es n c.loop-number-test.true) c.requires.inside is)
 
 -- a fault of one group, behind those that were read
-group_fault : (demands : Demands) (es staged : List (List ℕ)) (n : ℕ) (place : Place) (plan : Plan) (ds : List Descriptor) (fault : EmissionFault) → n < length es → place ≡ told_place es n → IsRead demands es staged n plan ds →
-    ((fault ≡ Memory) ⊎ IsFirstGroupFault demands (bytes_at staged place (slice_index_or es n [])) n place.start (told_size (slice_index_or es n [])) fault) →
+group_fault : (demands : Demands) (es staged : List (List ℕ)) (n : ℕ) (place : Place) (plan : Plan) (ds : List Descriptor) (fault : EmissionFault) → n < length es → place ≡ place_before es n → IsRead demands es staged n plan ds →
+    ((fault ≡ Memory) ⊎ IsFirstGroupFault demands (bytes_at staged place (slice_index_or es n [])) n place.start (entry_size (slice_index_or es n [])) fault) →
     (fault ≡ Memory) ⊎ IsFirstPortalFault demands es staged fault
 group_fault demands es staged n place plan ds fault lt e read (inl none) = inl none
 group_fault demands es staged n place plan ds fault lt e read (inr here) = inr (record {
   number = n;
   inside = lt;
   before = read.sound;
-  stands = subst (λ (p : Place). IsFirstGroupFault demands (bytes_at staged p (slice_index_or es n [])) n p.start (told_size (slice_index_or es n [])) fault) e here;
+  stands = subst (λ (p : Place). IsFirstGroupFault demands (bytes_at staged p (slice_index_or es n [])) n p.start (entry_size (slice_index_or es n [])) fault) e here;
 })
 
 pub returns-in_err-group-clause-err : goal.returns-in_err-group-clause-err
@@ -48,7 +48,7 @@ returns-in_err-group-clause-err c =
     rw (p.1, p.2) (group_fault c.args.demands.now c.args.all.now c.args.staged.now c.loop-number.number c.loop-number.place c.loop-number.groups.items c.loop-number.pieces.items c.in_err-group.field-0.0
     c.loop-number-test.true c.loop-number.invariant.placed c.loop-number.invariant.read c.in_err-group.ensures.err)
 
-batch_two : (e : List ℕ) → 0 < told_size e → is_batch_entry e ≡ true → 1 ≤ u32_at 32 e
+batch_two : (e : List ℕ) → 0 < entry_size e → is_batch_entry e ≡ true → 1 ≤ u32_at 32 e
 batch_two e some is = subst (λ (b : Bool). 0 < cond b (u32_at 32 e) 1) is some
 
 pub loop-number-preserved : goal.loop-number-preserved
@@ -59,11 +59,11 @@ loop-number-preserved c =
     let more = placed_more c.loop-number.place c.after_entry-place.result e c.after_entry-place.ensures (batch_two e (c.requires.sized n c.loop-number-test.true)) c.loop-number.invariant.batches c.loop-number.invariant.batched in
     let (new, added, here) = c.in_ok-group.ensures.ok in
     record {
-      placed = c.after_entry-place.ensures ∙ ap (λ (p : Place). told_after p e) c.loop-number.invariant.placed ∙ sym (told_place-next es n c.loop-number-test.true);
+      placed = c.after_entry-place.ensures ∙ ap (λ (p : Place). after_entry p e) c.loop-number.invariant.placed ∙ sym (place_before-next es n c.loop-number-test.true);
       batched = more.0;
       batches = more.1;
       read = subst (λ (ds : List Descriptor). IsRead c.args.demands.now es c.args.staged.now (n + 1) c.push.new.self.items ds) (sym added)
           (subst (λ (plan : Plan). IsRead c.args.demands.now es c.args.staged.now (n + 1) plan (c.loop-number.pieces.items ++ new)) (sym c.in_ok-push.ensures.items)
           (read_more c.args.demands.now es c.args.staged.now n c.loop-number.groups.items c.loop-number.pieces.items c.in_ok-group.group new c.loop-number-test.true c.loop-number.invariant.read
-          (subst (λ (p : Place). IsGroupRead c.args.demands.now (bytes_at c.args.staged.now p e) (told_size e) c.in_ok-group.group new) c.loop-number.invariant.placed here)));
+          (subst (λ (p : Place). IsGroupRead c.args.demands.now (bytes_at c.args.staged.now p e) (entry_size e) c.in_ok-group.group new) c.loop-number.invariant.placed here)));
     }

@@ -1,11 +1,11 @@
 use Rattle.std.proofs.Common.{◌≡◌, ◌≤◌}
-use Rattle.dsa_emission.specs.EmissionFaults.{told_place}
-use Rattle.dsa_emission.proofs.portal.told_end.Given as goal
+use Rattle.dsa_emission.specs.EmissionFaults.{place_before}
+use Rattle.dsa_emission.proofs.portal.place_at_end.Given as goal
 
 -- what stands in the entries so far
 abbrev pub invariant-loop-entry : goal.invariant-loop-entry
 invariant-loop-entry l = record {
-  placed : l.place ≡ told_place l.all l.entry-index;
+  placed : l.place ≡ place_before l.all l.entry-index;
   few : l.place.start ≤ 65536;
   batched : l.place.batched ≤ l.place.start;
   batches : l.place.batches ≤ l.entry-index;

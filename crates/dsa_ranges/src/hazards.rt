@@ -5,8 +5,7 @@ ghost use Rattle.dsa_descriptor.specs.Spans.{InSome, InSpan};
 ghost use Rattle.dsa_ranges.specs.Ranges.{SpansConflict};
 ghost use Rattle.dsa_ranges.specs.Hazards.{IsHazard, AreApart, AreApartFrom};
 
-use crate::access::Touched;
-use crate::span::meets;
+use crate::span::{Touched, meets};
 use dsa_descriptor::Span;
 
 /// Why the later of two descriptors has to wait for the earlier.

@@ -1,7 +1,13 @@
 //! Descriptors that the tests of several crates use.
 
 /// The bytes of an operation: its code, what stands at 16 and 24, its size and its record's address.
-pub(crate) fn bytes_of(code: u8, first: u64, second: u64, size: u32, record_at: u64) -> [u8; 64] {
+pub(crate) fn listed_bytes(
+    code: u8,
+    first: u64,
+    second: u64,
+    size: u32,
+    record_at: u64,
+) -> [u8; 64] {
     let mut bytes = [0; 64];
     bytes[4] = 0x0c;
     bytes[7] = code;
@@ -14,7 +20,7 @@ pub(crate) fn bytes_of(code: u8, first: u64, second: u64, size: u32, record_at: 
 
 /// The bytes of a move.
 pub(crate) fn move_bytes(src: u64, dst: u64, size: u32, record_at: u64) -> [u8; 64] {
-    bytes_of(3, src, dst, size, record_at)
+    listed_bytes(3, src, dst, size, record_at)
 }
 
 /// The bytes of a move of 64 bytes.

@@ -21,7 +21,7 @@ pub(crate) struct Case {
 }
 
 /// The 64 bytes of an operation.
-fn bytes_of(operation: &Operation) -> [u8; 64] {
+fn operation_bytes(operation: &Operation) -> [u8; 64] {
     let (code, record_at, size, data) = *operation;
     let mut bytes = [0; 64];
     bytes[4] = 0x0c;
@@ -38,7 +38,7 @@ fn bytes_of(operation: &Operation) -> [u8; 64] {
 fn list_of(alloc: Global, operations: &[Operation]) -> Result<Vec<u8>, AllocError> {
     let mut list = Vec::new(alloc);
     for operation in operations {
-        list.extend_from_slice(&bytes_of(operation))?;
+        list.extend_from_slice(&operation_bytes(operation))?;
     }
     Ok(list)
 }

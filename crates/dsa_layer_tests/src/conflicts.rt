@@ -1,4 +1,4 @@
-use crate::given::bytes_of;
+use crate::given::descriptor_bytes;
 use dsa_conflicts::{Sweep, last_conflicts};
 use dsa_descriptor::Descriptor;
 use std::test::Fail;
@@ -9,9 +9,9 @@ const MOVE: u8 = 3;
 /// Three moves, of which the third writes what both others read: the later of the two is its last conflict.
 fn two_readers() -> Result<[Descriptor; 3], Fail> {
     Ok([
-        Descriptor::read(&bytes_of(MOVE, 0x8000, 0x1000, 0x2000, 0, 64))?,
-        Descriptor::read(&bytes_of(MOVE, 0x8020, 0x1000, 0x3000, 0, 64))?,
-        Descriptor::read(&bytes_of(MOVE, 0x8040, 0x4000, 0x1020, 0, 8))?,
+        Descriptor::read(&descriptor_bytes(MOVE, 0x8000, 0x1000, 0x2000, 0, 64))?,
+        Descriptor::read(&descriptor_bytes(MOVE, 0x8020, 0x1000, 0x3000, 0, 64))?,
+        Descriptor::read(&descriptor_bytes(MOVE, 0x8040, 0x4000, 0x1020, 0, 8))?,
     ])
 }
 

@@ -37,7 +37,7 @@ const DELTA: [u8; 64] = [
 ];
 
 /// Bytes of an operation with record 0x8000, and what follows byte 40.
-fn bytes_of(code: u8, first: u64, second: u64, size: u32, own: u64) -> [u8; 64] {
+fn bytes_with(code: u8, first: u64, second: u64, size: u32, own: u64) -> [u8; 64] {
     let mut bytes = A;
     bytes[7] = code;
     bytes[16..24].copy_from_slice(&first.to_le_bytes());
@@ -80,7 +80,7 @@ fn vectors(rt: HostRuntime) {
             },
         ),
         (
-            bytes_of(5, 0x10, 0x4000, 8, 1),
+            bytes_with(5, 0x10, 0x4000, 8, 1),
             Op::Compare {
                 src: 0x10,
                 src2: 0x4000,
@@ -88,7 +88,7 @@ fn vectors(rt: HostRuntime) {
             },
         ),
         (
-            bytes_of(6, 0x10, 0x0807060504030201, 12, 1),
+            bytes_with(6, 0x10, 0x0807060504030201, 12, 1),
             Op::ComparePattern {
                 src: 0x10,
                 pattern: 0x0807060504030201,
@@ -96,7 +96,7 @@ fn vectors(rt: HostRuntime) {
             },
         ),
         (
-            bytes_of(9, 0x1000, 0x2000, 16, 0x3000),
+            bytes_with(9, 0x1000, 0x2000, 16, 0x3000),
             Op::Dualcast {
                 src: 0x1000,
                 dst: 0x2000,

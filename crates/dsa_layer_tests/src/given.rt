@@ -4,7 +4,7 @@ use dsa_descriptor::{Descriptor, FieldFault};
 use std::alloc::{AllocError, Global};
 
 /// The bytes of an operation: its code, its record's address, what stands at 16, 24 and 40, and its size.
-pub(crate) fn bytes_of(
+pub(crate) fn descriptor_bytes(
     code: u8,
     record_at: u64,
     first: u64,
@@ -25,7 +25,7 @@ pub(crate) fn bytes_of(
 
 /// The bytes of an operation with nothing at 40.
 pub(crate) fn operation(code: u8, first: u64, second: u64, size: u32, record_at: u64) -> [u8; 64] {
-    bytes_of(code, record_at, first, second, 0, size)
+    descriptor_bytes(code, record_at, first, second, 0, size)
 }
 
 /// A descriptor of this code and these flags. `data` stands at the bytes 16, 24 and 40.
@@ -36,7 +36,7 @@ pub(crate) fn descriptor(
     size: u32,
     data: [u64; 3],
 ) -> Result<Descriptor, FieldFault> {
-    let mut bytes = bytes_of(code, record_at, data[0], data[1], data[2], size);
+    let mut bytes = descriptor_bytes(code, record_at, data[0], data[1], data[2], size);
     bytes[4] = flags;
     Descriptor::read(&bytes)
 }

@@ -1,4 +1,4 @@
-use crate::given::bytes_of;
+use crate::given::descriptor_bytes;
 use dsa_descriptor::Descriptor;
 use dsa_ranges::{Span, meets, touched};
 
@@ -21,12 +21,16 @@ fn spans_meet(rt: HostRuntime) {
 #[test]
 fn ranges_of_each_operation(rt: HostRuntime) {
     let operations = [
-        (bytes_of(3, 0x8000, 0x1000, 0x2000, 0, 64), 1, 1),
-        (bytes_of(4, 0x8000, 0x1000, 0x2000, 0, 64), 0, 1),
-        (bytes_of(5, 0x8000, 0x1000, 0x2000, 1, 64), 2, 0),
-        (bytes_of(6, 0x8000, 0x1000, 0x2000, 1, 64), 1, 0),
-        (bytes_of(8, 0x8000, 0x1000, 0x2000, 20, 64), 2, 1),
-        (bytes_of(9, 0x8000, 0x1000, 0x2000, 0x3000, 64), 1, 2),
+        (descriptor_bytes(3, 0x8000, 0x1000, 0x2000, 0, 64), 1, 1),
+        (descriptor_bytes(4, 0x8000, 0x1000, 0x2000, 0, 64), 0, 1),
+        (descriptor_bytes(5, 0x8000, 0x1000, 0x2000, 1, 64), 2, 0),
+        (descriptor_bytes(6, 0x8000, 0x1000, 0x2000, 1, 64), 1, 0),
+        (descriptor_bytes(8, 0x8000, 0x1000, 0x2000, 20, 64), 2, 1),
+        (
+            descriptor_bytes(9, 0x8000, 0x1000, 0x2000, 0x3000, 64),
+            1,
+            2,
+        ),
     ];
     for (bytes, reads, targets) in &operations {
         match Descriptor::read(bytes) {

@@ -39,7 +39,7 @@ fn push_line(bytes: &mut Vec<u8>, line: &[u8], number: usize) -> Result<(), Text
 }
 
 /// The bytes of the operations that the lines spell, listed or not.
-fn bytes_of(alloc: Global, text: &[u8]) -> Result<Vec<u8>, TextFault>
+fn bytes_of_lines(alloc: Global, text: &[u8]) -> Result<Vec<u8>, TextFault>
     ensures { Gathers (λ bytes. bytes.items) (lines_of text.now) result }
 {
     let mut bytes = Vec::new(alloc);
@@ -102,7 +102,7 @@ pub fn assemble(alloc: Global, text: &[u8]) -> Result<Vec<u8>, TextFault>
         HaveOneOwner (map fields ds) → text.now ≡ list_text (map fields ds) → MatchResult result
         (λ bytes. bytes.items ≡ list_spelling (map fields ds)) (λ fault. fault ≡ Memory) }
 {
-    let bytes = bytes_of(alloc, text)?;
+    let bytes = bytes_of_lines(alloc, text)?;
     if let Err(fault) = read_list(alloc, bytes.as_slice()) {
         return Err(text_fault(text, fault));
     }

@@ -9,7 +9,7 @@ fn trimmed(text: &[u8]) -> &[u8] {
 }
 
 /// The bytes that a hexadecimal text spells.
-pub(crate) fn bytes_of(alloc: Global, text: &[u8]) -> Result<Vec<u8>, PlanFault> {
+pub(crate) fn bytes_from_input(alloc: Global, text: &[u8]) -> Result<Vec<u8>, PlanFault> {
     match hex::decode(alloc, trimmed(text)) {
         Ok(bytes) => Ok(bytes),
         Err(hex::FromHexError::OutOfMemory) => Err(PlanFault::Memory),

@@ -1,7 +1,7 @@
 //! `disassemble`: the text of a list, a portal or a staging area.
 
 use crate::answer::Answer;
-use crate::bytes::{bytes_of, number_in};
+use crate::bytes::{bytes_from_input, number_in};
 use dsa_calls::PlanFault;
 use dsa_descriptor::{Descriptor, FieldFault, ListFault};
 use dsa_lines::{disassemble, line_of};
@@ -28,7 +28,7 @@ impl From<AllocError> for Stop {
 
 /// The text of a list, in hexadecimal.
 pub fn disassemble_list(alloc: Global, hex: &[u8]) -> Result<Answer, AllocError> {
-    let bytes = match bytes_of(alloc, hex) {
+    let bytes = match bytes_from_input(alloc, hex) {
         Ok(bytes) => bytes,
         Err(fault) => return Answer::fault(alloc, fault),
     };
@@ -158,7 +158,7 @@ fn answer_of(alloc: Global, text: Result<String, Stop>) -> Result<Answer, AllocE
 
 /// The text of a portal, in hexadecimal: a line for each entry.
 pub fn disassemble_portal(alloc: Global, hex: &[u8]) -> Result<Answer, AllocError> {
-    match bytes_of(alloc, hex) {
+    match bytes_from_input(alloc, hex) {
         Ok(bytes) => answer_of(alloc, portal_text(alloc, &bytes)),
         Err(fault) => Answer::fault(alloc, fault),
     }
@@ -170,7 +170,7 @@ pub fn disassemble_staging(alloc: Global, hex: &[u8], at: u64) -> Result<Answer,
     if at % 64 != 0 || at > 1 << 63 {
         return Answer::fault(alloc, PlanFault::Settings);
     }
-    match bytes_of(alloc, hex) {
+    match bytes_from_input(alloc, hex) {
         Ok(bytes) => answer_of(alloc, staging_text(alloc, &bytes, at)),
         Err(fault) => Answer::fault(alloc, fault),
     }

@@ -6,7 +6,7 @@ use Rattle.dsa_lines.specs.Texts.{lines_of, lines_behind, all_fields, line_field
 use Rattle.dsa_lines.specs.Assembled.{LeavesGrammarAt}
 use Rattle.dsa_lines.proofs.AnswerLemmas.{stops_there}
 use Rattle.dsa_lines.proofs.TextLemmas.{fields_more, first_line, last_line, more_lines, next_shorter, no_fields, spelling_append}
-use Rattle.dsa_lines.proofs.assembling.bytes_of.Goals as goal
+use Rattle.dsa_lines.proofs.assembling.bytes_of_lines.Goals as goal
 
 pub lines-init : goal.lines-init
 lines-init c =

@@ -2,7 +2,7 @@ use Rattle.std.proofs.Common.{◌≡◌, ℕ, ◌+◌, ◌≤◌, List, ◌++◌
 use Rattle.dsa_descriptor.specs.Fields.{Fields}
 use Rattle.dsa_descriptor.specs.Lists.{list_spelling}
 use Rattle.dsa_lines.specs.Texts.{lines_of, all_fields}
-use Rattle.dsa_lines.proofs.assembling.bytes_of.Given as goal
+use Rattle.dsa_lines.proofs.assembling.bytes_of_lines.Given as goal
 
 -- the bytes so far are those of the operations of the lines so far, and the number is that of the next line
 abbrev pub invariant-lines : goal.invariant-lines

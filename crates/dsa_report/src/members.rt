@@ -1,4 +1,4 @@
-//! The members of a job, which its row in the table lists.
+//! The members of a job, which its row lists.
 
 ghost use Rattle.std.specs.Prelude.{◌≡◌, IfOk, Some, codes};
 ghost use Rattle.serde_json.specs.Data.{string};

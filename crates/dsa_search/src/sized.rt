@@ -1,4 +1,4 @@
-//! The table of least costs where a batch has a price by its size.
+//! The least costs where a batch has a price by its size.
 
 ghost use Rattle.std.specs.Prelude.{◌≡◌, ◌⊎◌, ℕ, ◌+◌, ◌-◌, ◌*◌, ◌<◌, ◌≤◌, min, length, slice_index, IfOk};
 ghost use Rattle.dsa_descriptor.specs.Pieces.{most_pieces};
@@ -7,7 +7,7 @@ ghost use Rattle.dsa_search.specs.Filled.{HasOffers, IsFilled, past_reach};
 ghost use Rattle.dsa_plan.specs.Settings.{ArePrices, greatest_price, sized_tariff};
 ghost use Rattle.dsa_search.specs.Sized.{HasRows, past_block};
 
-use crate::table::{UNREACHED, lower};
+use crate::costs::{UNREACHED, lower};
 use dsa_plan::{chain_step, last_of_run};
 use std::alloc::{AllocError, Global};
 
@@ -152,11 +152,11 @@ fn offer_row(
     requires chain { IsLastBelow pairs.now start end chain.1 chain.0 }
     requires near { end ≤ past_block chain.0 }
     requires within { end < past_reach (length table.now + 1) (length pairs.now) start }
-    requires table { HasOffers (length table.now + 1) (sized_tariff lone fence table.now)
+    requires offers { HasOffers (length table.now + 1) (sized_tariff lone fence table.now)
         pairs.now start end costs.old }
     ensures further { end < result.2 }
     ensures within { result.2 ≤ past_reach (length table.now + 1) (length pairs.now) start }
-    ensures table { HasOffers
+    ensures offers { HasOffers
         (length table.now + 1) (sized_tariff lone fence table.now)
         pairs.now start result.2 costs.new }
     ensures chain { result.2 < past_reach (length table.now + 1) (length pairs.now) start →
@@ -197,11 +197,11 @@ fn offer_run(
     requires late { start + 2 ≤ end }
     requires chain { IsLastBelow pairs.now start end chain.1 chain.0 }
     requires within { end < past_reach (length table.now + 1) (length pairs.now) start }
-    requires table { HasOffers (length table.now + 1) (sized_tariff lone fence table.now)
+    requires offers { HasOffers (length table.now + 1) (sized_tariff lone fence table.now)
         pairs.now start end costs.old }
     ensures further { end < result.2 }
     ensures within { result.2 ≤ past_reach (length table.now + 1) (length pairs.now) start }
-    ensures table { HasOffers
+    ensures offers { HasOffers
         (length table.now + 1) (sized_tariff lone fence table.now)
         pairs.now start result.2 costs.new }
     ensures chain { IsLastBelow pairs.now start result.2 result.1 result.0 }
@@ -234,7 +234,7 @@ fn offer_sizes(
     requires fence { fence ≤ greatest_price }
     requires lone { lone ≤ greatest_price }
     requires inside { start < length pairs.now }
-    requires table { HasOffers
+    requires offers { HasOffers
         (length table.now + 1) (sized_tariff lone fence table.now)
         pairs.now start (start + 1) costs.old }
     ensures { HasOffers
@@ -259,7 +259,7 @@ fn offer_sizes(
     }
 }
 
-/// Fills the table: each start in turn offers its groups.
+/// Fills in the costs: each start in turn offers its groups.
 fn fill_sizes(
     pairs: &[Option<(u32, u32)>],
     rows: &[u8],
@@ -276,7 +276,7 @@ fn fill_sizes(
     requires prices { ArePrices table.now }
     requires fence { fence ≤ greatest_price }
     requires lone { lone ≤ greatest_price }
-    requires table { HasOffers (length table.now + 1) (sized_tariff lone fence table.now)
+    requires offers { HasOffers (length table.now + 1) (sized_tariff lone fence table.now)
         pairs.now 0 1 costs.old }
     ensures { IsFilled (length table.now + 1) (sized_tariff lone fence table.now)
         pairs.now costs.new }
@@ -291,7 +291,7 @@ fn fill_sizes(
 ///
 /// # Errors
 /// An allocation failure.
-pub(crate) fn table_by_size(
+pub(crate) fn least_costs_by_size(
     alloc: Global,
     pairs: &[Option<(u32, u32)>],
     lone: u64,

@@ -1,5 +1,5 @@
 use Rattle.serde_json.specs.View.{view}
-use Rattle.dsa_report.proofs.Table.{members_spelled}
+use Rattle.dsa_report.proofs.Rows.{members_spelled}
 use Rattle.dsa_report.proofs.members.members_with.Goals as goal
 
 pub returns : goal.returns

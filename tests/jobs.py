@@ -1,74 +1,21 @@
 """Runs the program on jobs that are made from parts, and looks at its line and its status in each case: texts that are no
 job, members of other kinds, limits, fields of descriptors, the order in which faults are found, and the longest lists.
-What is right is taken from docs/FORMATS.md, typed by hand. tests/jobs.sh runs it, and says which program."""
+What is right is taken from docs/FORMATS.md, typed by hand. The words are names of parts."""
 
-import json
-import subprocess
-import sys
+import common
+import model
+from common import NUMBERS, SETTINGS, digits, job, judge, move, named, object_of, plan, program, raw, run_test, settings
+from model import COMPARE, DELTA, DUALCAST, FILL, PATTERN, Op
 
-from campaign import model
-from campaign.model import COMPARE, DELTA, DUALCAST, FILL, MOVE, PATTERN, Op
-
-NUMBERS = {
-    "version": 1,
-    "greatest_batch": 4,
-    "greatest_transfer": 4096,
-    "lone": 10,
-    "batch": 14,
-    "fence": 3,
-    "staging": 0x10000,
-}
 CERTIFICATE = {"pairs": [[0, 1], None], "prices": [0, 10, 17], "version": 1}
 LAST = 2**64 - 1
 ALONE, FENCED = [[False]], [[False, True]]
-
-failed = count = 0
+NO_BATCH, BATCH_OF_ONE = settings(greatest_batch=None), settings(greatest_batch=1)
 
 
 def expect(text, line):
     """The program answers the text with the line, and ends with the status of such a line."""
-    global count, failed
-    count += 1
-    text = text if isinstance(text, bytes) else text.encode()
-    ran = subprocess.run([sys.argv[1]], input=text, stdout=subprocess.PIPE)
-    status = 1 if line.startswith("refused") else 0
-    if (ran.returncode, ran.stdout) != (status, line.encode() + b"\n"):
-        failed += 1
-        print(f"{text[:400]}: wanted {status} and {line[:200]}, got {ran.returncode} and {ran.stdout[:200]}")
-
-
-def raw(value):
-    """A member as it stands in a text: a string is text already, any other value is written as JSON."""
-    return value if isinstance(value, str) else json.dumps(value, separators=(",", ":"))
-
-
-def object_of(members):
-    return "{" + ",".join(f'"{name}":{raw(value)}' for name, value in members.items()) + "}"
-
-
-def settings(**changes):
-    """The numbers with these changes; a member that is None is left out."""
-    return object_of({name: value for name, value in {**NUMBERS, **changes}.items() if value is not None})
-
-
-SETTINGS, NO_BATCH, BATCH_OF_ONE = settings(), settings(greatest_batch=None), settings(greatest_batch=1)
-
-
-def digits(pieces):
-    """The bytes of a list, in hexadecimal; a text is taken as it stands."""
-    return pieces if isinstance(pieces, str) else b"".join(piece.bytes() for piece in pieces).hex()
-
-
-def job(name, rules=SETTINGS, **members):
-    return object_of({"do": f'"{name}"', **members, "settings": rules})
-
-
-def plan(pieces, rules=SETTINGS, **more):
-    return job("plan", rules, list=f'"{digits(pieces)}"', **more)
-
-
-def judge(pieces, groups, rules=SETTINGS, **more):
-    return job("judge", rules, list=f'"{digits(pieces)}"', plan=groups, **more)
+    common.expect_line([DSA], text, line)
 
 
 def check(portal, staging, certificate=CERTIFICATE, rules=SETTINGS):
@@ -85,10 +32,6 @@ def replay(pieces, memory, engines, trace, rules=SETTINGS):
 
 def run(pieces, memory, engines, rules=SETTINGS, **more):
     return job("run", rules, list=f'"{digits(pieces)}"', image=memory, engines=engines, **more)
-
-
-def move(src, dst, size=64, record_at=0x8000):
-    return Op(MOVE, size, record_at, src, dst)
 
 
 def changed(text, *changes):
@@ -432,12 +375,12 @@ PARTS = [texts, members, limits_of_settings, fields, splits, plans, answers, man
 PARTS += [emissions, order_of_faults, traces, longest]
 
 
-def main():
-    for part in PARTS:
+def main(words):
+    global DSA
+    DSA = program("dsa")
+    for part in named(PARTS, words):
         part()
-    print(f"{count - failed} passed, {failed} failed")
-    return 1 if failed else 0
 
 
 if __name__ == "__main__":
-    sys.exit(main())
+    run_test(main)

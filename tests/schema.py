@@ -1,14 +1,16 @@
 """Looks at docs/jobs.schema.json by a validator of the keywords that it uses: it accepts the jobs that the program reads
 and their answers, and rejects the others. What is right is taken from docs/FORMATS.md, typed by hand, and from the lines
-beside the jobs. tests/schema.sh runs it."""
+beside the jobs. It needs no program. The words are names of parts."""
 
 import copy
 import json
 import re
-import sys
 from pathlib import Path
 
-SCHEMA = json.loads(Path("docs/jobs.schema.json").read_text())
+import common
+from common import expect, named, run_test
+
+SCHEMA = json.loads((common.ROOT / "docs/jobs.schema.json").read_text())
 COST, PLAN, RUN = "cost_answer", "plan_answer", "run_answer"
 ANSWERS = {"judge": COST, "plan": PLAN, "check": COST, "replay": RUN, "run": RUN}
 
@@ -81,18 +83,6 @@ def holds(schema, value):
 
 # ---- the tests
 
-passed = 0
-failures = []
-
-
-def expect(right, name):
-    global passed
-    if right:
-        passed += 1
-    else:
-        failures.append(name)
-
-
 def accepts(value, name):
     expect(holds(SCHEMA, value), f"{name} is rejected")
 
@@ -115,7 +105,7 @@ def subschemas(schema):
             yield from subschemas(inner)
 
 
-def test_keywords():
+def keywords():
     for schema in subschemas(SCHEMA):
         unknown = set(schema) - set(RULES) - NOTES
         expect(not unknown, f"unknown keywords {unknown}")
@@ -127,7 +117,7 @@ def test_keywords():
             expect(closed and set(schema["required"]) == set(schema["properties"]), f"{schema['required']} are not exact")
 
 
-def test_formats():
+def formats():
     """The members that the table of jobs in docs/FORMATS.md names are those of the schema."""
     text = Path("docs/FORMATS.md").read_text()
     rows = re.findall(r"^\| `([a-z]+)` \| (`.*?) \| (.*?) \|$", text, re.M)
@@ -142,7 +132,7 @@ def test_formats():
     expect(set(SCHEMA["$defs"]["settings"]["properties"]) == wanted, "the settings have other members than docs/FORMATS.md")
 
 
-def test_jobs():
+def examples():
     seen = set()
     for path in sorted([*Path("examples").glob("*.job"), *Path("tests/jobs").glob("*.job")]):
         line = path.with_suffix(".line").read_text()
@@ -225,7 +215,7 @@ ANSWER_VALUES = [
 ]
 
 
-def test_values():
+def values():
     for path, member, within, outside in VALUES:
         job = json.loads(Path(path).read_text())
         for value in within:
@@ -263,7 +253,7 @@ def inexact(value):
             yield f"no {place}{name}", changed(value, place[:-1], less) if place else less
 
 
-def test_members():
+def members():
     for name in ANSWERS:
         for what, job in inexact(json.loads(Path(f"examples/{name}.job").read_text())):
             rejects(job, f"examples/{name}.job with {what}")
@@ -273,17 +263,13 @@ def test_members():
         rejects(value, f"the job {value}")
 
 
-def main():
-    test_keywords()
+def main(words):
+    keywords()
     # the others need a validator that knows every keyword
-    if not failures:
-        for test in (test_formats, test_jobs, test_values, test_members):
-            test()
-    for failure in failures:
-        print(f"tests/schema.sh: {failure}", file=sys.stderr)
-    print(f"tests/schema.sh: {passed} passed, {len(failures)} failed")
-    return 1 if failures else 0
+    if not common.failed:
+        for part in named([formats, examples, values, members], words):
+            part()
 
 
 if __name__ == "__main__":
-    sys.exit(main())
+    run_test(main)

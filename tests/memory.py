@@ -1,18 +1,16 @@
-"""Runs each call of crates/dsa_hostile on each of its lists, the program itself on jobs, and the program for texts on an
-example, while refuse.so refuses one allocation, or one and all after it, for every one that a run asks for, or one start of a thread. Each has to answer as
-with ample memory, or `refused 73 Memory`, and leave what it was given as it was.
-
-    run.py REFUSE.SO HOSTILE PROGRAM TEXTS [WORD]      WORD: only runs whose name has it
-"""
+"""Runs each call of crates/dsa_hostile on each of its lists, the program itself on jobs, and the program for texts on examples,
+while refuse.so refuses one allocation, or one and all after it, for every one that a run asks for, or one start of a
+thread. Each has to answer as with ample memory, or `refused 73 Memory`, and leave what it was given as it was. A word
+takes the runs that have it in their names."""
 
 import json
 import os
 import subprocess
-import sys
-from concurrent.futures import ThreadPoolExecutor
 from dataclasses import dataclass, field
 from glob import glob
 from itertools import count as numbers
+
+from common import ROOT, expect, having, program, refuse_so, run_test, side_by_side
 
 ALL = 1 << 60
 MEMORY = "refused 73 Memory\n"
@@ -27,7 +25,7 @@ PAIRS = dict(
 )
 ENDS = dict(zip(LISTS, [(0, 0), (2, 6), (4, 12), (1, 4), (2, 6)]))
 RECORDS = dict(zip(LISTS, [None, (1, 2), (1, 4), (5, 1), (1, 2)]))
-JOBS = sorted(glob("examples/*.job")) + [
+JOBS = sorted(glob("examples/*.job", root_dir=ROOT)) + [
     f"tests/jobs/{name}.job"
     for name in (
         "plan-nothing", "check-nothing", "replay-nothing", "plan-two-pairs", "check-two-pairs", "plan-delta-and-move",
@@ -215,20 +213,13 @@ def runs(hostile, program, texts):
         yield Run(f"dsa_text {' '.join(words)} of {name}", texts, text, [answer], (MEMORY, 1), True, words=words)
 
 
-def main():
+def main(words):
     global SHARED
-    SHARED, hostile, program, texts = map(os.path.abspath, sys.argv[1:5])
-    word = sys.argv[5] if len(sys.argv) > 5 else ""
-    chosen = [run for run in runs(hostile, program, texts) if word in run.name]
-    with ThreadPoolExecutor(os.cpu_count()) as pool:
-        done = list(pool.map(Run.all, chosen))
-    faults = [fault for run in done for fault in run.faults]
-    for fault in faults:
-        print(fault, file=sys.stderr)
-    failed = sum(bool(run.faults) for run in done)
-    print(f"{len(done) - failed} passed, {failed} failed")
-    sys.exit(1 if failed or not done else 0)
+    made = {run.name: run for run in runs(*map(program, ("dsa_hostile", "dsa", "dsa_text")))}
+    with refuse_so() as SHARED:
+        for run in side_by_side(Run.all, [made[name] for name in having(made, words)]):
+            expect(not run.faults, "\n".join(run.faults))
 
 
 if __name__ == "__main__":
-    main()
+    run_test(main)

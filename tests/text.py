@@ -1,30 +1,124 @@
-"""Runs dsa_text on lines, texts and plans typed by hand from docs/FORMATS.md, and looks at what it writes and at its status:
-each operation and option as a line and back, where a line leaves the grammar, which fault of a list is told, and the reason
-for each fence of a plan. The bytes of descriptors are those of the model. tests/text.sh runs it, and says which program."""
+"""Runs dsa_text on the examples of examples/text and compares what it writes with what stands there; brings the list of each
+job of tests/jobs to text and back; and asks about lines, texts, options and plans typed by hand from docs/FORMATS.md: each
+operation and option as a line and back, where a line leaves the grammar, which fault of a list is told, and the reason for
+each fence of a plan. The bytes of descriptors are those of the model. The words are names of parts."""
 
 import json
+import re
 import subprocess
-import sys
+from pathlib import Path
 
-from campaign.model import COMPARE, DELTA, DUALCAST, FILL, MOVE, PATTERN, Op
+import common
+from common import move, named, program, run_test
+from model import COMPARE, DELTA, DUALCAST, FILL, PATTERN, Op
 
 PAIR = "move 1 -> 2, 3 bytes, record 32"
-failed = count = 0
 
 
 def expect(command, text, wanted):
     """The program writes this line, or these, and ends with the status of such an end."""
-    global count, failed
-    count += 1
-    ran = subprocess.run([sys.argv[1], *command.split()], input=text.encode(), stdout=subprocess.PIPE)
-    status = 1 if wanted.startswith("refused") else 0
-    if (ran.returncode, ran.stdout.decode()) != (status, wanted + "\n"):
-        failed += 1
-        print(f"{command} {text[:200]!r}: wanted {status} and {wanted[:400]}, got {ran.returncode} and {ran.stdout[:400]}")
+    common.expect_line([TEXT, *command.split()], text, wanted)
 
 
-def move(src, dst, record_at=0x8000, size=64):
-    return Op(MOVE, size, record_at, src, dst)
+def written(command, text=""):
+    """What the program writes, whatever its status."""
+    return subprocess.run([TEXT, *command.split()], input=text, stdout=subprocess.PIPE, text=True).stdout
+
+
+def same(what, wrote, path):
+    """What was written is what stands in the file."""
+    wanted = path.read_text()
+    common.expect(wrote == wanted, f"{what} is not {path}: {wrote!r}")
+
+
+def example(path):
+    """One text with its options: as a list and a job, as canonical lines, explained and drawn, and planned by dsa."""
+    text, own = path.read_text(), path.with_suffix(".job").read_text()
+    options = path.with_suffix(".args").read_text()
+    list_of = json.loads(own)["list"]
+    same("assemble --job", written(f"assemble --job {options}", text), path.with_suffix(".job"))
+    common.expect(written(f"assemble {options}", text) == list_of + "\n", f"assemble does not give the list of {path}")
+    same("disassemble", written("disassemble", list_of + "\n"), path.with_suffix(".lines"))
+    same("explain, of the text,", written(f"explain {options}", text), path.with_suffix(".explain"))
+    same("explain, of the job,", written("explain", own), path.with_suffix(".explain"))
+    same("the picture", written(f"explain --svg {options}", text), path.with_suffix(".svg"))
+    common.expect_line([program("dsa")], own, path.with_suffix(".line").read_text().rstrip("\n"))
+
+
+def as_planned(path):
+    """The plan of an example, judged and checked: explained as what was planned."""
+    answer = json.loads(path.with_suffix(".line").read_text())
+    rules = json.loads(path.with_suffix(".job").read_text())["settings"]
+    explained = path.with_suffix(".explain").read_text()
+    emitted = {name: answer[name] for name in ("portal", "staging")}
+    check = {"do": "check", **emitted, "certificate": answer["certificate"], "settings": rules}
+    # pieces, read back from bytes to submit, no longer know the operations that they are of
+    expect("explain", json.dumps(check), re.sub(r" \(operation [^)]*\)", "", explained).rstrip("\n"))
+    common.expect(written("disassemble --portal", emitted["portal"] + "\n"), f"{path}: the portal has no text")
+    staged = written("disassemble --staging", emitted["staging"] + "\n").split("\n")
+    lines = [line.removeprefix("fence ") for line in staged if not line.startswith("#")]
+    pieces = written("assemble", "\n".join(lines)).rstrip("\n")
+    judge = {"do": "judge", "list": pieces, "plan": answer["plan"], "settings": rules}
+    expect("explain", json.dumps(judge), re.sub(r" \(operation [^)]*\)", "", explained).rstrip("\n"))
+
+
+def examples():
+    for path in sorted(Path("examples/text").glob("*.txt")):
+        example(path)
+        as_planned(path)
+
+
+def lists():
+    """Every list of the other tests that is read, as text and back."""
+    count = 0
+    for path in sorted(Path("tests/jobs").glob("*.job")):
+        found = re.search(r'"list": *"([0-9a-fA-F]+)"', path.read_text(errors="replace"))
+        if not found:
+            continue
+        ran = subprocess.run([TEXT, "disassemble"], input=found[1] + "\n", capture_output=True, text=True)
+        if ran.returncode == 0:
+            count += 1
+            back = written("assemble", ran.stdout)
+            common.expect(back == found[1].lower() + "\n", f"{path}: its list comes back as {back[:200]}")
+    common.expect(count > 10, f"only {count} lists came back")
+
+
+def refusals():
+    """Refusals by way of options, jobs and addresses."""
+    plan, run = (Path(f"examples/{name}.job").read_text() for name in ("plan", "run"))
+    two = "move 1 -> 2, 3 bytes, record 32\nmove 1 - 2\n"
+    many = "move 0 -> 4096, 64 bytes, record 8192\n" * 1025
+    for command, text, wanted in [
+        ("assemble", two, "refused 90 Line 2, column 8: expected ->"),
+        ("assemble", "\nmove 1 -> 2, 0 bytes, record 32\n", "refused 5 SizeZero 0, line 2"),
+        ("explain --lone 1000000001", PAIR + "\n", "refused 83 Settings"),
+        ("disassemble", "xy", "refused 84 Hex"),
+        ("disassemble", "000", "refused 84 Hex"),
+        ("explain", '{"do":"run"}', "refused 81 Member"),
+        ("explain", run, "refused 82 Do"),
+        ("explain --fence 3", plan, "refused 92 Options: a job has settings of its own"),
+        ("explain", re.sub(r'("list": *")', r"\1 ", plan), "refused 84 Hex"),
+        ("disassemble --staging --at 0x10001", "", "refused 83 Settings"),
+        ("disassemble --staging --at 0x8000000000000040", "", "refused 83 Settings"),
+        ("assemble", "compare 1 with patern 2, 8 bytes\n",
+         "refused 90 Line 1, column 16: expected a number below 2^64, or pattern"),
+        ("explain --svg --lone 0", many, "refused 91 Picture: 1025 groups, and 1024 at most"),
+    ]:
+        expect(command, text, wanted)
+
+
+def arguments():
+    """Arguments that are refused before any text is read, and the help of each command."""
+    for words in [
+        "disassemble --at 0x10000",
+        "disassemble --portal --at 0x10000",
+        "explain --batch 14 --batches 5 --greatest-batch 2",
+        "assemble --wrong",
+    ]:
+        common.expect_status([TEXT, *words.split()], 2)
+    for command in ("assemble", "disassemble", "explain"):
+        begins = written(f"{command} --help").find(f"Usage: dsa_text {command}")
+        common.expect(begins >= 0, f"{command} --help has no usage")
 
 
 def owned(op, pasid, privileged):
@@ -91,14 +185,14 @@ def grammar():
 def texts():
     """Texts of several lines. A line that leaves the grammar comes before any fault of the list, which names its line."""
     first, second = "move 0x1000 -> 0x2000, 64 bytes, record 0x8000", "move 0x2000 -> 0x4000, 64 bytes, record 0x8020"
-    both = move(0x1000, 0x2000).bytes().hex() + move(0x2000, 0x4000, 0x8020).bytes().hex()
+    both = move(0x1000, 0x2000).bytes().hex() + move(0x2000, 0x4000, record_at=0x8020).bytes().hex()
     expect("assemble", f"# two moves\n{first}\n\n \t\n{second} # reads it", both)
     expect("disassemble", both, f"{first}\n{second}")
     for text, wanted in [
         ("", ""),
         ("# none\n", ""),
         ("\n \r\n", ""),
-        (f"# a move\r\n\r\n{PAIR}\r\n", move(1, 2, 32, 3).bytes().hex()),
+        (f"# a move\r\n\r\n{PAIR}\r\n", move(1, 2, 3, 32).bytes().hex()),
         ("\nmove 1 -> 2, 0 bytes, record 0\nmove 1\n", "refused 90 Line 3, column 7: expected ->"),
         (f"# none\n{first}\n\nmove 1 -> 2, 0 bytes, record 0\n", "refused 5 SizeZero 1, line 4"),
         (f"{PAIR}\n\nmove 1 -> 2, 3 bytes, record 64, pasid 1", "refused 12 MixedPasid 1, line 3"),
@@ -113,10 +207,8 @@ def texts():
 def explained(moves, plan):
     """A job that judges the plan of these moves of 64 bytes, where a piece alone costs 10, a batch of at most four 14, and a
     fence 3."""
-    pieces = [move(src, dst, 0x1_0000 + 32 * k) for k, (src, dst) in enumerate(moves)]
-    rules = {"version": 1, "greatest_batch": 4, "greatest_transfer": 4096, "lone": 10, "batch": 14, "fence": 3, "staging": 65536}
-    digits = b"".join(piece.bytes() for piece in pieces).hex()
-    return json.dumps({"do": "judge", "list": digits, "plan": plan, "settings": rules})
+    pieces = [move(src, dst, record_at=0x1_0000 + 32 * k) for k, (src, dst) in enumerate(moves)]
+    return common.judge(pieces, plan)
 
 
 def shown(moves, plan, reasons):
@@ -167,12 +259,15 @@ def fences():
     expect("explain", explained([(0x1000, 0x2000)] * 65_537, []), "refused 32 TooManyPieces")
 
 
-def main():
-    for part in [lines, grammar, texts, fences]:
+PARTS = [examples, lists, refusals, arguments, lines, grammar, texts, fences]
+
+
+def main(words):
+    global TEXT
+    TEXT = program("dsa_text")
+    for part in named(PARTS, words):
         part()
-    print(f"{count - failed} passed, {failed} failed")
-    return 1 if failed else 0
 
 
 if __name__ == "__main__":
-    sys.exit(main())
+    run_test(main)

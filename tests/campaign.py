@@ -1,7 +1,6 @@
 """Runs the program on random jobs, and compares each of its lines with what model.py says that it has to be.
 
-    run.py PROGRAM [COUNT [SEED]]
-    run.py --write FOLDER [COUNT [SEED]]
+    tests/run campaign [COUNT [SEED]]
 
 A list of up to six pieces of all operations over few addresses is planned; its answer is checked; plans of it are judged;
 and it is run by 1 to 4 engines and replayed, in order and in a random complete order. With more than 1,000 lists it tells
@@ -13,6 +12,7 @@ import random
 import subprocess
 import sys
 
+import common
 import model
 from model import COMPARE, DELTA, DUALCAST, FILL, MOVE, PATTERN, CHECKED, Op, Settings
 
@@ -199,29 +199,31 @@ def run_and_replay(program, case, plan):
         expect(program, case.job("replay", **members, engines=engines, trace=shuffled[:-1]), "refused 77 Incomplete")
 
 
-def main():
-    given = sys.argv[1:]
-    program = Writes(given.pop(1)) if given[0] == "--write" else Runs(given[0])
-    count = int(given[1]) if len(given) > 1 else 200
-    seed = int(given[2]) if len(given) > 2 else 1
-    failed = 0
+def try_list(program, name):
+    """What is wrong with the answers for the list of this name, or None."""
+    case = Case(name)
+    try:
+        plan = plan_and_check(program, case)
+        judge(program, case, plan)
+        run_and_replay(program, case, plan)
+    except Wrong as wrong:
+        return str(wrong)
+    except subprocess.TimeoutExpired:
+        return "a job takes more than 60 seconds"
+    return None
+
+
+def main(words):
+    if len(words) > 2 or not all(word.isdigit() for word in words):
+        common.stop("the words of a campaign are COUNT and SEED")
+    count, seed = [int(word) for word in words] + [200, 1][len(words) :]
+    tried = Runs(common.program("dsa"))
     for number in range(count):
-        case = Case(f"{seed}/{number}")
-        try:
-            plan = plan_and_check(program, case)
-            judge(program, case, plan)
-            run_and_replay(program, case, plan)
-        except Wrong as wrong:
-            failed += 1
-            print(f"list {number} of seed {seed}: {wrong}", file=sys.stderr)
-        except subprocess.TimeoutExpired:
-            failed += 1
-            print(f"list {number} of seed {seed}: a job takes more than 60 seconds", file=sys.stderr)
+        fault = try_list(tried, f"{seed}/{number}")
+        common.expect(fault is None, f"list {number} of seed {seed}: {fault}")
         if count > 1000 and (number + 1) % 500 == 0:
-            print(f"{number + 1} of {count} lists, {failed} failed", file=sys.stderr)
-    print(f"{count - failed} passed, {failed} failed")
-    sys.exit(1 if failed else 0)
+            print(f"{number + 1} of {count} lists, {common.failed} failed", file=sys.stderr)
 
 
 if __name__ == "__main__":
-    main()
+    common.run_test(main)

@@ -1,4 +1,8 @@
-"""Measures two programs of the same jobs side by side; see tests/bench.sh.
+#!/usr/bin/env -S python3 -B
+"""Measures the built program beside another program of the same jobs, on large jobs: best wall time and greatest peak memory
+of each, their ratios, and whether the answers are equal. By hand, on a quiet machine; it is no test.
+
+    tests/bench.py OTHER [JOB ..]      OTHER: the other program; JOB: the beginning of a job's name
 
 Jobs are made in processes of their own: the peak memory of a program can't be seen below that of the process that
 started it.
@@ -12,18 +16,18 @@ import sys
 import tempfile
 import time
 
+from common import NUMBERS, program
+from model import COMPARE, DUALCAST, FILL, MOVE, Op
+
 RUNS = 5
 PIECES = 65536
 LONGEST = 67108864
 RECORDS = 1 << 50
-MOVE, FILL, COMPARE, DUALCAST = 3, 4, 5, 9
 
 
-def descriptor(code, first, second, size, number, own=b''):
+def descriptor(code, first, second, size, number, own=0):
     """The 64 bytes of an operation whose record is that of this number."""
-    words = [(0x0C | code << 24, 4), (RECORDS + 32 * number, 8), (first, 8), (second, 8), (size, 4)]
-    head = bytes(4) + b''.join(value.to_bytes(width, 'little') for value, width in words)
-    return head + bytes(4) + own.ljust(24, b'\0')
+    return Op(code, size, RECORDS + 32 * number, first, second, own).bytes()
 
 
 def apart():
@@ -67,8 +71,7 @@ def split():
 def hostile():
     """Many dualcasts of a byte, then comparisons over all of them."""
     half = PIECES // 2
-    out = [descriptor(DUALCAST, 1 << 41, 4096 * k, 1, k, (4096 * (half + k)).to_bytes(8, 'little'))
-           for k in range(half)]
+    out = [descriptor(DUALCAST, 1 << 41, 4096 * k, 1, k, 4096 * (half + k)) for k in range(half)]
     return out + [descriptor(COMPARE, 0, 1 << 45, 1 << 28, k) for k in range(half, PIECES)]
 
 
@@ -84,8 +87,7 @@ def copies(size, rounds, room):
 
 
 def settings(batch, transfer):
-    return {'version': 1, 'greatest_batch': batch, 'greatest_transfer': transfer, 'lone': 10,
-            'batch': 14, 'fence': 3, 'staging': 1 << 62}
+    return NUMBERS | {'greatest_batch': batch, 'greatest_transfer': transfer, 'staging': 1 << 62}
 
 
 def job_of(do, parts, batch, transfer=4096, **more):
@@ -206,29 +208,34 @@ def make(name, program, path):
             file.write(text_of(JOBS[name](program)))
 
 
-def main():
-    own, other, *wanted = sys.argv[1:]
+def row(name, own, other, folder):
+    """Makes a job, runs both programs on it by turns, and answers a row of the table."""
+    job = os.path.join(folder, 'job')
+    lines = [os.path.join(folder, which) for which in ('own', 'other')]
+    subprocess.run([sys.executable, '-B', __file__, '--make', name, own, job], check=True)
+    runs = [[], []]
+    for _ in range(RUNS):
+        for k, tried in enumerate((own, other)):
+            runs[k].append(measured(tried, job, lines[k]))
+    best = [min(its)[0] for its in runs]
+    peak = [max(memory for _, memory in its) for its in runs]
+    return '| %s | %.0f | %.0f | %.2f | %.0f | %.0f | %s |' % (
+        name, best[0], best[1], best[0] / best[1], peak[0], peak[1], 'equal' if same(*lines) else 'DIFFER')
+
+
+def main(other, *wanted):
     names = [n for n in (*JOBS, *LONGEST_JOBS) if not wanted or any(n.startswith(w) for w in wanted)]
     print('| job | dsa, ms | other, ms | ratio | dsa, MiB | other, MiB | answers |')
     print('|---|---|---|---|---|---|---|')
     with tempfile.TemporaryDirectory() as folder:
-        job = os.path.join(folder, 'job')
-        lines = [os.path.join(folder, name) for name in ('own', 'other')]
         for name in names:
-            subprocess.run([sys.executable, __file__, '--make', name, own, job], check=True)
-            runs = [[], []]
-            for _ in range(RUNS):
-                for k, program in enumerate((own, other)):
-                    runs[k].append(measured(program, job, lines[k]))
-            best = [min(its)[0] for its in runs]
-            peak = [max(memory for _, memory in its) for its in runs]
-            print('| %s | %.0f | %.0f | %.2f | %.0f | %.0f | %s |' % (
-                name, best[0], best[1], best[0] / best[1], peak[0], peak[1],
-                'equal' if same(*lines) else 'DIFFER'), flush=True)
+            print(row(name, program('dsa'), other, folder), flush=True)
 
 
 if __name__ == '__main__':
-    if sys.argv[1] == '--make':
+    if sys.argv[1:2] == ['--make']:
         make(*sys.argv[2:])
+    elif len(sys.argv) > 1 and not sys.argv[1].startswith('-'):
+        main(*sys.argv[1:])
     else:
-        main()
+        sys.exit(__doc__)

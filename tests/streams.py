@@ -1,27 +1,24 @@
-"""Runs the program on jobs whose input comes slowly or fails, and whose output is taken slowly or not at all, by the shared
-object of tests/memory.
-
-    run.py REFUSE.SO PROGRAM [WORD]      WORD: only runs whose name has it
-"""
+"""Runs the program on jobs whose input comes a byte at a time or fails at each turn, and whose output is taken a byte at a
+time or fails after some bytes. A word takes the runs that have it in their names."""
 
 import errno
-import os
 import subprocess
-import sys
-from concurrent.futures import ThreadPoolExecutor
+from functools import partial
 from glob import glob
 
+from common import ROOT, expect, having, program, refuse_so, run_test, side_by_side
+
 TURNS = 1048576
-JOBS = sorted(glob("examples/*.job")) + [
+JOBS = sorted(glob("examples/*.job", root_dir=ROOT)) + [
     f"tests/jobs/{name}.job" for name in ("judge-unfenced", "check-fence-left-out", "plan-nothing", "no-do", "nothing")
 ]
 
 
-def once(text, **settings):
-    """What is printed, and the status."""
+def once(shared, tried, text, settings):
+    """What the program that is tried prints, and its status."""
     names = {f"HOSTILE_{name.upper()}": str(value) for name, value in settings.items()}
-    names |= {"LD_PRELOAD": SHARED, "HOSTILE_ALL": "1"}
-    ran = subprocess.run([PROGRAM], input=text, capture_output=True, env=names, timeout=60)
+    names |= {"LD_PRELOAD": shared, "HOSTILE_ALL": "1"}
+    ran = subprocess.run([tried], input=text, capture_output=True, env=names, timeout=60)
     return ran.stdout + ran.stderr, ran.returncode
 
 
@@ -38,14 +35,16 @@ def cases(name, text, line):
     most = max(1, len(text) // 20)
     for error in (errno.EIO, errno.EINTR):
         for turn in range(1, turns(text, most) + 1):
-            yield f"read {turn} fails", {"read_most": most, "read_fault": turn, "error": error}, (b"", 2)
+            fault = {"read_most": most, "read_fault": turn, "error": error}
+            yield f"read {turn} fails with {errno.errorcode[error]}", fault, (b"", 2)
     beyond = {"read_most": most, "read_fault": turns(text, most) + 1, "error": errno.EIO}
     yield "a read after the last would fail", beyond, (line, status)
     for error in (errno.EIO, errno.EINTR, 0):
+        how = f"fails with {errno.errorcode[error]}" if error else "fails and takes nothing"
         for count in range(0, len(line), max(1, len(line) // 40)):
             fault = {"write_fault": count + 1, "error": error}
-            yield f"a write fails after {count} bytes", fault, (line[:count], 2)
-            yield f"a slow write fails after {count} bytes", fault | {"write_most": 7}, (line[:count], 2)
+            yield f"a write {how} after {count} bytes", fault, (line[:count], 2)
+            yield f"a slow write {how} after {count} bytes", fault | {"write_most": 7}, (line[:count], 2)
     yield "a write after the last would fail", {"write_fault": len(line) + 1, "error": errno.EIO}, (line, status)
 
 
@@ -60,26 +59,27 @@ def all_cases():
     yield "1,048,576 blanks, one a read", b" " * TURNS, slowly, (b"", 2)
 
 
-def fault_of(case):
+def fault_of(shared, tried, case):
     name, text, settings, wanted = case
     try:
-        got = once(text, **settings)
+        got = once(shared, tried, text, settings)
     except subprocess.TimeoutExpired:
         return f"{name}: does not end in 60 seconds"
     return None if got == wanted else f"{name}: wanted {wanted}, got {got}"[:600]
 
 
-def main():
-    global SHARED, PROGRAM
-    SHARED, PROGRAM = map(os.path.abspath, sys.argv[1:3])
-    word = sys.argv[3] if len(sys.argv) > 3 else ""
-    with ThreadPoolExecutor(os.cpu_count()) as pool:
-        answers = list(pool.map(fault_of, (case for case in all_cases() if word in case[0])))
-    faults = [fault for fault in answers if fault]
-    for fault in faults:
-        print(fault, file=sys.stderr)
-    print(f"{len(answers) - len(faults)} passed, {len(faults)} failed")
-    sys.exit(1 if faults or not answers else 0)
+def faults_of(shared, tried, words):
+    """What is wrong with each run of the program that is tried, or None."""
+    cases = {case[0]: case for case in all_cases()}
+    return side_by_side(partial(fault_of, shared, tried), [cases[name] for name in having(cases, words)])
 
 
-main()
+def main(words):
+    tried = program("dsa")
+    with refuse_so() as shared:
+        for fault in faults_of(shared, tried, words):
+            expect(fault is None, fault)
+
+
+if __name__ == "__main__":
+    run_test(main)

@@ -1,0 +1,140 @@
+"""Builds the callers of the C library, in C and in Rust, and the lines of the README, and looks at what they print: golden
+output, each allocation refused in turn, random lists beside the program. It uses valgrind, sanitizers and cargo where they
+are, and says so where they aren't; without a C compiler it is skipped. CC names the compiler, LISTS how many random lists
+(250). The words are names of parts."""
+
+import os
+import re
+import shutil
+import subprocess
+import sys
+import tempfile
+from pathlib import Path
+
+from common import ROOT, block_after, compiler, crates_up_to, expect, named, program, run_test, stop
+
+ARCHIVE = ROOT / "crates/dsa_c/out/libdsa_c.a"
+WARN = ["-Wall", "-Wextra", "-Werror"]
+SANITIZE = ["-fsanitize=address,undefined", "-fno-sanitize-recover=all"]
+
+
+def tried(what, command, printed=None, **how):
+    """A case: the command ends with status 0, and prints just this text where one is wanted."""
+    ran = subprocess.run(command, capture_output=True, text=True, **how)
+    right = ran.returncode == 0 and printed in (None, ran.stdout)
+    said = "\n".join((ran.stdout + ran.stderr).splitlines()[-20:])
+    expect(right, f"{what} ends with status {ran.returncode}:\n{said}")
+
+
+def compiled(source, *words, memory=True):
+    """Builds a caller, over the memory functions of the kit unless it has its own; answers where the program is."""
+    output = f"{WORK}/{Path(source).stem}{len(os.listdir(WORK))}"
+    flags = ["-std=c11", "-D_GNU_SOURCE", *WARN, "-O2", "-g", "-I", "bindings/c"]
+    libraries = [ARCHIVE, *([f"{KIT}/c/liblibc_c.a"] if memory else [])]
+    tried(f"the build of {source}", [compiler(), *flags, source, *libraries, *words, "-o", output])
+    return output
+
+
+def header():
+    """The header declares each function that the archive exports and no other, and is C++ too."""
+    symbols = subprocess.run(["nm", "-g", "--defined-only", ARCHIVE], capture_output=True, text=True).stdout
+    exported = set(re.findall(r" T (dsa_[a-z_]*)$", symbols, re.M))
+    declared = set(re.findall(r"\b(dsa_[a-z_]*)\(", Path("bindings/c/dsa_planner.h").read_text()))
+    expect(exported and exported == declared, f"the archive exports {exported}, the header declares {declared}")
+    plus = [compiler(), "-x", "c++", "-std=c++17", *WARN, "-fsyntax-only"]
+    if subprocess.run([*plus, "/dev/null"], capture_output=True).returncode == 0:
+        tried("the header in C++", [*plus, "bindings/c/dsa_planner.h"])
+    else:
+        print("there is no C++ compiler")
+
+
+def examples():
+    """The examples in C and the lines of the README; submit is not run, since it needs the device."""
+    golden = Path("bindings/c/two_moves.stdout").read_text()
+    tried("two_moves", [compiled("bindings/c/two_moves.c")], golden)
+    golden = Path("bindings/c/own_memory.stdout").read_text()
+    tried("own_memory", [compiled("bindings/c/own_memory.c", memory=False)], golden)
+    compiled("bindings/c/submit.c")
+    Path(WORK, "readme.c").write_text(block_after("README.md", "## From C", "c"))
+    tried("the C lines of the README", [compiled(f"{WORK}/readme.c")], "0: cost 10\n")
+
+
+def calls():
+    """Each call with good and bad arguments, with each allocation refused, and under valgrind and sanitizers."""
+    tried("calls", [compiled("tests/bindings/calls.c")])
+    refused = compiled("tests/bindings/refused_memory.c", memory=False)
+    tried("refused allocations", [refused])
+    if shutil.which("valgrind"):
+        watch = ["valgrind", "-q", "--error-exitcode=9", "--leak-check=full", "--errors-for-leak-kinds=all"]
+        for caller in (compiled("bindings/c/two_moves.c"), refused):
+            tried(f"{Path(caller).name} under valgrind", [*watch, caller])
+    else:
+        print("there is no valgrind")
+    Path(WORK, "empty.c").write_text("int main(void) { return 0; }\n")
+    how = {"stdout": subprocess.DEVNULL, "stderr": subprocess.DEVNULL}
+    built = subprocess.run([compiler(), *SANITIZE, f"{WORK}/empty.c", "-o", f"{WORK}/empty"], **how)
+    if built.returncode == 0 and subprocess.run([f"{WORK}/empty"], **how).returncode == 0:
+        tried("sanitizers", [compiled("tests/bindings/refused_memory.c", *SANITIZE, memory=False)])
+    else:
+        print("there are no sanitizers")
+
+
+def random_lists():
+    """The answers of the library are those of the program, but for the names of refusals."""
+    lists = Path(WORK, "lists")
+    lists.mkdir()
+    count = os.environ.get("LISTS", "250")
+    tried("random lists", [compiled("tests/bindings/random_lists.c"), lists, count, "20261123"])
+    for job in sorted(lists.glob("*.job")):
+        ran = subprocess.run([program("dsa")], input=job.read_bytes(), stdout=subprocess.PIPE)
+        line = ran.stdout.decode()
+        line = re.sub(r" [A-Z][A-Za-z]*", "", line) if line.startswith("refused") else line
+        own = job.with_suffix(".line").read_text()
+        if line.strip() != own.strip():
+            expect(False, f"{job.read_text()}: the program answers {line}, the library {own}")
+            return
+    expect(True, "")
+
+
+def rust():
+    """The Rust wrapper: its tests, its example, and the lines of the README."""
+    if not shutil.which("cargo"):
+        print("there is no cargo")
+        return
+    how = {"env": os.environ | {"RATTLE_KIT": str(KIT), "DSA_C_OUT": str(ARCHIVE.parent), "CARGO_TARGET_DIR": f"{WORK}/target"}}
+    crate = shutil.copytree("bindings/rust", f"{WORK}/rust")
+    Path(crate, "examples/readme.rs").write_text(block_after("README.md", "## From Rust", "rust"))
+    cargo = ["-q", "--offline", "--manifest-path", f"{crate}/Cargo.toml"]
+    tried("the Rust wrapper", ["cargo", "test", *cargo], **how)
+    golden = Path("bindings/rust/examples/two_moves.stdout").read_text()
+    tried("two_moves in Rust", ["cargo", "run", *cargo, "--example", "two_moves"], golden, **how)
+    tried("the Rust lines of the README", ["cargo", "run", *cargo, "--example", "readme"], "cost 10\n", **how)
+
+
+def speed():
+    """How long short lists take from C: printed, not judged."""
+    ran = subprocess.run([compiled("tests/bindings/speed.c"), "5"], stdout=subprocess.PIPE, text=True)
+    print("\n".join(line for line in ran.stdout.splitlines() if " 32 moves" in line))
+
+
+def need_archive():
+    """Ends the test where the archive is missing, or older than the code that it is built from."""
+    sources = [path for crate in crates_up_to("dsa_c") for path in Path("crates", crate, "src").rglob("*.rt")]
+    if not ARCHIVE.exists() or ARCHIVE.stat().st_mtime < max(path.stat().st_mtime for path in sources):
+        stop("build crates/dsa_c first: cd crates/dsa_c && rt lib")
+
+
+def main(words):
+    global KIT, WORK
+    if not compiler():
+        print("skipped, there is no C compiler")
+        sys.exit(0)
+    need_archive()
+    KIT = os.environ.get("RATTLE_KIT") or os.path.dirname(subprocess.run(["rt", "doc"], capture_output=True, text=True).stdout)
+    with tempfile.TemporaryDirectory() as WORK:
+        for part in named([header, examples, calls, random_lists, rust, speed], words):
+            part()
+
+
+if __name__ == "__main__":
+    run_test(main)

@@ -1,0 +1,108 @@
+"""Looks for names in the pages that the tree does not have: paths, crates, and words in `code` marks that look like names.
+A word is known where the code, the definitions or the proofs have it outside of comments, or where it names a file: a
+must-fail edit, a patch, a test. It needs no program. The words are names of pages, as docs/MODEL.md."""
+
+import io
+import re
+import tokenize
+from functools import cache
+from glob import glob
+from pathlib import Path
+
+from common import crates, expect, having, run_test
+
+PAGES = ["README.md", "CONTRIBUTING.md", *sorted(glob("docs/*.md", root_dir=Path(__file__).parent.parent))]
+
+# Names of others: Linux, the toolchain, Rust, C, and the packages and programs that the pages speak of.
+OTHERS = set(
+    """
+    max_batch_size max_transfer_size
+    alloc apt cargo gcc git patch python3 rt rustfmt rustup valgrind
+    """.split()
+)
+# Paths that a reader makes, or that a build does.
+MADE = {"crates/dsa_checker/must-fail/looks_at_lone_only.edit", "crates/NAME", "tests/NAME.py"}
+FOLDERS = "crates|tests|docs|bindings|examples|\\.ci"
+
+NAME = re.compile(r"[A-Za-z_][A-Za-z0-9_]*")
+# A name, perhaps of a part (Room::new, Tariff.batch), of a trait's case (From<ListFault>) or of a call (serve()).
+WHOLE = re.compile(rf"{NAME.pattern}(?:(?:::|\.){NAME.pattern}|<{NAME.pattern}>)*(?:\(\))?")
+FILE = re.compile(r"[\w-]+\.(?:rt|antt|py|c|h|rs|md|json|svg|txt|job|line|edit|patch|sh)")
+PATH = re.compile(rf"(?<![\w/.])(?:\.\./)*((?:{FOLDERS})/[\w./*-]*[\w*]|dsa_\w+/(?:specs|src|proofs|must-fail)[\w./]*)")
+COMMENTS = {".rt": r"//[^\n]*", ".rs": r"//[^\n]*", ".antt": r"--[^\n]*", ".c": r"/\*.*?\*/|//[^\n]*", ".h": r"/\*.*?\*/|//[^\n]*"}
+
+
+def files():
+    """Every file of the tree but those that are built."""
+    for top in ("crates", "tests", "docs", "bindings", "examples", ".ci"):
+        for path in Path(top).rglob("*"):
+            if path.is_file() and not {"out", "target", "__pycache__"} & set(path.parts):
+                yield path
+    yield from (path for path in Path(".").iterdir() if path.is_file())
+
+
+def names_in(path):
+    """The names that the file has outside of comments; of a script those of its code alone."""
+    text = path.read_text(errors="replace")
+    if path.suffix == ".py":
+        tokens = tokenize.generate_tokens(io.StringIO(text).readline)
+        return {token.string for token in tokens if token.type == tokenize.NAME}
+    return set(NAME.findall(re.sub(COMMENTS[path.suffix], "", text, flags=re.S)))
+
+
+@cache
+def known():
+    """All names of the tree, and of its files with and without what ends them."""
+    found = set(NAME.findall(Path("docs/jobs.schema.json").read_text()))
+    for path in files():
+        found |= {path.name, path.stem, *path.parent.parts}
+        if path.suffix == ".py" or path.suffix in COMMENTS:
+            found |= names_in(path)
+    declared = {name for name in names_in(Path("bindings/c/dsa_planner.h")) if name.startswith("dsa_")}
+    return {name for name in found if not name.startswith("dsa_")} | set(crates()) | declared | OTHERS
+
+
+def is_known(name):
+    """Whether the tree has it, or, of a part of names as `after_` and `_pieces`, a name that begins or ends so. A name in
+    capitals stands for any, as NAME.job."""
+    if re.fullmatch(r"[A-Z_]+(\.(?!md)\w+)?", name) or name in known():
+        return True
+    begins, ends = name.endswith("_"), name.startswith("_")
+    return any(begins and it.startswith(name) or ends and it.endswith(name) for it in known())
+
+
+def is_there(path):
+    """Whether there is such a file or folder; words in capitals stand for any name, and of what is built the crate counts."""
+    if path in MADE:
+        return True
+    path = re.sub(r"/out(/.*)?$", "", path if not path.startswith("dsa_") else f"crates/{path}")
+    path = re.sub(r"\b[A-Z]{2,}\b", "*", path) if not path.endswith(".md") else path
+    return bool(glob(path) or glob(path + ".*"))
+
+
+def names_of(mark):
+    """The names in a `code` mark: all of one that is a name, and of any other those that no other text has."""
+    if WHOLE.fullmatch(mark) and not FILE.fullmatch(mark):
+        return NAME.findall(mark)
+    rest = PATH.sub(" ", mark)
+    inner = [name for name in NAME.findall(rest) if re.search(r"[a-z]_[a-z]|[a-z][A-Z]", name)]
+    return [] if "/" in rest else inner + FILE.findall(rest)
+
+
+def look(page):
+    text = Path(page).read_text()
+    for path in sorted(set(PATH.findall(text))):
+        expect(is_there(path), f"{page}: there is no {path}")
+    prose = re.sub(r"^```.*?^```|^    .*?$", "", text, flags=re.S | re.M)
+    for mark in sorted(set(re.findall(r"`([^`\n]+)`", prose))):
+        for name in names_of(mark):
+            expect(is_known(name), f"{page}: the tree has no {name} (in `{mark}`)")
+
+
+def main(words):
+    for page in having(PAGES, words):
+        look(page)
+
+
+if __name__ == "__main__":
+    run_test(main)

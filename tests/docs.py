@@ -42,7 +42,7 @@ def README():
     """What explaining an example prints, and how the answer of the first job begins."""
     session(block_after("README.md", "## Look at a plan").replace(" > store.svg", " | cmp - examples/text/store.svg"))
     answer = printed("crates/dsa/out/dsa < examples/plan.job")
-    line = block_after("README.md", "This job has a list of two moves").strip().replace("..", "")
+    line = block_after("README.md", "has a list of two moves").strip().replace("..", "")
     start = line[: line.index('"portal"')]
     expect(answer.startswith(start), f"README.md: the answer begins {answer[: len(start)]!r}, and not {start!r}")
 

@@ -17,7 +17,7 @@ PAGES = ["README.md", "CONTRIBUTING.md", *sorted(glob("docs/*.md", root_dir=Path
 OTHERS = set(
     """
     max_batch_size max_transfer_size
-    alloc apt cargo gcc git patch python3 rt rustfmt rustup valgrind
+    Net Processes alloc apt cargo gcc git patch python3 rt rustfmt rustup valgrind
     """.split()
 )
 # Paths that a reader makes, or that a build does.

@@ -1,6 +1,6 @@
 #!/usr/bin/env -S python3 -B
-"""Measures the built program beside another program of the same jobs, on large jobs: best wall time and greatest peak memory
-of each, their ratios, and whether the answers are equal. By hand, on a quiet machine; it is no test.
+"""Measures the built program beside another program of the same jobs, on large jobs: best wall time and greatest peak
+memory of each, their ratios, and whether the answers are equal. By hand, on a quiet machine; it is no test.
 
     tests/bench.py OTHER [JOB ..]      OTHER: the other program; JOB: the beginning of a job's name
 

@@ -1,7 +1,7 @@
-"""Builds the callers of the C library, in C and in Rust, and the lines of the README, and looks at what they print: golden
-output, each allocation refused in turn, random lists beside the program. It uses valgrind, sanitizers and cargo where they
-are, and says so where they aren't; without a C compiler it is skipped. CC names the compiler, LISTS how many random lists
-(250). The words are names of parts."""
+"""Builds the callers of the C library, in C and in Rust, and the lines of the README, and looks at what they print:
+golden output, each allocation refused in turn, random lists beside the program. It uses valgrind, sanitizers and
+cargo where they are, and says so where they aren't; without a C compiler it is skipped. CC names the compiler, LISTS
+how many random lists (250). The words are names of parts."""
 
 import os
 import re
@@ -101,7 +101,8 @@ def rust():
     if not shutil.which("cargo"):
         print("there is no cargo")
         return
-    how = {"env": os.environ | {"RATTLE_KIT": str(KIT), "DSA_C_OUT": str(ARCHIVE.parent), "CARGO_TARGET_DIR": f"{WORK}/target"}}
+    places = {"RATTLE_KIT": KIT, "DSA_C_OUT": str(ARCHIVE.parent), "CARGO_TARGET_DIR": f"{WORK}/target"}
+    how = {"env": os.environ | places}
     crate = shutil.copytree("bindings/rust", f"{WORK}/rust")
     Path(crate, "examples/readme.rs").write_text(block_after("README.md", "## From Rust", "rust"))
     cargo = ["-q", "--offline", "--manifest-path", f"{crate}/Cargo.toml"]
@@ -130,7 +131,8 @@ def main(words):
         print("skipped, there is no C compiler")
         sys.exit(0)
     need_archive()
-    KIT = os.environ.get("RATTLE_KIT") or os.path.dirname(subprocess.run(["rt", "doc"], capture_output=True, text=True).stdout)
+    page = subprocess.run(["rt", "doc"], capture_output=True, text=True).stdout
+    KIT = os.environ.get("RATTLE_KIT") or os.path.dirname(page)
     with tempfile.TemporaryDirectory() as WORK:
         for part in named([header, examples, calls, random_lists, rust, speed], words):
             part()

@@ -1,5 +1,5 @@
-"""What the tests share: programs and where they stand, counting cases, jobs made from parts, copies of crates, and an end
-that leaves nothing behind. A test is a module with `main(words)`, the words being names of its cases."""
+"""What the tests share: programs and where they stand, counting cases, jobs made from parts, copies of crates, and
+an end that leaves nothing behind. A test is a module with `main(words)`, the words being names of its cases."""
 
 import json
 import os
@@ -57,7 +57,8 @@ def expect_line(command, text, line):
 
 def expect_status(command, status, **how):
     """The command ends with this status and answers nothing."""
-    ran = subprocess.run(command, stdin=subprocess.DEVNULL, stderr=subprocess.DEVNULL, **({"stdout": subprocess.PIPE} | how))
+    quiet = {"stdin": subprocess.DEVNULL, "stdout": subprocess.PIPE, "stderr": subprocess.DEVNULL}
+    ran = subprocess.run(command, **(quiet | how))
     right = ran.returncode == status and not ran.stdout
     expect(right, f"{command}: wanted status {status} and no line, got {ran.returncode} and {ran.stdout}")
 
@@ -235,6 +236,6 @@ def patched(folder, patch):
     """Applies a patch to a folder, without fuzz; answers what is wrong where it does not apply so, and else nothing."""
     if not shutil.which("patch"):
         stop("the program patch is needed")
-    words = ["patch", "-s", "-f", "-F0", "-p1", "-r", "-", "--no-backup-if-mismatch", "-d", folder, "-i", os.path.abspath(patch)]
-    ran = subprocess.run(words, capture_output=True, text=True)
+    how = ["-s", "-f", "-F0", "-p1", "-r", "-", "--no-backup-if-mismatch"]
+    ran = subprocess.run(["patch", *how, "-d", folder, "-i", os.path.abspath(patch)], capture_output=True, text=True)
     return f"{patch} does not apply without fuzz: {ran.stdout}{ran.stderr}" if ran.returncode else ""

@@ -1,5 +1,6 @@
-"""Runs the command blocks of README.md and docs that need no proof, with the built programs, and compares what they print
-with what the pages say. tests/bindings.py runs the lines in C and Rust. The words are names of pages, as USING."""
+"""Runs the command blocks of README.md and docs that need no proof, with the built programs, and compares what they
+print with what the pages say. tests/bindings.py runs the lines in C and Rust. The words are names of pages, as
+USING."""
 
 import json
 import os

@@ -1,7 +1,7 @@
-"""Tries engines that no clause can refuse, since no proof tells of time: engines that are one thread, engines that keep each
-other from their lines, engines that ask the gate late, and a run that always says that work was out of date. Each is a
-patch of dsa_engines in tests/engines, whose first line names the test of dsa_call_tests that has to fail. The words are
-parts of names of patches."""
+"""Tries engines that no clause can refuse, since no proof tells of time: engines that are one thread, engines that
+keep each other from their lines, engines that ask the gate late, and a run that always says that work was out of
+date. Each is a patch of dsa_engines in tests/engines, whose first line names the test of dsa_call_tests that has to
+fail. The words are parts of names of patches."""
 
 import re
 import subprocess
@@ -36,11 +36,12 @@ def fault_of(patch):
         fault = patched(crate, patch)
         if fault:
             return fault
-        ran = subprocess.run(["rt", "try", "--test"], cwd=crate, stdout=subprocess.PIPE, stderr=subprocess.STDOUT, text=True)
+        ran = subprocess.run(["rt", "try", "--test"], cwd=crate, capture_output=True, text=True)
     if ran.returncode == 0:
         return f"{patch} passes the tests"
-    failed = re.search(rf"{test[1]}.* FAILED", ran.stdout)
-    return "" if failed else f"{patch} does not fail {test[1]}:\n" + "\n".join(ran.stdout.splitlines()[-20:])
+    said = ran.stdout + ran.stderr
+    failed = re.search(rf"{test[1]}.* FAILED", said)
+    return "" if failed else f"{patch} does not fail {test[1]}:\n" + "\n".join(said.splitlines()[-20:])
 
 
 def main(words):

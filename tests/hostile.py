@@ -1,7 +1,7 @@
-"""Tries wrong bodies that other tests are there to refuse, and sees each refused: a call that always reports an allocation
-failure, one that changes what it was given, a run that leaves a thread, a line that is written in part (tests/memory.py), a
-planner that always submits alone (tests/campaign.py), and a program that tries again after an error (tests/streams.py).
-They run by `rt try`, which proves nothing. The words are names of parts."""
+"""Tries wrong bodies that other tests are there to refuse, and sees each refused: a call that always reports an
+allocation failure, one that changes what it was given, a run that leaves a thread, a line that is written in part
+(tests/memory.py), a planner that always submits alone (tests/campaign.py), and a program that tries again after an
+error (tests/streams.py). They run by `rt try`, which proves nothing. The words are names of parts."""
 
 import os
 import re

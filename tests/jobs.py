@@ -1,6 +1,6 @@
-"""Runs the program on jobs that are made from parts, and looks at its line and its status in each case: texts that are no
-job, members of other kinds, limits, fields of descriptors, the order in which faults are found, and the longest lists.
-What is right is taken from docs/FORMATS.md, typed by hand. The words are names of parts."""
+"""Runs the program on jobs that are made from parts, and looks at its line and its status in each case: texts that
+are no job, members of other kinds, limits, fields of descriptors, the order in which faults are found, and the
+longest lists. What is right is taken from docs/FORMATS.md, typed by hand. The words are names of parts."""
 
 import common
 import model

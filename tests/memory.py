@@ -1,7 +1,7 @@
-"""Runs each call of crates/dsa_hostile on each of its lists, the program itself on jobs, and the program for texts on examples,
-while refuse.so refuses one allocation, or one and all after it, for every one that a run asks for, or one start of a
-thread. Each has to answer as with ample memory, or `refused 73 Memory`, and leave what it was given as it was. A word
-takes the runs that have it in their names."""
+"""Runs each call of crates/dsa_hostile on each of its lists, the program itself on jobs, and the program for texts
+on examples, while refuse.so refuses one allocation, or one and all after it, for every one that a run asks for, or
+one start of a thread. Each has to answer as with ample memory, or `refused 73 Memory`, and leave what it was given
+as it was. A word takes the runs that have it in their names."""
 
 import json
 import os

@@ -1,6 +1,6 @@
-"""The definitions of docs/FORMATS.md and docs/MODEL.md once more, in the plainest form: operations, what they read, write
-and leave, their pieces, every legal plan of a few pieces, the plan that is chosen, the bytes that submit it, and what a
-run leaves. It shares no code with the planner."""
+"""The definitions of docs/FORMATS.md and docs/MODEL.md once more, in the plainest form: operations, what they read,
+write and leave, their pieces, every legal plan of a few pieces, the plan that is chosen, the bytes that submit it,
+and what a run leaves. It shares no code with the planner."""
 
 from dataclasses import dataclass, replace
 

@@ -1,6 +1,6 @@
-"""Looks for names in the pages that the tree does not have: paths, crates, and words in `code` marks that look like names.
-A word is known where the code, the definitions or the proofs have it outside of comments, or where it names a file: a
-must-fail edit, a patch, a test. It needs no program. The words are names of pages, as docs/MODEL.md."""
+"""Looks for names in the pages that the tree does not have: paths, crates, and words in `code` marks that look like
+names. A word is known where the code, the definitions or the proofs have it outside of comments, or where it names a
+file: a must-fail edit, a patch, a test. It needs no program. The words are names of pages, as docs/MODEL.md."""
 
 import io
 import re
@@ -29,7 +29,8 @@ NAME = re.compile(r"[A-Za-z_][A-Za-z0-9_]*")
 WHOLE = re.compile(rf"{NAME.pattern}(?:(?:::|\.){NAME.pattern}|<{NAME.pattern}>)*(?:\(\))?")
 FILE = re.compile(r"[\w-]+\.(?:rt|antt|py|c|h|rs|md|json|svg|txt|job|line|edit|patch|sh)")
 PATH = re.compile(rf"(?<![\w/.])(?:\.\./)*((?:{FOLDERS})/[\w./*-]*[\w*]|dsa_\w+/(?:specs|src|proofs|must-fail)[\w./]*)")
-COMMENTS = {".rt": r"//[^\n]*", ".rs": r"//[^\n]*", ".antt": r"--[^\n]*", ".c": r"/\*.*?\*/|//[^\n]*", ".h": r"/\*.*?\*/|//[^\n]*"}
+OF_C = r"/\*.*?\*/|//[^\n]*"
+COMMENTS = {".rt": r"//[^\n]*", ".rs": r"//[^\n]*", ".antt": r"--[^\n]*", ".c": OF_C, ".h": OF_C}
 
 
 def files():

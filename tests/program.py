@@ -1,5 +1,6 @@
-"""Runs the program on the examples and on the jobs of tests/jobs, and looks at its line and its status in each case: 0 for
-an answer, 1 for a refusal, 2 where reading or writing fails. A word takes the jobs that have it in their names."""
+"""Runs the program on the examples and on the jobs of tests/jobs, and looks at its line and its status in each case:
+0 for an answer, 1 for a refusal, 2 where reading or writing fails. A word takes the jobs that have it in their
+names."""
 
 from glob import glob
 from pathlib import Path

@@ -1,6 +1,6 @@
-"""Looks at docs/jobs.schema.json by a validator of the keywords that it uses: it accepts the jobs that the program reads
-and their answers, and rejects the others. What is right is taken from docs/FORMATS.md, typed by hand, and from the lines
-beside the jobs. It needs no program. The words are names of parts."""
+"""Looks at docs/jobs.schema.json by a validator of the keywords that it uses: it accepts the jobs that the program
+reads and their answers, and rejects the others. What is right is taken from docs/FORMATS.md, typed by hand, and from
+the lines beside the jobs. It needs no program. The words are names of parts."""
 
 import copy
 import json

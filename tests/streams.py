@@ -1,5 +1,5 @@
-"""Runs the program on jobs whose input comes a byte at a time or fails at each turn, and whose output is taken a byte at a
-time or fails after some bytes. A word takes the runs that have it in their names."""
+"""Runs the program on jobs whose input comes a byte at a time or fails at each turn, and whose output is taken a
+byte at a time or fails after some bytes. A word takes the runs that have it in their names."""
 
 import errno
 import subprocess

@@ -1,7 +1,8 @@
-"""Runs dsa_text on the examples of examples/text and compares what it writes with what stands there; brings the list of each
-job of tests/jobs to text and back; and asks about lines, texts, options and plans typed by hand from docs/FORMATS.md: each
-operation and option as a line and back, where a line leaves the grammar, which fault of a list is told, and the reason for
-each fence of a plan. The bytes of descriptors are those of the model. The words are names of parts."""
+"""Runs dsa_text on the examples of examples/text and compares what it writes with what stands there; brings the list
+of each job of tests/jobs to text and back; and asks about lines, texts, options and plans typed by hand from
+docs/FORMATS.md: each operation and option as a line and back, where a line leaves the grammar, which fault of a list
+is told, and the reason for each fence of a plan. The bytes of descriptors are those of the model. The words are
+names of parts."""
 
 import json
 import re

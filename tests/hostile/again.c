@@ -1,4 +1,4 @@
-/* Answers any text as one that is no JSON, and reads and writes again after an error. tests/streams has to see that. */
+/* Answers any text as one that is no JSON, and reads and writes again after an error. tests/streams.py has to see that. */
 #include <string.h>
 #include <unistd.h>
 

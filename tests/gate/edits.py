@@ -1,0 +1,223 @@
+#!/usr/bin/env python3
+"""Tries the must-fail edits of a proved crate, many at a time: edits.py NAME [EDIT ..].
+
+The proof of a function reads its own body and the contracts of what it calls. So one check of a copy with an edit in
+each of many functions refuses or proves each of them by itself, and its output says which. In such a round an edit counts
+as refused only where the check names a goal of the edited function; that a function calls a refused one counts for
+nothing. Every other edit is tried alone, by the rules of `rt must-fail`, and has to be refused by a goal as well.
+
+Controls, tests/gate/controls/NAME/*.edit, change no meaning: they go into the same rounds, and have to be found not refused."""
+import os
+import re
+import shutil
+import sys
+import tempfile
+
+import toolchain
+from toolchain import rt, rtlib
+
+CONTROLS = f"{toolchain.ROOT}/tests/gate/controls"
+# What an error of a proof file says where it lacks a name, or the proof of another function: nothing of its own goals.
+LACKS = re.compile(r"has no field|is not in scope|has no `|was not admitted")
+HEAD = re.compile(r'(\s*)(?:pub(?:\([^)]*\))?\s+)?(?:const\s+|unsafe\s+|extern\s+"C"\s+)*fn\s+(\w+)')
+
+
+class Edit:
+    def __init__(self, file, crate, is_control):
+        self.file, self.is_control = file, is_control
+        self.name = os.path.basename(file) + (" (control)" if is_control else "")
+        self.texts, self.fault = rt.read_edit(file, crate.folder)
+        self.pairs = pairs_of(file)
+        self.targets = set() if self.fault else targets_of(crate, self.pairs)
+
+
+def pairs_of(file):
+    """Returns the edit's triples of path, old and new text."""
+    path, old, pairs = "", "", []
+    with open(file, encoding="utf-8") as lines:
+        for line in lines.read().split("\n"):
+            if line.startswith("file: "):
+                path = line[len("file: ") :].strip()
+            elif line.startswith("old: "):
+                old = line[len("old: ") :]
+            elif line.startswith("new:"):
+                pairs.append((path, old, line[len("new:") :].removeprefix(" ")))
+    return pairs
+
+
+def impl_of(line):
+    """Returns the word that rattle's names have for the impl that begins at this line: a type, or `?Type` of a trait's."""
+    head = re.match(r"impl\b\s*(?:<.*?>\s+)?(.*)", line)
+    of_trait = re.match(r"(?:.*\bfor\s+)([\w:]+)", head[1])
+    if of_trait:
+        return "?" + of_trait[1].split("::")[-1]
+    return re.match(r"[\w:]+", head[1])[0].split("::")[-1]
+
+
+def last_line(lines, at, indent):
+    """Returns the index of the line that ends the function that begins at a line, in rt fmt's layout."""
+    if lines[at].endswith("}") and "{" in lines[at]:
+        return at
+    return next((it for it in range(at, len(lines)) if lines[it] == indent + "}"), at)
+
+
+def functions_of(path, text):
+    """Returns the name, first and last line, counted from 1, of each function of a file. A method goes by the end of its
+    name, since rattle names it below the module of its type."""
+    module = re.sub(r"(^src/|/mod\.rt$|\.rt$)", "", path).replace("/", "::")
+    parts, impl, at, lines, found = [] if module in ("lib", "main") else [module], "", 0, text.split("\n"), []
+    while at < len(lines):
+        line = lines[at]
+        if re.match(r"impl\b", line):
+            impl = impl_of(line)
+        elif line.startswith("}"):
+            impl = ""
+        head = HEAD.match(line)
+        if head:
+            end = last_line(lines, at, head[1])
+            found.append(("::".join([*([impl] if head[1] and impl else parts), head[2]]), at + 1, end + 1))
+            at = end
+        at += 1
+    return found
+
+
+def targets_of(crate, pairs):
+    """Returns the functions that an edit changes, as (name, path, first line, last line): none where a part is in no function."""
+    targets = set()
+    for path, old, _ in pairs:
+        with open(f"{crate.folder}/{path}", encoding="utf-8") as file:
+            text = file.read()
+        line = text[: text.find(old)].count("\n") + 1
+        inside = [it for it in functions_of(path, text) if it[1] <= line <= it[2]]
+        if not inside or not path.startswith("src/"):
+            return set()
+        name, first, last = inside[-1]
+        targets.add((name, path, first, last))
+    return targets
+
+
+def applied(crate, edits):
+    """Returns the texts of the files with all these edits, or None where one's old text then isn't there once."""
+    texts = {}
+    for edit in edits:
+        for path, old, new in edit.pairs:
+            if path not in texts:
+                with open(f"{crate.folder}/{path}", encoding="utf-8") as file:
+                    texts[path] = file.read()
+            if texts[path].count(old) != 1:
+                return None
+            texts[path] = texts[path].replace(old, new)
+    return texts
+
+
+def rounds_of(crate, edits):
+    """Returns the edits in rounds, each with one edit of a function at most."""
+    rounds = []
+    for edit in edits:
+        fits = (it for it in rounds if not any(edit.targets & other.targets for other in it) and applied(crate, [*it, edit]))
+        into = next(fits, None)
+        if into is None:
+            rounds.append([edit])
+        else:
+            into.append(edit)
+    return rounds
+
+
+def word_of(part):
+    """Returns the pattern of a part of a function's name: rattle joins type and trait of a trait's impl to one word."""
+    return r"\w*" + re.escape(part[1:]) + r"\w*" if part.startswith("?") else re.escape(part)
+
+
+def own_goal(crate, edit, lines):
+    """Returns the line by which a check refuses a function of the edit for a goal of the function's own, or None."""
+    for name, path, first, last in sorted(edit.targets):
+        parts = [word_of(it) for it in name.split("::")]
+        verdict = re.compile(rf"fn {crate.name}::(?:\w+::)*{'::'.join(parts)}: (not proved|no proof)")
+        refused = next((it for it in lines if verdict.match(it)), None)
+        if refused and "did not prove `" in refused:
+            return refused
+        proof = re.compile(rf"(?:\./)?proofs/(?:\w+/)*{'/'.join(parts)}/\w+\.antt:\d+:\d+: error: ")
+        for line in lines if refused else ():
+            goal = re.match(r"(?:note: )?(?:\./)?(\S+?):(\d+):\d+: it is not proved that ", line)
+            if goal and goal[1] == path and first <= int(goal[2]) <= last:
+                return line
+            if proof.match(line) and not LACKS.search(line):
+                return line
+    return None
+
+
+def checked_round(crate, edits, kept):
+    """Returns the lines of one check with all these edits, or none where the check did not reach the prover."""
+    texts = applied(crate, edits)
+    only = [word for edit in edits for name, *_ in sorted(edit.targets) for word in ("--only", name.replace("?", ""))]
+    ran = rt.checked(crate, texts, ["--jobs", "1", *only], kept)
+    lines = ran.stdout.rstrip("\n").split("\n")
+    is_read = not any(rt.unread(line, texts) for line in lines) and not rtlib.STALE.search(ran.stdout)
+    reached = ran.returncode == 1 and lines[-1].startswith(("logic=not-proved", "only="))
+    if not (is_read and reached):
+        print(f"note: a round of {len(edits)} edits says nothing, so each is tried alone: {lines[-1][:200]}", flush=True)
+    return lines if is_read and reached else []
+
+
+def tried_alone(crate, edit, kept):
+    """Returns whether the edit is as it should be, and what to say: a control is not refused, every other edit is."""
+    if edit.is_control:
+        ran = rt.checked(crate, edit.texts, ["--jobs", "1"], kept)
+        return ran.returncode == 0, "not refused, as it must be" if ran.returncode == 0 else "REFUSED, though it changes nothing"
+    refused, said = rt.must_fail(crate, edit.file, ["--jobs", "1"], kept)
+    if not refused:
+        # what stands in kept may only ever help an edit to be refused
+        refused, said = rt.must_fail(crate, edit.file, ["--jobs", "1"])
+    said = said.partition(": ")[2]
+    if "only because a proof file names" in said:
+        return False, f"NOT REFUSED BY A GOAL: {said}"
+    return refused, said
+
+
+def tried(crate, edits, kept):
+    """Yields each edit with whether it is as it should be, and what to say."""
+    alone = [it for it in edits if not it.targets and not it.fault]
+    for edit in edits:
+        if edit.fault:
+            yield edit, False, f"BAD EDIT: {edit.fault}"
+    for its in rounds_of(crate, [it for it in edits if it.targets]):
+        lines = checked_round(crate, its, kept)
+        for edit in its:
+            goal = own_goal(crate, edit, lines)
+            if goal and edit.is_control:
+                yield edit, False, f"REFUSED, though it changes nothing: {goal}"
+            elif goal:
+                yield edit, True, f"refused, as it must be: {goal}"
+            else:
+                alone.append(edit)
+    for edit in alone:
+        yield edit, *tried_alone(crate, edit, kept)
+
+
+def edits_of(crate, names):
+    """Returns the crate's edits and controls, and the files of must-fail that are no edits."""
+    good, bad = rt.edits_of(crate)
+    folder = f"{CONTROLS}/{crate.name}"
+    controls = sorted(f"{folder}/{it}" for it in os.listdir(folder)) if os.path.isdir(folder) else []
+    edits = [Edit(it, crate, False) for it in good] + [Edit(it, crate, True) for it in controls]
+    return [it for it in edits if not names or os.path.basename(it.file).removesuffix(".edit") in names], bad
+
+
+def main(name, *names):
+    crate = toolchain.crates()[name]
+    rtlib.guarded()
+    edits, bad = edits_of(crate, names)
+    failed = len(bad)
+    for file in bad:
+        print(f"{name}: BAD EDIT: {file} is no .edit file right in must-fail/")
+    with tempfile.TemporaryDirectory(prefix="dsa-edits-") as room:
+        kept = shutil.copytree(f"{crate.folder}/{toolchain.KEPT}", f"{room}/kept")
+        for edit, is_well, said in tried(crate, edits, kept):
+            failed += not is_well
+            print(f"must-fail {name}/{edit.name}: {'' if is_well else 'FAILED: '}{said[:400 if not is_well else 160]}", flush=True)
+    print(f"{len(edits) + len(bad) - failed} passed, {failed} failed")
+    return 1 if failed else 0
+
+
+if __name__ == "__main__":
+    sys.exit(main(*sys.argv[1:]))

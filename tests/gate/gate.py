@@ -1,0 +1,259 @@
+#!/usr/bin/env python3
+"""The merge gate, from nothing: each crate proved, each must-fail edit refused, each test and script run. See docs/TESTING.md.
+
+    gate.py                         all of it
+    gate.py --kept [NAME ..]        the same over what earlier checks proved: of these crates and scripts alone
+    gate.py --kept --proofs NAME .. only the proofs of these crates and of those below them
+
+Tasks run side by side, one a processor. Each is a process of its own, so its processor time is known; what it printed
+stands in the log folder. The last lines have the table of parts, each failure with its reason, and `N passed, N failed`."""
+import argparse
+import os
+import re
+import shutil
+import signal
+import subprocess
+import sys
+import tempfile
+import threading
+import time
+from concurrent.futures import FIRST_COMPLETED, ThreadPoolExecutor, wait
+
+import toolchain
+
+HERE = os.path.dirname(os.path.realpath(__file__))
+ROOT = toolchain.ROOT
+# The most jobs of one proof: more gain nothing.
+MOST_JOBS = 4
+COUNTS = re.compile(r"^(?:[\w./-]+: )?(\d+) passed, (\d+) failed", re.M)
+KINDS = ("proofs", "edits", "tests", "scripts")
+# What the scripts need built; those that are not named need the two programs.
+NEEDS = {name: () for name in ("engines", "hostile", "names", "schema")}
+NEEDS |= {"memory": ("dsa", "dsa_text", "dsa_hostile"), "bindings": ("dsa", "dsa_c")}
+PROGRAMS = ("dsa", "dsa_text")
+
+
+class Task:
+    """One command; its weight is about the seconds that it takes."""
+
+    def __init__(self, kind, name, command, weight, waits=(), folder=ROOT):
+        self.kind, self.name, self.command, self.weight = kind, name, command, weight
+        self.waits, self.folder = [*waits], folder
+        self.behind, self.jobs = weight, 1
+        self.passed, self.failed, self.processor, self.clock, self.said = 0, 0, 0.0, 0.0, ""
+
+    def label(self):
+        return f"{self.kind[:-1]} of {self.name}" if self.kind in ("proofs", "edits") else f"{self.kind[:-1]} {self.name}"
+
+    def run(self, log):
+        """Runs the command to its end; a command that cannot be started fails with the reason."""
+        command = [*self.command, *([str(self.jobs)] if self.kind == "proofs" else [])]
+        start = time.monotonic()
+        try:
+            # Each task leads a process group, so that all it started can be ended.
+            how = {"cwd": self.folder, "stdin": subprocess.DEVNULL, "stderr": subprocess.STDOUT, "start_new_session": True}
+            with open(log, "w+", encoding="utf-8", errors="replace") as out:
+                child = subprocess.Popen(command, stdout=out, **how)
+                RUNNING.add(child.pid)
+                _, status, usage = os.wait4(child.pid, 0)
+                child.returncode = os.waitstatus_to_exitcode(status)
+                RUNNING.discard(child.pid)
+                out.seek(0)
+                self.said = out.read()
+            self.processor = usage.ru_utime + usage.ru_stime
+        except OSError as error:
+            self.said, status = f"{command[0]}: {error.strerror}", 1
+        self.clock = time.monotonic() - start
+        self.count(status == 0)
+
+    def count(self, is_well):
+        """Takes over the numbers that the command printed; a command without counts is one test."""
+        found = COUNTS.findall(self.said)
+        self.passed, self.failed = map(int, found[-1]) if found else (int(is_well), int(not is_well))
+        if not is_well and not self.failed:
+            self.failed = 1
+
+
+RUNNING = set()
+
+
+def stop_all(number, _frame):
+    for pid in list(RUNNING):
+        try:
+            os.killpg(pid, signal.SIGKILL)
+        except OSError:
+            pass
+    os._exit(128 + number)
+
+
+def in_lanes(tasks, logs, lanes):
+    """Runs the tasks, each when those it waits for have passed, and first those with the most work behind them."""
+    for task in reversed(tasks):
+        for below in task.waits:
+            below.behind = max(below.behind, below.weight + task.behind)
+    left, running, done, printing = sorted(tasks, key=lambda it: -it.behind), {}, set(), threading.Lock()
+
+    def work(task):
+        task.run(f"{logs}/{task.kind}-{task.name}.log")
+        with printing:
+            how = "ok" if not task.failed else "FAILED"
+            print(f"{time.strftime('%H:%M:%S')} {task.label()}: {how}, {task.clock:.0f} s, processors {task.processor:.0f} s, jobs {task.jobs}", flush=True)
+        return task
+
+    with ThreadPoolExecutor(lanes) as pool:
+        while left or running:
+            for task in [it for it in left if any(below in done and below.failed for below in it.waits)]:
+                left.remove(task)
+                done.add(task)
+                broken = next(it for it in task.waits if it in done and it.failed)
+                task.failed, task.said = 1, f"not run, since the {broken.label()} failed"
+            ready = [it for it in left if all(below in done for below in it.waits)]
+            for at, task in enumerate(ready):
+                idle = lanes - sum(it.jobs for it in running.values())
+                if idle <= 0:
+                    break
+                others = len(ready) - at - 1
+                task.jobs = max(1, min(MOST_JOBS, idle - others)) if task.kind == "proofs" else 1
+                left.remove(task)
+                running[pool.submit(work, task)] = task
+            if running:
+                for future in wait(running, return_when=FIRST_COMPLETED).done:
+                    done.add(running.pop(future))
+
+
+def python(script, *words):
+    return [sys.executable, "-B", f"{HERE}/{script}", *words]
+
+
+def proofs_of(crates):
+    """Returns a task for the proof of each crate, by name, lowest first."""
+    tasks = {}
+    for name, crate in crates.items():
+        waits = [tasks[it.name] for it in crate.below()]
+        tasks[name] = Task("proofs", name, python("prove.py", name), 20 + crate.count(rb"\n") / 10, waits)
+    return tasks
+
+
+def names_of_scripts():
+    """Returns the names of the tests that tests/run knows."""
+    listed = subprocess.run([f"{ROOT}/tests/run", "list"], stdout=subprocess.PIPE, text=True, check=True)
+    return listed.stdout.split()
+
+
+def tasks_of_crates(crates, proofs):
+    """Returns the tasks beyond its proof that each crate has: its edits and its tests."""
+    found = []
+    for name, crate in crates.items():
+        edits = len(toolchain.rt.edits_of(crate)[0])
+        if edits:
+            found.append(Task("edits", name, python("edits.py", name), 30 + 6 * edits, [proofs[name]]))
+        if crate.has_tests():
+            command = [shutil.which("rt") or "rt", "try", "--test"]
+            found.append(Task("tests", name, command, 90, [proofs[it.name] for it in crate.below()], crate.folder))
+    return found
+
+
+def tasks_of_scripts(names, proofs):
+    found = []
+    for name in names:
+        needs = [proofs[it] for it in NEEDS.get(name, PROGRAMS)]
+        found.append(Task("scripts", name, [f"{ROOT}/tests/run", name], 20 if needs else 120, needs))
+    return found
+
+
+def tasks_of(crates, names, only_proofs):
+    """Returns all tasks, lowest crates first; those of the named crates and scripts alone, where some are named."""
+    scripts = names_of_scripts()
+    unknown = [it for it in names if it not in crates and it not in scripts]
+    if unknown:
+        sys.exit(f"there is no crate and no script {unknown[0]}")
+    scripts = [it for it in scripts if not names or it in names]
+    wanted = {name: crate for name, crate in crates.items() if not names or name in names}
+    built = {*wanted, *(it for name in scripts for it in NEEDS.get(name, PROGRAMS))}
+    proved = {it.name for name in built for it in [*crates[name].below(), crates[name]]}
+    proofs = proofs_of({name: crate for name, crate in crates.items() if name in proved})
+    if only_proofs:
+        return [*proofs.values()]
+    return [*proofs.values(), *tasks_of_crates(wanted, proofs), *tasks_of_scripts(scripts, proofs)]
+
+
+def clear(crates):
+    """Removes what earlier checks left, so that nothing of it is trusted."""
+    for crate in crates.values():
+        shutil.rmtree(f"{crate.folder}/out", ignore_errors=True)
+
+
+def table(tasks, clock):
+    """Prints processor minutes by crate and kind, and the sums."""
+    rows = {}
+    for task in tasks:
+        rows.setdefault(task.name, {})[task.kind] = task.processor / 60
+    print(f"\n{'processor minutes':20}" + "".join(f"{it:>9}" for it in KINDS))
+    for name, row in sorted(rows.items(), key=lambda it: -sum(it[1].values())):
+        print(f"{name:20}" + "".join(f"{row[it]:9.1f}" if it in row else " " * 9 for it in KINDS))
+    sums = {kind: sum(it.processor for it in tasks if it.kind == kind) / 60 for kind in KINDS}
+    print(f"{'together':20}" + "".join(f"{sums[it]:9.1f}" for it in KINDS))
+    print(f"{sum(sums.values()):.1f} processor minutes, {clock / 60:.1f} by the clock, {toolchain.rt.processors()} processors")
+
+
+def reasons(task):
+    """Returns the lines that say why a task failed: those that name a failure, else its last ones."""
+    lines = [it for it in task.said.split("\n") if it.strip()]
+    named = [it for it in lines if re.search(r"FAILED|BAD EDIT|NOT PROVED|: error|it is not proved that|^rt: ", it)]
+    return (named or lines)[-6:]
+
+
+def report(tasks, clock):
+    table(tasks, clock)
+    for task in tasks:
+        if task.failed:
+            print(f"\nFAILED {task.label()}:")
+            print("\n".join(f"    {it[:300]}" for it in reasons(task)))
+    failed = sum(it.failed for it in tasks)
+    print(f"{sum(it.passed for it in tasks)} passed, {failed} failed")
+    return 1 if failed else 0
+
+
+def stop_where_rt_would(crates):
+    """Ends the gate where rt ci would end before any proof: files that no check reads, links, names that are taken."""
+    every = list(crates.values())
+    for name in sorted(it for it in os.listdir(ROOT) if it != ".git" and os.path.isdir(f"{ROOT}/{it}")):
+        toolchain.rtlib.stop_on_unread(f"{ROOT}/{name}", every)
+    for crate in every:
+        if crate.name in toolchain.rt.TAKEN:
+            toolchain.rtlib.stop(f"{crate.name} is the name of a library of the toolchain")
+        if {"libc", "os"} & {*crate.of_kit}:
+            toolchain.rtlib.stop(f"{crate.name}: crates.txt lists libc or os, which reach past the handles")
+
+
+def words():
+    """Reads the command line."""
+    parser = argparse.ArgumentParser(description="Runs the merge gate, or a part of it.")
+    parser.add_argument("--kept", action="store_true", help="take over what earlier checks proved")
+    parser.add_argument("--proofs", action="store_true", help="prove and build alone")
+    parser.add_argument("--logs", help="the folder of logs (a temporary one)")
+    parser.add_argument("names", metavar="NAME", nargs="*", help="a crate or a script (all)")
+    given = parser.parse_args()
+    if given.names and not given.kept:
+        parser.error("names go with --kept: the gate from nothing runs all")
+    return given
+
+
+def main():
+    given = words()
+    for number in (signal.SIGINT, signal.SIGTERM, signal.SIGHUP):
+        signal.signal(number, stop_all)
+    start, crates = time.monotonic(), toolchain.crates()
+    logs = given.logs or tempfile.mkdtemp(prefix="dsa-gate-")
+    os.makedirs(logs, exist_ok=True)
+    stop_where_rt_would(crates)
+    if not given.kept:
+        clear(crates)
+    tasks = tasks_of(crates, given.names, given.proofs)
+    print(f"logs: {logs}", flush=True)
+    in_lanes(tasks, logs, toolchain.rt.processors())
+    return report(tasks, time.monotonic() - start)
+
+
+if __name__ == "__main__":
+    sys.exit(main())

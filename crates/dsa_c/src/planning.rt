@@ -67,8 +67,8 @@ fn plan_under(
     }
 }
 
-/// The planned list with a price of a batch by its size. It stands apart, since a function clears all places of its own,
-/// and each kind of settings takes 8 KiB.
+/// The planned list with a price of a batch by its size. Not inlined: a function zeroes its frame, and settings take
+/// 8 KiB.
 #[inline(never)]
 fn plan_by_size(
     alloc: Global,

@@ -26,7 +26,7 @@ pub struct RawSettings {
 }
 
 /// The settings of numbers of version 1, where they are in their limits.
-/// The settings are large: inlined, they are written where the caller lends them from.
+/// Inlined, so that the result, which is large, is built in the caller's frame.
 #[inline(always)]
 pub(crate) fn same_price(raw: &RawSettings) -> Result<Settings, SettingsFault>
     requires { raw.now.version ≡ 1 }

@@ -175,9 +175,9 @@ fn are_within(rows: &[u64], at: usize, table: &[u64], size: usize, count: usize,
     within
 }
 
-/// Looks at the steps from `start` to the ends behind a block's first piece, up to behind its last. The chain is that of
-/// `start` up to the block, and where all hold the answer is that up to behind it. A sum over `limit` is taken for a step
-/// that doesn't hold.
+/// Tests the steps from `start` to the ends behind a block's first piece, up to behind its last. The chain is that of
+/// `start` up to the block. If every step holds, returns the chain up to the block's end. A sum over `limit` counts as a
+/// step that doesn't hold.
 pub(crate) fn look(
     prices: &[u64],
     pairs: &[Option<(u32, u32)>],

@@ -177,7 +177,7 @@ fn is_long(group: &Group) -> bool {
     false
 }
 
-/// The same, by a sweep first where the group is long: only where that sees a conflict are the pairs compared.
+/// The first unfenced conflict; long groups are swept first, to skip the comparison of pairs.
 fn first_unfenced_of(
     group: &Group,
     pieces: &[Descriptor],

@@ -264,7 +264,7 @@ fn run(rt: &HostRuntime) -> Result<ExitCode, AllocError> {
 }
 
 /// Runs one command. The status is 0 for an answer and 1 for a refusal, which is one line; 2 where reading or writing
-/// failed, and for arguments that are none: of those that are text, a message on standard error says why.
+/// failed, and for invalid arguments, with a message on standard error if they are text.
 fn main(rt: HostRuntime) -> ExitCode {
     match run(&rt) {
         Ok(code) => code,

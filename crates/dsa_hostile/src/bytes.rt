@@ -1,32 +1,28 @@
 //! Calls over bytes, certificates and documents.
 
 use crate::cases::Case;
-use crate::telling::{mark, tell, tell_outcome};
+use crate::telling::{mark, tell, tell_fault, tell_outcome, tell_value};
 use dsa_calls::{PlanFault, check_bytes, judge_bytes, plan_list, replay_bytes};
 use dsa_cert::{CertFault, read_json, write_json};
 use dsa_search::search;
-use std::alloc::{Alloc, Global};
+use serde_json::Value;
 use std::io;
-use std::rt::Runtime;
 
 /// Plans the list.
-pub(crate) fn plan<R: Runtime + Alloc<A = Global>>(rt: &R, case: &Case) -> io::Result<()> {
+pub(crate) fn plan(rt: &HostRuntime, case: &Case) -> io::Result<()> {
     mark(rt)?;
-    let answer = plan_list(rt.alloc(), &case.list, &case.settings);
-    mark(rt)?;
-    tell(rt, &answer)
+    tell(rt, &plan_list(rt.alloc(), &case.list, &case.settings))
 }
 
 /// Judges the plan of the pieces.
-pub(crate) fn judge<R: Runtime + Alloc<A = Global>>(rt: &R, case: &Case) -> io::Result<()> {
+pub(crate) fn judge(rt: &HostRuntime, case: &Case) -> io::Result<()> {
     mark(rt)?;
     let answer = judge_bytes(rt.alloc(), &case.list, &case.planned.plan, &case.settings);
-    mark(rt)?;
     tell(rt, &answer)
 }
 
 /// Checks the bytes to submit.
-pub(crate) fn check<R: Runtime + Alloc<A = Global>>(rt: &R, case: &Case) -> io::Result<()> {
+pub(crate) fn check(rt: &HostRuntime, case: &Case) -> io::Result<()> {
     let emission = &case.planned.emission;
     mark(rt)?;
     let answer = check_bytes(
@@ -36,59 +32,60 @@ pub(crate) fn check<R: Runtime + Alloc<A = Global>>(rt: &R, case: &Case) -> io::
         &case.settings,
         &case.planned.certificate,
     );
-    mark(rt)?;
     tell(rt, &answer)
 }
 
 /// Replays the trace by two engines.
-pub(crate) fn replay<R: Runtime + Alloc<A = Global>>(rt: &R, case: &Case) -> io::Result<()> {
+pub(crate) fn replay(rt: &HostRuntime, case: &Case) -> io::Result<()> {
+    let alloc = rt.alloc();
     mark(rt)?;
-    let answer = replay_bytes(
-        rt.alloc(),
+    match replay_bytes(
+        alloc,
         &case.list,
         &case.settings,
         &case.image,
         2,
         &case.trace,
-    );
+    ) {
+        Ok(outcome) => tell_outcome(rt, &outcome),
+        Err(fault) => tell_fault(rt, fault),
+    }
+}
+
+/// Marks the end of a call, and prints its document.
+fn tell_document(rt: &HostRuntime, document: &Value) -> io::Result<()> {
     mark(rt)?;
-    tell_outcome(rt, &answer)
+    println!(rt; "{}", document.to_string(rt.alloc())?)
 }
 
 /// Writes the document of the certificate.
-pub(crate) fn write<R: Runtime + Alloc<A = Global>>(rt: &R, case: &Case) -> io::Result<()> {
+pub(crate) fn write(rt: &HostRuntime, case: &Case) -> io::Result<()> {
     mark(rt)?;
-    let answer = write_json(rt.alloc(), &case.planned.certificate);
-    mark(rt)?;
-    match answer {
-        Ok(document) => println!(rt; "{}", document.to_string(rt.alloc())?),
-        Err(_) => tell(rt, &Err::<(), PlanFault>(PlanFault::Memory)),
+    match write_json(rt.alloc(), &case.planned.certificate) {
+        Ok(document) => tell_document(rt, &document),
+        Err(_) => tell_fault(rt, PlanFault::Memory),
     }
 }
 
 /// Reads the document of the certificate.
-pub(crate) fn read<R: Runtime + Alloc<A = Global>>(rt: &R, case: &Case) -> io::Result<()> {
+pub(crate) fn read(rt: &HostRuntime, case: &Case) -> io::Result<()> {
     mark(rt)?;
-    let answer = read_json(rt.alloc(), &case.document);
-    mark(rt)?;
-    match answer {
-        Ok(certificate) => println!(rt; "{certificate:?}"),
-        Err(CertFault::Shape) => tell(rt, &Err::<(), PlanFault>(PlanFault::Shape)),
-        Err(CertFault::Memory) => tell(rt, &Err::<(), PlanFault>(PlanFault::Memory)),
+    match read_json(rt.alloc(), &case.document) {
+        Ok(certificate) => tell_value(rt, &certificate),
+        Err(CertFault::Shape) => tell_fault(rt, PlanFault::Shape),
+        Err(CertFault::Memory) => tell_fault(rt, PlanFault::Memory),
     }
 }
 
 /// Searches for the plan of the pieces.
-pub(crate) fn find<R: Runtime + Alloc<A = Global>>(rt: &R, case: &Case) -> io::Result<()> {
+pub(crate) fn find(rt: &HostRuntime, case: &Case) -> io::Result<()> {
     let pieces = &case.planned.pieces;
     if pieces.len() > 65_536 {
         return Ok(());
     }
     mark(rt)?;
-    let answer = search(rt.alloc(), pieces, &case.settings);
-    mark(rt)?;
-    match answer {
-        Ok(found) => println!(rt; "{found:?}"),
-        Err(_) => tell(rt, &Err::<(), PlanFault>(PlanFault::Memory)),
+    match search(rt.alloc(), pieces, &case.settings) {
+        Ok(found) => tell_value(rt, &found),
+        Err(_) => tell_fault(rt, PlanFault::Memory),
     }
 }

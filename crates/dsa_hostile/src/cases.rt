@@ -69,28 +69,45 @@ fn trace_of(alloc: Global, steps: &[Step]) -> Result<Vec<Event>, AllocError> {
     Ok(trace)
 }
 
+/// The plan of a list, and the document of its certificate.
+fn planned_of(
+    alloc: Global,
+    list: &[u8],
+    settings: &Settings,
+) -> Result<Option<(Planned, Value)>, AllocError> {
+    let Ok(planned) = plan_list(alloc, list, settings) else {
+        return Ok(None);
+    };
+    let document = write_json(alloc, &planned.certificate)?;
+    Ok(Some((planned, document)))
+}
+
+/// The memory of a list.
+fn image_of(alloc: Global, list: &List) -> Result<Option<Image>, AllocError> {
+    Ok(Image::new(list.base, memory_of(alloc, list.bytes, &list.parts)?).ok())
+}
+
 /// What calls on the list are given.
 pub(crate) fn case_of(alloc: Global, list: &List) -> Result<Option<Case>, AllocError> {
     let Ok(settings) = Settings::new(4, 4096, 10, 14, 3, 65536) else {
         return Ok(None);
     };
     let bytes = list_of(alloc, list.operations)?;
-    let memory = memory_of(alloc, list.bytes, &list.parts)?;
-    let Ok(image) = Image::new(list.base, memory) else {
+    let trace = trace_of(alloc, list.steps)?;
+    let Some(image) = image_of(alloc, list)? else {
         return Ok(None);
     };
-    let Ok(planned) = plan_list(alloc, &bytes, &settings) else {
-        return Ok(None);
-    };
-    let document = write_json(alloc, &planned.certificate)?;
-    Ok(Some(Case {
-        settings,
-        list: bytes,
-        image,
-        trace: trace_of(alloc, list.steps)?,
-        planned,
-        document,
-    }))
+    match planned_of(alloc, &bytes, &settings)? {
+        Some((planned, document)) => Ok(Some(Case {
+            settings,
+            list: bytes,
+            image,
+            trace,
+            planned,
+            document,
+        })),
+        None => Ok(None),
+    }
 }
 
 /// Both settings, of one price for all batches, have the same numbers.

@@ -14,17 +14,15 @@ mod telling;
 mod threads;
 
 use crate::cases::{Case, case_of, is_same};
-use crate::lists::list_named;
-use crate::telling::mark;
-use std::alloc::{Alloc, Global};
+use crate::lists::{List, list_named};
 use std::io;
-use std::rt::Runtime;
 use std::sync::Wait;
 use std::thread::Threads;
 
 /// Calls the call, and prints what it answers.
-fn call<R: Runtime + Alloc<A = Global> + Threads + Wait + Sync>(
-    rt: &R,
+fn call<T: Threads + Wait + Sync>(
+    rt: &HostRuntime,
+    threads: &T,
     name: &str,
     case: &Case,
 ) -> io::Result<()> {
@@ -40,31 +38,71 @@ fn call<R: Runtime + Alloc<A = Global> + Threads + Wait + Sync>(
         "steps" => rooms::steps(rt, case),
         "parcels" => rooms::parcels(rt, case),
         "quiet" => quiet::calls(rt, case),
-        "run" => threads::engines(rt, case),
-        "run_bytes" => threads::engines_over_bytes(rt, case),
+        "run" => threads::engines(rt, threads, case),
+        "run_bytes" => threads::engines_over_bytes(rt, threads, case),
         _ => Ok(()),
     }
 }
 
-/// Runs the call that standard input names, on the list that it names.
-fn main(rt: HostRuntime) -> io::Result<()> {
-    let text = io::read_to_string(rt.alloc(), rt.reader())?;
-    if let Some(job) = text.strip_prefix("serve\n") {
-        return threads::serve_job(&rt, job.as_bytes());
-    }
-    let Some((name, list)) = text.split_once(' ') else {
-        return Ok(());
-    };
-    let Some(list) = list_named(list) else {
-        return Ok(());
-    };
-    let (Some(case), Some(copy)) = (case_of(rt.alloc(), &list)?, case_of(rt.alloc(), &list)?) else {
-        return Ok(());
-    };
-    call(&rt, name, &case)?;
-    if is_same(&case, &copy) {
+/// Calls the call, and prints whether all that it was given is as in the copy.
+fn call_beside<T: Threads + Wait + Sync>(
+    rt: &HostRuntime,
+    threads: &T,
+    name: &str,
+    case: &Case,
+    copy: &Case,
+) -> io::Result<()> {
+    call(rt, threads, name, case)?;
+    if is_same(case, copy) {
         println!(rt; "given values are equal")
     } else {
         println!(rt; "given values have changed")
+    }
+}
+
+/// Makes a copy of what the call is given, and calls it.
+fn call_with<T: Threads + Wait + Sync>(
+    rt: &HostRuntime,
+    threads: &T,
+    name: &str,
+    list: &List,
+    case: &Case,
+) -> io::Result<()> {
+    match case_of(rt.alloc(), list)? {
+        Some(copy) => call_beside(rt, threads, name, case, &copy),
+        None => Ok(()),
+    }
+}
+
+/// Makes what the call is given, and calls it.
+fn call_on<T: Threads + Wait + Sync>(
+    rt: &HostRuntime,
+    threads: &T,
+    name: &str,
+    list: &List,
+) -> io::Result<()> {
+    match case_of(rt.alloc(), list)? {
+        Some(case) => call_with(rt, threads, name, list, &case),
+        None => Ok(()),
+    }
+}
+
+/// Runs the call that the text names, on the list that it names.
+fn run<T: Threads + Wait + Sync>(rt: &HostRuntime, threads: &T, text: &str) -> io::Result<()> {
+    let Some((name, list)) = text.split_once(' ') else {
+        return Ok(());
+    };
+    match list_named(list) {
+        Some(list) => call_on(rt, threads, name, &list),
+        None => Ok(()),
+    }
+}
+
+/// Serves the job in standard input, or runs the call that it names, on the list that it names.
+fn main(rt: HostRuntime) -> io::Result<()> {
+    let text = io::read_to_string(rt.alloc(), rt.reader())?;
+    match text.strip_prefix("serve\n") {
+        Some(job) => threads::serve_job(&rt, &rt, job.as_bytes()),
+        None => run(&rt, &rt, &text),
     }
 }

@@ -1,12 +1,13 @@
 //! Calls that take no memory.
 
-ghost use Rattle.std.specs.Prelude.{IsTrue};
+ghost use Rattle.std.specs.Prelude.{◌≤◌, IsTrue, length};
 ghost use Rattle.dsa_descriptor.specs.Descriptors.{fields};
+ghost use Rattle.dsa_descriptor.specs.Pieces.{most_pieces};
 ghost use Rattle.dsa_image.specs.Memory.{HoldsRanges};
 
 use crate::cases::Case;
 use crate::rooms::can_run;
-use crate::telling::mark;
+use crate::telling::{mark, tell_value};
 use dsa_checker::{CheckFault, check};
 use dsa_conflicts::Sweep;
 use dsa_core::Event;
@@ -15,9 +16,7 @@ use dsa_engines::{Gate, OpenGate};
 use dsa_image::{Image, Partial, lines};
 use dsa_plan::{Plan, Settings, cost, is_legal};
 use dsa_ranges::{in_conflict, meets, touched};
-use std::alloc::{Alloc, Global};
 use std::io;
-use std::rt::Runtime;
 
 /// What the calls answer.
 #[derive(Debug, Drop)]
@@ -97,7 +96,10 @@ fn do_lines(image: &mut Image, piece: &Descriptor) -> Option<Record> {
 fn do_all_lines(image: &mut Image, pieces: &[Descriptor]) -> Option<[u8; 32]> {
     let mut last = None;
     for piece in pieces {
-        last = do_lines(image, piece).map(|record| record.bytes());
+        last = match do_lines(image, piece) {
+            Some(record) => Some(record.bytes()),
+            None => None,
+        };
     }
     last
 }
@@ -135,31 +137,42 @@ fn count_passed(trace: &[Event]) -> usize {
     count
 }
 
-/// The calls that take no memory.
-pub(crate) fn calls<R: Runtime + Alloc<A = Global>>(rt: &R, case: &Case) -> io::Result<()> {
+/// What the calls on the pieces answer; the images are copies of the case's.
+fn answers_of(
+    case: &Case,
+    pieces: &[Descriptor],
+    by_lines: &mut Image,
+    at_once: &mut Image,
+) -> Answers
+    requires { length pieces.now ≤ most_pieces }
+{
     let planned = &case.planned;
-    let pieces = planned.pieces.as_slice();
-    if pieces.len() > 65_536 {
-        return Ok(());
-    }
-    let mut by_lines = case.image.copy(rt.alloc())?;
-    let mut at_once = case.image.copy(rt.alloc())?;
-    mark(rt)?;
-    let _sweep = Sweep::new(rt.alloc());
-    let last_record = do_all_lines(&mut by_lines, pieces);
-    let is_done = do_whole(&mut at_once, pieces);
-    let answers = Answers {
+    let last_record = do_all_lines(by_lines, pieces);
+    let is_done = do_whole(at_once, pieces);
+    Answers {
         read_again: count_read_again(pieces),
         conflicts: count_conflicts(pieces),
         last_record,
-        is_left_whole: is_done && by_lines == at_once,
+        is_left_whole: is_done && *by_lines == *at_once,
         can_run: can_run(&case.image, &planned.plan, pieces, 2),
         cost: cost_of(&planned.plan, pieces, &case.settings),
         checked: check(pieces, &case.settings, &planned.plan, &planned.certificate),
         events_passed: count_passed(&case.trace),
         have_settings: Settings::new(2, 8, 0, 0, 0, 0).is_ok(),
         first_byte: case.image.read_byte(case.image.base()),
-    };
+    }
+}
+
+/// The calls that take no memory.
+pub(crate) fn calls(rt: &HostRuntime, case: &Case) -> io::Result<()> {
+    let pieces = case.planned.pieces.as_slice();
+    if pieces.len() > 65_536 {
+        return Ok(());
+    }
+    let mut by_lines = case.image.copy(rt.alloc())?;
+    let mut at_once = case.image.copy(rt.alloc())?;
     mark(rt)?;
-    println!(rt; "{answers:?}")
+    drop(Sweep::new(rt.alloc()));
+    let answers = answers_of(case, pieces, &mut by_lines, &mut at_once);
+    tell_value(rt, &answers)
 }

@@ -4,15 +4,14 @@ ghost use Rattle.std.specs.Prelude.{IsTrue};
 ghost use Rattle.dsa_core.specs.Given.{IsRunnable};
 
 use crate::cases::Case;
-use crate::telling::{mark, tell_outcome};
+use crate::telling::{mark, tell_fault, tell_outcome};
 use dsa_calls::PlanFault;
-use dsa_core::{CoreFault, Event, Finished, Kind, Outcome, Room, Taken};
+use dsa_core::{CoreFault, Event, Finished, Kind, Room, Taken};
 use dsa_descriptor::Descriptor;
 use dsa_image::Image;
 use dsa_plan::{Plan, Settings, is_legal};
-use std::alloc::{Alloc, Global};
+use std::alloc::Global;
 use std::io;
-use std::rt::Runtime;
 
 /// Whether engines can run the pieces under the plan, on this image.
 pub(crate) fn can_run(image: &Image, plan: &Plan, pieces: &[Descriptor], engines: u8) -> bool
@@ -50,14 +49,14 @@ fn room_of(alloc: Global, case: &Case) -> Result<Room, CoreFault> {
     Room::new(alloc, &case.image, &planned.plan, pieces, 2)
 }
 
-/// Does the events in the room, and answers what they leave.
-fn stepped(mut room: Room, trace: &[Event]) -> Result<Outcome, CoreFault> {
+/// Does the events in the room. Says whether it did.
+fn step_all(room: &mut Room, trace: &[Event]) -> bool {
     for event in trace {
         if !room.step(*event) {
-            return Err(CoreFault::Incomplete);
+            return false;
         }
     }
-    room.into_outcome().map_err(|_room| CoreFault::Incomplete)
+    true
 }
 
 /// Does the event by the call of an engine, and a line by its parcel. Says whether it did.
@@ -84,42 +83,55 @@ fn does(room: &mut Room, event: &Event) -> bool {
     }
 }
 
-/// Does the events by the calls of engines. Which waiting piece an engine takes is the room's choice.
-fn engaged(mut room: Room, trace: &[Event]) -> Result<Outcome, CoreFault> {
+/// Does the events by the calls of engines. Which waiting piece an engine takes is the room's choice. Says whether it did.
+fn engage_all(room: &mut Room, trace: &[Event]) -> bool {
     for event in trace {
-        if !does(&mut room, event) {
-            return Err(CoreFault::Incomplete);
+        if !does(room, event) {
+            return false;
         }
     }
-    room.into_outcome().map_err(|_room| CoreFault::Incomplete)
+    true
+}
+
+/// Marks the end of a run in the room, and prints what it left, where it is complete.
+fn tell_room(rt: &HostRuntime, room: Room, is_done: bool) -> io::Result<()> {
+    if !is_done {
+        return tell_fault(rt, PlanFault::Core(CoreFault::Incomplete));
+    }
+    match room.into_outcome() {
+        Ok(outcome) => tell_outcome(rt, &outcome),
+        Err(_) => tell_fault(rt, PlanFault::Core(CoreFault::Incomplete)),
+    }
 }
 
 /// Makes a room and steps it through the trace.
-pub(crate) fn whole<R: Runtime + Alloc<A = Global>>(rt: &R, case: &Case) -> io::Result<()> {
+pub(crate) fn whole(rt: &HostRuntime, case: &Case) -> io::Result<()> {
     mark(rt)?;
-    let answer = room_of(rt.alloc(), case).and_then(|room| stepped(room, &case.trace));
-    mark(rt)?;
-    tell_outcome(rt, &answer.map_err(PlanFault::from))
+    match room_of(rt.alloc(), case) {
+        Ok(mut room) => {
+            let is_done = step_all(&mut room, &case.trace);
+            tell_room(rt, room, is_done)
+        }
+        Err(fault) => tell_fault(rt, PlanFault::from(fault)),
+    }
 }
 
 /// Steps a room that was made before through the trace.
-pub(crate) fn steps<R: Runtime + Alloc<A = Global>>(rt: &R, case: &Case) -> io::Result<()> {
-    let Ok(room) = room_of(rt.alloc(), case) else {
+pub(crate) fn steps(rt: &HostRuntime, case: &Case) -> io::Result<()> {
+    let Ok(mut room) = room_of(rt.alloc(), case) else {
         return Ok(());
     };
     mark(rt)?;
-    let answer = stepped(room, &case.trace);
-    mark(rt)?;
-    tell_outcome(rt, &answer.map_err(PlanFault::from))
+    let is_done = step_all(&mut room, &case.trace);
+    tell_room(rt, room, is_done)
 }
 
 /// Runs a room by parcels.
-pub(crate) fn parcels<R: Runtime + Alloc<A = Global>>(rt: &R, case: &Case) -> io::Result<()> {
-    let Ok(room) = room_of(rt.alloc(), case) else {
+pub(crate) fn parcels(rt: &HostRuntime, case: &Case) -> io::Result<()> {
+    let Ok(mut room) = room_of(rt.alloc(), case) else {
         return Ok(());
     };
     mark(rt)?;
-    let answer = engaged(room, &case.trace);
-    mark(rt)?;
-    tell_outcome(rt, &answer.map_err(PlanFault::from))
+    let is_done = engage_all(&mut room, &case.trace);
+    tell_room(rt, room, is_done)
 }

@@ -2,14 +2,12 @@
 
 use crate::cases::Case;
 use crate::rooms::can_run;
-use crate::telling::{mark, tell_outcome, tell_threads};
+use crate::telling::{mark, tell_fault, tell_outcome, tell_threads};
 use dsa_calls::{PlanFault, run_bytes};
 use dsa_engines::{OpenGate, run};
-use dsa_report::serve;
-use std::alloc::{Alloc, Global};
+use dsa_report::{Served, serve};
 use std::io;
 use std::io::Write;
-use std::rt::Runtime;
 use std::sync::Wait;
 use std::thread::Threads;
 
@@ -17,53 +15,81 @@ use std::thread::Threads;
 const LONGEST: usize = 131_072;
 
 /// Runs the pieces by threads.
-pub(crate) fn engines<R: Runtime + Alloc<A = Global> + Threads + Wait + Sync>(
-    rt: &R,
+fn run_pieces<T: Threads + Wait + Sync>(
+    rt: &HostRuntime,
+    threads: &T,
     case: &Case,
 ) -> io::Result<()> {
-    let planned = &case.planned;
-    let pieces = planned.pieces.as_slice();
-    if !can_run(&case.image, &planned.plan, pieces, 3) {
+    let image = &case.image;
+    let plan = &case.planned.plan;
+    let pieces = case.planned.pieces.as_slice();
+    if !can_run(image, plan, pieces, 3) {
         return Ok(());
     }
     mark(rt)?;
-    let answer = run(
-        rt,
-        rt.alloc(),
-        &case.image,
-        &planned.plan,
-        pieces,
-        3,
-        &OpenGate,
-    );
-    mark(rt)?;
-    tell_outcome(rt, &answer.map_err(PlanFault::from))?;
+    match run(threads, rt.alloc(), image, plan, pieces, 3, &OpenGate) {
+        Ok(outcome) => tell_outcome(rt, &outcome),
+        Err(fault) => tell_fault(rt, PlanFault::from(fault)),
+    }
+}
+
+/// Runs the pieces by threads, and tells whether it left one.
+pub(crate) fn engines<T: Threads + Wait + Sync>(
+    rt: &HostRuntime,
+    threads: &T,
+    case: &Case,
+) -> io::Result<()> {
+    run_pieces(rt, threads, case)?;
     tell_threads(rt)
 }
 
 /// Runs the list by threads.
-pub(crate) fn engines_over_bytes<R: Runtime + Alloc<A = Global> + Threads + Wait + Sync>(
-    rt: &R,
+fn run_list<T: Threads + Wait + Sync>(
+    rt: &HostRuntime,
+    threads: &T,
     case: &Case,
 ) -> io::Result<()> {
     mark(rt)?;
-    let answer = run_bytes(rt, rt.alloc(), &case.list, &case.settings, &case.image, 3);
+    match run_bytes(
+        threads,
+        rt.alloc(),
+        &case.list,
+        &case.settings,
+        &case.image,
+        3,
+    ) {
+        Ok(outcome) => tell_outcome(rt, &outcome),
+        Err(fault) => tell_fault(rt, fault),
+    }
+}
+
+/// Runs the list by threads, and tells whether it left one.
+pub(crate) fn engines_over_bytes<T: Threads + Wait + Sync>(
+    rt: &HostRuntime,
+    threads: &T,
+    case: &Case,
+) -> io::Result<()> {
+    run_list(rt, threads, case)?;
+    tell_threads(rt)
+}
+
+/// Marks the end of a job, and prints what was written, what came of it, and whether it left a thread.
+fn tell_served(rt: &HostRuntime, served: Served, written: &[u8]) -> io::Result<()> {
     mark(rt)?;
-    tell_outcome(rt, &answer)?;
+    io::writer(rt).write_all(written)?;
+    println!(rt; "{served:?}")?;
     tell_threads(rt)
 }
 
 /// Serves a job from memory to memory. What was given is the text.
-pub(crate) fn serve_job<R: Runtime + AllocGlobal + Threads + Wait + Sync>(
-    rt: &R,
+pub(crate) fn serve_job<T: AllocGlobal + Threads + Wait + Sync>(
+    rt: &HostRuntime,
+    threads: &T,
     job: &[u8],
 ) -> io::Result<()> {
     let mut reader = job;
     let mut written = Vec::with_capacity(rt.alloc(), LONGEST)?;
     mark(rt)?;
-    let served = serve(rt, &mut reader, &mut written);
-    mark(rt)?;
-    io::writer(rt).write_all(&written)?;
-    println!(rt; "{served:?}")?;
-    tell_threads(rt)
+    let served = serve(threads, &mut reader, &mut written);
+    tell_served(rt, served, &written)
 }

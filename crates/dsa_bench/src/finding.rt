@@ -4,13 +4,13 @@ ghost use Rattle.std.specs.Prelude.{◌≤◌, length};
 ghost use Rattle.dsa_descriptor.specs.Pieces.{most_pieces};
 
 use crate::operation::operation_of;
+use crate::timing::nanos_each;
 use dsa_conflicts::last_conflicts;
 use dsa_descriptor::Descriptor;
 use dsa_plan::Settings;
 use dsa_search::search;
-use std::alloc::{Alloc, AllocError, Global};
+use std::alloc::{AllocError, Global};
 use std::io;
-use std::rt::Runtime;
 use std::time::Instant;
 
 /// The pieces of a long list.
@@ -110,25 +110,19 @@ fn list_of(alloc: Global, shape: Shape, count: u64) -> Result<Vec<Descriptor>, A
 }
 
 /// Finds the last conflicts of the pieces so many times, and says how long that took for each piece.
-fn find<R: Runtime + Alloc<A = Global>>(
-    rt: &R,
-    pieces: &[Descriptor],
-    window: u32,
-    times: u64,
-) -> io::Result<u128>
+fn find(rt: &HostRuntime, pieces: &[Descriptor], window: u32, times: u64) -> io::Result<u128>
     requires { length pieces.now ≤ most_pieces }
 {
     let start = Instant::now(rt)?;
     for _ in 0..times {
         drop(last_conflicts(rt.alloc(), pieces, window)?);
     }
-    let time = start.elapsed(rt)?;
-    Ok(time.as_nanos() / u128::from(times.max(1)) / (pieces.len().max(1) as u128))
+    Ok(nanos_each(start.elapsed(rt)?, times, pieces.len()))
 }
 
 /// The same of the whole search.
-fn plan<R: Runtime + Alloc<A = Global>>(
-    rt: &R,
+fn plan(
+    rt: &HostRuntime,
     pieces: &[Descriptor],
     settings: &Settings,
     times: u64,
@@ -139,27 +133,37 @@ fn plan<R: Runtime + Alloc<A = Global>>(
     for _ in 0..times {
         drop(search(rt.alloc(), pieces, settings)?);
     }
-    let time = start.elapsed(rt)?;
-    Ok(time.as_nanos() / u128::from(times.max(1)) / (pieces.len().max(1) as u128))
+    Ok(nanos_each(start.elapsed(rt)?, times, pieces.len()))
+}
+
+/// Measures a list of this shape.
+fn measure_pieces(
+    rt: &HostRuntime,
+    shape: Shape,
+    count: u64,
+    pieces: &[Descriptor],
+    settings: &Settings,
+) -> io::Result<()> {
+    if pieces.len() > 65_536 {
+        return Ok(());
+    }
+    let times = if count < LONG { 1000 } else { 1 };
+    let found = find(rt, pieces, 1023, times)?;
+    let planned = plan(rt, pieces, settings, times)?;
+    println!(rt;
+        "{shape:?}, {count} pieces: conflicts {found} ns, search {planned} ns for each piece"
+    )
 }
 
 /// Measures short lists, whose plans take little else, and long ones.
-pub(crate) fn measure_conflicts<R: Runtime + Alloc<A = Global>>(rt: &R) -> io::Result<()> {
+pub(crate) fn measure_conflicts(rt: &HostRuntime) -> io::Result<()> {
     let Ok(settings) = Settings::new(1024, 4096, 10, 14, 3, 0) else {
         return Ok(());
     };
     for shape in SHAPES {
         for count in [8, 32, 64, LONG] {
             let pieces = list_of(rt.alloc(), shape, count)?;
-            if pieces.len() > 65_536 {
-                return Ok(());
-            }
-            let times = if count < LONG { 1000 } else { 1 };
-            let found = find(rt, &pieces, 1023, times)?;
-            let planned = plan(rt, &pieces, &settings, times)?;
-            println!(rt;
-                "{shape:?}, {count} pieces: conflicts {found} ns, search {planned} ns for each piece"
-            )?;
+            measure_pieces(rt, shape, count, &pieces, &settings)?;
         }
     }
     Ok(())

@@ -1,47 +1,45 @@
 //! Lists planned whole: read, split, searched, and the bytes that submit the plan.
 
 use crate::planning::moves;
+use crate::timing::nanos_each;
 use dsa_calls::plan_list;
 use dsa_plan::Settings;
-use std::alloc::{Alloc, Global};
 use std::io;
-use std::rt::Runtime;
 use std::time::Instant;
 
 /// Plans the list so many times, and says how long that took for each operation, in nanoseconds.
-fn plan<R: Runtime + Alloc<A = Global>>(
-    rt: &R,
-    list: &[u8],
-    settings: &Settings,
-    times: u64,
-) -> io::Result<u128> {
+fn plan(rt: &HostRuntime, list: &[u8], settings: &Settings, times: u64) -> io::Result<u128> {
     let start = Instant::now(rt)?;
     for _ in 0..times {
         if plan_list(rt.alloc(), list, settings).is_err() {
             return Ok(0);
         }
     }
-    let time = start.elapsed(rt)?;
-    let operations = ((list.len() / 64).max(1)) as u128;
-    Ok(time.as_nanos() / u128::from(times.max(1)) / operations)
+    Ok(nanos_each(start.elapsed(rt)?, times, list.len() / 64))
+}
+
+/// Prints the best of several turns.
+fn measure_list(rt: &HostRuntime, list: &[u8], step: u64, settings: &Settings) -> io::Result<()> {
+    let mut best = u128::MAX;
+    for _ in 0..200 {
+        best = best.min(plan(rt, list, settings, 20)?);
+    }
+    println!(rt;
+        "{} moves, {step} bytes apart: planned in {best} ns for each operation",
+        list.len() / 64
+    )
 }
 
 /// Measures short lists of moves that don't conflict, and of moves each of which reads what the one before wrote: the best
 /// of several turns.
-pub(crate) fn measure_lists<R: Runtime + Alloc<A = Global>>(rt: &R) -> io::Result<()> {
+pub(crate) fn measure_lists(rt: &HostRuntime) -> io::Result<()> {
     let Ok(settings) = Settings::new(32, 4096, 10, 14, 3, 1 << 40) else {
         return Ok(());
     };
     for step in [4096, 64] {
         for count in [8, 32, 64] {
             let list = moves(rt.alloc(), count, step)?;
-            let mut best = u128::MAX;
-            for _ in 0..200 {
-                best = best.min(plan(rt, &list, &settings, 20)?);
-            }
-            println!(rt;
-                "{count} moves, {step} bytes apart: planned in {best} ns for each operation"
-            )?;
+            measure_list(rt, &list, step, &settings)?;
         }
     }
     Ok(())

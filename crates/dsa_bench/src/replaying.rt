@@ -2,14 +2,13 @@
 
 use crate::batches::{batches, can_run};
 use crate::operation::operation_of;
-use crate::working::run_once;
+use crate::working::{image_of_ones, run_once};
 use dsa_core::{Event, Kind, replay};
 use dsa_descriptor::Descriptor;
 use dsa_image::Image;
 use dsa_plan::Plan;
-use std::alloc::{Alloc, AllocError, Global};
+use std::alloc::{AllocError, Global};
 use std::io;
-use std::rt::Runtime;
 use std::time::Instant;
 
 /// Compares of 61 lines each, whose events are 4,000,122 with a take and a finish each.
@@ -111,19 +110,19 @@ fn finished(
 }
 
 /// Replays the trace, and prints how long it took.
-fn measure_trace<R: Runtime + Alloc<A = Global>>(
-    rt: &R,
+fn measure_trace(
+    rt: &HostRuntime,
     name: &str,
     image: &Image,
+    plan: &Plan,
     pieces: &[Descriptor],
     trace: &[Event],
 ) -> io::Result<()> {
-    let plan = batches(rt.alloc(), pieces.len(), BATCH as usize)?;
     let start = Instant::now(rt)?;
-    let is_legal = can_run(image, &plan, pieces, 64);
+    let is_legal = can_run(image, plan, pieces, 64);
     let tested = start.elapsed(rt)?;
     let start = Instant::now(rt)?;
-    let finished = finished(rt.alloc(), image, &plan, pieces, trace);
+    let finished = finished(rt.alloc(), image, plan, pieces, trace);
     let took = start.elapsed(rt)?;
     println!(rt;
         "{name}: {} events in {} us (with {} us to test the plan, legal: {is_legal}), pieces finished: {}",
@@ -134,23 +133,29 @@ fn measure_trace<R: Runtime + Alloc<A = Global>>(
     )
 }
 
-/// Measures replays in order and in rounds, and the same lines without a room.
-pub(crate) fn measure_replays<R: Runtime + Alloc<A = Global>>(rt: &R) -> io::Result<()> {
+/// Measures replays in order and in rounds.
+fn measure_traces(rt: &HostRuntime, image: &Image, pieces: &[Descriptor]) -> io::Result<()> {
     let alloc = rt.alloc();
-    let pieces = compares(alloc)?;
-    let Ok(mut image) = Image::new(0, vec![in alloc; 1; 16_777_216]?) else {
-        return Ok(());
-    };
-    measure_trace(rt, "in order", &image, &pieces, &in_order(alloc)?)?;
-    measure_trace(
-        rt,
-        "in rounds of 64 engines",
-        &image,
-        &pieces,
-        &in_rounds(alloc)?,
-    )?;
+    let plan = batches(alloc, pieces.len(), BATCH as usize)?;
+    measure_trace(rt, "in order", image, &plan, pieces, &in_order(alloc)?)?;
+    let trace = in_rounds(alloc)?;
+    measure_trace(rt, "in rounds of 64 engines", image, &plan, pieces, &trace)
+}
+
+/// Prints how long the lines and records take without a room.
+fn measure_lines(rt: &HostRuntime, image: &mut Image, pieces: &[Descriptor]) -> io::Result<()> {
     let start = Instant::now(rt)?;
-    run_once(&mut image, &pieces);
+    run_once(image, pieces);
     let took = start.elapsed(rt)?;
     println!(rt; "the lines and records alone: {} us", took.as_micros())
+}
+
+/// Measures replays in order and in rounds, and the same lines without a room.
+pub(crate) fn measure_replays(rt: &HostRuntime) -> io::Result<()> {
+    let pieces = compares(rt.alloc())?;
+    let Some(mut image) = image_of_ones(rt.alloc())? else {
+        return Ok(());
+    };
+    measure_traces(rt, &image, &pieces)?;
+    measure_lines(rt, &mut image, &pieces)
 }

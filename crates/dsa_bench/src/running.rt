@@ -2,13 +2,13 @@
 
 use crate::batches::{batches, can_run};
 use crate::operation::operation_of;
+use crate::working::image_of_ones;
 use dsa_descriptor::Descriptor;
 use dsa_engines::{OpenGate, run};
 use dsa_image::Image;
 use dsa_plan::Plan;
-use std::alloc::{Alloc, AllocError, Global};
+use std::alloc::{AllocError, Global};
 use std::io;
-use std::rt::Runtime;
 use std::sync::Wait;
 use std::thread::Threads;
 use std::time::Instant;
@@ -50,8 +50,8 @@ fn small_pieces(alloc: Global) -> Result<Vec<Descriptor>, AllocError> {
 }
 
 /// Runs the pieces, and answers how many were finished.
-fn finished<R: Threads + Wait + Sync>(
-    rt: &R,
+fn finished<T: Threads + Wait + Sync>(
+    threads: &T,
     alloc: Global,
     image: &Image,
     plan: &Plan,
@@ -61,62 +61,102 @@ fn finished<R: Threads + Wait + Sync>(
     if !can_run(image, plan, pieces, engines) {
         return None;
     }
-    match run(rt, alloc, image, plan, pieces, engines, &OpenGate) {
+    match run(threads, alloc, image, plan, pieces, engines, &OpenGate) {
         Ok(outcome) => Some(outcome.finished),
         Err(_) => None,
     }
 }
 
-/// Runs the pieces with 1, 2 and 4 engines, and prints how long each run took.
-fn measure_pieces<R: Runtime + Alloc<A = Global> + Threads + Wait + Sync>(
-    rt: &R,
+/// Runs the pieces with so many engines, and prints how long it took.
+fn measure_engines<T: Threads + Wait + Sync>(
+    rt: &HostRuntime,
+    threads: &T,
+    name: &str,
+    image: &Image,
+    plan: &Plan,
+    pieces: &[Descriptor],
+    engines: u8,
+) -> io::Result<()> {
+    let start = Instant::now(rt)?;
+    let is_legal = can_run(image, plan, pieces, engines);
+    let tested = start.elapsed(rt)?;
+    let start = Instant::now(rt)?;
+    let finished = finished(threads, rt.alloc(), image, plan, pieces, engines);
+    let took = start.elapsed(rt)?;
+    println!(rt;
+        "{name}, {engines} engines: {} us (with {} us to test the plan, legal: {is_legal}), pieces finished: {}",
+        took.as_micros(),
+        tested.as_micros(),
+        finished.unwrap_or(0)
+    )
+}
+
+/// Runs the pieces with 1, 2 and 4 engines.
+fn measure_pieces<T: Threads + Wait + Sync>(
+    rt: &HostRuntime,
+    threads: &T,
     name: &str,
     image: &Image,
     pieces: &[Descriptor],
 ) -> io::Result<()> {
-    let alloc = rt.alloc();
-    let plan = batches(alloc, pieces.len(), 1024)?;
+    let plan = batches(rt.alloc(), pieces.len(), 1024)?;
     for engines in [1, 2, 4] {
-        let start = Instant::now(rt)?;
-        let is_legal = can_run(image, &plan, pieces, engines);
-        let tested = start.elapsed(rt)?;
-        let start = Instant::now(rt)?;
-        let finished = finished(rt, alloc, image, &plan, pieces, engines);
-        let took = start.elapsed(rt)?;
-        println!(rt;
-            "{name}, {engines} engines: {} us (with {} us to test the plan, legal: {is_legal}), pieces finished: {}",
-            took.as_micros(),
-            tested.as_micros(),
-            finished.unwrap_or(0)
-        )?;
+        measure_engines(rt, threads, name, image, &plan, pieces, engines)?;
     }
     Ok(())
 }
 
-/// Measures runs of large and of small pieces, and a plain copy of as many bytes as the large ones write.
-pub(crate) fn measure_runs<R: Runtime + Alloc<A = Global> + Threads + Wait + Sync>(
-    rt: &R,
-) -> io::Result<()> {
-    let alloc = rt.alloc();
-    let Ok(image) = Image::new(0, vec![in alloc; 1; 16_777_216]?) else {
-        return Ok(());
-    };
-    measure_pieces(rt, "4 large pieces", &image, &large_pieces(alloc)?)?;
-    measure_pieces(rt, "65536 small moves", &image, &small_pieces(alloc)?)?;
-    let from = vec![in alloc; 1; 4 * LARGE as usize]?;
-    let mut to = vec![in alloc; 0; 4 * LARGE as usize]?;
+/// How long a plain copy takes, in microseconds.
+fn copy_time(rt: &HostRuntime, to: &mut [u8], from: &[u8]) -> io::Result<u128> {
     let start = Instant::now(rt)?;
     if to.len() == from.len() {
-        to.copy_from_slice(from.as_slice());
+        to.copy_from_slice(from);
     }
-    let copied = start.elapsed(rt)?;
+    Ok(start.elapsed(rt)?.as_micros())
+}
+
+/// Makes two copies of the image, and prints how long that and the plain copy took.
+fn measure_images(rt: &HostRuntime, image: &Image, copied: u128) -> io::Result<()> {
+    let alloc = rt.alloc();
     let start = Instant::now(rt)?;
     let two = (image.copy(alloc).is_ok(), image.copy(alloc).is_ok());
     let taken = start.elapsed(rt)?;
     println!(rt;
-        "as many bytes copied plainly: {} us; the two images of a room: {} us, made: {}",
-        copied.as_micros(),
+        "as many bytes copied plainly: {copied} us; the two images of a room: {} us, made: {}",
         taken.as_micros(),
         two.0 && two.1
     )
+}
+
+/// Measures a plain copy of as many bytes as the large pieces write, in microseconds.
+fn measure_copy(rt: &HostRuntime) -> io::Result<u128> {
+    let from = vec![in rt.alloc(); 1; 4 * LARGE as usize]?;
+    let mut to = vec![in rt.alloc(); 0; 4 * LARGE as usize]?;
+    copy_time(rt, to.as_mut_slice(), from.as_slice())
+}
+
+/// Measures runs of large and of small pieces, and a plain copy of as many bytes as the large ones write.
+pub(crate) fn measure_runs<T: Threads + Wait + Sync>(
+    rt: &HostRuntime,
+    threads: &T,
+) -> io::Result<()> {
+    let Some(image) = image_of_ones(rt.alloc())? else {
+        return Ok(());
+    };
+    measure_pieces(
+        rt,
+        threads,
+        "4 large pieces",
+        &image,
+        &large_pieces(rt.alloc())?,
+    )?;
+    measure_pieces(
+        rt,
+        threads,
+        "65536 small moves",
+        &image,
+        &small_pieces(rt.alloc())?,
+    )?;
+    let copied = measure_copy(rt)?;
+    measure_images(rt, &image, copied)
 }

@@ -4,9 +4,7 @@ use crate::operation::operation_of;
 use dsa_descriptor::Descriptor;
 use dsa_plan::Settings;
 use dsa_splitter::pieces;
-use std::alloc::{Alloc, Global};
 use std::io;
-use std::rt::Runtime;
 use std::time::Instant;
 
 /// The bytes of a piece.
@@ -15,19 +13,24 @@ const PIECE_LEN: u64 = 64;
 const MOVE_LEN: u32 = 4_194_304;
 
 /// Splits one move, and prints how long it took.
-pub(crate) fn measure_split<R: Runtime + Alloc<A = Global>>(rt: &R) -> io::Result<()> {
-    let bytes = operation_of(0x03, 0x1000_0000, 0x2000_0000, MOVE_LEN, 0x3000_0000);
-    let Ok(d) = Descriptor::read(&bytes) else {
-        return Ok(());
-    };
-    let Ok(settings) = Settings::new(1024, PIECE_LEN, 10, 14, 3, 0) else {
-        return Ok(());
-    };
+fn time_split(rt: &HostRuntime, d: &Descriptor, settings: &Settings) -> io::Result<()> {
     let start = Instant::now(rt)?;
-    let count = match pieces(rt.alloc(), &[d], &settings) {
+    let count = match pieces(rt.alloc(), &[*d], settings) {
         Ok(found) => found.len(),
         Err(_) => 0,
     };
     let time = start.elapsed(rt)?;
     println!(rt; "{count} pieces in {} us", time.as_micros())
+}
+
+/// Measures how one move is split.
+pub(crate) fn measure_split(rt: &HostRuntime) -> io::Result<()> {
+    let bytes = operation_of(0x03, 0x1000_0000, 0x2000_0000, MOVE_LEN, 0x3000_0000);
+    let Ok(d) = Descriptor::read(&bytes) else {
+        return Ok(());
+    };
+    match Settings::new(1024, PIECE_LEN, 10, 14, 3, 0) {
+        Ok(settings) => time_split(rt, &d, &settings),
+        Err(_) => Ok(()),
+    }
 }

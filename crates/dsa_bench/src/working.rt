@@ -3,15 +3,19 @@
 use crate::operation::BYTES;
 use dsa_descriptor::Descriptor;
 use dsa_image::Image;
-use std::alloc::{Alloc, Global};
+use std::alloc::{AllocError, Global};
 use std::io;
-use std::rt::Runtime;
-use std::time::{Clock, Duration, Instant};
+use std::time::{Duration, Instant};
 
 /// The length of the image: 16 MiB, from address 0 on.
 const IMAGE_LEN: usize = 16_777_216;
 /// How often each is done.
 const ROUNDS: u32 = 50;
+
+/// An image whose bytes are all 1.
+pub(crate) fn image_of_ones(alloc: Global) -> Result<Option<Image>, AllocError> {
+    Ok(Image::new(0, vec![in alloc; 1; IMAGE_LEN]?).ok())
+}
 
 /// Does the operation, where the image has its addresses.
 pub(crate) fn run_once(image: &mut Image, ds: &[Descriptor]) {
@@ -21,7 +25,7 @@ pub(crate) fn run_once(image: &mut Image, ds: &[Descriptor]) {
 }
 
 /// How long the operation takes in the image, in all rounds.
-fn image_time(rt: &impl Clock, image: &mut Image, ds: &[Descriptor]) -> io::Result<Duration> {
+fn image_time(rt: &HostRuntime, image: &mut Image, ds: &[Descriptor]) -> io::Result<Duration> {
     let start = Instant::now(rt)?;
     for _ in 0..ROUNDS {
         run_once(image, ds);
@@ -30,7 +34,7 @@ fn image_time(rt: &impl Clock, image: &mut Image, ds: &[Descriptor]) -> io::Resu
 }
 
 /// How long a plain copy takes, in all rounds.
-fn copy_time(rt: &impl Clock, to: &mut [u8], from: &[u8]) -> io::Result<Duration> {
+fn copy_time(rt: &HostRuntime, to: &mut [u8], from: &[u8]) -> io::Result<Duration> {
     let start = Instant::now(rt)?;
     for _ in 0..ROUNDS {
         if to.len() == from.len() {
@@ -45,22 +49,30 @@ fn speed(time: Duration) -> u128 {
     u128::from(BYTES) * u128::from(ROUNDS) / time.as_micros().max(1)
 }
 
-/// Measures the operation, and prints what was measured.
-pub(crate) fn measure_image<R: Runtime + Alloc<A = Global>>(
-    rt: &R,
-    operation: &[u8; 64],
-) -> io::Result<()> {
-    let alloc = rt.alloc();
+/// How long an operation takes in an image of its own; none where it is no operation.
+fn operation_time(rt: &HostRuntime, operation: &[u8; 64]) -> io::Result<Option<Duration>> {
     let Ok(d) = Descriptor::read(operation) else {
+        return Ok(None);
+    };
+    match image_of_ones(rt.alloc())? {
+        Some(mut image) => Ok(Some(image_time(rt, &mut image, &[d])?)),
+        None => Ok(None),
+    }
+}
+
+/// How long a plain copy of as many bytes takes.
+fn plain_time(rt: &HostRuntime) -> io::Result<Duration> {
+    let from = vec![in rt.alloc(); 1; BYTES as usize]?;
+    let mut to = vec![in rt.alloc(); 0; BYTES as usize]?;
+    copy_time(rt, to.as_mut_slice(), from.as_slice())
+}
+
+/// Measures the operation, and prints what was measured.
+pub(crate) fn measure_image(rt: &HostRuntime, operation: &[u8; 64]) -> io::Result<()> {
+    let Some(in_image) = operation_time(rt, operation)? else {
         return Ok(());
     };
-    let Ok(mut image) = Image::new(0, vec![in alloc; 1; IMAGE_LEN]?) else {
-        return Ok(());
-    };
-    let in_image = image_time(rt, &mut image, &[d])?;
-    let from = vec![in alloc; 1; BYTES as usize]?;
-    let mut to = vec![in alloc; 0; BYTES as usize]?;
-    let plain = copy_time(rt, to.as_mut_slice(), from.as_slice())?;
+    let plain = plain_time(rt)?;
     println!(rt;
         "{} MB/s in the image, {} MB/s copied plainly",
         speed(in_image),

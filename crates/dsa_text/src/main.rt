@@ -72,28 +72,46 @@ fn with_settings<'a>(alloc: Global, command: Command<'a>) -> Result<Command<'a>,
         .arg(value(alloc, "staging", "0x10000", "address of the staging area"))
 }
 
-/// The commands and their options.
-fn commands<'a>(alloc: Global) -> Result<Command<'a>, AllocError> {
-    let assemble = Command::new(alloc, "assemble")
+/// The command `assemble`.
+fn assemble_command<'a>(alloc: Global) -> Result<Command<'a>, AllocError> {
+    let command = Command::new(alloc, "assemble")
         .about("Reads lines of operations, and writes their list in hexadecimal")
         .arg(flag(alloc, "job", "write a whole job to plan the list"))?;
-    let at = value(alloc, "at", "0x10000", "address of the staging area")
+    with_settings(alloc, command)
+}
+
+/// The option of the staging area's address.
+fn at<'a>(alloc: Global) -> Result<Arg<'a>, AllocError> {
+    value(alloc, "at", "0x10000", "address of the staging area")
         .requires_arg("staging")?
-        .conflicts_with("portal")?;
-    let disassemble = Command::new(alloc, "disassemble")
+        .conflicts_with("portal")
+}
+
+/// The command `disassemble`.
+fn disassemble_command<'a>(alloc: Global) -> Result<Command<'a>, AllocError> {
+    Command::new(alloc, "disassemble")
         .about("Reads a list in hexadecimal, and writes its lines")
         .arg(flag(alloc, "portal", "read the entries of a portal"))?
         .arg(flag(alloc, "staging", "read a staging area").conflicts_with("portal")?)?
-        .arg(at)?;
-    let explain = Command::new(alloc, "explain")
+        .arg(at(alloc)?)
+}
+
+/// The command `explain`.
+fn explain_command<'a>(alloc: Global) -> Result<Command<'a>, AllocError> {
+    let command = Command::new(alloc, "explain")
         .about("Reads lines or a job to plan, judge or check, and tells what the plan does and why")
         .arg(flag(alloc, "svg", "draw the plan"))?;
+    with_settings(alloc, command)
+}
+
+/// The commands and their options.
+fn commands<'a>(alloc: Global) -> Result<Command<'a>, AllocError> {
     Command::new(alloc, "dsa_text")
         .about("Descriptors of the data streaming accelerator as text")
         .subcommand_required(true)
-        .subcommand(with_settings(alloc, assemble)?)?
-        .subcommand(disassemble)?
-        .subcommand(with_settings(alloc, explain)?)
+        .subcommand(assemble_command(alloc)?)?
+        .subcommand(disassemble_command(alloc)?)?
+        .subcommand(explain_command(alloc)?)
 }
 
 /// The names of the options of the settings.
@@ -109,7 +127,12 @@ const SETTINGS: [&str; 7] = [
 
 /// Whether some option of the settings was given.
 fn are_settings_given(matches: &ArgMatches<'_>) -> bool {
-    SETTINGS.iter().any(|name| matches.value_source(name) == Some(ValueSource::CommandLine))
+    for name in SETTINGS {
+        if matches.value_source(name) == Some(ValueSource::CommandLine) {
+            return true;
+        }
+    }
+    false
 }
 
 /// The value of an option.
@@ -161,11 +184,11 @@ fn disassemble(alloc: Global, matches: &ArgMatches<'_>, text: &[u8]) -> Result<A
 }
 
 /// What `explain` answers of a job: one to plan, to judge or to check.
-fn explain_job(alloc: Global, text: &[u8], drawn: bool) -> Result<Answer, AllocError> {
-    match read_job(alloc, text) {
-        Ok(Job::Plan(job)) => explain_list(alloc, &job.list, &job.settings, drawn),
-        Ok(Job::Judge(job)) => explain_judged(alloc, &job.list, &job.plan, &job.settings, drawn),
-        Ok(Job::Check(job)) => explain_checked(
+fn explain_job(alloc: Global, job: &Job, drawn: bool) -> Result<Answer, AllocError> {
+    match job {
+        Job::Plan(job) => explain_list(alloc, &job.list, &job.settings, drawn),
+        Job::Judge(job) => explain_judged(alloc, &job.list, &job.plan, &job.settings, drawn),
+        Job::Check(job) => explain_checked(
             alloc,
             &job.portal,
             &job.staging,
@@ -173,7 +196,14 @@ fn explain_job(alloc: Global, text: &[u8], drawn: bool) -> Result<Answer, AllocE
             &job.settings,
             drawn,
         ),
-        Ok(Job::Replay(_)) | Ok(Job::Run(_)) => Answer::fault(alloc, PlanFault::Do),
+        Job::Replay(_) | Job::Run(_) => Answer::fault(alloc, PlanFault::Do),
+    }
+}
+
+/// What `explain` answers of the text of a job.
+fn explain_job_text(alloc: Global, text: &[u8], drawn: bool) -> Result<Answer, AllocError> {
+    match read_job(alloc, text) {
+        Ok(job) => explain_job(alloc, &job, drawn),
         Err(fault) => Answer::fault(alloc, fault),
     }
 }
@@ -186,7 +216,7 @@ fn explain(alloc: Global, matches: &ArgMatches<'_>, text: &[u8]) -> Result<Answe
             let line = "refused 92 Options: a job has settings of its own\n";
             return Ok(Answer::refused(String::from_str(alloc, line)?));
         }
-        return explain_job(alloc, text, drawn);
+        return explain_job_text(alloc, text, drawn);
     }
     match settings_in(alloc, matches)? {
         Some(settings) => explain_text(alloc, text, &settings, drawn),

@@ -14,7 +14,7 @@ use Rattle.dsa_emission.specs.declared.emission_fault.EmissionFault.{EmissionFau
 use Rattle.dsa_emission.specs.Causes.{emission_is_memory}
 use Rattle.dsa_emission.proofs.OneFault.{one_fault, none_to_tell}
 use Rattle.dsa_emission.proofs.Told.{one_emission}
-use Rattle.dsa_plan.proofs.Costs.{yes_means_least}
+use Rattle.dsa_plan.proofs.Steps.{yes_means_least}
 use Rattle.dsa_cert.specs.Document.{Contents}
 use Rattle.dsa_checker.specs.declared.fault.CheckFault.{CheckFault}
 use Rattle.dsa_checker.specs.Checked.{IsFirstCheckFault}

@@ -1,26 +1,19 @@
 -- What explaining a plan answers.
-use Rattle.std.specs.Prelude.{◌≡◌, ℕ, ◌*◌, ◌<◌, ◌≤◌, List, length, map, Result, Ok, Err}
+use Rattle.std.specs.Prelude.{◌≡◌, ◌<◌, ◌≤◌, List, length, map, Result, Ok, Err}
 use Rattle.dsa_descriptor.specs.declared.descriptor.Descriptor.{Descriptor}
 use Rattle.dsa_descriptor.specs.Descriptors.{fields}
 use Rattle.dsa_descriptor.specs.Pieces.{most_pieces}
 use Rattle.dsa_ranges.specs.Ranges.{ConflictAt}
-use Rattle.dsa_plan.specs.Plan.{Plan, plan_cost}
-use Rattle.dsa_plan.specs.Settings.{Limits, tariff_of}
+use Rattle.dsa_plan.specs.Plan.{Plan}
+use Rattle.dsa_plan.specs.Settings.{Limits}
 use Rattle.dsa_plan.specs.Legal.{IsLegal}
+use Rattle.dsa_plan.specs.Costs.{AreCosts}
 use Rattle.dsa_plan.specs.LegalFaults.{IsFirstLegalFault}
 use Rattle.dsa_explain.specs.Cells.{cells_from}
-use Rattle.dsa_explain.specs.Costs.{costs_of_groups}
 use Rattle.dsa_explain.specs.Fences.{AreFencesOf}
-use Rattle.dsa_explain.specs.declared.costs.Costs.{Costs}
 use Rattle.dsa_explain.specs.declared.explanation.Explanation.{Explanation}
 use Rattle.dsa_explain.specs.declared.explanation.ExplainFault.{ExplainFault}
 use Rattle.dsa_explain.specs.declared.explanation.ExplainFault.TheVariants.{TooManyPieces, Legal, Memory}
-
--- the costs of the groups and of the plan, and that of so many lone submissions
-pub record AreCosts (s : Limits) (pieces : ℕ) (plan : Plan) (costs : Costs) : Type 0 where
-  pub groups : costs.groups.items ≡ costs_of_groups (tariff_of s) plan
-  pub cost : costs.cost ≡ plan_cost (tariff_of s) plan
-  pub lone : costs.lone ≡ s.lone * pieces
 
 -- the plan's costs, its fences and its cells
 pub record IsExplanationOf (s : Limits) (pieces : List Descriptor) (plan : Plan) (e : Explanation) : Type 0 where

@@ -3,7 +3,7 @@ use Rattle.std.specs.Prelude.{ℕ, ◌≡◌, ◌*◌, ◌<◌, ◌≤◌, ◌�
 use Rattle.dsa_plan.specs.Plan.{Tariff, Group, Plan, fence_count, plan_cost, piece_count, start_of}
 use Rattle.dsa_plan.specs.Legal.{IsFenced, IsLeast}
 use Rattle.dsa_explain.specs.Cells.{cells_from}
-use Rattle.dsa_explain.specs.Costs.{costs_of_groups}
+use Rattle.dsa_plan.specs.Costs.{costs_of_groups}
 use Rattle.dsa_explain.specs.Fences.{fenced_pieces}
 
 -- a least plan of n pieces costs at most as much as n lone submissions

@@ -1,5 +1,4 @@
 pub mod Reasons
-pub mod Costs
 pub mod Fences
 pub mod Cells
 pub mod Explained

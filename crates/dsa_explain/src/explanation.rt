@@ -5,10 +5,9 @@ ghost use Rattle.dsa_explain.specs.declared.explanation.ExplainFault.TheVariants
 ghost use Rattle.dsa_explain.specs.Explained.{Explains};
 
 use crate::cells::{Cell, lay_out};
-use crate::costs::{Costs, plan_costs};
 use crate::fences::{Fence, fences_of};
 use dsa_descriptor::{Descriptor, MOST_PIECES};
-use dsa_plan::{LegalFault, Plan, Settings, is_legal};
+use dsa_plan::{Costs, LegalFault, Plan, Settings, is_legal, plan_costs};
 use std::alloc::{AllocError, Global};
 
 /// What a plan costs, why its fences stand, and where its pieces stand in a picture.

@@ -3,7 +3,6 @@
 #![tactic(auto)]
 
 mod cells;
-mod costs;
 mod explanation;
 mod fences;
 mod laws;
@@ -12,8 +11,8 @@ mod reason;
 mod words;
 
 pub use cells::{Cell, lay_out};
-pub use costs::{Costs, GroupCost, plan_costs};
 pub use dsa_descriptor::MOST_PIECES;
+pub use dsa_plan::{Costs, GroupCost, plan_costs};
 pub use explanation::{ExplainFault, Explanation, explain};
 pub use fences::{Fence, fences_of};
 pub use laws::{

@@ -1,11 +1,10 @@
 //! The words of an explanation.
 
-use crate::costs::{Costs, GroupCost};
 use crate::explanation::Explanation;
 use crate::fences::Fence;
 use dsa_descriptor::Descriptor;
 use dsa_lines::op_text;
-use dsa_plan::Settings;
+use dsa_plan::{Costs, GroupCost, Settings};
 use dsa_ranges::HazardKind;
 use std::alloc::{AllocError, Global};
 

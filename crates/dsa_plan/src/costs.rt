@@ -2,13 +2,14 @@
 
 ghost use Rattle.std.specs.Prelude.{◌≡◌, ◌≤◌, IfOk, length};
 ghost use Rattle.dsa_descriptor.specs.Pieces.{most_pieces};
-ghost use Rattle.dsa_plan.specs.Plan.{fence_count, piece_count};
-ghost use Rattle.dsa_plan.specs.LegalFaults.{HasGroupShape, HasGroupShapes};
-ghost use Rattle.dsa_plan.specs.Settings.{tariff_of};
-ghost use Rattle.dsa_explain.specs.Costs.{costs_of_group, costs_of_groups};
-ghost use Rattle.dsa_explain.specs.Explained.{AreCosts};
+ghost use Rattle.dsa_settings.specs.Plan.{piece_count};
+ghost use Rattle.dsa_settings.specs.Shapes.{HasGroupShape, HasGroupShapes};
+ghost use Rattle.dsa_settings.specs.Settings.{tariff_of};
+ghost use Rattle.dsa_plan.specs.Costs.{AreCosts, costs_of_group, costs_of_groups};
 
-use dsa_plan::{Group, Plan, Settings, cost, group_price};
+use crate::chain::group_price;
+use crate::pricing::{cost, fence_count};
+use dsa_settings::{Group, Plan, Settings};
 use std::alloc::{AllocError, Global};
 
 /// A group, and what it costs.
@@ -31,13 +32,6 @@ pub struct Costs {
     pub cost: u64,
     /// Of as many lone submissions as there are pieces.
     pub lone: u64,
-}
-
-/// How many pieces of the group are fenced.
-fn fence_count(group: &Group) -> usize
-    ensures { result ≡ fence_count group.now }
-{
-    group.fences().iter().filter(|fenced| **fenced).count()
 }
 
 /// What a group costs.

@@ -1,6 +1,6 @@
 use Rattle.std.proofs.Common.{arith}
 use Rattle.dsa_plan.proofs.Fences.{fewer_fences}
-use Rattle.dsa_explain.proofs.costs.costs_of_group.Goals as goal
+use Rattle.dsa_plan.proofs.costs.costs_of_group.Goals as goal
 
 pub group_price-requires-clause-less : goal.group_price-requires-clause-less
 group_price-requires-clause-less c =

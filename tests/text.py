@@ -1,8 +1,9 @@
 """Runs dsa_text on the examples of examples/text and compares what it writes with what stands there; brings the list
 of each job of tests/jobs to text and back; and asks about lines, texts, options and plans typed by hand from
 docs/FORMATS.md: each operation and option as a line and back, where a line leaves the grammar, which fault of a list
-is told, and the reason for each fence of a plan. The bytes of descriptors are those of the model. The words are
-names of parts."""
+is told, and the reason for each fence of a plan. The bytes of descriptors are those of the model. What people should
+read, it compares with the golden files of tests/text: options, help, statuses, portals and staging areas, explanations
+and pictures. The words are names of parts."""
 
 import json
 import re
@@ -10,6 +11,7 @@ import subprocess
 from pathlib import Path
 
 import common
+import golden
 from common import move, named, program, run_test
 from model import COMPARE, DELTA, DUALCAST, FILL, PATTERN, Op
 
@@ -260,7 +262,38 @@ def fences():
     expect("explain", explained([(0x1000, 0x2000)] * 65_537, []), "refused 32 TooManyPieces")
 
 
-PARTS = [examples, lists, refusals, arguments, lines, grammar, texts, fences]
+def large():
+    """Texts and lists of more than 1 MiB: 20,480 moves that lie apart, which are twenty whole batches of 1,024."""
+    count = 20 * 1024
+    moves = [(0x1_0000_0000 + 0x1000 * k, 0x2_0000_0000 + 0x1000 * k, 0x3_0000_0000 + 32 * k) for k in range(count)]
+    lines = [f"move 0x{src:x} -> 0x{dst:x}, 64 bytes" for src, dst, _ in moves]
+    text = "".join(f"{line}, record 0x{at:x}\n" for line, (_, _, at) in zip(lines, moves))
+    listed = "".join(move(src, dst, record_at=at).bytes().hex() for src, dst, at in moves)
+    rows = []
+    for k, line in enumerate(lines):
+        if k % 1024 == 0:
+            rows.append(f"group {k // 1024}: batch of 1024, 0 fences, 1 epoch, cost 14")
+        rows.append(f"  {k}: {line}")
+    rows.append(f"cost 280; {count} lone submissions cost 204800, saved 204520")
+    expect("explain --greatest-batch 1024", text, "\n".join(rows))
+    expect("explain", common.plan(listed, common.settings(greatest_batch=1024)), "\n".join(rows))
+    expect("assemble", text, listed)
+    expect("disassemble", listed, text.rstrip("\n"))
+    expect("explain", f"{' ' * (1 << 20)}\n{PAIR} # behind a mebibyte of blanks",
+           "group 0: lone submission, cost 10\n  0: move 0x1 -> 0x2, 3 bytes\n"
+           "cost 10; 1 lone submission cost 10, saved 0")
+
+
+def files():
+    """The golden files of tests/text."""
+    paths = sorted(Path("tests/text").glob("*.golden"))
+    common.expect(len(paths) > 10, f"only {len(paths)} golden files")
+    for case in [case for path in paths for case in golden.cases(path)]:
+        fault = golden.fault_of(TEXT, case)
+        common.expect(not fault, fault)
+
+
+PARTS = [examples, lists, refusals, arguments, lines, grammar, texts, fences, large, files]
 
 
 def main(words):

@@ -2,7 +2,7 @@
 
 use dsa_planner::{
     check, count_pieces, judge, plan_into, plan_list, BatchPrice, Certificate, Refusal, Settings,
-    BEGINS, FENCED,
+    Summary, BEGINS, FENCED,
 };
 
 const SETTINGS: Settings = Settings {
@@ -189,13 +189,14 @@ fn too_many_pieces_are_refused() {
     assert_eq!(plan_list(&by_eights, &fill), Err(refused(32, 0, 0, 0)));
 }
 
+const BY_SIZE: Settings = Settings {
+    batch: BatchPrice::BySize(&[5, 16, 30]),
+    ..SETTINGS
+};
+
 #[test]
 fn prices_by_size() {
-    let settings = Settings {
-        batch: BatchPrice::BySize(&[5, 16, 30]),
-        ..SETTINGS
-    };
-    let planned = plan_list(&settings, &two_moves()).unwrap();
+    let planned = plan_list(&BY_SIZE, &two_moves()).unwrap();
     assert_eq!(planned.cost, 8); // a batch of two at 5, and its fence at 3
     let short = Settings {
         batch: BatchPrice::BySize(&[5, 16]),
@@ -205,4 +206,113 @@ fn prices_by_size() {
         plan_list(&short, &two_moves()).unwrap_err(),
         refused(83, 0, 0, 0)
     );
+}
+
+// A certificate has the version of the settings that it was written for: 2 where prices are by size.
+#[test]
+fn certificates_by_size() {
+    let planned = plan_list(&BY_SIZE, &two_moves()).unwrap();
+    let certificate = Certificate {
+        version: 2,
+        prices: vec![0, 10, 8],
+        pairs: vec![Some((0, 1)), None],
+    };
+    assert_eq!(planned.certificate, certificate);
+    let checked =
+        |settings, certificate| check(settings, &planned.portal, &planned.staging, certificate);
+    assert_eq!(checked(&BY_SIZE, &certificate), Ok(8));
+    assert_eq!(checked(&SETTINGS, &certificate), Err(refused(65, 0, 0, 0)));
+    let first_version = Certificate {
+        version: 1,
+        ..certificate.clone()
+    };
+    assert_eq!(checked(&BY_SIZE, &first_version), Err(refused(65, 0, 0, 0)));
+    let other = Settings {
+        batch: BatchPrice::BySize(&[6, 16, 30]),
+        ..SETTINGS
+    };
+    assert_eq!(checked(&other, &certificate), Err(refused(64, 0, 0, 0)));
+    let short = Settings {
+        batch: BatchPrice::BySize(&[5, 16]),
+        ..SETTINGS
+    };
+    assert_eq!(checked(&short, &certificate), Err(refused(83, 0, 0, 0)));
+}
+
+// The price of a batch is the one of its size: 5, 16 and 30 for two, three and four pieces, which lie apart.
+#[test]
+fn plans_are_judged_by_size() {
+    let moves: Vec<_> = (0..4)
+        .map(|k| {
+            let at = 0x10000 * (k + 2);
+            move_bytes(at, at + 0x1000, 64, 0x8000 + 32 * k)
+        })
+        .collect();
+    let list = moves.concat();
+    assert_eq!(judge(&BY_SIZE, &list, &[BEGINS, 0, BEGINS, 0]), Ok(10));
+    assert_eq!(judge(&BY_SIZE, &list, &[BEGINS, 0, 0, BEGINS]), Ok(26));
+    assert_eq!(judge(&BY_SIZE, &list, &[BEGINS, 0, FENCED, 0]), Ok(33));
+    assert_eq!(judge(&BY_SIZE, &list, &[BEGINS; 4]), Ok(40));
+    assert_eq!(
+        judge(&BY_SIZE, &two_moves(), &[BEGINS, 0]),
+        Err(refused(43, 0, 0, 1))
+    );
+    let long = Settings {
+        batch: BatchPrice::BySize(&[5, 16, 30, 40]),
+        ..SETTINGS
+    };
+    assert_eq!(judge(&long, &list, &[BEGINS; 4]), Err(refused(83, 0, 0, 0)));
+}
+
+// The two ways to plan answer the same, and `plan_into` leaves what it need not write.
+#[test]
+fn planning_into_buffers_is_planning() {
+    let split = move_bytes(0x1000, 0x1008, 10_240, 0x8000);
+    let cut = &two_moves()[..65];
+    for (settings, list, summary) in [
+        (&SETTINGS, &[][..], Ok([0, 0, 0, 0])),
+        (&SETTINGS, &two_moves()[..64], Ok([10, 1, 64, 0])),
+        (&SETTINGS, &two_moves(), Ok([17, 2, 64, 160])),
+        (&BY_SIZE, &two_moves(), Ok([8, 2, 64, 160])),
+        (&SETTINGS, &split, Ok([20, 3, 64, 224])),
+        (&SETTINGS, cut, Err(refused(1, 0, 0, 0))),
+        (&SETTINGS, &[0; 64], Err(refused(2, 0, 0, 0))),
+    ] {
+        let (mut portal, mut staging) = ([0xee; 256], [0xee; 256]);
+        let into = plan_into(settings, list, &mut portal, &mut staging);
+        let wanted = summary.map(|[cost, pieces, portal_len, staging_len]| Summary {
+            cost,
+            pieces,
+            portal_len,
+            staging_len,
+        });
+        assert_eq!(into, wanted);
+        let planned = plan_list(settings, list);
+        assert_eq!(planned.as_ref().err(), into.as_ref().err());
+        let (cost, pieces, bytes) = planned.map_or((0, 0, (vec![], vec![])), |it| {
+            (it.cost, it.marks.len() as u64, (it.portal, it.staging))
+        });
+        let into = into.unwrap_or_default();
+        assert_eq!((cost, pieces), (into.cost, into.pieces));
+        let (to_portal, to_staging) = (into.portal_len as usize, into.staging_len as usize);
+        assert_eq!(bytes.0, portal[..to_portal]);
+        assert_eq!(bytes.1, staging[..to_staging]);
+        assert!(portal[to_portal..].iter().all(|byte| *byte == 0xee));
+        assert!(staging[to_staging..].iter().all(|byte| *byte == 0xee));
+    }
+}
+
+#[test]
+fn refusals_are_shown() {
+    for (refusal, shown) in [
+        (refused(83, 0, 0, 0), "refused 83, first 0, second 0"),
+        (refused(43, 0, 0, 1), "refused 43, first 0, second 1"),
+        (
+            refused(60, 43, 0, 1),
+            "refused 60 for 43, first 0, second 1",
+        ),
+        (refused(47, 5, 7, 0), "refused 47 for 5, first 7, second 0"),
+    ] {
+        assert_eq!(refusal.to_string(), shown);
+    }
 }

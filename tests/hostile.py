@@ -1,7 +1,8 @@
 """Tries wrong bodies that other tests are there to refuse, and sees each refused: a call that always reports an
 allocation failure, one that changes what it was given, a run that leaves a thread, a line that is written in part
-(tests/memory.py), a planner that always submits alone (tests/campaign.py), and a program that tries again after an
-error (tests/streams.py). They run by `rt try`, which proves nothing. The words are names of parts."""
+(tests/memory.py), a planner that always submits alone (tests/campaign.py), and programs that try again after an error
+or read on behind their line (tests/streams.py). They run by `rt try`, which proves nothing. The words are names of
+parts."""
 
 import os
 import re
@@ -73,20 +74,32 @@ def lone_pieces():
     expect(is_seen, f"always_alone is not seen by tests/campaign.py: {said[-600:]}")
 
 
+def streamed(name):
+    """What tests/streams.py finds wrong with a program in C that answers one job, or None, for each run."""
+    with refuse_so() as shared, tempfile.TemporaryDirectory() as folder:
+        program = f"{folder}/{name}"
+        flags = ["-O2", "-Wall", "-Wextra", "-Werror"]
+        subprocess.run([compiler(), *flags, "-o", program, f"tests/hostile/{name}.c"], check=True)
+        return streams.faults_of(shared, program, ["tests/jobs/nothing.job"])
+
+
 def second_try():
     """again.c reads and writes again after an error: just the runs with an error fail."""
-    with refuse_so() as shared, tempfile.TemporaryDirectory() as folder:
-        program = f"{folder}/again"
-        flags = ["-O2", "-Wall", "-Wextra", "-Werror"]
-        subprocess.run([compiler(), *flags, "-o", program, "tests/hostile/again.c"], check=True)
-        answers = streams.faults_of(shared, program, ["tests/jobs/nothing.job"])
+    answers = streamed("again")
     faults = [fault for fault in answers if fault]
     is_seen = 0 < len(faults) < len(answers) and all("fails" in fault for fault in faults)
     expect(is_seen, f"again.c is not seen by tests/streams.py: {len(faults)} of {len(answers)} fail, {faults[:3]}")
 
 
+def reading_on():
+    """reads_on.c answers as it should, but reads once more at its end: each run fails for that alone."""
+    answers = streamed("reads_on")
+    others = [fault for fault in answers if not fault or "reads on" not in fault]
+    expect(answers and not others, f"reads_on.c is not seen by tests/streams.py: {others[:3]}")
+
+
 def main(words):
-    for part in named([calls, lone_pieces, second_try], words):
+    for part in named([calls, lone_pieces, second_try, reading_on], words):
         part()
 
 

@@ -126,7 +126,8 @@ class Run:
     faults: list = field(default_factory=list)
 
     def once(self, **refusals):
-        """What is printed and the status, and how many allocations and starts of threads were asked for."""
+        """What is printed and the status, and how many allocations and starts of threads were asked for. A program that
+        reads on after its input has ended, or it has written, is told as one that ends in another way."""
         reader, writer = os.pipe()
         names = {f"HOSTILE_{name.upper()}": str(value) for name, value in refusals.items()}
         names |= {"LD_PRELOAD": SHARED, "HOSTILE_REPORT": str(writer)} | ({"HOSTILE_ALL": "1"} if self.counts_all else {})
@@ -140,10 +141,12 @@ class Run:
             os.close(writer)
             with os.fdopen(reader) as report:
                 line = report.read().split()
-        if ran.stderr or ran.returncode < 0 or len(line) != 2:
+        if self.counts_all and line[2:] != ["0"]:
+            return (f"reads on when all is read or written: {line}", ran.returncode), (0, 0)
+        if ran.stderr or ran.returncode < 0 or len(line) != 3:
             said = f"ends with {ran.returncode} and writes {ran.stderr[:200]} to standard error"
             return (said, ran.returncode), (0, 0)
-        return (ran.stdout.decode(), ran.returncode), tuple(map(int, line))
+        return (ran.stdout.decode(), ran.returncode), tuple(map(int, line[:2]))
 
     def look(self, printed):
         """Looks for what the answer has to have where memory is there."""

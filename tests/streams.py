@@ -1,7 +1,9 @@
 """Runs the program on jobs whose input comes a byte at a time or fails at each turn, and whose output is taken a
-byte at a time or fails after some bytes. A word takes the runs that have it in their names."""
+byte at a time or fails after some bytes. In each run it reads no further once its input has ended or failed, or it has
+written. A word takes the runs that have it in their names."""
 
 import errno
+import os
 import subprocess
 from functools import partial
 from glob import glob
@@ -15,11 +17,17 @@ JOBS = sorted(glob("examples/*.job", root_dir=ROOT)) + [
 
 
 def once(shared, tried, text, settings):
-    """What the program that is tried prints, and its status."""
+    """What the program that is tried prints, its status, and how many reads came too late."""
+    reader, writer = os.pipe()
     names = {f"HOSTILE_{name.upper()}": str(value) for name, value in settings.items()}
-    names |= {"LD_PRELOAD": shared, "HOSTILE_ALL": "1"}
-    ran = subprocess.run([tried], input=text, capture_output=True, env=names, timeout=60)
-    return ran.stdout + ran.stderr, ran.returncode
+    names |= {"LD_PRELOAD": shared, "HOSTILE_ALL": "1", "HOSTILE_REPORT": str(writer)}
+    try:
+        ran = subprocess.run([tried], input=text, capture_output=True, env=names, pass_fds=[writer], timeout=60)
+    finally:
+        os.close(writer)
+        with os.fdopen(reader) as report:
+            counts = report.read().split()
+    return ran.stdout + ran.stderr, ran.returncode, int(counts[2]) if len(counts) == 3 else "unknown"
 
 
 def turns(text, most):
@@ -62,10 +70,12 @@ def all_cases():
 def fault_of(shared, tried, case):
     name, text, settings, wanted = case
     try:
-        got = once(shared, tried, text, settings)
+        *got, late = once(shared, tried, text, settings)
     except subprocess.TimeoutExpired:
         return f"{name}: does not end in 60 seconds"
-    return None if got == wanted else f"{name}: wanted {wanted}, got {got}"[:600]
+    if tuple(got) != wanted:
+        return f"{name}: wanted {wanted}, got {got}"[:600]
+    return f"{name}: reads on when all is read or written, late reads: {late}" if late else None
 
 
 def faults_of(shared, tried, words):

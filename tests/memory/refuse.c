@@ -6,7 +6,8 @@
  *   HOSTILE_FIRST, HOSTILE_LAST     the first and the last allocation that is refused
  *   HOSTILE_THREAD                  the start of a thread that is refused
  *   HOSTILE_REPORT                  the file that gets a line when counting ends: how many allocations were asked for,
- *                                   and how many starts of threads
+ *                                   how many starts of threads, and how many late reads: those of standard input
+ *                                   behind its end, behind a read that failed, or once anything was written
  *   HOSTILE_READ_MOST               the most bytes that a read gives
  *   HOSTILE_READ_FAULT              the read that fails; the next would go on
  *   HOSTILE_WRITE_MOST              the most bytes that a write takes
@@ -35,8 +36,8 @@ static atomic_bool counting;
 static atomic_ulong allocations, starts;
 static unsigned long first_refused, last_refused, refused_start, report_to;
 static unsigned long read_most, read_fault, write_most, write_fault, fault_error;
-static unsigned long marks, turns, taken;
-static bool counts_all;
+static unsigned long marks, turns, taken, late;
+static bool counts_all, is_read;
 
 static unsigned long number(const char *name) {
     const char *text = getenv(name);
@@ -45,7 +46,7 @@ static unsigned long number(const char *name) {
 
 static void report(void) {
     char line[80];
-    int length = snprintf(line, sizeof line, "%lu %lu\n", allocations, starts);
+    int length = snprintf(line, sizeof line, "%lu %lu %lu\n", allocations, starts, late);
     if (report_to && syscall(SYS_write, (int)report_to, line, (size_t)length) != length)
         abort();
     report_to = 0;
@@ -104,16 +105,24 @@ ssize_t read(int file, void *buffer, size_t size) {
         if (marks == 2)
             report();
     }
+    if (file == 0 && is_read)
+        ++late;
     if (file == 0 && ++turns == read_fault) {
+        is_read = true;
         errno = (int)fault_error;
         return -1;
     }
     if (file == 0 && read_most && size > read_most)
         size = read_most;
-    return syscall(SYS_read, file, buffer, size);
+    ssize_t count = syscall(SYS_read, file, buffer, size);
+    if (file == 0 && count <= 0)
+        is_read = true;
+    return count;
 }
 
 ssize_t write(int file, const void *buffer, size_t size) {
+    if (file == 1)
+        is_read = true;
     if (file == 1 && write_fault && size > write_fault - 1 - taken) {
         size = write_fault - 1 - taken;
         if (size == 0) {

@@ -222,12 +222,13 @@ def crates_up_to(name):
     return found
 
 
-def copy_crates(name, tree):
-    """Copies the crate and all below it to an empty folder, without what is built."""
-    chosen = crates_up_to(name)
+def copy_crates(name, tree, also=()):
+    """Copies the crate and all below it to an empty folder, without what is built. The copy stands on `also` too."""
+    chosen = {below for top in (name, *also) for below in crates_up_to(top)}
     for crate in chosen:
         shutil.copytree(f"crates/{crate}", f"{tree}/crates/{crate}", ignore=shutil.ignore_patterns("out"))
-    lines = [line for crate, (line, _) in crates().items() if crate in chosen]
+    lines = [line for crate, (line, _) in crates().items() if crate in chosen and crate != name]
+    lines.append(" ".join([crates()[name][0], *also]))
     Path(tree, "crates.txt").write_text("\n".join(lines) + "\n")
     shutil.copy("HANDLES", tree)
 

@@ -30,7 +30,8 @@ def fault_of(patch):
     if not test:
         return f"{patch} does not begin with the test that it fails"
     with tempfile.TemporaryDirectory() as tree:
-        copy_crates("dsa_engines", tree)
+        # the tests ask whether a plan is legal
+        copy_crates("dsa_engines", tree, also=["dsa_plan"])
         crate = f"{tree}/crates/dsa_engines"
         add_tests(crate)
         fault = patched(crate, patch)

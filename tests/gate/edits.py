@@ -46,12 +46,9 @@ def pairs_of(file):
 
 
 def impl_of(line):
-    """Returns the word that rattle's names have for the impl that begins at this line: a type, or `?Type` of a trait's."""
+    """Returns the word that rattle's names have for the impl that begins at this line: its type, or None of a trait's."""
     head = re.match(r"impl\b\s*(?:<.*?>\s+)?(.*)", line)
-    of_trait = re.match(r"(?:.*\bfor\s+)([\w:]+)", head[1])
-    if of_trait:
-        return "?" + of_trait[1].split("::")[-1]
-    return re.match(r"[\w:]+", head[1])[0].split("::")[-1]
+    return None if " for " in line else re.match(r"[\w:]+", head[1])[0].split("::")[-1]
 
 
 def last_line(lines, at, indent):
@@ -63,7 +60,7 @@ def last_line(lines, at, indent):
 
 def functions_of(path, text):
     """Returns the name, first and last line, counted from 1, of each function of a file. A method goes by the end of its
-    name, since rattle names it below the module of its type."""
+    name, since rattle names it below the module of its type; a method of a trait has no name here."""
     module = re.sub(r"(^src/|/mod\.rt$|\.rt$)", "", path).replace("/", "::")
     parts, impl, at, lines, found = [] if module in ("lib", "main") else [module], "", 0, text.split("\n"), []
     while at < len(lines):
@@ -75,7 +72,8 @@ def functions_of(path, text):
         head = HEAD.match(line)
         if head:
             end = last_line(lines, at, head[1])
-            found.append(("::".join([*([impl] if head[1] and impl else parts), head[2]]), at + 1, end + 1))
+            names = [] if impl is None else [*([impl] if impl else parts), head[2]]
+            found.append(("::".join(names), at + 1, end + 1))
             at = end
         at += 1
     return found
@@ -89,7 +87,7 @@ def targets_of(crate, pairs):
             text = file.read()
         line = text[: text.find(old)].count("\n") + 1
         inside = [it for it in functions_of(path, text) if it[1] <= line <= it[2]]
-        if not inside or not path.startswith("src/"):
+        if not inside or not inside[-1][0] or not path.startswith("src/"):
             return set()
         name, first, last = inside[-1]
         targets.add((name, path, first, last))
@@ -123,15 +121,10 @@ def rounds_of(crate, edits):
     return rounds
 
 
-def word_of(part):
-    """Returns the pattern of a part of a function's name: rattle joins type and trait of a trait's impl to one word."""
-    return r"\w*" + re.escape(part[1:]) + r"\w*" if part.startswith("?") else re.escape(part)
-
-
 def own_goal(crate, edit, lines):
     """Returns the line by which a check refuses a function of the edit for a goal of the function's own, or None."""
     for name, path, first, last in sorted(edit.targets):
-        parts = [word_of(it) for it in name.split("::")]
+        parts = name.split("::")
         verdict = re.compile(rf"fn {crate.name}::(?:\w+::)*{'::'.join(parts)}: (not proved|no proof)")
         refused = next((it for it in lines if verdict.match(it)), None)
         if refused and "did not prove `" in refused:
@@ -146,11 +139,15 @@ def own_goal(crate, edit, lines):
     return None
 
 
+def only(edits):
+    """Returns the words by which a check proves the edited functions alone, with what they call."""
+    return [word for edit in edits for name, *_ in sorted(edit.targets) for word in ("--only", name)]
+
+
 def checked_round(crate, edits, kept):
     """Returns the lines of one check with all these edits, or none where the check did not reach the prover."""
     texts = applied(crate, edits)
-    only = [word for edit in edits for name, *_ in sorted(edit.targets) for word in ("--only", name.replace("?", ""))]
-    ran = rt.checked(crate, texts, ["--jobs", "1", *only], kept)
+    ran = rt.checked(crate, texts, ["--jobs", "1", *only(edits)], kept)
     lines = ran.stdout.rstrip("\n").split("\n")
     is_read = not any(rt.unread(line, texts) for line in lines) and not rtlib.STALE.search(ran.stdout)
     reached = ran.returncode == 1 and lines[-1].startswith(("logic=not-proved", "only="))
@@ -162,7 +159,7 @@ def checked_round(crate, edits, kept):
 def tried_alone(crate, edit, kept):
     """Returns whether the edit is as it should be, and what to say: a control is not refused, every other edit is."""
     if edit.is_control:
-        ran = rt.checked(crate, edit.texts, ["--jobs", "1"], kept)
+        ran = rt.checked(crate, edit.texts, ["--jobs", "1", *only([edit])], kept)
         return ran.returncode == 0, "not refused, as it must be" if ran.returncode == 0 else "REFUSED, though it changes nothing"
     refused, said = rt.must_fail(crate, edit.file, ["--jobs", "1"], kept)
     if not refused:

@@ -39,6 +39,7 @@ class Task:
     def __init__(self, kind, name, command, weight, waits=(), folder=ROOT):
         self.kind, self.name, self.command, self.weight = kind, name, command, weight
         self.waits, self.folder = [*waits], folder
+        # what is behind it, its own work too
         self.behind, self.jobs = weight, 1
         self.passed, self.failed, self.processor, self.clock, self.said = 0, 0, 0.0, 0.0, ""
 
@@ -86,11 +87,46 @@ def stop_all(number, _frame):
     os._exit(128 + number)
 
 
-def in_lanes(tasks, logs, lanes):
-    """Runs the tasks, each when those it waits for have passed, and first those with the most work behind them."""
+def add_up_what_waits(tasks):
+    """Notes for each task how much work is behind it, on the longest way to the end."""
     for task in reversed(tasks):
         for below in task.waits:
             below.behind = max(below.behind, below.weight + task.behind)
+
+
+def jobs_of(task, others, idle, most_behind):
+    """Returns how many jobs a task gets: the processors that no other task waits for, and two on the longest way."""
+    if task.kind != "proofs":
+        return 1
+    least = 2 if task.behind >= most_behind else 1
+    return max(1, min(MOST_JOBS, idle, max(least, idle - others)))
+
+
+def skip(left, done):
+    """Takes the tasks out that wait for one that failed."""
+    for task in [it for it in left if any(below in done and below.failed for below in it.waits)]:
+        left.remove(task)
+        done.add(task)
+        broken = next(it for it in task.waits if it in done and it.failed)
+        task.failed, task.said = 1, f"not run, since the {broken.label()} failed"
+
+
+def start_ready(left, running, done, lanes, start):
+    """Starts tasks while a processor is idle, first those with the most behind them."""
+    ready = [it for it in left if all(below in done for below in it.waits)]
+    for at, task in enumerate(ready):
+        idle = lanes - sum(it.jobs for it in running.values())
+        if idle <= 0:
+            break
+        most_behind = max(it.behind for it in [*left, *running.values()])
+        task.jobs = jobs_of(task, len(ready) - at - 1, idle, most_behind)
+        left.remove(task)
+        running[start(task)] = task
+
+
+def in_lanes(tasks, logs, lanes):
+    """Runs the tasks, each when those that it waits for have passed."""
+    add_up_what_waits(tasks)
     left, running, done, printing = sorted(tasks, key=lambda it: -it.behind), {}, set(), threading.Lock()
 
     def work(task):
@@ -98,27 +134,15 @@ def in_lanes(tasks, logs, lanes):
         with printing:
             how = "ok" if not task.failed else "FAILED"
             print(f"{time.strftime('%H:%M:%S')} {task.label()}: {how}, {task.clock:.0f} s, processors {task.processor:.0f} s, jobs {task.jobs}", flush=True)
-        return task
 
     with ThreadPoolExecutor(lanes) as pool:
         while left or running:
-            for task in [it for it in left if any(below in done and below.failed for below in it.waits)]:
-                left.remove(task)
-                done.add(task)
-                broken = next(it for it in task.waits if it in done and it.failed)
-                task.failed, task.said = 1, f"not run, since the {broken.label()} failed"
-            ready = [it for it in left if all(below in done for below in it.waits)]
-            for at, task in enumerate(ready):
-                idle = lanes - sum(it.jobs for it in running.values())
-                if idle <= 0:
-                    break
-                others = len(ready) - at - 1
-                task.jobs = max(1, min(MOST_JOBS, idle - others)) if task.kind == "proofs" else 1
-                left.remove(task)
-                running[pool.submit(work, task)] = task
+            skip(left, done)
+            start_ready(left, running, done, lanes, lambda task: pool.submit(work, task))
             if running:
                 for future in wait(running, return_when=FIRST_COMPLETED).done:
                     done.add(running.pop(future))
+                    future.result()
 
 
 def python(script, *words):

@@ -1,5 +1,6 @@
 #!/usr/bin/env python3
-"""Tries the must-fail edits of a proved crate, many at a time: edits.py NAME [EDIT ..].
+"""Tries the must-fail edits of a proved crate, many at a time: edits.py [--kept] NAME [EDIT ..]. With --kept a crate is
+passed over that has been tried since its last change, and whose libraries and edits have not changed either.
 
 The proof of a function reads its own body and the contracts of what it calls. So one check of a copy with an edit in
 each of many functions refuses or proves each of them by itself, and its output says which. In such a round an edit counts
@@ -7,6 +8,8 @@ as refused only where the check names a goal of the edited function; that a func
 nothing. Every other edit is tried alone, by the rules of `rt must-fail`, and has to be refused by a goal as well.
 
 Controls, tests/gate/controls/NAME/*.edit, change no meaning: they go into the same rounds, and have to be found not refused."""
+import argparse
+import hashlib
 import os
 import re
 import shutil
@@ -200,21 +203,53 @@ def edits_of(crate, names):
     return [it for it in edits if not names or os.path.basename(it.file).removesuffix(".edit") in names], bad
 
 
-def main(name, *names):
-    crate = toolchain.crates()[name]
-    rtlib.guarded()
-    edits, bad = edits_of(crate, names)
-    failed = len(bad)
-    for file in bad:
-        print(f"{name}: BAD EDIT: {file} is no .edit file right in must-fail/")
+def sum_of(crate, edits):
+    """Returns a sum of all that the verdicts follow from: the crate and those below it, the edits, and this script."""
+    total = hashlib.sha256(crate.stamp().encode())
+    for file in [os.path.realpath(__file__), *(it.file for it in edits)]:
+        with open(file, "rb") as content:
+            total.update(content.read())
+    return total.hexdigest()
+
+
+def failures_of(crate, edits):
+    """Tries the edits, prints what came of each, and returns how many are not as they should be."""
+    failed = 0
     with tempfile.TemporaryDirectory(prefix="dsa-edits-") as room:
         kept = shutil.copytree(f"{crate.folder}/{toolchain.KEPT}", f"{room}/kept")
         for edit, is_well, said in tried(crate, edits, kept):
             failed += not is_well
-            print(f"must-fail {name}/{edit.name}: {'' if is_well else 'FAILED: '}{said[:400 if not is_well else 160]}", flush=True)
+            print(f"must-fail {crate.name}/{edit.name}: {said[:160] if is_well else 'FAILED: ' + said[:400]}", flush=True)
+    return failed
+
+
+def words():
+    """Reads the command line."""
+    parser = argparse.ArgumentParser(description="Tries the must-fail edits of a proved crate.")
+    parser.add_argument("--kept", action="store_true", help="pass over a crate that has been tried since its last change")
+    parser.add_argument("name", metavar="NAME", help="the crate")
+    parser.add_argument("edits", metavar="EDIT", nargs="*", help="the names of edits (all)")
+    return parser.parse_args()
+
+
+def main():
+    given = words()
+    crate = toolchain.crates()[given.name]
+    rtlib.guarded()
+    edits, bad = edits_of(crate, given.edits)
+    stamp, total = f"{crate.folder}/out/edits.stamp", sum_of(crate, edits)
+    if given.kept and not bad and rtlib.text_of(stamp) == total:
+        print(f"tried since the last change\n{len(edits)} passed, 0 failed")
+        return 0
+    for file in bad:
+        print(f"{given.name}: BAD EDIT: {file} is no .edit file right in must-fail/")
+    failed = len(bad) + failures_of(crate, edits)
+    if not failed and not given.edits:
+        with open(stamp, "w", encoding="utf-8") as file:
+            file.write(total)
     print(f"{len(edits) + len(bad) - failed} passed, {failed} failed")
     return 1 if failed else 0
 
 
 if __name__ == "__main__":
-    sys.exit(main(*sys.argv[1:]))
+    sys.exit(main())

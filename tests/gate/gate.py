@@ -31,6 +31,8 @@ KINDS = ("proofs", "edits", "tests", "scripts")
 NEEDS = {name: () for name in ("engines", "hostile", "names", "schema")}
 NEEDS |= {"memory": ("dsa", "dsa_text", "dsa_hostile"), "bindings": ("dsa", "dsa_c")}
 PROGRAMS = ("dsa", "dsa_text")
+# Of how many crates edits that change nothing are tried beside the others, at the least.
+FEWEST_CONTROLS = 5
 
 
 class Task:
@@ -164,13 +166,13 @@ def names_of_scripts():
     return listed.stdout.split()
 
 
-def tasks_of_crates(crates, proofs):
+def tasks_of_crates(crates, proofs, kept):
     """Returns the tasks beyond its proof that each crate has: its edits and its tests."""
     found = []
     for name, crate in crates.items():
         edits = len(toolchain.rt.edits_of(crate)[0])
         if edits:
-            found.append(Task("edits", name, python("edits.py", name), 30 + 6 * edits, [proofs[name]]))
+            found.append(Task("edits", name, python("edits.py", *["--kept"] * kept, name), 30 + 6 * edits, [proofs[name]]))
         if crate.has_tests():
             command = [shutil.which("rt") or "rt", "try", "--test"]
             found.append(Task("tests", name, command, 90, [proofs[it.name] for it in crate.below()], crate.folder))
@@ -185,8 +187,9 @@ def tasks_of_scripts(names, proofs):
     return found
 
 
-def tasks_of(crates, names, only_proofs):
+def tasks_of(crates, given):
     """Returns all tasks, lowest crates first; those of the named crates and scripts alone, where some are named."""
+    names = given.names
     scripts = names_of_scripts()
     unknown = [it for it in names if it not in crates and it not in scripts]
     if unknown:
@@ -196,9 +199,9 @@ def tasks_of(crates, names, only_proofs):
     built = {*wanted, *(it for name in scripts for it in NEEDS.get(name, PROGRAMS))}
     proved = {it.name for name in built for it in [*crates[name].below(), crates[name]]}
     proofs = proofs_of({name: crate for name, crate in crates.items() if name in proved})
-    if only_proofs:
+    if given.proofs:
         return [*proofs.values()]
-    return [*proofs.values(), *tasks_of_crates(wanted, proofs), *tasks_of_scripts(scripts, proofs)]
+    return [*proofs.values(), *tasks_of_crates(wanted, proofs, given.kept), *tasks_of_scripts(scripts, proofs)]
 
 
 def clear(crates):
@@ -241,6 +244,8 @@ def report(tasks, clock):
 def stop_where_rt_would(crates):
     """Ends the gate where rt ci would end before any proof: files that no check reads, links, names that are taken."""
     every = list(crates.values())
+    if len([it for it in os.listdir(f"{HERE}/controls") if it in crates]) < FEWEST_CONTROLS:
+        toolchain.rtlib.stop(f"tests/gate/controls has edits of fewer than {FEWEST_CONTROLS} crates")
     for name in sorted(it for it in os.listdir(ROOT) if it != ".git" and os.path.isdir(f"{ROOT}/{it}")):
         toolchain.rtlib.stop_on_unread(f"{ROOT}/{name}", every)
     for crate in every:
@@ -273,7 +278,7 @@ def main():
     stop_where_rt_would(crates)
     if not given.kept:
         clear(crates)
-    tasks = tasks_of(crates, given.names, given.proofs)
+    tasks = tasks_of(crates, given)
     print(f"logs: {logs}", flush=True)
     in_lanes(tasks, logs, toolchain.rt.processors())
     return report(tasks, time.monotonic() - start)

@@ -61,9 +61,15 @@ def last_line(lines, at, indent):
     return next((it for it in range(at, len(lines)) if lines[it] == indent + "}"), at)
 
 
+def first_line(lines, at, indent):
+    """Returns the index of the first line of the body of the function that begins at a line: contracts come before it."""
+    opens = (it for it in range(at, len(lines)) if lines[it].startswith(indent) and not lines[it].startswith(indent + " "))
+    return next((it for it in opens if lines[it].endswith(("{", "}"))), at)
+
+
 def functions_of(path, text):
-    """Returns the name, first and last line, counted from 1, of each function of a file. A method goes by the end of its
-    name, since rattle names it below the module of its type; a method of a trait has no name here."""
+    """Returns the name, and the first and last line of the body, counted from 1, of each function of a file. A method goes
+    by the end of its name, since rattle names it below the module of its type; a method of a trait has no name here."""
     module = re.sub(r"(^src/|/mod\.rt$|\.rt$)", "", path).replace("/", "::")
     parts, impl, at, lines, found = [] if module in ("lib", "main") else [module], "", 0, text.split("\n"), []
     while at < len(lines):
@@ -76,7 +82,7 @@ def functions_of(path, text):
         if head:
             end = last_line(lines, at, head[1])
             names = [] if impl is None else [*([impl] if impl else parts), head[2]]
-            found.append(("::".join(names), at + 1, end + 1))
+            found.append(("::".join(names), first_line(lines, at, head[1]) + 1, end + 1))
             at = end
         at += 1
     return found
@@ -124,6 +130,16 @@ def rounds_of(crate, edits):
     return rounds
 
 
+def lines_of(said):
+    """Returns the messages of a check, each in one line: what goes on in a further line is indented."""
+    return re.sub(r"\n\s+", " ", said.rstrip("\n")).split("\n")
+
+
+def is_goal(line):
+    """Returns whether a message names a goal that was not proved: not that a name is lacking, or another proof."""
+    return bool(re.match(r"(note: )?\S+:\d+:\d+:|fn \S+: .*did not prove `", line)) and not LACKS.search(line)
+
+
 def own_goal(crate, edit, lines):
     """Returns the line by which a check refuses a function of the edit for a goal of the function's own, or None."""
     for name, path, first, last in sorted(edit.targets):
@@ -151,7 +167,7 @@ def checked_round(crate, edits, kept):
     """Returns the lines of one check with all these edits, or none where the check did not reach the prover."""
     texts = applied(crate, edits)
     ran = rt.checked(crate, texts, ["--jobs", "1", *only(edits)], kept)
-    lines = ran.stdout.rstrip("\n").split("\n")
+    lines = lines_of(ran.stdout)
     is_read = not any(rt.unread(line, texts) for line in lines) and not rtlib.STALE.search(ran.stdout)
     reached = ran.returncode == 1 and lines[-1].startswith(("logic=not-proved", "only="))
     if not (is_read and reached):
@@ -164,14 +180,19 @@ def tried_alone(crate, edit, kept):
     if edit.is_control:
         ran = rt.checked(crate, edit.texts, ["--jobs", "1", *only([edit])], kept)
         return ran.returncode == 0, "not refused, as it must be" if ran.returncode == 0 else "REFUSED, though it changes nothing"
-    refused, said = rt.must_fail(crate, edit.file, ["--jobs", "1"], kept)
-    if not refused:
-        # what stands in kept may only ever help an edit to be refused
-        refused, said = rt.must_fail(crate, edit.file, ["--jobs", "1"])
-    said = said.partition(": ")[2]
-    if "only because a proof file names" in said:
-        return False, f"NOT REFUSED BY A GOAL: {said}"
-    return refused, said
+    ran = rt.checked(crate, edit.texts, ["--jobs", "1"], kept)
+    lines = lines_of(ran.stdout)
+    bad = next((it for it in lines if rt.unread(it, edit.texts)), "")
+    if bad or rtlib.STALE.search(ran.stdout):
+        return False, f"BAD EDIT: {bad or 'the kept work of a library could not be used'}"
+    if ran.returncode == 0:
+        return False, "NOT REFUSED: the crate is still proved with this edit"
+    if ran.returncode != 1 or not lines[-1].startswith("logic=not-proved"):
+        return False, f"BAD EDIT: it did not reach the prover: {' | '.join(lines[:3])}"
+    goal = own_goal(crate, edit, lines) if edit.targets else next((it for it in lines if is_goal(it)), None)
+    if not goal:
+        return False, "NOT REFUSED BY A GOAL: a proof file lacks a name, or another proof"
+    return True, f"refused, as it must be: {goal}"
 
 
 def tried(crate, edits, kept):
@@ -200,7 +221,11 @@ def edits_of(crate, names):
     folder = f"{CONTROLS}/{crate.name}"
     controls = sorted(f"{folder}/{it}" for it in os.listdir(folder)) if os.path.isdir(folder) else []
     edits = [Edit(it, crate, False) for it in good] + [Edit(it, crate, True) for it in controls]
-    return [it for it in edits if not names or os.path.basename(it.file).removesuffix(".edit") in names], bad
+    by_name = {os.path.basename(it.file).removesuffix(".edit"): it for it in edits}
+    unknown = [it for it in names if it not in by_name]
+    if unknown:
+        sys.exit(f"{crate.name} has no edit {unknown[0]}")
+    return [it for name, it in by_name.items() if not names or name in names], bad
 
 
 def sum_of(crate, edits):

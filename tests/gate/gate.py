@@ -25,7 +25,9 @@ HERE = os.path.dirname(os.path.realpath(__file__))
 ROOT = toolchain.ROOT
 # The most jobs of one proof: more gain nothing.
 MOST_JOBS = 4
-COUNTS = re.compile(r"^(?:[\w./-]+: )?(\d+) passed, (\d+) failed", re.M)
+# The seconds after which a task is ended.
+LIMIT = 3600
+COUNTS = re.compile(r"^(?:[\w./-]+: )?(\d+) passed[,;] (\d+) failed", re.M)
 KINDS = ("proofs", "edits", "tests", "scripts")
 # What the scripts need built; those that are not named need the two programs.
 NEEDS = {name: () for name in ("engines", "hostile", "names", "schema")}
@@ -58,7 +60,10 @@ class Task:
             with open(log, "w+", encoding="utf-8", errors="replace") as out:
                 child = subprocess.Popen(command, stdout=out, **how)
                 RUNNING.add(child.pid)
+                clock = threading.Timer(LIMIT, end, [child.pid])
+                clock.start()
                 _, status, usage = os.wait4(child.pid, 0)
+                clock.cancel()
                 child.returncode = os.waitstatus_to_exitcode(status)
                 RUNNING.discard(child.pid)
                 out.seek(0)
@@ -70,22 +75,27 @@ class Task:
         self.count(status == 0)
 
     def count(self, is_well):
-        """Takes over the numbers that the command printed; a command without counts is one test."""
+        """Takes over the numbers that the command printed; a command without counts is one test. No test is a failure."""
         found = COUNTS.findall(self.said)
         self.passed, self.failed = map(int, found[-1]) if found else (int(is_well), int(not is_well))
-        if not is_well and not self.failed:
+        if not self.failed and not (is_well and self.passed):
             self.failed = 1
 
 
 RUNNING = set()
 
 
+def end(pid):
+    """Ends a task, and all that it started."""
+    try:
+        os.killpg(pid, signal.SIGKILL)
+    except OSError:
+        pass
+
+
 def stop_all(number, _frame):
     for pid in list(RUNNING):
-        try:
-            os.killpg(pid, signal.SIGKILL)
-        except OSError:
-            pass
+        end(pid)
     os._exit(128 + number)
 
 
@@ -135,7 +145,8 @@ def in_lanes(tasks, logs, lanes):
         task.run(f"{logs}/{task.kind}-{task.name}.log")
         with printing:
             how = "ok" if not task.failed else "FAILED"
-            print(f"{time.strftime('%H:%M:%S')} {task.label()}: {how}, {task.clock:.0f} s, processors {task.processor:.0f} s, jobs {task.jobs}", flush=True)
+            took = f"{task.clock:.0f} s, processors {task.processor:.0f} s, jobs {task.jobs}"
+            print(f"{time.strftime('%H:%M:%S')} {task.label()}: {how}, {took}", flush=True)
 
     with ThreadPoolExecutor(lanes) as pool:
         while left or running:
@@ -170,7 +181,7 @@ def tasks_of_crates(crates, proofs, kept):
     """Returns the tasks beyond its proof that each crate has: its edits and its tests."""
     found = []
     for name, crate in crates.items():
-        edits = len(toolchain.rt.edits_of(crate)[0])
+        edits = sum(len(it) for it in toolchain.rt.edits_of(crate))
         if edits:
             found.append(Task("edits", name, python("edits.py", *["--kept"] * kept, name), 30 + 6 * edits, [proofs[name]]))
         if crate.has_tests():
@@ -207,7 +218,8 @@ def tasks_of(crates, given):
 def clear(crates):
     """Removes what earlier checks left, so that nothing of it is trusted."""
     for crate in crates.values():
-        shutil.rmtree(f"{crate.folder}/out", ignore_errors=True)
+        if os.path.lexists(f"{crate.folder}/out"):
+            shutil.rmtree(f"{crate.folder}/out")
 
 
 def table(tasks, clock):
@@ -244,8 +256,12 @@ def report(tasks, clock):
 def stop_where_rt_would(crates):
     """Ends the gate where rt ci would end before any proof: files that no check reads, links, names that are taken."""
     every = list(crates.values())
-    if len([it for it in os.listdir(f"{HERE}/controls") if it in crates]) < FEWEST_CONTROLS:
-        toolchain.rtlib.stop(f"tests/gate/controls has edits of fewer than {FEWEST_CONTROLS} crates")
+    controls = os.listdir(f"{HERE}/controls")
+    if len(controls) < FEWEST_CONTROLS or not {*controls} <= {*crates}:
+        toolchain.rtlib.stop(f"tests/gate/controls has edits of fewer than {FEWEST_CONTROLS} crates, or of one that is not listed")
+    stray = [it for it in os.listdir(ROOT) if it.endswith((".rt", ".antt"))]
+    if stray:
+        toolchain.rtlib.stop(f"no check reads {stray[0]}")
     for name in sorted(it for it in os.listdir(ROOT) if it != ".git" and os.path.isdir(f"{ROOT}/{it}")):
         toolchain.rtlib.stop_on_unread(f"{ROOT}/{name}", every)
     for crate in every:

@@ -107,11 +107,12 @@ def add_up_what_waits(tasks):
 
 
 def jobs_of(task, others, idle, most_behind):
-    """Returns how many jobs a task gets: the processors that no other task waits for, and two on the longest way."""
+    """Returns how many jobs a task gets: the processors that no other task waits for, and two at least on the longest way,
+    where they are worth a crowded machine."""
     if task.kind != "proofs":
         return 1
     least = 2 if task.behind >= most_behind else 1
-    return max(1, min(MOST_JOBS, idle, max(least, idle - others)))
+    return max(least, min(MOST_JOBS, idle - others))
 
 
 def skip(left, done):

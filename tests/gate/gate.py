@@ -27,6 +27,8 @@ ROOT = toolchain.ROOT
 MOST_JOBS = 4
 # The seconds after which a task is ended.
 LIMIT = 3600
+# The seconds that it takes to read all libraries, compile and link a program or an archive.
+LINKING = 100
 COUNTS = re.compile(r"^(?:[\w./-]+: )?(\d+) passed[,;] (\d+) failed", re.M)
 KINDS = ("proofs", "edits", "tests", "scripts")
 # What the scripts need built; those that are not named need the two programs.
@@ -168,7 +170,8 @@ def proofs_of(crates):
     tasks = {}
     for name, crate in crates.items():
         waits = [tasks[it.name] for it in crate.below()]
-        tasks[name] = Task("proofs", name, python("prove.py", name), 20 + crate.count(rb"\n") / 10, waits)
+        weight = 20 + crate.count(rb"\n") / 10 + (0 if crate.makes_rlib() else LINKING)
+        tasks[name] = Task("proofs", name, python("prove.py", name), weight, waits)
     return tasks
 
 

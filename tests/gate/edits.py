@@ -61,15 +61,15 @@ def last_line(lines, at, indent):
     return next((it for it in range(at, len(lines)) if lines[it] == indent + "}"), at)
 
 
-def first_line(lines, at, indent):
-    """Returns the index of the first line of the body of the function that begins at a line: contracts come before it."""
+def body_line(lines, at, indent):
+    """Returns the index of the line that opens the body of the function that begins at a line, behind its contract."""
     opens = (it for it in range(at, len(lines)) if lines[it].startswith(indent) and not lines[it].startswith(indent + " "))
     return next((it for it in opens if lines[it].endswith(("{", "}"))), at)
 
 
 def functions_of(path, text):
-    """Returns the name, and the first and last line of the body, counted from 1, of each function of a file. A method goes
-    by the end of its name, since rattle names it below the module of its type; a method of a trait has no name here."""
+    """Returns the name, the first line, that of the body and the last one, counted from 1, of each function of a file. A
+    method goes by the end of its name, since rattle names it below the module of its type; one of a trait has no name."""
     module = re.sub(r"(^src/|/mod\.rt$|\.rt$)", "", path).replace("/", "::")
     parts, impl, at, lines, found = [] if module in ("lib", "main") else [module], "", 0, text.split("\n"), []
     while at < len(lines):
@@ -82,23 +82,23 @@ def functions_of(path, text):
         if head:
             end = last_line(lines, at, head[1])
             names = [] if impl is None else [*([impl] if impl else parts), head[2]]
-            found.append(("::".join(names), first_line(lines, at, head[1]) + 1, end + 1))
+            found.append(("::".join(names), at + 1, body_line(lines, at, head[1]) + 1, end + 1))
             at = end
         at += 1
     return found
 
 
 def targets_of(crate, pairs):
-    """Returns the functions that an edit changes, as (name, path, first line, last line): none where a part is in no function."""
+    """Returns the functions that an edit changes, as (name, path, first line, last line): none where a part is in no body."""
     targets = set()
     for path, old, _ in pairs:
         with open(f"{crate.folder}/{path}", encoding="utf-8") as file:
             text = file.read()
         line = text[: text.find(old)].count("\n") + 1
-        inside = [it for it in functions_of(path, text) if it[1] <= line <= it[2]]
+        inside = [it for it in functions_of(path, text) if it[2] <= line <= it[3]]
         if not inside or not inside[-1][0] or not path.startswith("src/"):
             return set()
-        name, first, last = inside[-1]
+        name, first, _, last = inside[-1]
         targets.add((name, path, first, last))
     return targets
 

@@ -61,6 +61,13 @@ def last_line(lines, at, indent):
     return next((it for it in range(at, len(lines)) if lines[it] == indent + "}"), at)
 
 
+def head_line(lines, at):
+    """Returns the index of the first line of a function with its attributes, where the prover places what it ensures."""
+    while at > 0 and lines[at - 1].lstrip().startswith("#["):
+        at -= 1
+    return at
+
+
 def body_line(lines, at, indent):
     """Returns the index of the line that opens the body of the function that begins at a line, behind its contract."""
     opens = (it for it in range(at, len(lines)) if lines[it].startswith(indent) and not lines[it].startswith(indent + " "))
@@ -82,7 +89,7 @@ def functions_of(path, text):
         if head:
             end = last_line(lines, at, head[1])
             names = [] if impl is None else [*([impl] if impl else parts), head[2]]
-            found.append(("::".join(names), at + 1, body_line(lines, at, head[1]) + 1, end + 1))
+            found.append(("::".join(names), head_line(lines, at) + 1, body_line(lines, at, head[1]) + 1, end + 1))
             at = end
         at += 1
     return found

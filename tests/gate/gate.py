@@ -242,8 +242,9 @@ def table(tasks, clock):
 def reasons(task):
     """Returns the lines that say why a task failed: those that name a failure, else its last ones."""
     lines = [it for it in task.said.split("\n") if it.strip()]
-    named = [it for it in lines if re.search(r"FAILED|BAD EDIT|NOT PROVED|: error|it is not proved that|^rt: ", it)]
-    return (named or lines)[-6:]
+    named = [it for it in lines if re.search(r"FAILED|BAD EDIT|NOT REFUSED", it)]
+    goals = [it for it in lines if re.search(r"NOT PROVED|: error|it is not proved that|^rt: ", it)]
+    return (named or goals or lines)[-6:]
 
 
 def report(tasks, clock):

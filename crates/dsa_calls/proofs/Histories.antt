@@ -34,7 +34,7 @@ use Rattle.dsa_calls.specs.declared.fault.PlanFault.TheVariants.{Core}
 use Rattle.dsa_calls.specs.Lists.{OrMemory}
 use Rattle.dsa_calls.specs.Planned.{Submission, Plans}
 use Rattle.dsa_calls.specs.Runs.{Left, left_of, OrShut, OverPlanned, ReplaysPieces, RunsPieces, LeavesWhole}
-use Rattle.dsa_calls.specs.Laws.{OneReplayed, HasBrokenOff, OneRun, ReplaysFollowPlans, RunsFollowPlans, PlannedRunsLeaveWhole}
+use Rattle.dsa_calls.specs.Laws.{OneReplayed, HasBrokenOff, HasBegun, OneRun, ReplaysFollowPlans, RunsFollowPlans, PlannedRunsLeaveWhole}
 use Rattle.dsa_calls.proofs.Over.{one_list}
 use Rattle.dsa_calls.proofs.Submissions.{one_planned, planned_is_least_and_shown}
 use Rattle.dsa_calls.proofs.Refusals.{one_over_planned, follows_plan}
@@ -159,16 +159,27 @@ one_replayed bytes s m engines trace o q =
     one_over_planned (λ a b. a ≡ b) (λ p r. ReplaysPieces m engines trace p.plan (map fields p.pieces) r) (λ a b same. same)
     (λ p a b. one_replayed_pieces m engines trace p.plan (map fields p.pieces) a b) bytes s m engines o q
 
+-- a run of pieces has begun
+begun_pieces : (m : Memory) (engines : ℕ) (plan : Plan) (pieces : List Fields) (o : Result Left PlanFault) → RunsPieces m engines plan pieces o → HasBegun o
+begun_pieces m engines plan pieces (Ok left) h = inl (left, refl)
+begun_pieces m engines plan pieces (Err fault) breaks = inr (fault, refl, breaks)
+
+-- two outcomes of one run
+abbrev AgreeOrBreak : Result Left PlanFault → Result Left PlanFault → Type 0
+AgreeOrBreak o q = (o ≡ q) ⊎ (HasBegun o × HasBegun q × (HasBrokenOff o ⊎ HasBrokenOff q))
+
 -- running pieces has one outcome, unless it breaks off
 one_run_pieces : (m : Memory) (engines : ℕ) (plan : Plan) (pieces : List Fields) (o q : Result Left PlanFault) → RunsPieces m engines plan pieces o → RunsPieces m engines plan pieces q →
-    (o ≡ q) ⊎ (HasBrokenOff o ⊎ HasBrokenOff q)
+    AgreeOrBreak o q
 one_run_pieces m engines plan pieces (Ok a) (Ok b) (vs, h) (ws, k) = inl (ap Ok (left_is_one m plan pieces engines vs ws a b h k))
-one_run_pieces m engines plan pieces (Ok a) (Err g) h breaks = inr (inr (g, refl, breaks))
-one_run_pieces m engines plan pieces (Err f) q breaks k = inr (inl (f, refl, breaks))
+one_run_pieces m engines plan pieces (Ok a) (Err g) h breaks =
+    inr (begun_pieces m engines plan pieces (Ok a) h, begun_pieces m engines plan pieces (Err g) breaks, inr (g, refl, breaks))
+one_run_pieces m engines plan pieces (Err f) q breaks k =
+    inr (begun_pieces m engines plan pieces (Err f) breaks, begun_pieces m engines plan pieces q k, inl (f, refl, breaks))
 
 pub one_run : OneRun
 one_run bytes s m engines o q =
-    one_over_planned (λ a b. (a ≡ b) ⊎ (HasBrokenOff a ⊎ HasBrokenOff b)) (λ p r. RunsPieces m engines p.plan (map fields p.pieces) r) (λ a b same. inl same)
+    one_over_planned AgreeOrBreak (λ p r. RunsPieces m engines p.plan (map fields p.pieces) r) (λ a b same. inl same)
     (λ p a b. one_run_pieces m engines p.plan (map fields p.pieces) a b) bytes s m engines o q
 
 pub replays_follow_plans : ReplaysFollowPlans

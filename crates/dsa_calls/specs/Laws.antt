@@ -57,10 +57,16 @@ OneReplayed = (bytes : List ℕ) (s : Limits) (m : Memory) (engines : ℕ) (trac
 abbrev pub HasBrokenOff : Result Left PlanFault → Type 0
 HasBrokenOff outcome = (fault : PlanFault) × (outcome ≡ Err fault) × BreaksOff fault
 
--- bytes, settings, a memory and engines have one outcome at most of running, whoever did what, unless the run breaks off
+-- a run was not refused: it left something, or broke off
+abbrev pub HasBegun : Result Left PlanFault → Type 0
+HasBegun outcome = ((left : Left) × (outcome ≡ Ok left)) ⊎ HasBrokenOff outcome
+
+-- Bytes, settings, a memory and engines have one outcome at most of running, whoever did what, but that a run which is not
+-- refused may also break off.
 abbrev pub OneRun : Type 0
 OneRun = (bytes : List ℕ) (s : Limits) (m : Memory) (engines : ℕ) (outcome other : Result Left PlanFault) →
-    Runs bytes s m engines outcome → Runs bytes s m engines other → (outcome ≡ other) ⊎ (HasBrokenOff outcome ⊎ HasBrokenOff other)
+    Runs bytes s m engines outcome → Runs bytes s m engines other →
+    (outcome ≡ other) ⊎ (HasBegun outcome × HasBegun other × (HasBrokenOff outcome ⊎ HasBrokenOff other))
 
 -- what a call says of this submission: the first cause why no run of its pieces can begin, or where one can, what it says
 abbrev pub IsOfPlan : {X : Type 0} → (Submission → Result X PlanFault → Type 0) → Memory → ℕ → Submission → Result X PlanFault → Type 0

@@ -5,7 +5,7 @@ use Rattle.std.specs.Cmp.Lexicographic.{slice_cmp}
 use Rattle.std.proofs.lemmas.Slice.Eq.{bytes_eq-Decides}
 use Rattle.serde_json.specs.Data.{Data}
 use Rattle.dsa_calls.specs.declared.fault.PlanFault.{PlanFault}
-use Rattle.dsa_calls.specs.Laws.{HasBrokenOff}
+use Rattle.dsa_calls.specs.Laws.{HasBegun, HasBrokenOff}
 use Rattle.dsa_calls.specs.Judge.{Judges}
 use Rattle.dsa_calls.specs.Planned.{Plans}
 use Rattle.dsa_calls.specs.Checked.{Checks}
@@ -89,7 +89,7 @@ one_outcome_of_call (Replay, a) outcome other says says' _ _ =
 one_outcome_of_call (Run, a) outcome other (found, runs, is) (found', runs', is') whole whole' =
     go (one_run a.list a.settings a.image a.engines found found' runs runs')
   where
-    go : (found ≡ found') ⊎ (HasBrokenOff found ⊎ HasBrokenOff found') → outcome ≡ other
+    go : (found ≡ found') ⊎ (HasBegun found × HasBegun found' × (HasBrokenOff found ⊎ HasBrokenOff found')) → outcome ≡ other
     go (inl same) = is ∙ ap (λ (o : Result Left PlanFault). job_outcome_of left_value o) same ∙ sym is'
-    go (inr (inl broken)) = absurd (not_broken outcome found is broken whole)
-    go (inr (inr broken)) = absurd (not_broken other found' is' broken whole')
+    go (inr (_, _, inl broken)) = absurd (not_broken outcome found is broken whole)
+    go (inr (_, _, inr broken)) = absurd (not_broken other found' is' broken whole')

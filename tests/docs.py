@@ -74,9 +74,9 @@ def PRICES():
 def PROOF():
     """The wrong bodies that the page shows: one is in its crate as the page has it, the other can be applied there."""
     page, folder = "docs/PROOF.md", "crates/dsa_checker/"
-    shown = block_after(page, f"This is `{folder}must-fail/total_may_be_lower.edit`")
-    right = shown == open(folder + "must-fail/total_may_be_lower.edit").read()
-    expect(right, f"{page} shows another edit than total_may_be_lower")
+    shown = block_after(page, f"This is `{folder}must-fail/overlapping_pairs_counted.edit`")
+    right = shown == open(folder + "must-fail/overlapping_pairs_counted.edit").read()
+    expect(right, f"{page} shows another edit than overlapping_pairs_counted")
     own = block_after(page, f"as `{folder}must-fail/looks_at_lone_only.edit`").split("\n")
     file, old = (line.split(": ", 1)[1] for line in own[:2])
     expect(open(folder + file).read().count(old) == 1, f"{page}: {old!r} is not in {file} just once")

@@ -26,14 +26,14 @@ ROOT = toolchain.ROOT
 # The most jobs of one proof: more gain nothing.
 MOST_JOBS = 4
 # The seconds after which a task is ended.
-LIMIT = 3600
+LIMIT = 7200
 # The seconds that it takes to read all libraries, compile and link a program or an archive.
 LINKING = 100
 COUNTS = re.compile(r"^(?:[\w./-]+: )?(\d+) passed[,;] (\d+) failed", re.M)
 KINDS = ("proofs", "edits", "tests", "scripts")
 # What the scripts need built; those that are not named need the two programs.
 NEEDS = {name: () for name in ("engines", "hostile", "names", "schema")}
-NEEDS |= {"memory": ("dsa", "dsa_text", "dsa_hostile"), "bindings": ("dsa", "dsa_c")}
+NEEDS |= {"memory": ("dsa", "dsa_text", "dsa_hostile"), "bindings": ("dsa", "dsa_c"), "limits": ("dsa",)}
 PROGRAMS = ("dsa", "dsa_text")
 # Of how many crates edits that change nothing are tried beside the others, at the least.
 FEWEST_CONTROLS = 5

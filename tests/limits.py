@@ -1,0 +1,116 @@
+"""Runs the program on the largest jobs that the README allows, and looks at whole answers: 65,536 pieces planned, checked,
+judged, run and replayed, batches of 1,024, images of 16 MiB, 64 engines. A call that reports an allocation failure only
+above some size is seen here. What is right is worked out by hand, or by the plain definitions of tests/model.py. The
+words are names of parts."""
+
+import random
+
+import model
+from common import digits, expect_line, job, judge, move, named, object_of, plan, program, raw, run_test, settings
+from model import FILL, Op
+
+MOST = 65_536
+MOST_MEMBERS = 1_024
+KIB, MIB = 2**10, 2**20
+AREA = model.Settings(MOST_MEMBERS, 65_536, 10, 14, 3, 0x4000_0000)
+RULES = settings(greatest_batch=AREA.greatest_batch, greatest_transfer=AREA.greatest_transfer, staging=AREA.staging)
+
+
+def full_batches(count):
+    return [[False] * MOST_MEMBERS] * (count // MOST_MEMBERS)
+
+
+def least_costs(count):
+    """The least cost of the first pieces, for each number of them, where no two conflict: a batch costs 14 whatever its size,
+    so full ones come first, and a single piece that is left goes alone for 10."""
+    costs = []
+    for pieces in range(count + 1):
+        full, rest = divmod(pieces, MOST_MEMBERS)
+        costs.append(14 * full + {0: 0, 1: 10}.get(rest, 14))
+    return costs
+
+
+def apart(count, size):
+    """Moves from one area to another, no two of which conflict, with their records behind."""
+    return [move(size * k, size * (count + k), size, 2 * size * count + 32 * k) for k in range(count)]
+
+
+def replay(pieces, memory, engines, trace):
+    return run(pieces, memory, engines, do="replay", trace=trace)
+
+
+def run(pieces, memory, engines, do="run", **more):
+    image = object_of({"base": 0, "bytes": f'"{memory.hex()}"'})
+    return job(do, RULES, list=f'"{digits(pieces)}"', image=image, engines=engines, **more)
+
+
+def left(groups, pieces, memory):
+    """The line of a run or a replay."""
+    memory, finished, records = model.outcome(groups, pieces, memory)
+    return raw({"batch_records": [it.hex() for it in records], "finished": finished, "image": memory.hex()})
+
+
+def in_turn(count, engines):
+    """A complete run of pieces of one line that all may go at once: the engines take so many, do their lines, and finish them."""
+    trace = []
+    for first in range(0, count, engines):
+        now = range(first, min(first + engines, count))
+        trace += [[k % engines, kind, k] for kind in ("take", "line", "finish") for k in now]
+    return trace
+
+
+def noise(count):
+    return random.Random(count).randbytes(count)
+
+
+def planned():
+    """The most pieces, in the largest batches: their plan with its bytes, its check, and what it costs by judging it."""
+    pieces, groups, costs = apart(MOST, 8), full_batches(MOST), least_costs(MOST)
+    portal, staging = (it.hex() for it in model.emission(groups, pieces, AREA))
+    certificate = {"pairs": [None] * MOST, "prices": costs, "version": 1}
+    emitted = {"portal": f'"{portal}"', "staging": f'"{staging}"'}
+    line = {"certificate": certificate, "cost": costs[-1], "plan": groups, "portal": portal, "staging": staging}
+    expect_line([DSA], plan(pieces, RULES), raw(line))
+    expect_line([DSA], job("check", RULES, **emitted, certificate=certificate), raw({"cost": costs[-1]}))
+    expect_line([DSA], judge(pieces, groups, RULES), raw({"cost": costs[-1]}))
+
+
+def long_runs():
+    """The most pieces, done by threads and by a trace that names each event."""
+    pieces, groups = apart(MOST, 8), full_batches(MOST)
+    # a move reads 8 bytes and writes 8, and each has a record of 32
+    memory = noise(MOST * (8 + 8)) + bytes(MOST * 32)
+    # two batches are never on their way at once, and a batch goes in 16 rounds of 64 engines
+    trace = [[e, kind, k + MOST_MEMBERS * batch] for batch in range(MOST // MOST_MEMBERS) for e, kind, k in in_turn(MOST_MEMBERS, 64)]
+    line = left(groups, pieces, memory)
+    expect_line([DSA], run(pieces, memory, 64), line)
+    expect_line([DSA], replay(pieces, memory, 64, trace), line)
+
+
+def images():
+    """Images of 64 KiB, 1 MiB and 16 MiB under 300 pieces, run by as many engines as may be, by some fewer, and by a trace."""
+    count = 300
+    for size in (64 * KIB, MIB, 16 * MIB):
+        pieces = apart(count, size // 1_024)
+        last = Op(FILL, size // 1_024, pieces[-1].record_at + 32, 0x1122_3344_5566_7788, size - size // 1_024)
+        pieces.append(last)
+        groups = [[False] * (count + 1)]
+        memory = noise(size)
+        line = left(groups, pieces, memory)
+        for engines in (5, 33, 63, 64):
+            expect_line([DSA], run(pieces, memory, engines), line)
+    small = apart(count, 64)
+    memory = noise(64 * KIB)
+    for engines in (5, 33, 63, 64):
+        expect_line([DSA], replay(small, memory, engines, in_turn(count, engines)), left([[False] * count], small, memory))
+
+
+def main(words):
+    global DSA
+    DSA = program("dsa")
+    for part in named([planned, long_runs, images], words):
+        part()
+
+
+if __name__ == "__main__":
+    run_test(main)

@@ -179,6 +179,31 @@ static void prices_go_by_size(void)
     expect(plan(&by_size, table, 3, sizeof staging) == DSA_OK && planned.cost == 8 && planned.pieces == 2);
 }
 
+/* As many moves as may be, apart from one another, in 64 batches of 1,024 that cost 14 each. */
+static void the_most_pieces_are_planned_checked_and_judged(void)
+{
+    enum { COUNT = 65536, BATCH = 1024, BATCHES = COUNT / BATCH };
+    const struct dsa_settings most = {1, BATCH, 4096, 10, 14, 3, 0x40000000};
+    static uint8_t moves[COUNT][64], to_portal[BATCHES * 64], to_staging[COUNT * 64 + BATCHES * 32], ends[COUNT];
+    static uint64_t costs[COUNT + 1];
+    static struct dsa_pair none[COUNT];
+    for (uint64_t i = 0; i < COUNT; i++)
+        put_move(moves[i], 8 * i, 0x100000 + 8 * i, 0x200000 + 32 * i, 8);
+    expect(dsa_count_pieces(&most, &most.batch, 0, moves[0], sizeof moves) == COUNT);
+    expect(dsa_plan_list_certified(&most, &most.batch, 0, moves[0], sizeof moves, to_portal, sizeof to_portal, to_staging,
+                                   sizeof to_staging, costs, COUNT + 1, none, COUNT, ends, COUNT, &planned, &refusal) == DSA_OK);
+    expect(planned.cost == 14 * BATCHES && planned.pieces == COUNT && costs[COUNT] == 14 * BATCHES);
+    expect(planned.portal_len == sizeof to_portal && planned.staging_len == sizeof to_staging);
+    for (uint64_t i = 0; i < COUNT; i++)
+        if (none[i].first != DSA_NONE || ends[i] != (i % BATCH == 0 ? DSA_BEGINS : 0))
+            expect(0);
+    cost = 0;
+    expect(dsa_check(&most, &most.batch, 0, to_portal, sizeof to_portal, to_staging, sizeof to_staging, 1, costs, COUNT + 1, none,
+                     COUNT, &cost, &refusal) == DSA_OK && cost == 14 * BATCHES);
+    cost = 0;
+    expect(dsa_judge(&most, &most.batch, 0, moves[0], sizeof moves, ends, COUNT, &cost, &refusal) == DSA_OK && cost == 14 * BATCHES);
+}
+
 int main(void)
 {
     pieces_are_counted();
@@ -187,5 +212,6 @@ int main(void)
     other_bits_of_marks_do_not_count();
     refusals_leave_the_outputs();
     prices_go_by_size();
+    the_most_pieces_are_planned_checked_and_judged();
     return 0;
 }

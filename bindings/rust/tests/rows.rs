@@ -189,6 +189,30 @@ fn too_many_pieces_are_refused() {
     assert_eq!(plan_list(&by_eights, &fill), Err(refused(32, 0, 0, 0)));
 }
 
+// As many moves as may be, apart from one another, in 64 batches of 1,024 that cost 14 each.
+#[test]
+fn the_most_pieces_are_planned_checked_and_judged() {
+    let settings = Settings {
+        greatest_batch: 1_024,
+        staging: 0x4000_0000,
+        ..SETTINGS
+    };
+    let list: Vec<u8> = (0..65_536u64)
+        .flat_map(|i| move_bytes(8 * i, 0x10_0000 + 8 * i, 8, 0x20_0000 + 32 * i))
+        .collect();
+    assert_eq!(count_pieces(&settings, &list), 65_536);
+    let planned = plan_list(&settings, &list).unwrap();
+    assert_eq!((planned.cost, planned.marks.len()), (64 * 14, 65_536));
+    let checked = check(
+        &settings,
+        &planned.portal,
+        &planned.staging,
+        &planned.certificate,
+    );
+    assert_eq!(checked, Ok(64 * 14));
+    assert_eq!(judge(&settings, &list, &planned.marks), Ok(64 * 14));
+}
+
 const BY_SIZE: Settings = Settings {
     batch: BatchPrice::BySize(&[5, 16, 30]),
     ..SETTINGS

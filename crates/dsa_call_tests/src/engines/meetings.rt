@@ -1,0 +1,93 @@
+use super::{batch, descriptor, image_of, run_plan};
+use dsa_core::{Event, Kind};
+use dsa_descriptor::Descriptor;
+use dsa_engines::{Gate, GateShut};
+use std::alloc::Global;
+use std::process::Abort;
+use std::rt::Clock;
+use std::sync::Wait;
+use std::sync::atomic::{AtomicU32, Ordering};
+use std::test::Fail;
+use std::thread;
+use std::thread::Threads;
+use std::time::Duration;
+
+/// Lets no piece from `first` on be finished until so many of these were taken. A piece before them takes a while, so
+/// that the other engines sleep when it is finished.
+#[derive(Drop)]
+struct Meeting<'a, R: Clock> {
+    rt: &'a R,
+    first: u32,
+    wanted: u32,
+    taken: AtomicU32,
+}
+
+impl<'a, R: Clock> Gate for Meeting<'a, R> {
+    fn before(&self, event: &Event) -> Result<(), GateShut> {
+        if event.kind != Kind::Finish {
+            return Ok(());
+        }
+        if event.piece < self.first {
+            thread::sleep(self.rt, Duration::from_millis(100));
+            return Ok(());
+        }
+        for _ in 0..10_000 {
+            if self.taken.load(Ordering::SeqCst) >= self.wanted {
+                return Ok(());
+            }
+            thread::sleep(self.rt, Duration::from_millis(1));
+        }
+        Err(GateShut)
+    }
+
+    fn after(&self, event: &Event) -> Result<(), GateShut> {
+        if event.kind == Kind::Take && event.piece >= self.first {
+            let _before = self.taken.fetch_add(1, Ordering::SeqCst);
+        }
+        Ok(())
+    }
+}
+
+/// A move of 8 bytes for each place of a batch, no two of which conflict, in an image of 1,024 bytes.
+fn moves_apart(alloc: Global, fences: &[bool]) -> Result<Vec<Descriptor>, Fail> {
+    let mut moves = Vec::new(alloc);
+    let mut turn = 0u64;
+    for _ in fences {
+        let at = 16 * (turn % 16);
+        moves.push(descriptor(3, at, 0x100 + at, 8, 0x200 + 2 * at)?)?;
+        turn = turn.wrapping_add(1);
+    }
+    Ok(moves)
+}
+
+/// Three engines do the pieces of this batch, of which three from `first` on have to be in work at once.
+fn three_meet<R: Threads + Wait + Clock + Abort + Sync>(
+    rt: &R,
+    alloc: Global,
+    fences: &[bool],
+    first: u32,
+) -> Result<(), Fail> {
+    let moves = moves_apart(alloc, fences)?;
+    let image = image_of(vec![in alloc; 1u8; 1024]?)?;
+    let plan = batch(alloc, fences)?;
+    let gate = Meeting {
+        rt,
+        first,
+        wanted: 3,
+        taken: AtomicU32::new(0),
+    };
+    let outcome = run_plan(rt, alloc, &image, &plan, &moves, 3, &gate)??;
+    assert_eq!(rt; outcome.finished as usize, fences.len());
+    Ok(())
+}
+
+#[test]
+fn three_engines_are_at_work_at_once(rt: HostRuntime) -> Result<(), Fail> {
+    three_meet(&rt, rt.alloc(), &[false; 8], 0)
+}
+
+/// The engine that finishes the first piece wakes another one, and that one the third.
+#[test]
+fn takes_wake_engines_behind_a_fence(rt: HostRuntime) -> Result<(), Fail> {
+    three_meet(&rt, rt.alloc(), &[false, true, false, false], 1)
+}

@@ -1,9 +1,11 @@
 -- An operation that is no longer than a piece may be: it may be split, and is its own only piece.
-use Rattle.std.proofs.Common.{◌≡◌, ℕ, zero, suc, ◌+◌, ◌-◌, ◌*◌, ◌/◌, ◌%◌, ◌<◌, ◌≤◌, inl, inr, min, true, false, Bool, List, [], ◌∷◌, map, reverse, refl, sym, ap, ◌∙◌, arith}
+use Rattle.std.proofs.Common.{◌≡◌, ℕ, zero, suc, ◌+◌, ◌-◌, ◌*◌, ◌/◌, ◌%◌, ◌<◌, ◌≤◌, inl, inr, min, true, false, Bool, List, [], ◌∷◌, ◌++◌, map, reverse, refl, sym, ap, ◌∙◌, arith}
 use Rattle.std.specs.Prelude.{slice_get, if◌then◌else◌}
 use Rattle.std.specs.List.{AllByRecursion}
 use Rattle.std.proofs.lemmas.Grind.{div_ceil_times}
 use Rattle.std.proofs.lemmas.Option.{same_Some}
+use Rattle.dsa_descriptor.specs.declared.descriptor.Descriptor.{Descriptor}
+use Rattle.dsa_descriptor.specs.Descriptors.{fields}
 use Rattle.dsa_descriptor.specs.declared.op.Op.{Op}
 use Rattle.dsa_descriptor.specs.declared.op.Op.TheVariants.{Move, Fill, Compare, ComparePattern, ApplyDelta, Dualcast}
 use Rattle.dsa_descriptor.specs.declared.span.Span.{Span}
@@ -14,8 +16,8 @@ use Rattle.dsa_descriptor.specs.Profile.{IsListed}
 use Rattle.dsa_image.specs.Effects.{numbers}
 use Rattle.dsa_image.specs.Lines.{quotient_up}
 use Rattle.dsa_splitter.specs.Operations.{moved_up, op_runs_down, IsSplittable, ExpectedFits}
-use Rattle.dsa_splitter.specs.Pieces.{piece_at, piece_count, pieces}
-use Rattle.dsa_splitter.specs.Rules.{IsClear, IsFirstMeeting, MaySplit, MeetsArea}
+use Rattle.dsa_splitter.specs.Pieces.{all_pieces, piece_at, piece_count, pieces}
+use Rattle.dsa_splitter.specs.Rules.{AreWhole, IsClear, IsFirstMeeting, MaySplit, MeetsArea}
 
 one_quotient : (s g c : ℕ) → 0 < s → s ≤ g → s ≤ c * g → c * g < s + g → c ≡ 1
 one_quotient s g zero some short low high = absurd (omega arith)
@@ -108,3 +110,10 @@ module _ (area : Span) (f : Fields) (ps : List Fields) (alone : ps ≡ f ∷ [])
       let same : f ≡ x = same_Some f x (sym (ap (λ xs. slice_get xs 0) alone) ∙ there) in
       apart (let e : x ≡ f = sym same in rw e at meets)
   one_clear apart (suc q) x there meets = let none = sym (ap (λ xs. slice_get xs (suc q)) alone) ∙ there in absurd cc
+
+-- where each operation is one piece, the operations are their pieces
+pub whole_pieces : (ds : List Descriptor) (g : ℕ) → AreWhole ds g → map fields ds ≡ all_pieces (map fields ds) g
+whole_pieces [] g short = refl
+whole_pieces (d ∷ ds) g short =
+    ap (λ xs. fields d ∷ xs) (whole_pieces ds g (λ i e at. short (suc i) e at))
+    ∙ ap (λ ps. ps ++ all_pieces (map fields ds) g) (sym (one_piece (fields d) g d.listed.size_positive (short zero d refl)))

@@ -5,7 +5,7 @@ longest lists. What is right is taken from docs/FORMATS.md, typed by hand. The w
 import common
 import model
 from common import NUMBERS, SETTINGS, digits, job, judge, move, named, object_of, plan, program, raw, run_test, settings
-from model import COMPARE, DELTA, DUALCAST, FILL, PATTERN, Op
+from model import COMPARE, DELTA, DUALCAST, FILL, MOVE, PATTERN, Op
 
 CERTIFICATE = {"pairs": [[0, 1], None], "prices": [0, 10, 17], "version": 1}
 LAST = 2**64 - 1
@@ -202,13 +202,65 @@ def many_overlaps():
             casts.append(Op(DUALCAST, 1, record_at, 0x1000, 0x2000 + place, 0x3000 + place))
         else:
             casts.append(Op(COMPARE, 0x400, record_at, 0x2000, 0x3000))
-    area = model.Settings(4, 0x1_0000, 10, 14, 3, 0x100_0000_0000)
-    rules = settings(greatest_transfer=area.greatest_transfer, staging=area.staging)
     for pieces in [wide, casts]:
-        groups, prices, pairs = model.chosen(pieces, area)
-        portal, staging = model.emission(groups, pieces, area)
-        answer = {"certificate": {"pairs": pairs, "prices": prices, "version": 1}, "cost": prices[-1], "plan": groups}
-        expect(plan(pieces, rules), raw({**answer, "portal": portal.hex(), "staging": staging.hex()}))
+        expect_chosen(pieces, model.Settings(4, 0x1_0000, 10, 14, 3, 0x100_0000_0000))
+
+
+def expect_chosen(pieces, area):
+    """The answer is the plan that the model chooses."""
+    rules = settings(greatest_batch=area.greatest_batch, greatest_transfer=area.greatest_transfer, staging=area.staging)
+    groups, prices, pairs = model.chosen(pieces, area)
+    portal, staging = model.emission(groups, pieces, area)
+    answer = {"certificate": {"pairs": pairs, "prices": prices, "version": 1}, "cost": prices[-1], "plan": groups}
+    expect(plan(pieces, rules), raw({**answer, "portal": portal.hex(), "staging": staging.hex()}))
+
+
+def placed(count, size, places, records):
+    """Operations of one size at places of 8 KiB each: moves and compares at two, fills and patterns at one of these."""
+    codes = [MOVE, MOVE, COMPARE, FILL, PATTERN]
+    found = []
+    for k in range(count):
+        one, other = (0x10_0000 + 0x2000 * place for place in places[2 * k : 2 * k + 2])
+        code = codes[7 * k % len(codes)]
+        first, second = (0 if code == FILL else one, 0 if code == PATTERN else other)
+        found.append(Op(code, size, records(k), first, second))
+    return found
+
+
+def short_lists():
+    """Plans of the model for lists around each length at which conflicts are looked for in another way: with nothing shared,
+    and with one byte or one record that a piece shares with one up to three before it, in each way in which two can conflict."""
+    area = model.Settings(4, 4096, 10, 14, 3, 0x100_0000_0000)
+    for count in (2, 3, 7, 8, 9, 31, 32, 33, 63, 64, 65):
+        rising = list(range(2 * count))
+        shuffled = sorted(rising, key=lambda k: k * 0x9E37_79B9 % 2**32)
+        for places, size in [(rising, 4096), (shuffled, 100)]:
+            plain = placed(count, size, places, lambda k: 0x8000 + 32 * k)
+            above = placed(count, size, places, lambda k: 0x8000_0000 + 32 * k)
+            falling = placed(count, size, places, lambda k: 0x8_0000 - 32 * k)
+            among = placed(count, size, places, lambda k: 0x10_1800 + 0x2000 * k)
+            later = count - 1 - count % 3 if count > 3 else count - 1
+            one = move(0x800_0000, 0x801_1000, size, plain[later - min(later, 3)].record_at)
+            base = [*plain]
+            base[later - min(later, 3)] = one
+            other = base[later].record_at
+            shared = [
+                move(one.second + size - 1, 0x900_0000, size, other),
+                move(0x900_0000, one.second - size + 1, size, other),
+                move(0x900_0000, one.first + size - 1, size, other),
+                Op(FILL, size, other, 0, one.second),
+                Op(COMPARE, size, other, 0x900_0000, one.second + size - 1),
+                Op(PATTERN, size, other, one.second, 0),
+                Op(DUALCAST, size, other, 0x900_0000, 0x901_0000, one.second),
+                move(one.record_at + 31, 0x900_0000, 1, other),
+                move(0x900_0000, 0x901_0000, size, one.record_at),
+                move(0x900_0000, 0x901_0000, size, one.second),
+                move(one.first, 0x900_0000, size, other),
+            ]
+            lists = [plain, above, falling, among]
+            lists += [[*base[:later], piece, *base[later + 1 :]] for piece in shared]
+            for pieces in lists:
+                expect_chosen(pieces, area)
 
 
 def ask(pieces, prices, pairs, table, cause):
@@ -371,7 +423,7 @@ def longest():
     expect(b" " * 67_108_865, "refused 86 JobTooLong")
 
 
-PARTS = [texts, members, limits_of_settings, fields, splits, plans, answers, many_overlaps, steps, steps_over_blocks]
+PARTS = [texts, members, limits_of_settings, fields, splits, plans, answers, many_overlaps, short_lists, steps, steps_over_blocks]
 PARTS += [emissions, order_of_faults, traces, longest]
 
 

@@ -1,0 +1,70 @@
+-- What an audit promises holds.
+use Rattle.std.proofs.Common.{inl, inr, ◌≡◌, ℕ, ◌+◌, ◌-◌, ◌<◌, Some, List, length, get_or, false, ap, ◌∙◌, subst, arith, slice_get}
+use Rattle.std.proofs.lemmas.Option.{slice_get-get_or}
+use Rattle.std.proofs.lemmas.Bool.{cases_lt}
+use Rattle.dsa_settings.specs.Plan.{Group}
+use Rattle.dsa_settings.specs.Legal.{SeparatesConflicts}
+use Rattle.dsa_audit.specs.declared.member.Member.{Member}
+use Rattle.dsa_audit.specs.declared.member.Member.TheVariants.{Known, Unknown}
+use Rattle.dsa_audit.specs.declared.missing.FencePlace.{FencePlace}
+use Rattle.dsa_audit.specs.declared.missing.FencePlace.TheVariants.{NoFence, Given, Missing}
+use Rattle.dsa_audit.specs.declared.needless.FenceUse.{FenceUse}
+use Rattle.dsa_audit.specs.Members.{AreKnownToConflict, CanConflict, KnownConflict, PossibleConflict}
+use Rattle.dsa_audit.specs.Audits.{HasFence, IsMissing, PlaceHolds, IsCorrected, IsReduced, Separates}
+use Rattle.dsa_audit.specs.Laws.{IsBetween, Holds}
+use Rattle.dsa_audit.proofs.Flags.{fence_within}
+
+known_can : (m n : Member) → AreKnownToConflict m n → CanConflict m n
+known_can (Known t) (Known u) c = c
+known_can (Known t) (Unknown why) c = tt
+known_can (Unknown why) (Known u) c = tt
+known_can (Unknown why) (Unknown other) c = tt
+
+known_possible : (ms : List Member) (i j : ℕ) → KnownConflict ms i j → PossibleConflict ms i j
+known_possible ms i j c = (c.0, c.1, c.2, c.3, known_can c.0 c.1 c.4)
+
+spare : (ms : List Member) (T : ℕ → ℕ → Type 0) (h k : Group) (uses : List FenceUse) → ((i j : ℕ) → T i j → PossibleConflict ms i j)
+    → IsReduced (PossibleConflict ms) h uses k → Separates T h → Separates T k
+spare ms T h k uses may reduced separates a b ordered within conflict =
+    let inside : b < length h = omega (arith, reduced.less.same_length) in
+    reduced.separates a b ordered inside (may a b conflict) (separates a b ordered inside conflict)
+
+given_at : (ms : List Member) (g h k : Group) (uses : List FenceUse) (m : ℕ) (place : FencePlace) → length h ≡ length g → m < length g
+    → IsReduced (PossibleConflict ms) h uses k → HasFence h m → ¬ HasFence k m → PlaceHolds (KnownConflict ms) g h m place → HasFence g m
+given_at ms g h k uses m NoFence same within reduced here gone is = absurd (is.1 here)
+given_at ms g h k uses m Given same within reduced here gone is = is.0
+given_at ms g h k uses m (Missing i) same within reduced here gone is =
+    let p = reduced.separates i m is.before (omega arith) (known_possible ms i m is.conflict) (record { at = m; behind = is.before; up_to = omega arith; fence = here }) in
+    elim (cases_lt p.at m) [
+      | inl before ↦ absurd (is.alone p.at p.behind before (reduced.less.fences p.at p.fence))
+      | inr from ↦ let e : p.at ≡ m = omega (arith, p.up_to) in absurd (gone (subst (HasFence k) e p.fence))
+    ]
+
+pub held : (ms : List Member) (T : ℕ → ℕ → Type 0) (g h k : Group) (places : List FencePlace) (uses : List FenceUse)
+    → IsBetween ms T → IsCorrected (KnownConflict ms) g places h → IsReduced (PossibleConflict ms) h uses k → Holds T ms g h k places
+held ms T g h k places uses between corrected reduced =
+    record {
+      missing = λ i m within is.
+          let found : IsMissing (KnownConflict ms) g h i m = subst (PlaceHolds (KnownConflict ms) g h m) is (corrected.each m within) in
+          (between.known i m found.conflict, found.unseparated);
+      spared = spare ms T h k uses between.possible reduced;
+      given = λ m here gone.
+          let w : m < length g = omega (arith, fence_within h m here, corrected.more.same_length) in
+          given_at ms g h k uses m (get_or places m NoFence) corrected.more.same_length w reduced here gone (corrected.each m w);
+      legal = spare ms (KnownConflict ms) h k uses (known_possible ms) reduced corrected.separates;
+    }
+
+pub separates : (C : ℕ → ℕ → Type 0) (start : ℕ) (g : Group) → Separates (λ a b. C (start + a) (start + b)) g → SeparatesConflicts C start g
+separates C start g apart a b pair =
+    let first : a ≡ start + (a - start) = omega (arith, pair.starts) in
+    let second : b ≡ start + (b - start) = omega (arith, pair.starts, pair.ordered) in
+    let conflict : C (start + (a - start)) (start + (b - start)) = subst (λ (z : ℕ). C z (start + (b - start))) first (subst (C a) second pair.conflict) in
+    let p = apart (a - start) (b - start) (omega (arith, pair.starts, pair.ordered)) (omega (arith, pair.starts, pair.ordered, pair.ends)) conflict in
+    let place : (start + p.at) - start ≡ p.at = omega arith in
+    let moved : slice_get g ((start + p.at) - start) ≡ slice_get g p.at = ap (slice_get g) place in
+    let here : slice_get g p.at ≡ Some (get_or g p.at false) = slice_get-get_or g p.at false (fence_within g p.at p.fence) in (
+      start + p.at,
+      omega (arith, pair.starts, p.behind),
+      omega (arith, pair.starts, pair.ordered, p.up_to),
+      (omega arith, moved ∙ (here ∙ ap Some p.fence)),
+    )

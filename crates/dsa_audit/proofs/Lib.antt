@@ -1,0 +1,4 @@
+pub mod Flags
+pub mod Scanned
+pub mod Reducing
+pub mod Held

@@ -1,0 +1,220 @@
+-- A batch whose needless fences are gone up to some member.
+use Rattle.std.proofs.Common.{◌≡◌, ℕ, ◌+◌, ◌<◌, ◌≤◌, ◌⊎◌, inl, inr, Bool, true, false, List, [], ◌∷◌, ◌++◌, length, get_or, take, refl, sym, subst, arith, length-append}
+use Rattle.std.proofs.Math.ListN.{get_or-append}
+use Rattle.std.proofs.Math.Seq.{get_or-append_seam}
+use Rattle.std.proofs.lemmas.Bool.{true≢false, cases_lt}
+use Rattle.dsa_settings.specs.Plan.{Group, fence_count}
+use Rattle.dsa_audit.specs.declared.needless.FenceUse.{FenceUse}
+use Rattle.dsa_audit.specs.declared.needless.FenceUse.TheVariants as fence_use
+use Rattle.dsa_audit.specs.Audits.{HasFence, IsSeparated, SeparatesAsMuch, HasFencesOf, UseHolds, IsReduced}
+use Rattle.dsa_audit.specs.Steps.{IsNextUse, IsWitness, is_kept, epoch_kept}
+use Rattle.dsa_audit.proofs.Flags.{fence_within, pushed_before, pushed_back, pushed_last, pushed_old, separated_pushed, count_more, count_all, count_true, count_false}
+use Rattle.dsa_audit.proofs.Scanned.{IsCounted}
+
+-- a fence that is still to be looked at, up to member b
+pub record IsLater (g : Group) (at b : ℕ) : Type 0 where
+  pub place : ℕ
+  pub from : at ≤ place
+  pub up_to : place ≤ b
+  pub fence : HasFence g place
+
+pub record Reducing (C : ℕ → ℕ → Type 0) (g : Group) (at epoch : ℕ) (us : List FenceUse) (h : Group) : Type 0 where
+  pub count : length h ≡ at
+  pub uses : length us ≡ at
+  pub behind : epoch ≤ at
+  pub starts : 0 < epoch → HasFence h epoch
+  pub opened : (k : ℕ) → epoch < k → ¬ HasFence h k
+  pub given : (k : ℕ) → HasFence h k → HasFence g k
+  pub separates : (a b m : ℕ) → b < length g → C a b → a < m → m ≤ b → m < at → HasFence g m → IsSeparated h a b ⊎ IsLater g at b
+  pub least : (other : Group) → HasFencesOf other g → SeparatesAsMuch C g other → IsCounted h at epoch other
+  pub each : (k : ℕ) → k < at → UseHolds C g h k (get_or us k fence_use.NoFence)
+
+use_pushed : (C : ℕ → ℕ → Type 0) (g h : Group) (x : Bool) (k : ℕ) (u : FenceUse) → k < length h → UseHolds C g h k u → UseHolds C g (h ++ x ∷ []) k u
+use_pushed C g h x k fence_use.NoFence lt (given, none) = (given, λ f. none (pushed_old h x k lt f))
+use_pushed C g h x k fence_use.Needless lt (given, none) = (given, λ f. none (pushed_old h x k lt f))
+use_pushed C g h x k (fence_use.Needed i j) lt is =
+    record {
+      before = is.before;
+      behind = is.behind;
+      within = is.within;
+      conflict = is.conflict;
+      given = is.given;
+      stays = pushed_before h x k is.stays;
+      alone_before = λ m after up_to f. is.alone_before m after up_to (pushed_old h x m (omega arith) f);
+      alone_after = is.alone_after;
+    }
+
+each_pushed : (C : ℕ → ℕ → Type 0) (g h : Group) (x : Bool) (at : ℕ) (us : List FenceUse) (u : FenceUse) → length h ≡ at → length us ≡ at
+    → ((k : ℕ) → k < at → UseHolds C g h k (get_or us k fence_use.NoFence)) → UseHolds C g (h ++ x ∷ []) at u
+    → (k : ℕ) → k < at + 1 → UseHolds C g (h ++ x ∷ []) k (get_or (us ++ u ∷ []) k fence_use.NoFence)
+each_pushed C g h x at us u count uses each last k lt =
+    elim (cases_lt k at) [
+      | inl below ↦
+          subst (UseHolds C g (h ++ x ∷ []) k) (sym (get_or-append us (u ∷ []) fence_use.NoFence k (omega arith)))
+          (use_pushed C g h x k (get_or us k fence_use.NoFence) (omega arith) (each k below))
+      | inr above ↦
+          let e : length us ≡ k = omega arith in
+          let here : get_or (us ++ u ∷ []) k fence_use.NoFence ≡ u =
+          subst (λ (z : ℕ). get_or (us ++ u ∷ []) z fence_use.NoFence ≡ u) e (get_or-append_seam us u [] fence_use.NoFence) in
+          let same : at ≡ k = omega arith in
+          subst (UseHolds C g (h ++ x ∷ []) k) (sym here) (subst (λ (z : ℕ). UseHolds C g (h ++ x ∷ []) z u) same last)
+    ]
+
+not_last : (h : Group) (at : ℕ) → length h ≡ at → ¬ HasFence (h ++ false ∷ []) at
+not_last h at count f =
+    elim (pushed_back h false at f) [
+      | inl old ↦ let w : at < length h = fence_within h at old in absurd (omega arith)
+      | inr (_, e) ↦ true≢false (sym e)
+    ]
+
+-- no fence stays at `at`; where there is one, what it separates is separated without it
+dropped_next : (C : ℕ → ℕ → Type 0) (g : Group) (at epoch : ℕ) (us : List FenceUse) (h : Group) (u : FenceUse) → Reducing C g at epoch us h
+    → UseHolds C g (h ++ false ∷ []) at u
+    → ((a b : ℕ) → b < length g → C a b → a < at → at ≤ b → HasFence g at → IsSeparated (h ++ false ∷ []) a b ⊎ IsLater g (at + 1) b)
+    → Reducing C g (at + 1) epoch (us ++ u ∷ []) (h ++ false ∷ [])
+dropped_next C g at epoch us h u s is spare =
+    record {
+      count = omega (arith, s.count, length-append h (false ∷ []));
+      uses = omega (arith, s.uses, length-append us (u ∷ []));
+      behind = omega (arith, s.behind);
+      starts = λ some. pushed_before h false epoch (s.starts some);
+      opened = λ k after f.
+          elim (pushed_back h false k f) [
+            | inl old ↦ s.opened k after old
+            | inr (_, e) ↦ true≢false (sym e)
+          ];
+      given = λ k f.
+          elim (pushed_back h false k f) [
+            | inl old ↦ s.given k old
+            | inr (_, e) ↦ absurd (true≢false (sym e))
+          ];
+      separates = λ a b m within conflict after up_to below f.
+          elim (cases_lt m at) [
+            | inr more ↦ let e : m ≡ at = omega arith in spare a b within conflict (omega arith) (omega arith) (subst (HasFence g) e f)
+            | inl less ↦
+                elim (s.separates a b m within conflict after up_to less f) [
+                  | inl separated ↦ inl (separated_pushed h false a b separated)
+                  | inr later ↦
+                      elim (cases_lt at later.place) [
+                        | inl behind ↦ inr (record { place = later.place; from = omega arith; up_to = later.up_to; fence = later.fence })
+                        | inr at_most ↦
+                            let e : later.place ≡ at = omega (arith, later.from) in
+                            spare a b within conflict (omega arith) (omega (arith, later.up_to)) (subst (HasFence g) e later.fence)
+                      ]
+                ]
+          ];
+      least = λ other less separates.
+          let l = s.least other less separates in
+          record {
+            end = l.end;
+            within = omega (arith, l.within);
+            up_to = l.up_to;
+            counted = omega (arith, l.counted, count_false h);
+          };
+      each = each_pushed C g h false at us u s.count s.uses s.each is;
+    }
+
+kept_next : (C : ℕ → ℕ → Type 0) (g : Group) (at epoch : ℕ) (us : List FenceUse) (h : Group) (i j : ℕ) → Reducing C g at epoch us h
+    → HasFence g at → IsWitness C g epoch at i j → Reducing C g (at + 1) at (us ++ fence_use.Needed i j ∷ []) (h ++ true ∷ [])
+kept_next C g at epoch us h i j s fenced witness =
+    record {
+      count = omega (arith, s.count, length-append h (true ∷ []));
+      uses = omega (arith, s.uses, length-append us (fence_use.Needed i j ∷ []));
+      behind = omega arith;
+      starts = λ some. pushed_last h at s.count;
+      opened = λ k after f.
+          elim (pushed_back h true k f) [
+            | inl old ↦ let w : k < length h = fence_within h k old in absurd (omega (arith, s.count))
+            | inr (e, _) ↦ absurd (omega (arith, s.count))
+          ];
+      given = λ k f.
+          elim (pushed_back h true k f) [
+            | inl old ↦ s.given k old
+            | inr (e, _) ↦ let same : at ≡ k = omega (arith, s.count) in subst (HasFence g) same fenced
+          ];
+      separates = λ a b m within conflict after up_to below f.
+          elim (cases_lt m at) [
+            | inr more ↦ inl (record { at = at; behind = omega arith; up_to = omega arith; fence = pushed_last h at s.count })
+            | inl less ↦
+                elim (s.separates a b m within conflict after up_to less f) [
+                  | inl separated ↦ inl (separated_pushed h true a b separated)
+                  | inr later ↦ inl (record { at = at; behind = omega arith; up_to = omega (arith, later.from, later.up_to); fence = pushed_last h at s.count })
+                ]
+          ];
+      least = λ other less separates.
+          let l = s.least other less separates in
+          let p = separates i j (omega (arith, witness.before, witness.behind)) witness.within witness.conflict (record { at = at; behind = witness.before; up_to = witness.behind; fence = fenced }) in
+          elim (cases_lt at p.at) [
+            | inl after ↦ absurd (witness.open_after p.at after p.up_to (less.fences p.at p.fence))
+            | inr up_to ↦
+                let c : fence_count (take l.end other) + 1 ≤ fence_count (take (at + 1) other) =
+                count_more other l.end p.at (at + 1) (omega (arith, l.up_to, witness.begun, p.behind)) (omega arith) p.fence in
+                record {
+                  end = at + 1;
+                  within = omega arith;
+                  up_to = omega arith;
+                  counted = omega (arith, l.counted, count_true h);
+                }
+          ];
+      each = each_pushed C g h true at us (fence_use.Needed i j) s.count s.uses s.each (record {
+        before = witness.before;
+        behind = witness.behind;
+        within = witness.within;
+        conflict = witness.conflict;
+        given = fenced;
+        stays = pushed_last h at s.count;
+        alone_before = λ m after up_to f. s.opened m (omega (arith, witness.begun)) (pushed_old h true m (omega (arith, s.count)) f);
+        alone_after = witness.open_after;
+      });
+    }
+
+pub reducing_next : (C : ℕ → ℕ → Type 0) (g : Group) (at epoch : ℕ) (us : List FenceUse) (h : Group) (u : FenceUse) → Reducing C g at epoch us h
+    → IsNextUse C g epoch at u → Reducing C g (at + 1) (epoch_kept u epoch at) (us ++ u ∷ []) (h ++ is_kept u ∷ [])
+reducing_next C g at epoch us h fence_use.NoFence s is =
+    dropped_next C g at epoch us h fence_use.NoFence s (is, not_last h at s.count) (λ a b within conflict before behind f. absurd (is f))
+reducing_next C g at epoch us h fence_use.Needless s (fenced, spare) =
+    dropped_next C g at epoch us h fence_use.Needless s (fenced, not_last h at s.count)
+    (λ a b within conflict before behind f.
+    elim (cases_lt a epoch) [
+      | inl early ↦
+          inl (record {
+            at = epoch;
+            behind = early;
+            up_to = omega (arith, s.behind);
+            fence = pushed_before h false epoch (s.starts (omega arith));
+          })
+      | inr from ↦
+          let p = spare a b from before behind within conflict in
+          inr (record { place = p.at; from = omega (arith, p.behind); up_to = p.up_to; fence = p.fence })
+    ])
+reducing_next C g at epoch us h (fence_use.Needed i j) s (fenced, witness) = kept_next C g at epoch us h i j s fenced witness
+
+pub reducing_none : (C : ℕ → ℕ → Type 0) (g : Group) → Reducing C g 0 0 [] []
+reducing_none C g =
+    record {
+      count = refl;
+      uses = refl;
+      behind = omega arith;
+      starts = λ some. absurd (omega arith);
+      opened = λ k after f. true≢false (sym f);
+      given = λ k f. absurd (true≢false (sym f));
+      separates = λ a b m within conflict after up_to below f. absurd (omega arith);
+      least = λ other less separates. record { end = 0; within = omega arith; up_to = omega arith; counted = omega arith };
+      each = λ k below. absurd (omega arith);
+    }
+
+pub reducing_all : (C : ℕ → ℕ → Type 0) (g : Group) (at epoch : ℕ) (us : List FenceUse) (h : Group) → Reducing C g at epoch us h → length g ≡ at → IsReduced C g us h
+reducing_all C g at epoch us h s all =
+    record {
+      less = record { same_length = omega (arith, s.count); fences = s.given };
+      separates = λ a b ordered within conflict separated.
+          elim (s.separates a b separated.at within conflict separated.behind separated.up_to (omega (arith, separated.up_to)) separated.fence) [
+            | inl there ↦ there
+            | inr later ↦ let w : later.place < length g = fence_within g later.place later.fence in absurd (omega (arith, later.from))
+          ];
+      least = λ other less separates.
+          let l = s.least other less separates in
+          omega (arith, l.counted, count_all other l.end);
+      count = omega (arith, s.uses);
+      each = λ k below. s.each k (omega arith);
+    }

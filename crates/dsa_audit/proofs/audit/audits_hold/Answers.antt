@@ -1,0 +1,7 @@
+use Rattle.std.specs.Prelude.{IsTrue}
+use Rattle.dsa_audit.proofs.Held.{held}
+use Rattle.dsa_audit.proofs.audit.audits_hold.Goals as goal
+
+pub returns : goal.returns
+returns c truth members g h k places uses between corrected reduced =
+    held members (λ i j. IsTrue (truth i j)) g h k places uses between corrected reduced

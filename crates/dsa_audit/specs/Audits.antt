@@ -1,0 +1,93 @@
+-- Missing and needless fences of a batch (all of this file is this project's choice; what a fence does is specification
+-- 341204, batch and fence). `C a b` says that the members a and b conflict; members are numbered from 0. A group `g`
+-- says before which members a fence stands.
+use Rattle.std.specs.Prelude.{ℕ, ◌≡◌, ◌<◌, ◌≤◌, true, false, List, length, get_or}
+use Rattle.dsa_settings.specs.Plan.{Group, fence_count}
+use Rattle.dsa_audit.specs.declared.missing.FencePlace.{FencePlace}
+use Rattle.dsa_audit.specs.declared.missing.FencePlace.TheVariants as fence_place
+use Rattle.dsa_audit.specs.declared.needless.FenceUse.{FenceUse}
+use Rattle.dsa_audit.specs.declared.needless.FenceUse.TheVariants as fence_use
+
+-- a fence stands before member k
+abbrev pub HasFence : Group → ℕ → Type 0
+HasFence g k = get_or g k false ≡ true
+
+-- a fence stands after member a, and at member b at the latest: b waits for a
+pub record IsSeparated (g : Group) (a b : ℕ) : Type 0 where
+  pub at : ℕ
+  pub behind : a < at
+  pub up_to : at ≤ b
+  pub fence : HasFence g at
+
+-- no fence does: a and b are in one epoch, and b may run before a
+abbrev pub ShareEpoch : Group → ℕ → ℕ → Type 0
+ShareEpoch g a b = (k : ℕ) → a < k → k ≤ b → ¬ HasFence g k
+
+-- each two members that conflict are separated
+abbrev pub Separates : (ℕ → ℕ → Type 0) → Group → Type 0
+Separates C g = (a b : ℕ) → a < b → b < length g → C a b → IsSeparated g a b
+
+-- h separates each two members that conflict and that g separates
+abbrev pub SeparatesAsMuch : (ℕ → ℕ → Type 0) → Group → Group → Type 0
+SeparatesAsMuch C g h =
+    (a b : ℕ) → a < b → b < length g → C a b → IsSeparated g a b → IsSeparated h a b
+
+-- h has as many members as g, and each fence of g
+pub record HasFencesOf (g h : Group) : Type 0 where
+  pub same_length : length h ≡ length g
+  pub fences : (k : ℕ) → HasFence g k → HasFence h k
+
+-- ---- missing fences
+
+-- a fence is missing before member k: it conflicts with an earlier member i of its epoch, and once all missing fences
+-- are added (h), the one before k is the first behind i
+pub record IsMissing (C : ℕ → ℕ → Type 0) (g h : Group) (i k : ℕ) : Type 0 where
+  pub before : i < k
+  pub conflict : C i k
+  pub unseparated : ShareEpoch g i k
+  pub added : HasFence h k
+  pub alone : (m : ℕ) → i < m → m < k → ¬ HasFence h m
+
+-- what is said of member k holds: there is no fence in g or h, there is one in both, or it is missing in g
+abbrev pub PlaceHolds : (ℕ → ℕ → Type 0) → Group → Group → ℕ → FencePlace → Type 0
+PlaceHolds C g h k fence_place.NoFence = (¬ HasFence g k) × (¬ HasFence h k)
+PlaceHolds C g h k fence_place.Given = HasFence g k × HasFence h k
+PlaceHolds C g h k (fence_place.Missing i) = IsMissing C g h i k
+
+-- h is g with the missing fences: it separates all conflicts; whatever does that with the fences of g has no fewer; and
+-- what is said of each member holds
+pub record IsCorrected (C : ℕ → ℕ → Type 0) (g : Group) (places : List FencePlace) (h : Group) : Type 0 where
+  pub more : HasFencesOf g h
+  pub separates : Separates C h
+  pub least : (other : Group) → HasFencesOf g other → Separates C other → fence_count h ≤ fence_count other
+  pub count : length places ≡ length g
+  pub each : (k : ℕ) → k < length g → PlaceHolds C g h k (get_or places k fence_place.NoFence)
+
+-- ---- needless fences
+
+-- the fence before member k is needed: members i and j conflict, and it alone separates them, of the fences that stay
+-- (h), and behind it also of those given (g)
+pub record IsNeeded (C : ℕ → ℕ → Type 0) (g h : Group) (k i j : ℕ) : Type 0 where
+  pub before : i < k
+  pub behind : k ≤ j
+  pub within : j < length g
+  pub conflict : C i j
+  pub given : HasFence g k
+  pub stays : HasFence h k
+  pub alone_before : (m : ℕ) → i < m → m < k → ¬ HasFence h m
+  pub alone_after : ShareEpoch g k j
+
+-- what is said of member k holds: there is no fence in g or h, there is one in g alone, or it is needed
+abbrev pub UseHolds : (ℕ → ℕ → Type 0) → Group → Group → ℕ → FenceUse → Type 0
+UseHolds C g h k fence_use.NoFence = (¬ HasFence g k) × (¬ HasFence h k)
+UseHolds C g h k fence_use.Needless = HasFence g k × (¬ HasFence h k)
+UseHolds C g h k (fence_use.Needed i j) = IsNeeded C g h k i j
+
+-- h is g without the needless fences: it separates all conflicts that g separates; whatever does that with fences of g
+-- alone has no fewer; and what is said of each member holds
+pub record IsReduced (C : ℕ → ℕ → Type 0) (g : Group) (uses : List FenceUse) (h : Group) : Type 0 where
+  pub less : HasFencesOf h g
+  pub separates : SeparatesAsMuch C g h
+  pub least : (other : Group) → HasFencesOf other g → SeparatesAsMuch C g other → fence_count h ≤ fence_count other
+  pub count : length uses ≡ length g
+  pub each : (k : ℕ) → k < length g → UseHolds C g h k (get_or uses k fence_use.NoFence)

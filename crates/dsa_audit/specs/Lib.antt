@@ -1,0 +1,4 @@
+pub mod Members
+pub mod Audits
+pub mod Steps
+pub mod Laws

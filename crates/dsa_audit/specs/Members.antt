@@ -1,0 +1,41 @@
+-- What is known of the members of a batch, and which of them conflict.
+use Rattle.std.specs.Prelude.{ℕ, ◌≡◌, List, slice_get, Some}
+use Rattle.dsa_ranges.specs.Ranges.{SpansConflict}
+use Rattle.dsa_ranges.specs.declared.span.Touched.{Touched}
+use Rattle.dsa_ranges.specs.declared.hazards.Hazard.{Hazard}
+use Rattle.dsa_ranges.specs.Hazards.{IsHazard}
+use Rattle.dsa_audit.specs.declared.member.Member.{Member}
+use Rattle.dsa_audit.specs.declared.member.Member.TheVariants.{Known, Unknown}
+
+-- two members of which it is known what they read and write conflict
+abbrev pub TouchedConflict : Touched → Touched → Type 0
+TouchedConflict t u = SpansConflict t.reads.items t.writes.items u.reads.items u.writes.items
+
+-- what is known of two members shows that they conflict
+abbrev pub AreKnownToConflict : Member → Member → Type 0
+AreKnownToConflict (Known t) (Known u) = TouchedConflict t u
+AreKnownToConflict (Known t) (Unknown why) = ⊥
+AreKnownToConflict (Unknown why) (Known u) = ⊥
+AreKnownToConflict (Unknown why) (Unknown other) = ⊥
+
+-- what is known of two members does not rule out that they conflict
+abbrev pub CanConflict : Member → Member → Type 0
+CanConflict (Known t) (Known u) = TouchedConflict t u
+CanConflict (Known t) (Unknown why) = Unit
+CanConflict (Unknown why) (Known u) = Unit
+CanConflict (Unknown why) (Unknown other) = Unit
+
+-- the same of the members at two places of a batch
+abbrev pub KnownConflict : List Member → ℕ → ℕ → Type 0
+KnownConflict ms i j =
+    (m n : Member) × (slice_get ms i ≡ Some m) × (slice_get ms j ≡ Some n) × AreKnownToConflict m n
+
+abbrev pub PossibleConflict : List Member → ℕ → ℕ → Type 0
+PossibleConflict ms i j =
+    (m n : Member) × (slice_get ms i ≡ Some m) × (slice_get ms j ≡ Some n) × CanConflict m n
+
+-- both members are known, and the hazard shows why the later has to wait for the earlier
+abbrev pub IsHazardBetween : List Member → ℕ → ℕ → Hazard → Type 0
+IsHazardBetween ms i j h =
+    (t u : Touched) × (slice_get ms i ≡ Some (Known t)) × (slice_get ms j ≡ Some (Known u))
+    × IsHazard t.reads.items t.writes.items u.reads.items u.writes.items h.address h.kind

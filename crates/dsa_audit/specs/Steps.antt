@@ -1,0 +1,80 @@
+-- One step of an audit, for private clauses. `epoch` is the member that the epoch of the fences so far begins with.
+use Rattle.std.specs.Prelude.{ℕ, ◌<◌, ◌≤◌, Bool, true, false, length}
+use Rattle.dsa_settings.specs.Plan.{Group}
+use Rattle.dsa_audit.specs.declared.missing.FencePlace.{FencePlace}
+use Rattle.dsa_audit.specs.declared.missing.FencePlace.TheVariants as fence_place
+use Rattle.dsa_audit.specs.declared.needless.FenceUse.{FenceUse}
+use Rattle.dsa_audit.specs.declared.needless.FenceUse.TheVariants as fence_use
+use Rattle.dsa_audit.specs.Audits.{HasFence, IsSeparated, ShareEpoch}
+
+-- no member from `from` on and below `before` conflicts with `later`; member i is such a one
+abbrev pub NoneFrom : (ℕ → ℕ → Type 0) → ℕ → ℕ → ℕ → Type 0
+NoneFrom C from before later = (i : ℕ) → from ≤ i → i < before → ¬ C i later
+
+pub record IsLastFrom (C : ℕ → ℕ → Type 0) (from before later i : ℕ) : Type 0 where
+  pub begun : from ≤ i
+  pub ends : i < before
+  pub conflict : C i later
+
+-- ---- missing fences
+
+-- what the fence before a member has to be
+abbrev pub IsNextPlace : (ℕ → ℕ → Type 0) → Group → ℕ → ℕ → FencePlace → Type 0
+IsNextPlace C g epoch at fence_place.NoFence = (¬ HasFence g at) × NoneFrom C epoch at at
+IsNextPlace C g epoch at fence_place.Given = HasFence g at
+IsNextPlace C g epoch at (fence_place.Missing i) = (¬ HasFence g at) × IsLastFrom C epoch at at i
+
+abbrev pub has_fence : FencePlace → Bool
+has_fence fence_place.NoFence = false
+has_fence fence_place.Given = true
+has_fence (fence_place.Missing i) = true
+
+abbrev pub epoch_after : FencePlace → ℕ → ℕ → ℕ
+epoch_after fence_place.NoFence epoch at = epoch
+epoch_after fence_place.Given epoch at = at
+epoch_after (fence_place.Missing i) epoch at = at
+
+-- ---- needless fences
+
+abbrev pub IsUnfencedUpTo : Group → ℕ → ℕ → Type 0
+IsUnfencedUpTo g at end = (k : ℕ) → at < k → k < end → ¬ HasFence g k
+
+-- no two members conflict of which one stands from `epoch` on and before `at`, the other from there on and before `end`
+abbrev pub NoneAcross : (ℕ → ℕ → Type 0) → ℕ → ℕ → ℕ → Type 0
+NoneAcross C epoch at end = (i j : ℕ) → epoch ≤ i → i < at → at ≤ j → j < end → ¬ C i j
+
+pub record IsAcross (C : ℕ → ℕ → Type 0) (epoch at end i j : ℕ) : Type 0 where
+  pub begun : epoch ≤ i
+  pub before : i < at
+  pub behind : at ≤ j
+  pub within : j < end
+  pub conflict : C i j
+
+-- of the members from `epoch` on, no two that conflict are separated by the fence before `at` alone; or i and j are
+abbrev pub IsSpare : (ℕ → ℕ → Type 0) → Group → ℕ → ℕ → Type 0
+IsSpare C g epoch at =
+    (i j : ℕ) → epoch ≤ i → i < at → at ≤ j → j < length g → C i j → IsSeparated g at j
+
+pub record IsWitness (C : ℕ → ℕ → Type 0) (g : Group) (epoch at i j : ℕ) : Type 0 where
+  pub begun : epoch ≤ i
+  pub before : i < at
+  pub behind : at ≤ j
+  pub within : j < length g
+  pub conflict : C i j
+  pub open_after : ShareEpoch g at j
+
+-- what the fence before a member is for
+abbrev pub IsNextUse : (ℕ → ℕ → Type 0) → Group → ℕ → ℕ → FenceUse → Type 0
+IsNextUse C g epoch at fence_use.NoFence = ¬ HasFence g at
+IsNextUse C g epoch at fence_use.Needless = HasFence g at × IsSpare C g epoch at
+IsNextUse C g epoch at (fence_use.Needed i j) = HasFence g at × IsWitness C g epoch at i j
+
+abbrev pub is_kept : FenceUse → Bool
+is_kept fence_use.NoFence = false
+is_kept fence_use.Needless = false
+is_kept (fence_use.Needed i j) = true
+
+abbrev pub epoch_kept : FenceUse → ℕ → ℕ → ℕ
+epoch_kept fence_use.NoFence epoch at = epoch
+epoch_kept fence_use.Needless epoch at = epoch
+epoch_kept (fence_use.Needed i j) epoch at = at

@@ -1,0 +1,40 @@
+//! The fences of one recorded batch.
+
+ghost use Rattle.std.specs.Prelude.{◌≡◌, length, IfOk};
+ghost use Rattle.dsa_audit.specs.Laws.{IsAudit, AuditsHold, SeparatedIsLegal};
+
+use crate::member::Member;
+use crate::missing::{Corrected, add_missing};
+use crate::needless::{Reduced, drop_needless};
+use crate::relation::{KnownConflicts, PossibleConflicts};
+use std::alloc::{AllocError, Global};
+
+/// Which fences of a batch are missing, and which are needless.
+#[derive(Debug, Drop)]
+pub struct Audit {
+    /// The missing fences, added to those of the batch.
+    pub corrected: Corrected,
+    /// Of all fences then, those that are needed.
+    pub reduced: Reduced,
+}
+
+/// The fences that are missing by what is known of the members; and of all fences then, those that are needless whatever
+/// the members do of which nothing is known.
+pub fn audit_fences(alloc: Global, fences: &[bool], members: &[Member]) -> Result<Audit, AllocError>
+    requires { length fences.now ≡ length members.now }
+    ensures { IfOk result (λ a. IsAudit members.now fences.now a) }
+{
+    let corrected = add_missing(alloc, fences, &KnownConflicts { members })?;
+    let reduced = drop_needless(alloc, &corrected.fences, &PossibleConflicts { members })?;
+    Ok(Audit { corrected, reduced })
+}
+
+/// Whatever the members do that are not looked at: what is missing is missing, and what may go may go.
+pub fn audits_hold()
+    ensures { AuditsHold }
+{}
+
+/// A group that separates its conflicts does so as legal plans do.
+pub fn separated_is_legal()
+    ensures { SeparatedIsLegal }
+{}

@@ -1,0 +1,16 @@
+//! Which fences of a recorded batch are missing, and which are needless.
+#![tactic(auto)]
+
+mod audit;
+mod hazard;
+mod member;
+mod missing;
+mod needless;
+mod relation;
+
+pub use audit::{Audit, audit_fences, audits_hold, separated_is_legal};
+pub use hazard::hazard_between;
+pub use member::{Member, Unseen, are_known_to_conflict, can_conflict};
+pub use missing::{Corrected, FencePlace, add_missing};
+pub use needless::{FenceUse, Reduced, drop_needless};
+pub use relation::{KnownConflicts, PossibleConflicts, Relation};

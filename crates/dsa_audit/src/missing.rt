@@ -1,0 +1,88 @@
+//! The fences that are missing in a batch.
+
+ghost use Rattle.std.specs.Prelude.{◌≡◌, ◌<◌, length, IfOk};
+ghost use Rattle.dsa_audit.specs.Audits.{IsCorrected};
+ghost use Rattle.dsa_audit.specs.Steps.{IsNextPlace, has_fence, epoch_after};
+
+use crate::relation::{Relation, last_conflict};
+use std::alloc::{AllocError, Global};
+
+/// What stands before a member of a batch, and what has to.
+#[derive(Clone, Copy, Debug, PartialEq, Eq)]
+pub enum FencePlace {
+    /// No fence, and none is missing.
+    NoFence,
+    /// A fence.
+    Given,
+    /// No fence, and one is missing: the member conflicts with this earlier one of its epoch.
+    Missing(usize),
+}
+
+impl FencePlace {
+    /// Whether a fence has to stand there.
+    pub fn is_fenced(self) -> bool
+        ensures { result ≡ has_fence self }
+    {
+        match self {
+            FencePlace::NoFence => false,
+            FencePlace::Given | FencePlace::Missing(_) => true,
+        }
+    }
+
+    /// The member that the epoch begins with that goes on behind this one.
+    fn epoch(self, epoch: usize, at: usize) -> usize
+        ensures { result ≡ epoch_after self epoch at }
+    {
+        if self.is_fenced() { at } else { epoch }
+    }
+}
+
+/// The fences that a batch has and those that it lacks.
+#[derive(Debug, Drop)]
+pub struct Corrected {
+    /// What stands before each member, and what has to.
+    pub places: Vec<FencePlace>,
+    /// Whether a fence stands before each member, once the missing ones are added.
+    pub fences: Vec<bool>,
+}
+
+/// What stands before the member, where the epoch so far begins with the member `epoch`.
+fn place_of<R: Relation>(fences: &[bool], relation: &R, epoch: usize, at: usize) -> FencePlace
+    requires known { length fences.now ≡ R.count relation.now }
+    requires within { at < length fences.now }
+    ensures { IsNextPlace (R.conflict relation.now) fences.now epoch at result }
+{
+    if fences[at] {
+        return FencePlace::Given;
+    }
+    match last_conflict(relation, epoch, at, at) {
+        Some(earlier) => FencePlace::Missing(earlier),
+        None => FencePlace::NoFence,
+    }
+}
+
+/// The fewest fences that have to be added so that no two members of an epoch conflict, each with a conflict that it
+/// separates.
+pub fn add_missing<R: Relation>(
+    alloc: Global,
+    fences: &[bool],
+    relation: &R,
+) -> Result<Corrected, AllocError>
+    requires known { length fences.now ≡ R.count relation.now }
+    ensures { IfOk result
+        (λ m. IsCorrected (R.conflict relation.now) fences.now m.places.items m.fences.items) }
+{
+    let mut places = Vec::new(alloc);
+    let mut corrected = Vec::new(alloc);
+    let mut epoch = 0;
+    for at in 0..fences.len() {
+        let place = place_of(fences, relation, epoch, at);
+        places.push(place)?;
+        corrected.push(place.is_fenced())?;
+        epoch = place.epoch(epoch, at);
+    }
+    Ok(Corrected {
+        places,
+        fences: corrected,
+    })
+}

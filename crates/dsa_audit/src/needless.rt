@@ -1,0 +1,115 @@
+//! The fences that a batch does not need.
+
+ghost use Rattle.std.specs.Prelude.{◌≡◌, ◌<◌, ◌≤◌, length, IfOk, MatchOption};
+ghost use Rattle.dsa_audit.specs.Audits.{HasFence, IsReduced};
+ghost use Rattle.dsa_audit.specs.Steps.{IsNextUse, NoneAcross, IsAcross, IsUnfencedUpTo, is_kept, epoch_kept};
+
+use crate::relation::{Relation, last_conflict};
+use std::alloc::{AllocError, Global};
+
+/// What a fence is for.
+#[derive(Clone, Copy, Debug, PartialEq, Eq)]
+pub enum FenceUse {
+    /// There is no fence.
+    NoFence,
+    /// It is needed: of all fences that stay it alone separates these two members, which conflict.
+    Needed(usize, usize),
+    /// It may go.
+    Needless,
+}
+
+impl FenceUse {
+    /// Whether a fence stays.
+    pub fn is_kept(self) -> bool
+        ensures { result ≡ is_kept self }
+    {
+        match self {
+            FenceUse::Needed(_, _) => true,
+            FenceUse::NoFence | FenceUse::Needless => false,
+        }
+    }
+
+    /// The member that the epoch begins with that goes on behind this one.
+    fn epoch(self, epoch: usize, at: usize) -> usize
+        ensures { result ≡ epoch_kept self epoch at }
+    {
+        if self.is_kept() { at } else { epoch }
+    }
+}
+
+/// The fences of a batch that are needed.
+#[derive(Debug, Drop)]
+pub struct Reduced {
+    /// What the fence before each member is for.
+    pub uses: Vec<FenceUse>,
+    /// Whether a fence stays before each member.
+    pub fences: Vec<bool>,
+}
+
+/// The first fenced member behind `at`, or the end.
+fn next_fence(fences: &[bool], at: usize) -> usize
+    requires { at < length fences.now }
+    ensures after { at < result }
+    ensures within { result ≤ length fences.now }
+    ensures open { IsUnfencedUpTo fences.now at result }
+    ensures closed { result < length fences.now → HasFence fences.now result }
+{
+    for k in at + 1..fences.len() {
+        if fences[k] {
+            return k;
+        }
+    }
+    fences.len()
+}
+
+/// Two members that conflict, the earlier from `epoch` on and before `at`, the later from there on and before `end`.
+fn across<R: Relation>(relation: &R, epoch: usize, at: usize, end: usize) -> Option<(usize, usize)>
+    requires { end ≤ R.count relation.now }
+    ensures { MatchOption result (NoneAcross (R.conflict relation.now) epoch at end)
+        (λ p. IsAcross (R.conflict relation.now) epoch at end p.0 p.1) }
+{
+    for later in at..end {
+        if let Some(earlier) = last_conflict(relation, epoch, at, later) {
+            return Some((earlier, later));
+        }
+    }
+    None
+}
+
+/// What the fence before the member is for, where the last fence that stays is at `epoch`.
+fn use_of<R: Relation>(fences: &[bool], relation: &R, epoch: usize, at: usize) -> FenceUse
+    requires known { length fences.now ≡ R.count relation.now }
+    requires within { at < length fences.now }
+    ensures { IsNextUse (R.conflict relation.now) fences.now epoch at result }
+{
+    if !fences[at] {
+        return FenceUse::NoFence;
+    }
+    match across(relation, epoch, at, next_fence(fences, at)) {
+        Some((earlier, later)) => FenceUse::Needed(earlier, later),
+        None => FenceUse::Needless,
+    }
+}
+
+/// The fewest fences of a batch that separate all conflicts that its fences separate, each with a conflict that needs it;
+/// the others may go, all at once.
+pub fn drop_needless<R: Relation>(
+    alloc: Global,
+    fences: &[bool],
+    relation: &R,
+) -> Result<Reduced, AllocError>
+    requires known { length fences.now ≡ R.count relation.now }
+    ensures { IfOk result
+        (λ t. IsReduced (R.conflict relation.now) fences.now t.uses.items t.fences.items) }
+{
+    let mut uses = Vec::new(alloc);
+    let mut kept = Vec::new(alloc);
+    let mut epoch = 0;
+    for at in 0..fences.len() {
+        let fence = use_of(fences, relation, epoch, at);
+        uses.push(fence)?;
+        kept.push(fence.is_kept())?;
+        epoch = fence.epoch(epoch, at);
+    }
+    Ok(Reduced { uses, fences: kept })
+}

@@ -1,0 +1,4 @@
+pub mod Chain
+pub mod Outcomes
+pub mod Reasons
+pub mod Listed

@@ -1,0 +1,71 @@
+-- What an entry of a recording reads and writes, and why it is not looked at. `head` is the descriptor of its batch, or
+-- of a lone descriptor the entry itself.
+use Rattle.std.specs.Prelude.{◌≡◌, ◌≢◌, ℕ, ◌<◌, List, [], ◌∷◌, ◌++◌, Option, Some, None, bit_and, if◌then◌else◌, ◌==◌}
+use Rattle.std.specs.List.{AllByRecursion}
+use Rattle.dsa_descriptor.specs.declared.op.Op.{Op}
+use Rattle.dsa_descriptor.specs.declared.span.Span.{Span}
+use Rattle.dsa_descriptor.specs.Data.{sources, targets, record_span}
+use Rattle.dsa_descriptor.specs.Lists.{AgreeOnOwner}
+use Rattle.dsa_descriptor.specs.Places.{u32_at, u64_at, flags_at, code_at, op_at}
+use Rattle.dsa_descriptor.specs.Profile.{required_flags}
+use Rattle.dsa_descriptor.specs.Spans.{IsAddressable}
+use Rattle.dsa_audit.specs.declared.member.Unseen.{Unseen}
+use Rattle.dsa_audit.specs.declared.member.Unseen.TheVariants.{Operation, Nested, Owner, Empty, Wrap}
+use Rattle.dsa_audit.specs.declared.member.Member.{Member}
+use Rattle.dsa_audit.specs.declared.member.Member.TheVariants.{Known, Unknown}
+
+-- ---- what it reads and writes
+
+-- the completion record, where its address is valid and a record is requested (specification 341204, flags); one that is
+-- written on errors alone does not count (this project's choice)
+abbrev pub records_of : List ℕ → List Span
+records_of e =
+    if bit_and (flags_at e) required_flags == required_flags then record_span (u64_at 8 e) ∷ [] else []
+
+-- the data that an operation of this size reads and writes; a no-op has none
+abbrev pub sources_of : Option Op → ℕ → List Span
+sources_of (Some op) size = sources op size
+sources_of None size = []
+
+abbrev pub targets_of : Option Op → ℕ → List Span
+targets_of (Some op) size = targets op size
+targets_of None size = []
+
+-- all that the entry reads, and all that it writes
+abbrev pub entry_reads : List ℕ → List Span
+entry_reads e = sources_of (op_at e) (u32_at 32 e)
+
+abbrev pub entry_writes : List ℕ → List Span
+entry_writes e = records_of e ++ targets_of (op_at e) (u32_at 32 e)
+
+-- ---- why it is not looked at (this project's choice)
+
+-- the reason applies, whether or not another does: the operation is neither listed, nor a no-op (code 0x00), nor a batch
+-- (0x01); it is a batch; PASID or privilege differ from those of the head; the size is 0, of a no-op's nothing is asked;
+-- a span goes past 2 ^ 64
+abbrev pub Applies : List ℕ → List ℕ → Unseen → Type 0
+Applies head e Operation = (op_at e ≡ None) × (code_at e ≢ 0) × (code_at e ≢ 1)
+Applies head e Nested = code_at e ≡ 1
+Applies head e Owner = ¬ AgreeOnOwner head e
+Applies head e Empty = (code_at e ≢ 0) × (u32_at 32 e ≡ 0)
+Applies head e Wrap = ¬ AllByRecursion IsAddressable (entry_reads e ++ entry_writes e)
+
+-- the order in which reasons are looked for
+abbrev pub rank : Unseen → ℕ
+rank Operation = 0
+rank Nested = 1
+rank Owner = 2
+rank Empty = 3
+rank Wrap = 4
+
+-- the reason applies, and none before it does
+pub record IsFirstReason (head e : List ℕ) (why : Unseen) : Type 0 where
+  pub applies : Applies head e why
+  pub first : (other : Unseen) → rank other < rank why → ¬ Applies head e other
+
+-- what is known of the entry: where no reason applies, all that it reads and writes; else the first reason
+abbrev pub IsMember : List ℕ → List ℕ → Member → Type 0
+IsMember head e (Known touched) =
+    ((why : Unseen) → ¬ Applies head e why)
+    × (touched.reads.items ≡ entry_reads e) × (touched.writes.items ≡ entry_writes e)
+IsMember head e (Unknown why) = IsFirstReason head e why

@@ -1,0 +1,19 @@
+-- What a recording says of listed descriptors.
+use Rattle.std.specs.Prelude.{◌≡◌, ℕ, List}
+use Rattle.dsa_descriptor.specs.declared.descriptor.Descriptor.{Descriptor}
+use Rattle.dsa_descriptor.specs.Descriptors.{fields}
+use Rattle.dsa_descriptor.specs.Lists.{AgreeOnOwner}
+use Rattle.dsa_descriptor.specs.Spelling.{spelling}
+use Rattle.dsa_ranges.specs.declared.span.Touched.{Touched}
+use Rattle.dsa_ranges.specs.Ranges.{read_spans, written_spans}
+use Rattle.dsa_audit.specs.declared.member.Member.{Member}
+use Rattle.dsa_audit.specs.declared.member.Member.TheVariants.{Known}
+use Rattle.dsa_recording.specs.Entries.{IsMember}
+
+-- the entry of a listed descriptor, in a batch of its owner, is looked at, and what is known of it is what the
+-- descriptor reads and writes
+abbrev pub ListedAreKnown : Type 0
+ListedAreKnown =
+    (d : Descriptor) (head : List ℕ) (m : Member) →
+    AgreeOnOwner head (spelling (fields d)) → IsMember head (spelling (fields d)) m →
+    (t : Touched) × (m ≡ Known t) × (t.reads.items ≡ read_spans (fields d)) × (t.writes.items ≡ written_spans (fields d))

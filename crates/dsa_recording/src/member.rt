@@ -1,0 +1,99 @@
+//! What is known of an entry of a recording.
+
+ghost use Rattle.std.specs.Prelude.{◌≡◌, ◌↔◌, ◌≤◌, ◌++◌, length, IsTrue, MatchOption};
+ghost use Rattle.std.specs.List.{AllByRecursion};
+ghost use Rattle.dsa_descriptor.specs.Spans.{IsAddressable};
+ghost use Rattle.dsa_audit.specs.declared.member.Unseen.{Unseen};
+ghost use Rattle.dsa_recording.specs.Entries.{records_of, entry_reads, entry_writes, Applies, IsFirstReason, IsMember};
+
+use arrayvec::ArrayVec;
+use dsa_audit::{Member, Unseen};
+use dsa_descriptor::{Span, agree_on_owner, are_addressable, op_at, record_span, u32_at, u64_at};
+use dsa_ranges::Touched;
+
+/// All reasons, in the order in which they are looked for.
+const IN_ORDER: [Unseen; 5] = [
+    Unseen::Operation,
+    Unseen::Nested,
+    Unseen::Owner,
+    Unseen::Empty,
+    Unseen::Wrap,
+];
+
+/// The completion record, where one is requested.
+fn records_of(entry: &[u8; 64]) -> ArrayVec<Span, 3>
+    ensures value { result.items ≡ records_of entry.now }
+    ensures short { length result.items ≤ 1 }
+{
+    let mut writes = ArrayVec::new();
+    if u32_at(entry, 4) % (1 << 24) & 0x0c == 0x0c {
+        writes.push(record_span(u64_at(entry, 8)));
+    }
+    writes
+}
+
+/// What the entry reads and writes, where its operation is known.
+fn touched_by(entry: &[u8; 64]) -> Touched
+    ensures reads { result.reads.items ≡ entry_reads entry.now }
+    ensures writes { result.writes.items ≡ entry_writes entry.now }
+{
+    let mut writes = records_of(entry);
+    let mut reads = ArrayVec::new();
+    let Some(op) = op_at(entry) else {
+        return Touched { reads, writes };
+    };
+    let size = u32_at(entry, 32);
+    let (sources, targets) = (op.sources(size), op.targets(size));
+    reads.try_extend_from_slice(sources.as_slice()).unwrap();
+    writes.try_extend_from_slice(targets.as_slice()).unwrap();
+    Touched { reads, writes }
+}
+
+/// Whether no span of it goes past 2^64.
+fn is_addressable(entry: &[u8; 64]) -> bool
+    ensures { IsTrue result ↔
+        AllByRecursion IsAddressable (entry_reads entry.now ++ entry_writes entry.now) }
+{
+    let touched = touched_by(entry);
+    if !are_addressable(&touched.reads) {
+        return false;
+    }
+    are_addressable(&touched.writes)
+}
+
+/// Whether the reason applies to the entry, whose batch has the descriptor `head`.
+fn applies(head: &[u8; 64], entry: &[u8; 64], why: Unseen) -> bool
+    ensures { IsTrue result ↔ Applies head.now entry.now why }
+{
+    let code = u32_at(entry, 4) >> 24;
+    match why {
+        Unseen::Operation => code != 0 && code != 1 && op_at(entry).is_none(),
+        Unseen::Nested => code == 1,
+        Unseen::Owner => !agree_on_owner(head, entry),
+        Unseen::Empty => code != 0 && u32_at(entry, 32) == 0,
+        Unseen::Wrap => !is_addressable(entry),
+    }
+}
+
+/// The first reason why an entry is not looked at, whose batch has the descriptor `head`.
+pub fn unseen_reason(head: &[u8; 64], entry: &[u8; 64]) -> Option<Unseen>
+    ensures { MatchOption result ((why : Unseen) → ¬ Applies head.now entry.now why)
+        (IsFirstReason head.now entry.now) }
+{
+    for why in IN_ORDER {
+        if applies(head, entry, why) {
+            return Some(why);
+        }
+    }
+    None
+}
+
+/// What is known of an entry, whose batch has the descriptor `head`; of a lone descriptor it is the entry itself.
+pub fn member_of(head: &[u8; 64], entry: &[u8; 64]) -> Member
+    ensures { IsMember head.now entry.now result }
+{
+    match unseen_reason(head, entry) {
+        Some(why) => Member::Unknown(why),
+        None => Member::Known(touched_by(entry)),
+    }
+}

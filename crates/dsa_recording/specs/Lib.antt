@@ -1,3 +1,6 @@
 pub mod Streams
 pub mod Entries
+pub mod Submissions
+pub mod Findings
+pub mod Reports
 pub mod Laws

@@ -1,0 +1,7 @@
+use Rattle.std.proofs.Common.{take}
+use Rattle.dsa_recording.specs.Submissions.{AreAudited}
+use Rattle.dsa_recording.proofs.submission.audit_submissions.Given as goal
+
+-- the submissions so far are audited
+abbrev pub invariant-loop-submission : goal.invariant-loop-submission
+invariant-loop-submission l = AreAudited l.all (take l.submission-index l.submissions) l.audits.items

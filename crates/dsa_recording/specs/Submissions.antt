@@ -1,0 +1,46 @@
+-- The audit of a recorded submission.
+use Rattle.std.specs.Prelude.{ℕ, ◌≡◌, ◌-◌, ◌%◌, ◌<◌, ◌≤◌, Bool, List, [], ◌∷◌, length, map, get_or, slice_index_or, slice_range, if◌then◌else◌, ◌==◌}
+use Rattle.dsa_descriptor.specs.Places.{flags_at}
+use Rattle.dsa_audit.specs.declared.member.Member.{Member}
+use Rattle.dsa_audit.specs.declared.member.Member.TheVariants.{Unknown}
+use Rattle.dsa_audit.specs.declared.member.Unseen.TheVariants.{Operation}
+use Rattle.dsa_audit.specs.Laws.{IsAudit}
+use Rattle.dsa_recording.specs.declared.stream.Submission.{Submission}
+use Rattle.dsa_recording.specs.declared.submission.Audited.{Audited}
+use Rattle.dsa_recording.specs.Streams.{end_of}
+use Rattle.dsa_recording.specs.Entries.{IsMember}
+
+-- the flag 0x0001 is set (specification 341204, flags)
+abbrev pub is_fenced : List ℕ → Bool
+is_fenced e = flags_at e % 2 == 1
+
+-- the entry of a submission's descriptor: before the members of a batch, else the only one
+abbrev pub head_at : Submission → ℕ
+head_at s = if s.is_batch then (s.first - 1) else s.first
+
+-- the submission's descriptor and its members are entries
+pub record IsWithin (es : List (List ℕ)) (s : Submission) : Type 0 where
+  pub head : head_at s < length es
+  pub members : end_of s ≤ length es
+
+-- the entries of a submission's members
+abbrev pub members_in : List (List ℕ) → Submission → List (List ℕ)
+members_in es s = slice_range es s.first (end_of s)
+
+-- there is a member for each entry, and it is what is known of that
+pub record AreMembers (head : List ℕ) (es : List (List ℕ)) (ms : List Member) : Type 0 where
+  pub count : length ms ≡ length es
+  pub each : (k : ℕ) → k < length es → IsMember head (get_or es k []) (get_or ms k (Unknown Operation))
+
+-- the fences of the submission's entries, what is known of them, and an audit of these
+pub record IsAudited (es : List (List ℕ)) (s : Submission) (a : Audited) : Type 0 where
+  pub fences : a.fences.items ≡ map is_fenced (members_in es s)
+  pub members : AreMembers (slice_index_or es (head_at s) []) (members_in es s) a.members.items
+  pub audit : IsAudit a.members.items a.fences.items a.audit
+
+-- each submission is audited, in order
+abbrev pub AreAudited : List (List ℕ) → List Submission → List Audited → Type 0
+AreAudited es [] [] = Unit
+AreAudited es (s ∷ ss) (a ∷ audits) = IsAudited es s a × AreAudited es ss audits
+AreAudited es [] (a ∷ audits) = ⊥
+AreAudited es (s ∷ ss) [] = ⊥

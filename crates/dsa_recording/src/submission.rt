@@ -1,0 +1,96 @@
+//! The fences of a recorded submission.
+
+ghost use Rattle.std.specs.Prelude.{◌≡◌, All, map, IfOk};
+ghost use Rattle.dsa_recording.specs.Submissions.{is_fenced, IsWithin, AreMembers, IsAudited, AreAudited};
+
+use crate::member::member_of;
+use crate::stream::Submission;
+use dsa_audit::{Audit, Member, audit_fences};
+use dsa_descriptor::u32_at;
+use std::alloc::{AllocError, Global};
+
+/// A submission whose fences are audited.
+#[derive(Debug, Drop)]
+pub struct Audited {
+    /// Whether a fence stands before each member.
+    pub fences: Vec<bool>,
+    /// What is known of each member.
+    pub members: Vec<Member>,
+    /// The missing and the needless fences.
+    pub audit: Audit,
+}
+
+/// Whether the entry is fenced.
+fn is_fenced(entry: &[u8; 64]) -> bool
+    ensures { result ≡ is_fenced entry.now }
+{
+    u32_at(entry, 4) % (1 << 24) % 2 == 1
+}
+
+/// Whether each of the entries is fenced.
+fn fences_of(alloc: Global, entries: &[[u8; 64]]) -> Result<Vec<bool>, AllocError>
+    ensures { IfOk result (λ fences. fences.items ≡ map is_fenced entries.now) }
+{
+    let mut fences = Vec::new(alloc);
+    for entry in entries {
+        fences.push(is_fenced(entry))?;
+    }
+    Ok(fences)
+}
+
+/// What is known of each of the entries, whose batch has the descriptor `head`.
+fn members_of(
+    alloc: Global,
+    head: &[u8; 64],
+    entries: &[[u8; 64]],
+) -> Result<Vec<Member>, AllocError>
+    ensures { IfOk result (λ members. AreMembers head.now entries.now members.items) }
+{
+    let mut members = Vec::new(alloc);
+    for entry in entries {
+        members.push(member_of(head, entry))?;
+    }
+    Ok(members)
+}
+
+/// The fences of a submission of these entries: which are missing, and which are needless.
+pub fn audit_submission(
+    alloc: Global,
+    all: &[[u8; 64]],
+    submission: Submission,
+) -> Result<Audited, AllocError>
+    requires { IsWithin all.now submission }
+    ensures { IfOk result (IsAudited all.now submission) }
+{
+    let at = if submission.is_batch {
+        submission.first.saturating_sub(1)
+    } else {
+        submission.first
+    };
+    let entries = &all[submission.first..submission.first + submission.size];
+    let fences = fences_of(alloc, entries)?;
+    let members = members_of(alloc, &all[at], entries)?;
+    let audit = audit_fences(alloc, &fences, &members)?;
+    Ok(Audited {
+        fences,
+        members,
+        audit,
+    })
+}
+
+/// The fences of submissions of these entries.
+pub fn audit_submissions(
+    alloc: Global,
+    all: &[[u8; 64]],
+    submissions: &[Submission],
+) -> Result<Vec<Audited>, AllocError>
+    requires { All (IsWithin all.now) submissions.now }
+    ensures { IfOk result (λ audits. AreAudited all.now submissions.now audits.items) }
+{
+    let mut audits = Vec::new(alloc);
+    for submission in submissions {
+        let audited = audit_submission(alloc, all, *submission)?;
+        audits.push(audited)?;
+    }
+    Ok(audits)
+}

@@ -1,0 +1,10 @@
+pub mod Spans
+pub mod Conflicts
+pub mod Choice
+pub mod Regions
+pub mod ByRegions
+pub mod PiecesRelocate
+pub mod Submissions
+pub mod Listed
+pub mod PiecesLie
+pub mod Samples

@@ -59,7 +59,7 @@ piece_lies rs g k f lies pos lt =
       (part rs f.record_at (32 * piece_count f g) (32 * k) 32 row row_fits lies.row, op_into rs f.size (g * k) some begins fits f.op lies.into),
     )
 
-all_first : (P : Fields → Type 0) (h : ℕ → Fields) (t : ℕ) → ((k : ℕ) → k < t → P (h k)) → AllByRecursion P (first_of h t)
+pub all_first : (P : Fields → Type 0) (h : ℕ → Fields) (t : ℕ) → ((k : ℕ) → k < t → P (h k)) → AllByRecursion P (first_of h t)
 all_first P h zero each = subst (λ (xs : List Fields). AllByRecursion P xs) (sym (first_none h)) tt
 all_first P h (suc t) each =
     subst (λ (xs : List Fields). AllByRecursion P xs) (sym (first_more h t))

@@ -76,7 +76,7 @@ apart_moves In to s ss apart whole wholes h b here there =
     let same : d.0 ≡ c.0 = apart d.0 c.0 d.2 c.2 (d.3 ∙ sym c.3) in
     h c.0 c.1 (subst (λ (x : ℕ). InSome ss x) same d.1)
 
-may_split : (rs : List Region) (g : ℕ) (f : Fields) → AreDisjoint rs → AllByRecursion (λ r. IsAddressable (new_span r)) rs → LiesWhole (map base_span rs) g f → MaySplit f g → MaySplit (relocated_fields (relocated rs) f) g
+pub may_split : (rs : List Region) (g : ℕ) (f : Fields) → AreDisjoint rs → AllByRecursion (λ r. IsAddressable (new_span r)) rs → LiesWhole (map base_span rs) g f → MaySplit f g → MaySplit (relocated_fields (relocated rs) f) g
 may_split rs g f apart fit lies may =
     let whole = spans_relocate rs (data_of f.op f.size) apart (all_join (LiesInOne (map base_span rs)) (sources f.op f.size) (targets f.op f.size) lies.from lies.into) in
     let far = apart_moves (HasAddress rs) (relocated rs) (row_span f g) (data_of f.op f.size) (regions_are_one_to_one rs apart) (regions_keep_offsets rs (row_span f g) apart lies.row) whole may.row_apart in

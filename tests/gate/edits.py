@@ -74,6 +74,11 @@ def body_line(lines, at, indent):
     return next((it for it in opens if lines[it].endswith(("{", "}"))), at)
 
 
+def has_body(lines, at, indent):
+    """Returns whether the function that begins at a line has a body: a trait's method that its types write has none."""
+    return not any(it.endswith(";") for it in lines[at : body_line(lines, at, indent)])
+
+
 def functions_of(path, text):
     """Returns the name, the first line, that of the body and the last one, counted from 1, of each function of a file. A
     method goes by the end of its name, since rattle names it below the module of its type; one of a trait has no name."""
@@ -86,7 +91,7 @@ def functions_of(path, text):
         elif line.startswith("}"):
             impl = ""
         head = HEAD.match(line)
-        if head:
+        if head and has_body(lines, at, head[1]):
             end = last_line(lines, at, head[1])
             names = [] if impl is None else [*([impl] if impl else parts), head[2]]
             found.append(("::".join(names), head_line(lines, at) + 1, body_line(lines, at, head[1]) + 1, end + 1))
@@ -144,7 +149,8 @@ def lines_of(said):
 
 def is_goal(line):
     """Returns whether a message names a goal that was not proved: not that a name is lacking, or another proof."""
-    return bool(re.match(r"(note: )?\S+:\d+:\d+:|fn \S+: .*did not prove `", line)) and not LACKS.search(line)
+    named = re.match(r"(?:note: )?\S+:\d+:\d+: (?:error: |it is not proved that )|fn \S+: .*did not prove `", line)
+    return bool(named) and not LACKS.search(line)
 
 
 def own_goal(crate, edit, lines):

@@ -64,5 +64,6 @@ pub fn pieces_lie()
 pub fn samples_relocate()
     ensures may { MayRelocate sample_regions sample_staging sample_settings sample_list }
     ensures aligned { AllByRecursion (IsAlignedAt (relocated sample_regions)) sample_list }
-    ensures list { map (relocated_fields (relocated sample_regions)) sample_list ≡ relocated_sample }
+    ensures list { map (relocated_fields (relocated sample_regions)) sample_list ≡
+        relocated_sample }
 {}

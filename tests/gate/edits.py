@@ -12,7 +12,6 @@ import argparse
 import hashlib
 import os
 import re
-import shutil
 import sys
 import tempfile
 
@@ -253,8 +252,11 @@ def sum_of(crate, edits):
 def failures_of(crate, edits):
     """Tries the edits, prints what came of each, and returns how many are not as they should be."""
     failed = 0
-    with tempfile.TemporaryDirectory(prefix="dsa-edits-") as room:
-        kept = shutil.copytree(f"{crate.folder}/{toolchain.KEPT}", f"{room}/kept")
+    # In the crate's own out/, so that what was proved is linked and takes no room twice: a check replaces such a file, and
+    # changes none.
+    with tempfile.TemporaryDirectory(prefix="edits-", dir=f"{crate.folder}/out") as room:
+        kept = f"{room}/kept"
+        rt.linked(f"{crate.folder}/{toolchain.KEPT}", kept)
         for edit, is_well, said in tried(crate, edits, kept):
             failed += not is_well
             print(f"must-fail {crate.name}/{edit.name}: {said[:160] if is_well else 'FAILED: ' + said[:400]}", flush=True)

@@ -10,7 +10,7 @@ import re
 import shutil
 import sys
 
-KIT_ID = "rattle-kit-13b"
+KIT_ID = "rattle-kit-13f"
 ROOT = os.path.dirname(os.path.dirname(os.path.dirname(os.path.realpath(__file__))))
 KEPT = "out/incremental"
 

@@ -23,8 +23,12 @@ import toolchain
 
 HERE = os.path.dirname(os.path.realpath(__file__))
 ROOT = toolchain.ROOT
-# The most jobs of one proof: more gain nothing.
-MOST_JOBS = 4
+# The most jobs of one proof. Each job reads the libraries anew, so where edits and scripts fill the processors anyway, more
+# than two cost more than they gain.
+MOST_JOBS_OF_PROOFS_ALONE = 4
+MOST_JOBS = 2
+# A task whose way to the end is at least this part of the longest one counts as on it.
+NEAR_LONGEST = 0.9
 # The seconds after which a task is ended.
 LIMIT = 7200
 # The seconds that it takes to read all libraries, compile and link a program or an archive.
@@ -33,7 +37,7 @@ COUNTS = re.compile(r"^(?:[\w./-]+: )?(\d+) passed[,;] (\d+) failed", re.M)
 KINDS = ("proofs", "edits", "tests", "scripts")
 # What the scripts need built; those that are not named need the two programs.
 NEEDS = {name: () for name in ("engines", "hostile", "names", "schema")}
-NEEDS |= {"memory": ("dsa", "dsa_text", "dsa_hostile"), "bindings": ("dsa", "dsa_c"), "limits": ("dsa",)}
+NEEDS |= {"bindings": ("dsa", "dsa_c"), "limits": ("dsa",), "package": ("dsa", "dsa_text", "dsa_c")}
 PROGRAMS = ("dsa", "dsa_text")
 # Of how many crates edits that change nothing are tried beside the others, at the least.
 FEWEST_CONTROLS = 5
@@ -46,7 +50,7 @@ class Task:
         self.kind, self.name, self.command, self.weight = kind, name, command, weight
         self.waits, self.folder = [*waits], folder
         # what is behind it, its own work too
-        self.behind, self.jobs = weight, 1
+        self.behind, self.jobs, self.can_wait = weight, 1, False
         self.passed, self.failed, self.processor, self.clock, self.said = 0, 0, 0.0, 0.0, ""
 
     def label(self):
@@ -54,7 +58,8 @@ class Task:
 
     def run(self, log):
         """Runs the command to its end; a command that cannot be started fails with the reason."""
-        command = [*self.command, *([str(self.jobs)] if self.kind == "proofs" else [])]
+        # What the end does not wait for takes the processors that the longest way leaves.
+        command = [*["nice"] * self.can_wait, *self.command, *([str(self.jobs)] if self.kind == "proofs" else [])]
         start = time.monotonic()
         try:
             # Each task leads a process group, so that all it started can be ended.
@@ -108,13 +113,12 @@ def add_up_what_waits(tasks):
             below.behind = max(below.behind, below.weight + task.behind)
 
 
-def jobs_of(task, others, idle, most_behind):
-    """Returns how many jobs a task gets: the processors that no other task waits for, and two at least on the longest way,
-    where they are worth a crowded machine."""
+def jobs_of(task, others, idle, is_longest, most):
+    """Returns how many jobs a task gets: the most on the longest way, where they are worth a crowded machine, and elsewhere
+    the processors that no other task waits for."""
     if task.kind != "proofs":
         return 1
-    least = 2 if task.behind >= most_behind else 1
-    return max(least, min(MOST_JOBS, idle - others))
+    return most if is_longest else max(1, min(most, idle - others))
 
 
 def skip(left, done):
@@ -126,20 +130,21 @@ def skip(left, done):
         task.failed, task.said = 1, f"not run, since the {broken.label()} failed"
 
 
-def start_ready(left, running, done, lanes, start):
+def start_ready(left, running, done, lanes, most_jobs, start):
     """Starts tasks while a processor is idle, first those with the most behind them."""
     ready = [it for it in left if all(below in done for below in it.waits)]
     for at, task in enumerate(ready):
-        idle = lanes - sum(it.jobs for it in running.values())
+        idle = lanes - len(running)
         if idle <= 0:
             break
         most_behind = max(it.behind for it in [*left, *running.values()])
-        task.jobs = jobs_of(task, len(ready) - at - 1, idle, most_behind)
+        is_longest = task.behind >= NEAR_LONGEST * most_behind
+        task.jobs, task.can_wait = jobs_of(task, len(ready) - at - 1, idle, is_longest, most_jobs), not is_longest
         left.remove(task)
         running[start(task)] = task
 
 
-def in_lanes(tasks, logs, lanes):
+def in_lanes(tasks, logs, lanes, most_jobs):
     """Runs the tasks, each when those that it waits for have passed."""
     add_up_what_waits(tasks)
     left, running, done, printing = sorted(tasks, key=lambda it: -it.behind), {}, set(), threading.Lock()
@@ -154,7 +159,7 @@ def in_lanes(tasks, logs, lanes):
     with ThreadPoolExecutor(lanes) as pool:
         while left or running:
             skip(left, done)
-            start_ready(left, running, done, lanes, lambda task: pool.submit(work, task))
+            start_ready(left, running, done, lanes, most_jobs, lambda task: pool.submit(work, task))
             if running:
                 for future in wait(running, return_when=FIRST_COMPLETED).done:
                     done.add(running.pop(future))
@@ -170,7 +175,7 @@ def proofs_of(crates):
     tasks = {}
     for name, crate in crates.items():
         waits = [tasks[it.name] for it in crate.below()]
-        weight = 20 + crate.count(rb"\n") / 10 + (0 if crate.makes_rlib() else LINKING)
+        weight = 15 + 5 * len(crate.below()) + crate.count(rb"\n") / 8 + (0 if crate.makes_rlib() else LINKING)
         tasks[name] = Task("proofs", name, python("prove.py", name), weight, waits)
     return tasks
 
@@ -301,7 +306,8 @@ def main():
         clear(crates)
     tasks = tasks_of(crates, given)
     print(f"logs: {logs}", flush=True)
-    in_lanes(tasks, logs, toolchain.rt.processors())
+    most_jobs = MOST_JOBS_OF_PROOFS_ALONE if given.proofs else MOST_JOBS
+    in_lanes(tasks, logs, toolchain.rt.processors(), most_jobs)
     return report(tasks, time.monotonic() - start)
 
 

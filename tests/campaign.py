@@ -36,20 +36,6 @@ class Runs:
             raise Wrong(f"{text}\n  wanted {wanted}\n  got    {line.rstrip()} with status {ran.returncode}")
 
 
-class Writes:
-    """Writes each job, and the line that has to answer it, to files of a folder, as `rt try --cases` takes them."""
-
-    def __init__(self, folder):
-        self.folder = folder
-        self.count = 0
-
-    def expect(self, text, wanted):
-        self.count += 1
-        for name, content in ((f"{self.count:05}", text), (f"{self.count:05}.stdout", wanted + "\n")):
-            with open(f"{self.folder}/{name}", "w") as file:
-                file.write(content)
-
-
 def expect(program, job, wanted):
     program.expect(json.dumps(job), wanted)
 

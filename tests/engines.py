@@ -4,49 +4,74 @@ date. Each is a patch of dsa_engines in tests/engines, whose first line names th
 fail. The words are parts of names of patches."""
 
 import re
+import shutil
 import subprocess
 import tempfile
 from glob import glob
 from pathlib import Path
 
-from common import copy_crates, expect, having, patched, run_test, side_by_side
+from common import copy_crates, crates, expect, having, patched, run_test
 
 TESTS = "crates/dsa_call_tests/src"
+# The crate of the tests, and what they stand on beside the wrong engines.
+TRIED = "wrong_engines"
+BELOW = ["dsa_core", "dsa_descriptor", "dsa_image", "dsa_plan"]
 
 
-def add_tests(crate):
-    """Brings the tests of engines, which stand in a crate above, to a copy of dsa_engines, as tests of its own."""
-    Path(crate, "src/tests").mkdir()
-    for source in [f"{TESTS}/engines.rt", *glob(f"{TESTS}/engines/*.rt")]:
-        target = source.removeprefix(f"{TESTS}/").replace("engines", "tests", 1)
-        Path(crate, "src", target).write_text(Path(source).read_text().replace("dsa_engines::", "crate::"))
-    with open(f"{crate}/src/lib.rt", "a") as file:
-        file.write("\n#[cfg(test)]\nmod tests;\n")
+def renamed(folder, name):
+    """Has the files of a copy of dsa_engines, or of its tests, name the crate so."""
+    for file in Path(folder).rglob("*"):
+        if file.is_file():
+            file.write_text(re.sub(r"\bdsa_engines\b", name, file.read_text()))
 
 
-def fault_of(patch):
+def add_engines(tree, patch, name):
+    """Brings a copy of dsa_engines with the patch to the tree as a crate of its own, and the tests of engines as a module of
+    the same name. Answers what is wrong with the patch, or else nothing."""
+    shutil.copytree("crates/dsa_engines", f"{tree}/crates/{name}", ignore=shutil.ignore_patterns("out", "must-fail"))
+    fault = patched(f"{tree}/crates/{name}", patch)
+    renamed(f"{tree}/crates/{name}", name)
+    tests = f"{tree}/crates/{TRIED}/src"
+    shutil.copytree(f"{TESTS}/engines", f"{tests}/{name}")
+    shutil.copy(f"{TESTS}/engines.rt", f"{tests}/{name}.rt")
+    renamed(f"{tests}/{name}", name)
+    Path(tests, f"{name}.rt").write_text(re.sub(r"\bdsa_engines\b", name, Path(tests, f"{name}.rt").read_text()))
+    with open(f"{tests}/lib.rt", "a") as file:
+        file.write(f"#[cfg(test)]\nmod {name};\n")
+    return fault
+
+
+def add_lines(tree, names):
+    """Has crates.txt of the tree list the wrong engines, and the crate of their tests."""
+    below = " ".join(crates()["dsa_engines"][1])
+    with open(f"{tree}/crates.txt", "a") as file:
+        file.writelines(f"{name}: {below}\n" for name in names)
+        file.write(f"{TRIED}: {' '.join([*BELOW, *names])}\n")
+
+
+def fault_of(patch, name, said):
     """What is wrong where the patch does not fail the test that it names, or else nothing."""
     test = re.match(r"fails: (\w+)\n", Path(patch).read_text())
     if not test:
         return f"{patch} does not begin with the test that it fails"
-    with tempfile.TemporaryDirectory() as tree:
-        # the tests ask whether a plan is legal
-        copy_crates("dsa_engines", tree, also=["dsa_plan"])
-        crate = f"{tree}/crates/dsa_engines"
-        add_tests(crate)
-        fault = patched(crate, patch)
-        if fault:
-            return fault
-        ran = subprocess.run(["rt", "try", "--test"], cwd=crate, capture_output=True, text=True)
-    if ran.returncode == 0:
-        return f"{patch} passes the tests"
-    said = ran.stdout + ran.stderr
-    failed = re.search(rf"{test[1]}.* FAILED", said)
-    return "" if failed else f"{patch} does not fail {test[1]}:\n" + "\n".join(said.splitlines()[-20:])
+    if re.search(rf"\b{name}::(\w+::)*{test[1]}\b.* FAILED", said):
+        return ""
+    return f"{patch} does not fail {test[1]}:\n" + "\n".join(said.splitlines()[-20:])
 
 
 def main(words):
-    for fault in side_by_side(fault_of, having(sorted(glob("tests/engines/*.patch")), words), most=2):
+    patches = having(sorted(glob("tests/engines/*.patch")), words)
+    names = {patch: f"engines_{Path(patch).stem}" for patch in patches}
+    with tempfile.TemporaryDirectory() as tree:
+        # the tests ask whether a plan is legal
+        copy_crates("dsa_plan", tree, also=["dsa_core"])
+        Path(tree, "crates", TRIED, "src").mkdir(parents=True)
+        Path(tree, "crates", TRIED, "src", "lib.rt").write_text("//! Tests of wrong engines.\n\n")
+        faults = {patch: add_engines(tree, patch, name) for patch, name in names.items()}
+        add_lines(tree, names.values())
+        ran = subprocess.run(["rt", "try", "--test"], cwd=f"{tree}/crates/{TRIED}", capture_output=True, text=True)
+    for patch, name in names.items():
+        fault = faults[patch] or fault_of(patch, name, ran.stdout + ran.stderr)
         expect(not fault, fault)
 
 

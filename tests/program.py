@@ -2,16 +2,25 @@
 0 for an answer, 1 for a refusal, 2 where reading or writing fails. A word takes the jobs that have it in their
 names."""
 
+import re
+import subprocess
 from glob import glob
 from pathlib import Path
 
-from common import expect_line, expect_status, having, program, run_test
+from common import expect, expect_line, having, program, run_test
 
 
 def jobs(dsa, words):
     for name in having(sorted(glob("examples/*.job") + glob("tests/jobs/*.job")), words):
         path = Path(name)
         expect_line([dsa], path.read_bytes(), path.with_suffix(".line").read_text().rstrip("\n"))
+
+
+def told(command, status, output, error):
+    """What the command prints, and its status."""
+    ran = subprocess.run(command, stdin=subprocess.DEVNULL, capture_output=True)
+    got = (ran.returncode, ran.stdout, ran.stderr)
+    expect(got == (status, output, error), f"{command}: wanted {(status, output, error)}, got {got}")
 
 
 def by_hand(dsa):
@@ -22,9 +31,15 @@ def by_hand(dsa):
     expect_line([dsa], " " * 1048575, "refused 80 Json")
     expect_line([dsa], "{}\n", "refused 82 Do")
     expect_line([dsa], "[\n", "refused 80 Json")
-    expect_status(["sh", "-c", 'exec "$0" <&-', dsa], 2)
-    with open("/dev/full", "w") as full:
-        expect_status(["sh", "-c", 'exec "$0" < examples/judge.job', dsa], 2, stdout=full)
+    told([dsa, "-"], 2, b"", b"dsa: it takes a job from standard input alone; --help says more\n")
+    told([dsa, "--version"], 0, b"dsa 1.0.0\n", b"")
+    told(["sh", "-c", 'exec "$0" <&-', dsa], 2, b"", b"dsa: the input can't be read to its end\n")
+    told(["sh", "-c", 'exec "$0" < examples/judge.job > /dev/full', dsa], 2, b"", b"dsa: the answer can't be written\n")
+    helped = subprocess.run([dsa, "--help"], stdin=subprocess.DEVNULL, capture_output=True)
+    expect(helped.returncode == 0 and b"Usage: dsa < JOB" in helped.stdout and not helped.stderr, f"--help: {helped}")
+    header = Path("bindings/c/dsa_planner.h").read_text()
+    parts = [re.search(rf"define DSA_PLANNER_{part} (\d+)", header)[1] for part in ("MAJOR", "MINOR", "PATCH")]
+    expect(".".join(parts) == "1.0.0", f"the header has version {parts}, the programs 1.0.0")
 
 
 def main(words):

@@ -11,6 +11,7 @@ from glob import glob
 from common import ROOT, expect, having, program, refuse_so, run_test, side_by_side
 
 TURNS = 1048576
+REASONS = (b"dsa: the input can't be read to its end\n", b"dsa: the answer can't be written\n")
 JOBS = sorted(glob("examples/*.job", root_dir=ROOT)) + [
     f"tests/jobs/{name}.job" for name in ("judge-unfenced", "check-fence-left-out", "plan-nothing", "no-do", "nothing")
 ]
@@ -20,14 +21,16 @@ def once(shared, tried, text, settings):
     """What the program that is tried prints, its status, and how many reads came too late."""
     reader, writer = os.pipe()
     names = {f"HOSTILE_{name.upper()}": str(value) for name, value in settings.items()}
-    names |= {"LD_PRELOAD": shared, "HOSTILE_ALL": "1", "HOSTILE_REPORT": str(writer)}
+    names |= {"LD_PRELOAD": shared, "HOSTILE_REPORT": str(writer)}
     try:
         ran = subprocess.run([tried], input=text, capture_output=True, env=names, pass_fds=[writer], timeout=60)
     finally:
         os.close(writer)
         with os.fdopen(reader) as report:
             counts = report.read().split()
-    return ran.stdout + ran.stderr, ran.returncode, int(counts[2]) if len(counts) == 3 else "unknown"
+    is_told = ran.returncode == 2 and ran.stderr in REASONS
+    said = ran.stdout if is_told else ran.stdout + ran.stderr
+    return said, ran.returncode, int(counts[2]) if len(counts) == 4 else "unknown"
 
 
 def turns(text, most):

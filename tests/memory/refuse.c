@@ -1,13 +1,13 @@
 /*
  * Put before a program (LD_PRELOAD), it refuses the program allocations and starts of threads, and makes its standard
- * input and output slow or faulty. All numbers count from 1. Allocations and starts are counted between the program's
- * first and its second read of a single byte of standard input, or, where HOSTILE_ALL is set, from start to end.
+ * input and output slow or faulty. All numbers count from 1.
  *
  *   HOSTILE_FIRST, HOSTILE_LAST     the first and the last allocation that is refused
  *   HOSTILE_THREAD                  the start of a thread that is refused
- *   HOSTILE_REPORT                  the file that gets a line when counting ends: how many allocations were asked for,
- *                                   how many starts of threads, and how many late reads: those of standard input
- *                                   behind its end, behind a read that failed, or once anything was written
+ *   HOSTILE_REPORT                  the file that gets a line at the end: how many allocations were asked for, how many
+ *                                   starts of threads, how many late reads (those of standard input behind its end,
+ *                                   behind a read that failed, or once anything was written), and how many threads were
+ *                                   started and have not ended
  *   HOSTILE_READ_MOST               the most bytes that a read gives
  *   HOSTILE_READ_FAULT              the read that fails; the next would go on
  *   HOSTILE_WRITE_MOST              the most bytes that a write takes
@@ -31,22 +31,35 @@ typedef int (*create)(pthread_t *, const pthread_attr_t *, thread_body, void *);
 extern void *__libc_malloc(size_t size);
 extern void *__libc_calloc(size_t count, size_t size);
 extern void *__libc_realloc(void *old, size_t size);
+extern void __libc_free(void *old);
+
+struct thread {
+    thread_body body;
+    void *argument;
+};
 
 static atomic_bool counting;
 static atomic_ulong allocations, starts;
+static atomic_long alive;
 static unsigned long first_refused, last_refused, refused_start, report_to;
 static unsigned long read_most, read_fault, write_most, write_fault, fault_error;
-static unsigned long marks, turns, taken, late;
-static bool counts_all, is_read;
+static unsigned long turns, taken, late;
+static bool is_read;
 
 static unsigned long number(const char *name) {
     const char *text = getenv(name);
     return text ? strtoul(text, NULL, 10) : 0;
 }
 
+/* A thread may be on its way out when the program ends: it has a second for that. */
+static void wait_for_threads(void) {
+    for (int turn = 0; alive && turn < 1000; ++turn)
+        usleep(1000);
+}
+
 static void report(void) {
     char line[80];
-    int length = snprintf(line, sizeof line, "%lu %lu %lu\n", allocations, starts, late);
+    int length = snprintf(line, sizeof line, "%lu %lu %lu %ld\n", allocations, starts, late, alive);
     if (report_to && syscall(SYS_write, (int)report_to, line, (size_t)length) != length)
         abort();
     report_to = 0;
@@ -62,12 +75,12 @@ __attribute__((constructor)) static void begin(void) {
     write_most = number("HOSTILE_WRITE_MOST");
     write_fault = number("HOSTILE_WRITE_FAULT");
     fault_error = number("HOSTILE_ERROR");
-    counts_all = getenv("HOSTILE_ALL");
-    counting = counts_all;
+    counting = true;
 }
 
 __attribute__((destructor)) static void end(void) {
     counting = false;
+    wait_for_threads();
     report();
 }
 
@@ -93,18 +106,31 @@ void *calloc(size_t count, size_t size) { return refuses() ? NULL : __libc_callo
 
 void *realloc(void *old, size_t size) { return refuses() ? NULL : __libc_realloc(old, size); }
 
-int pthread_create(pthread_t *thread, const pthread_attr_t *attributes, thread_body body, void *argument) {
+static void *run_thread(void *given) {
+    struct thread thread = *(struct thread *)given;
+    __libc_free(given);
+    void *answer = thread.body(thread.argument);
+    --alive;
+    return answer;
+}
+
+int pthread_create(pthread_t *id, const pthread_attr_t *attributes, thread_body body, void *argument) {
     if (counting && ++starts == refused_start)
         return EAGAIN;
-    return ((create)dlsym(RTLD_NEXT, "pthread_create"))(thread, attributes, body, argument);
+    struct thread *thread = __libc_malloc(sizeof *thread);
+    if (!thread)
+        return EAGAIN;
+    *thread = (struct thread){body, argument};
+    ++alive;
+    int fault = ((create)dlsym(RTLD_NEXT, "pthread_create"))(id, attributes, run_thread, thread);
+    if (fault) {
+        --alive;
+        __libc_free(thread);
+    }
+    return fault;
 }
 
 ssize_t read(int file, void *buffer, size_t size) {
-    if (file == 0 && size == 1 && !counts_all) {
-        counting = ++marks == 1;
-        if (marks == 2)
-            report();
-    }
     if (file == 0 && is_read)
         ++late;
     if (file == 0 && ++turns == read_fault) {

@@ -1,11 +1,26 @@
 //! Lists planned whole: read, split, searched, and the bytes that submit the plan.
 
-use crate::planning::moves;
+use crate::operation::operation_of;
 use crate::timing::nanos_each;
 use dsa_calls::plan_list;
 use dsa_plan::Settings;
+use std::alloc::{AllocError, Global};
 use std::io;
 use std::time::Instant;
+
+/// The bytes of moves of 64 bytes to the next 64, from one source to the next `step` bytes further on.
+fn moves(alloc: Global, count: u64, step: u64) -> Result<Vec<u8>, AllocError> {
+    let mut list = Vec::new(alloc);
+    let mut source = 0x1000_0000u64;
+    let mut record_at = 0x1000u64;
+    for _ in 0..count {
+        let destination = source.wrapping_add(64);
+        list.extend_from_slice(&operation_of(0x03, source, destination, 64, record_at))?;
+        source = source.wrapping_add(step);
+        record_at = record_at.wrapping_add(32);
+    }
+    Ok(list)
+}
 
 /// Plans the list so many times, and says how long that took for each operation, in nanoseconds.
 fn plan(rt: &HostRuntime, list: &[u8], settings: &Settings, times: u64) -> io::Result<u128> {

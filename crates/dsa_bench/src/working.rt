@@ -13,12 +13,12 @@ const IMAGE_LEN: usize = 16_777_216;
 const ROUNDS: u32 = 50;
 
 /// An image whose bytes are all 1.
-pub(crate) fn image_of_ones(alloc: Global) -> Result<Option<Image>, AllocError> {
+fn image_of_ones(alloc: Global) -> Result<Option<Image>, AllocError> {
     Ok(Image::new(0, vec![in alloc; 1; IMAGE_LEN]?).ok())
 }
 
 /// Does the operation, where the image has its addresses.
-pub(crate) fn run_once(image: &mut Image, ds: &[Descriptor]) {
+fn run_once(image: &mut Image, ds: &[Descriptor]) {
     if image.holds_all(ds).is_ok() {
         image.execute_list(ds);
     }

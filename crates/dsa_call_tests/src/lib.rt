@@ -1,5 +1,5 @@
-//! Tests of engines as threads, of the calls over bytes, of jobs and of texts, a module for each crate. They stand here and
-//! not in those crates, since a crate with tests is proved twice.
+//! Tests of engines as threads, of the calls over bytes, of jobs, of texts and of prepared submissions, a module for each
+//! crate. They stand here and not in those crates, since a crate with tests is proved twice.
 #![tactic(auto)]
 
 #[cfg(test)]
@@ -16,5 +16,7 @@ mod hazards;
 mod lines;
 #[cfg(test)]
 mod listing;
+#[cfg(test)]
+mod prepared;
 #[cfg(test)]
 mod report;

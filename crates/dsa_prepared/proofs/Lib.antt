@@ -1,0 +1,13 @@
+pub mod Words
+pub mod Emitted
+pub mod Spans
+pub mod Aligned
+pub mod Whole
+pub mod Planned
+pub mod Put
+pub mod OneFault
+pub mod Placed
+pub mod Outside
+pub mod SoundTemplates
+pub mod GroupEntries
+pub mod Preparation

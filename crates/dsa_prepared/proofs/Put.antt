@@ -1,0 +1,126 @@
+-- Entries that are written one after another, and words that have values.
+use Rattle.std.proofs.Common.{◌≡◌, ℕ, ◌+◌, ◌*◌, ◌^◌, ◌<◌, ◌≤◌, List, [], ◌∷◌, ◌++◌, length, take, drop, get_or, refl, sym, ap, subst, ◌∙◌, arith}
+use Rattle.std.specs.Prelude.{All, replicate}
+use Rattle.std.proofs.lemmas.List.{take_at, drop_at, drop-drop, take_more, take_all, append-nil, length-append, length-replicate}
+use Rattle.std.proofs.lemmas.List.Concat.{flat_map-append}
+use Rattle.dsa_descriptor.specs.declared.span.Span.{Span}
+use Rattle.dsa_descriptor.specs.Spans.{Apart, span}
+use Rattle.dsa_prepared.specs.declared.word.Word.{Word}
+use Rattle.dsa_prepared.specs.declared.word.Word.TheVariants.{InRegion, InStaging, Fixed}
+use Rattle.dsa_prepared.specs.declared.entry.Entry.{Entry}
+use Rattle.dsa_prepared.specs.Entries.{filled, filled_entry}
+use Rattle.dsa_prepared.specs.Sound.{ArePut, HasValue, HasValues, IsWithin, AreWithin}
+use Rattle.dsa_prepared.specs.Templates.{Template, filled_portal, filled_staging}
+use Rattle.dsa_prepared.specs.Filling.{AllBelow, FitsAt, IsStaging, written}
+
+-- ---- bytes
+
+pub put_none : (bases : List ℕ) (staging : ℕ) (entries : List Entry) (buffer : List ℕ) → ArePut bases staging entries 0 buffer buffer
+put_none bases staging entries buffer = record { bytes = refl; long = refl }
+
+pub put_more : (bases : List ℕ) (staging : ℕ) (entries : List Entry) (k : ℕ) (before now next bytes : List ℕ) (e : Entry) → ArePut bases staging entries k before now → k < length entries → e ≡ get_or entries k e →
+    bytes ≡ filled_entry bases staging e → length bytes ≡ 64 → next ≡ take (64 * k) now ++ bytes ++ drop (64 * k + 64) now → ArePut bases staging entries (k + 1) before next
+put_more bases staging entries k before now next bytes e h lt is made long put =
+    let front : List ℕ = filled bases staging (take k entries) in
+    let more : filled bases staging (take (k + 1) entries) ≡ front ++ bytes =
+    ap (filled bases staging) (take_more entries k e lt ∙ ap (λ (x : Entry). take k entries ++ x ∷ []) (sym is))
+    ∙ flat_map-append (filled_entry bases staging) (take k entries) (e ∷ [])
+    ∙ ap (λ (xs : List ℕ). front ++ xs) (append-nil (filled_entry bases staging e) ∙ sym made) in
+    let first : take (64 * k) now ≡ front = ap (take (64 * k)) h.bytes ∙ take_at front (drop (64 * k) before) (64 * k) h.long in
+    let step : 64 * k + 64 ≡ 64 * (k + 1) = omega arith in
+    let rest : drop (64 * k + 64) now ≡ drop (64 * (k + 1)) before =
+    sym (drop-drop 64 (64 * k) now) ∙ ap (drop 64) (ap (drop (64 * k)) h.bytes ∙ drop_at front (drop (64 * k) before) (64 * k) h.long)
+    ∙ drop-drop 64 (64 * k) before ∙ ap (λ (n : ℕ). drop n before) step in
+    record {
+      bytes = put ∙ (λ i. first i ++ bytes ++ rest i) ∙ (λ i. sym more i ++ drop (64 * (k + 1)) before);
+      long = ap length more ∙ omega (arith, length-append front bytes, h.long, long);
+    }
+
+pub put_all : (bases : List ℕ) (staging : ℕ) (entries : List Entry) (k : ℕ) (before now : List ℕ) → ArePut bases staging entries k before now → k ≡ length entries →
+    (now ≡ filled bases staging entries ++ drop (64 * length entries) before) × (length (filled bases staging entries) ≡ 64 * length entries)
+put_all bases staging entries k before now h end =
+    let all : take k entries ≡ entries = take_all k entries (omega (arith, end)) in (
+      h.bytes ∙ (λ i. filled bases staging (all i) ++ drop (64 * end i) before),
+      sym (ap (λ (es : List Entry). length (filled bases staging es)) all) ∙ h.long ∙ ap (λ (n : ℕ). 64 * n) end,
+    )
+
+-- the portal, and the staging area with its records
+pub portal_written : (bytes old new : List ℕ) (n : ℕ) → new ≡ bytes ++ drop n old → length bytes ≡ n → new ≡ written bytes old
+portal_written bytes old new n put long = put ∙ ap (λ (k : ℕ). bytes ++ drop k old) (sym long)
+
+pub area_written : (bytes old mid new : List ℕ) (n count : ℕ) → mid ≡ bytes ++ drop n old → length bytes ≡ n → new ≡ take n mid ++ replicate count 0 ++ drop (n + count) mid →
+    new ≡ written (bytes ++ replicate count 0) old
+area_written bytes old mid new n count put long zeros =
+    let front : take n mid ≡ bytes = ap (take n) put ∙ take_at bytes (drop n old) n long in
+    let size : n + count ≡ length (bytes ++ replicate count 0) = omega (arith, long, length-append bytes (replicate {A = ℕ} count 0), length-replicate {A = ℕ} count 0) in
+    let rest : drop (n + count) mid ≡ drop (n + count) old =
+    sym (drop-drop count n mid) ∙ ap (drop count) (ap (drop n) put ∙ drop_at bytes (drop n old) n long) ∙ drop-drop count n old in
+    zeros ∙ (λ i. front i ++ replicate count 0 ++ rest i) ∙ (λ i. (bytes ++ replicate count 0) ++ drop (size i) old)
+
+-- ---- values
+
+word_has : (rs : List Span) (bases : List ℕ) (staging : ℕ) (w : Word) → length bases ≡ length rs → AllBelow (length rs) (FitsAt rs bases) → staging ≤ 2 ^ 63 → IsWithin rs w → HasValue bases staging w
+word_has rs bases staging (InRegion region offset) count fit low within =
+    let f = fit region within.0 in
+    (omega (arith, count, within.0), omega (arith, f, within.1))
+word_has rs bases staging (InStaging offset) count fit low within = omega (arith, low, within)
+word_has rs bases staging (Fixed value) count fit low within = tt
+
+pub entries_have : (rs : List Span) (bases : List ℕ) (staging : ℕ) (entries : List Entry) → length bases ≡ length rs → AllBelow (length rs) (FitsAt rs bases) → IsStaging staging → All (AreWithin rs) entries → All (HasValues bases staging) entries
+entries_have rs bases staging entries count fit low all k d lt =
+    let h = all k d lt in
+    let e : Entry = get_or entries k d in
+    record {
+      completion = word_has rs bases staging e.completion count fit low.0 h.completion;
+      first = word_has rs bases staging e.first count fit low.0 h.first;
+      second = word_has rs bases staging e.second count fit low.0 h.second;
+      own = word_has rs bases staging e.own count fit low.0 h.own;
+    }
+
+-- ---- one entry
+
+-- eight bytes more, over zeros
+step : (front rest rest' part old new : List ℕ) (n : ℕ) → old ≡ front ++ rest → length front ≡ n → length part ≡ 8 → drop 8 rest ≡ rest' → new ≡ take n old ++ part ++ drop (n + 8) old → new ≡ front ++ part ++ rest'
+step front rest rest' part old new n was long size zeros put =
+    let first : take n old ≡ front = ap (take n) was ∙ take_at front rest n long in
+    let last : drop (n + 8) old ≡ rest' = sym (drop-drop 8 n old) ∙ ap (drop 8) (ap (drop n) was ∙ drop_at front rest n long) ∙ zeros in
+    put ∙ (λ i. first i ++ part ++ last i)
+
+pub entry_filled : (head a b c middle d p q r s t u : List ℕ) → length head ≡ 8 → length a ≡ 8 → length b ≡ 8 → length c ≡ 8 → length middle ≡ 8 → length d ≡ 8
+    → p ≡ take 0 (replicate 64 0) ++ head ++ drop (0 + 8) (replicate 64 0) → q ≡ take 8 p ++ a ++ drop (8 + 8) p → r ≡ take 16 q ++ b ++ drop (16 + 8) q
+    → s ≡ take 24 r ++ c ++ drop (24 + 8) r → t ≡ take 32 s ++ middle ++ drop (32 + 8) s → u ≡ take 40 t ++ d ++ drop (40 + 8) t
+    → u ≡ head ++ a ++ b ++ c ++ middle ++ d ++ replicate 16 0
+entry_filled head a b c middle d p q r s t u lh la lb lc lm ld h1 h2 h3 h4 h5 h6 =
+    let e1 : p ≡ head ++ replicate 56 0 = step [] (replicate 64 0) (replicate 56 0) head (replicate 64 0) p 0 refl refl lh refl h1 in
+    let e2 : q ≡ head ++ a ++ replicate 48 0 = step head (replicate 56 0) (replicate 48 0) a p q 8 e1 lh la refl h2 in
+    let l2 : length (head ++ a) ≡ 16 = omega (arith, length-append head a, lh, la) in
+    let e3 : r ≡ head ++ a ++ b ++ replicate 40 0 = step (head ++ a) (replicate 48 0) (replicate 40 0) b q r 16 e2 l2 lb refl h3 in
+    let l3 : length (head ++ a ++ b) ≡ 24 = omega (arith, length-append (head ++ a) b, l2, lb) in
+    let e4 : s ≡ head ++ a ++ b ++ c ++ replicate 32 0 = step (head ++ a ++ b) (replicate 40 0) (replicate 32 0) c r s 24 e3 l3 lc refl h4 in
+    let l4 : length (head ++ a ++ b ++ c) ≡ 32 = omega (arith, length-append (head ++ a ++ b) c, l3, lc) in
+    let e5 : t ≡ head ++ a ++ b ++ c ++ middle ++ replicate 24 0 = step (head ++ a ++ b ++ c) (replicate 32 0) (replicate 24 0) middle s t 32 e4 l4 lm refl h5 in
+    let l5 : length (head ++ a ++ b ++ c ++ middle) ≡ 40 = omega (arith, length-append (head ++ a ++ b ++ c) middle, l4, lm) in
+    step (head ++ a ++ b ++ c ++ middle) (replicate 24 0) (replicate 16 0) d t u 40 e5 l5 ld refl h6
+
+-- ---- tests
+
+-- what a test found of two spans
+pub apart_found : (a b s t : Span) → a ≡ s → b ≡ t → Apart (span a.first a.len) (span b.first b.len) → Apart s t
+apart_found a b s t p q h =
+    let one : Apart s b = subst (λ (x : Span). Apart x b) p h in
+    subst (λ (x : Span). Apart s x) q one
+
+-- ---- both buffers
+
+pub buffers_written : (t : Template) (bases : List ℕ) (staging : ℕ) (portal new_portal area mid new_area : List ℕ) (count batches : ℕ) →
+    ArePut bases staging t.portal (length t.portal) portal new_portal → ArePut bases staging t.staging (length t.staging) area mid → count ≡ length t.staging → batches ≡ t.batches →
+    new_area ≡ take (64 * count) mid ++ replicate (32 * batches) 0 ++ drop (64 * count + 32 * batches) mid →
+    (new_portal ≡ written (filled_portal t bases staging) portal) × (new_area ≡ written (filled_staging t bases staging) area)
+buffers_written t bases staging portal new_portal area mid new_area count batches put put' same same' zeros =
+    let a = put_all bases staging t.portal (length t.portal) portal new_portal put refl in
+    let b = put_all bases staging t.staging (length t.staging) area mid put' refl in
+    let zeros' : new_area ≡ take (64 * length t.staging) mid ++ replicate (32 * t.batches) 0 ++ drop (64 * length t.staging + 32 * t.batches) mid =
+    zeros ∙ (λ i. take (64 * same i) mid ++ replicate (32 * same' i) 0 ++ drop (64 * same i + 32 * same' i) mid) in (
+      portal_written (filled bases staging t.portal) portal new_portal (64 * length t.portal) a.0 a.1,
+      area_written (filled bases staging t.staging) area mid new_area (64 * length t.staging) (32 * t.batches) b.0 b.1 zeros',
+    )

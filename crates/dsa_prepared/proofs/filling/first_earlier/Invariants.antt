@@ -1,0 +1,5 @@
+use Rattle.dsa_prepared.specs.Filling.{AllBelow, AreApartAt}
+use Rattle.dsa_prepared.proofs.filling.first_earlier.Given as goal
+
+abbrev pub invariant-loop-j : goal.invariant-loop-j
+invariant-loop-j l = AllBelow l.j (AreApartAt l.regions l.bases l.region)

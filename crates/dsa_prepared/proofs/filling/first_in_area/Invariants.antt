@@ -1,0 +1,5 @@
+use Rattle.dsa_prepared.specs.Filling.{AllBelow, IsClearAt}
+use Rattle.dsa_prepared.proofs.filling.first_in_area.Given as goal
+
+abbrev pub invariant-loop-i : goal.invariant-loop-i
+invariant-loop-i l = AllBelow l.i (IsClearAt l.regions l.bases l.area)

@@ -1,0 +1,5 @@
+use Rattle.dsa_prepared.specs.Filling.{AllBelow, IsApartFromEarlier}
+use Rattle.dsa_prepared.proofs.filling.first_meeting.Given as goal
+
+abbrev pub invariant-loop-i : goal.invariant-loop-i
+invariant-loop-i l = AllBelow l.i (IsApartFromEarlier l.regions l.bases)

@@ -1,0 +1,5 @@
+use Rattle.dsa_prepared.specs.Filling.{AllBelow, FitsAt}
+use Rattle.dsa_prepared.proofs.filling.first_wrap.Given as goal
+
+abbrev pub invariant-loop-i : goal.invariant-loop-i
+invariant-loop-i l = AllBelow l.i (FitsAt l.regions l.bases)

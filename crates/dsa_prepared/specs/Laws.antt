@@ -1,0 +1,45 @@
+-- What filling writes, and what it asks for.
+use Rattle.std.specs.Prelude.{◌≡◌, ℕ, List, length, map, Ok}
+use Rattle.std.specs.List.{AllByRecursion}
+use Rattle.dsa_descriptor.specs.declared.descriptor.Descriptor.{Descriptor}
+use Rattle.dsa_descriptor.specs.declared.span.Span.{Span}
+use Rattle.dsa_descriptor.specs.Descriptors.{fields}
+use Rattle.dsa_plan.specs.Plan.{Plan}
+use Rattle.dsa_plan.specs.Settings.{Limits}
+use Rattle.dsa_plan.specs.Emission.{portal_bytes, staging_bytes}
+use Rattle.dsa_calls.specs.Planned.{Submission, Plans}
+use Rattle.dsa_relocation.specs.Relocated.{relocated_fields}
+use Rattle.dsa_relocation.specs.Regions.{relocated, AllLieInOne}
+use Rattle.dsa_relocation.specs.Submissions.{staged_at}
+use Rattle.dsa_relocation.specs.Listed.{IsAlignedAt}
+use Rattle.dsa_prepared.specs.Templates.{template_of, filled_portal, filled_staging}
+use Rattle.dsa_prepared.specs.Preparing.{IsPreparedOf, relocation}
+use Rattle.dsa_prepared.specs.Templates.{Template}
+use Rattle.dsa_prepared.specs.Filling.{HasBases, AllAligned, AllTied, CanFill, relocated_list}
+
+-- a filled template has the bytes that submit the same plan of the relocated pieces, whatever the bases are
+abbrev pub FilledIsEmission : Type 0
+FilledIsEmission =
+    (rs : List Span) (bases : List ℕ) (staging : ℕ) (s : Limits) (operations pieces : List Descriptor) (plan : Plan) →
+    length bases ≡ length rs → AllLieInOne rs (map fields pieces) →
+    (filled_portal (template_of rs (map fields operations) plan (map fields pieces)) bases staging
+    ≡ portal_bytes (staged_at staging s) plan (map (relocated_fields (relocated (relocation rs bases))) (map fields pieces)))
+    × (filled_staging (template_of rs (map fields operations) plan (map fields pieces)) bases staging
+    ≡ staging_bytes plan (map (relocated_fields (relocated (relocation rs bases))) (map fields pieces)))
+
+-- where bases keep the units and the ties of operations, each is aligned at its relocated addresses
+abbrev pub AlignedBasesAlign : Type 0
+AlignedBasesAlign =
+    (rs : List Span) (bases : List ℕ) (operations pieces : List Descriptor) (plan : Plan) →
+    length bases ≡ length rs → AllLieInOne rs (map fields operations) →
+    AllAligned (template_of rs (map fields operations) plan (map fields pieces)) bases →
+    AllTied (template_of rs (map fields operations) plan (map fields pieces)) bases →
+    AllByRecursion (IsAlignedAt (relocated (relocation rs bases))) (map fields operations)
+
+-- what is filled of a prepared list is what planning the relocated list answers
+abbrev pub FilledIsPlanned : Type 0
+FilledIsPlanned =
+    (list : List ℕ) (s : Limits) (rs : List Span) (ds : List Descriptor) (t : Template) (bases : List ℕ) (staging : ℕ) →
+    IsPreparedOf list s rs ds t → HasBases t bases → CanFill t bases staging →
+    (p : Submission) × Plans (relocated_list rs bases ds) (staged_at staging s) (Ok p)
+    × (p.portal ≡ filled_portal t bases staging) × (p.staging ≡ filled_staging t bases staging)

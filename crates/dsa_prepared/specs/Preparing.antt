@@ -1,0 +1,83 @@
+-- When a list can be prepared, and why it is refused.
+use Rattle.std.specs.Prelude.{◌≡◌, ℕ, suc, ◌+◌, ◌<◌, ◌≤◌, List, [], ◌∷◌, length, map, slice_get, slice_index_or, Some, Ok, Err}
+use Rattle.std.specs.List.{AllByRecursion}
+use Rattle.dsa_descriptor.specs.declared.descriptor.Descriptor.{Descriptor}
+use Rattle.dsa_descriptor.specs.declared.span.Span.{Span}
+use Rattle.dsa_descriptor.specs.Descriptors.{fields}
+use Rattle.dsa_descriptor.specs.Fields.{Fields}
+use Rattle.dsa_descriptor.specs.Spans.{span, IsAddressable}
+use Rattle.dsa_plan.specs.Settings.{Limits, AreInLimits}
+use Rattle.dsa_calls.specs.Lists.{IsListOf}
+use Rattle.dsa_calls.specs.Planned.{Submission, IsSubmissionOf, Plans}
+use Rattle.dsa_relocation.specs.Regions.{Region, LiesWhole}
+use Rattle.dsa_prepared.specs.declared.fault.PrepareFault.{PrepareFault}
+use Rattle.dsa_prepared.specs.declared.fault.PrepareFault.TheVariants.{Plan, RegionWrap, RegionOrder, Outside}
+use Rattle.dsa_prepared.specs.Templates.{Template, template_of}
+
+-- ---- regions
+
+-- the region of that number
+abbrev pub region_at : List Span → ℕ → Span
+region_at rs i = slice_index_or rs i (span 0 0)
+
+-- it begins where the region before it ends, or behind that
+abbrev pub FollowsAt : List Span → ℕ → Type 0
+FollowsAt rs i = (j : ℕ) → suc j ≡ i → (region_at rs j).first + (region_at rs j).len ≤ (region_at rs i).first
+
+-- and does not go past 2^64
+abbrev pub IsRegionAt : List Span → ℕ → Type 0
+IsRegionAt rs i = IsAddressable (region_at rs i) × FollowsAt rs i
+
+-- regions in the order of their addresses, none of which has an address of another (this project's choice)
+abbrev pub AreRegions : List Span → Type 0
+AreRegions rs = (i : ℕ) → i < length rs → IsRegionAt rs i
+
+-- each with its new base
+abbrev pub relocation : List Span → List ℕ → List Region
+relocation [] bases = []
+relocation (r ∷ rs) [] = []
+relocation (r ∷ rs) (base ∷ bases) = record { base = r.first; len = r.len; new_base = base } ∷ relocation rs bases
+
+-- ---- what is prepared
+
+-- This is the template of the submission that planning the list answers: the bytes spell these operations, this is their
+-- submission, and each range of each operation lies in one of the regions.
+pub record IsPreparedOf (list : List ℕ) (s : Limits) (rs : List Span) (ds : List Descriptor) (t : Template) : Type 0 where
+  pub limits : AreInLimits s
+  pub listed : IsListOf list ds
+  pub submission : Submission
+  pub planned : IsSubmissionOf s (map fields ds) submission
+  pub regions : AreRegions rs
+  pub lie : AllByRecursion (LiesWhole rs s.greatest_transfer) (map fields ds)
+  pub template : t ≡ template_of rs (map fields ds) submission.plan (map fields submission.pieces)
+
+-- ---- refusals
+
+-- the first cause why regions are refused
+abbrev pub IsRegionFault : List Span → PrepareFault → Type 0
+IsRegionFault rs (Plan fault) = ⊥
+IsRegionFault rs (RegionWrap i) = (i < length rs) × ((j : ℕ) → j < i → IsRegionAt rs j) × ¬ IsAddressable (region_at rs i)
+IsRegionFault rs (RegionOrder i) =
+    (i < length rs) × ((j : ℕ) → j < i → IsRegionAt rs j) × IsAddressable (region_at rs i) × ¬ FollowsAt rs i
+IsRegionFault rs (Outside i) = ⊥
+
+-- planning answers a submission
+abbrev pub IsPlanned : List ℕ → Limits → Type 0
+IsPlanned list s = (p : Submission) × Plans list s (Ok p)
+
+-- the ranges of each operation before that number lie in one region each, and those of this one do not
+pub record IsFirstOutside (rs : List Span) (greatest : ℕ) (fs : List Fields) (i : ℕ) : Type 0 where
+  pub operation : Fields
+  pub there : slice_get fs i ≡ Some operation
+  pub outside : ¬ LiesWhole rs greatest operation
+  pub before : (j : ℕ) (f : Fields) → j < i → slice_get fs j ≡ Some f → LiesWhole rs greatest f
+
+-- The first cause why a list is not prepared, in this order: what planning refuses; for the least region that it goes past
+-- 2^64, or else that it begins before the one before it has ended; the least operation of which a range, or the row of
+-- records, lies in no one region.
+abbrev pub IsFirstPrepareFault : List ℕ → Limits → List Span → PrepareFault → Type 0
+IsFirstPrepareFault list s rs (Plan fault) = Plans list s (Err fault)
+IsFirstPrepareFault list s rs (RegionWrap i) = IsPlanned list s × IsRegionFault rs (RegionWrap i)
+IsFirstPrepareFault list s rs (RegionOrder i) = IsPlanned list s × IsRegionFault rs (RegionOrder i)
+IsFirstPrepareFault list s rs (Outside i) =
+    IsPlanned list s × AreRegions rs × ((ds : List Descriptor) × IsListOf list ds × IsFirstOutside rs s.greatest_transfer (map fields ds) i)

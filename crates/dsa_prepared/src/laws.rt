@@ -1,0 +1,18 @@
+//! Laws of prepared submissions. Each function is a law: its body is empty, and its clause is what the proof shows.
+
+ghost use Rattle.dsa_prepared.specs.Laws.{FilledIsEmission, AlignedBasesAlign, FilledIsPlanned};
+
+/// A filled template has the bytes that submit the same plan of the relocated pieces.
+pub fn filled_is_emission()
+    ensures { FilledIsEmission }
+{}
+
+/// Bases that keep the units and the ties keep each operation aligned.
+pub fn aligned_bases_align()
+    ensures { AlignedBasesAlign }
+{}
+
+/// What is filled of a prepared list is what planning the relocated list answers.
+pub fn filled_is_planned()
+    ensures { FilledIsPlanned }
+{}

@@ -1,0 +1,19 @@
+//! Planned submissions that are filled for other buffers: planned once, submitted on any buffers.
+#![tactic(auto)]
+
+mod entry;
+mod fault;
+mod filling;
+mod groups;
+mod laws;
+mod places;
+mod prepared;
+mod preparing;
+mod template;
+mod tie;
+mod word;
+
+pub use fault::{FillFault, PrepareFault};
+pub use laws::{aligned_bases_align, filled_is_emission, filled_is_planned};
+pub use prepared::Prepared;
+pub use preparing::prepare;

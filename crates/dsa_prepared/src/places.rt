@@ -1,0 +1,149 @@
+//! Regions, and where addresses lie in them.
+
+ghost use Rattle.std.specs.Prelude.{◌≡◌, ◌≤◌, ◌↔◌, All, map, IsTrue, MatchOption};
+ghost use Rattle.std.specs.List.{AllByRecursion};
+ghost use Rattle.dsa_descriptor.specs.Descriptors.{fields};
+ghost use Rattle.dsa_descriptor.specs.Spans.{InSpan};
+ghost use Rattle.dsa_splitter.specs.Operations.{IsSplittable};
+ghost use Rattle.dsa_splitter.specs.Pieces.{row_span};
+ghost use Rattle.dsa_relocation.specs.Regions.{LiesIn, LiesInOne, LiesWhole};
+ghost use Rattle.dsa_prepared.specs.Entries.{place_in, word_at};
+ghost use Rattle.dsa_prepared.specs.Preparing.{AreRegions, IsFirstOutside, IsRegionFault};
+
+use crate::fault::PrepareFault;
+use crate::word::Word;
+use dsa_descriptor::{Descriptor, Span};
+
+/// The length of a completion record.
+const RECORD_LEN: u64 = 32;
+
+/// Whether the span has the address.
+fn has_address(span: Span, address: u64) -> bool
+    ensures { IsTrue result ↔ InSpan span address }
+{
+    if address < span.first {
+        return false;
+    }
+    address - span.first < span.len
+}
+
+/// The number of the first region that has the address, and its offset there; else how many regions there are, and the
+/// address.
+pub(crate) fn place_in(regions: &[Span], address: u64) -> (usize, u64)
+    ensures { result ≡ place_in regions.now address }
+{
+    for i in 0..regions.len() {
+        let region = regions[i];
+        if has_address(region, address) {
+            return (i, address - region.first);
+        }
+    }
+    (regions.len(), address)
+}
+
+/// The word that stands for the address.
+pub(crate) fn word_at(regions: &[Span], address: u64) -> Word
+    ensures { result ≡ word_at regions.now address }
+{
+    let (region, offset) = place_in(regions, address);
+    Word::InRegion(region, offset)
+}
+
+/// Whether the span begins in the region, and does not go past its end.
+fn lies_in(region: Span, span: Span) -> bool
+    ensures { IsTrue result ↔ LiesIn region span }
+{
+    if span.first < region.first {
+        return false;
+    }
+    let offset = span.first - region.first;
+    offset < region.len && span.len <= region.len - offset
+}
+
+/// Whether the span lies in one of the regions.
+fn lies_in_one(regions: &[Span], span: Span) -> bool
+    ensures { IsTrue result ↔ LiesInOne regions.now span }
+{
+    for region in regions {
+        if lies_in(*region, span) {
+            return true;
+        }
+    }
+    false
+}
+
+/// Whether each of the spans does.
+fn lie_in_one(regions: &[Span], spans: &[Span]) -> bool
+    ensures { IsTrue result ↔ AllByRecursion (LiesInOne regions.now) spans.now }
+{
+    for span in spans {
+        if !lies_in_one(regions, *span) {
+            return false;
+        }
+    }
+    true
+}
+
+/// The row of the records of an operation's pieces.
+#[tactic(auto, unfolding(dsa_image::specs::Lines::quotient_up))]
+fn row_of(d: &Descriptor, greatest: u64) -> Span
+    requires { 8 ≤ greatest }
+    ensures { result ≡ row_span (fields d.now) greatest }
+{
+    Span {
+        first: d.record_at,
+        len: RECORD_LEN * u64::from(d.size).div_ceil(greatest),
+    }
+}
+
+/// Whether each range of the operation, and the row of its records, lies in one of the regions.
+fn lies_whole(d: &Descriptor, regions: &[Span], greatest: u64) -> bool
+    requires least { 8 ≤ greatest }
+    requires splittable { IsSplittable d.now.op d.now.size greatest }
+    ensures { IsTrue result ↔ LiesWhole regions.now greatest (fields d.now) }
+{
+    if !lie_in_one(regions, &d.op.sources(d.size)) {
+        return false;
+    }
+    if !lie_in_one(regions, &d.op.targets(d.size)) {
+        return false;
+    }
+    lies_in_one(regions, row_of(d, greatest))
+}
+
+/// The first cause why the regions are refused.
+pub(crate) fn region_fault(regions: &[Span]) -> Option<PrepareFault>
+    ensures { MatchOption result (AreRegions regions.now) (IsRegionFault regions.now) }
+{
+    let mut end = 0;
+    for i in 0..regions.len() {
+        if !regions[i].is_addressable() {
+            return Some(PrepareFault::RegionWrap(i));
+        }
+        if u128::from(regions[i].first) < end {
+            return Some(PrepareFault::RegionOrder(i));
+        }
+        end = regions[i].end();
+    }
+    None
+}
+
+/// The first operation that does not lie whole in regions.
+pub(crate) fn first_outside(
+    operations: &[Descriptor],
+    regions: &[Span],
+    greatest: u64,
+) -> Option<usize>
+    requires least { 8 ≤ greatest }
+    requires splittable { All (λ d. IsSplittable d.op d.size greatest) operations.now }
+    ensures { MatchOption result
+        (AllByRecursion (LiesWhole regions.now greatest) (map fields operations.now))
+        (IsFirstOutside regions.now greatest (map fields operations.now)) }
+{
+    for i in 0..operations.len() {
+        if !lies_whole(&operations[i], regions, greatest) {
+            return Some(i);
+        }
+    }
+    None
+}

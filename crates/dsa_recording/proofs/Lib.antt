@@ -4,3 +4,6 @@ pub mod Reasons
 pub mod Listed
 pub mod Pushed
 pub mod Within
+pub mod Placed
+pub mod Spelled
+pub mod Found

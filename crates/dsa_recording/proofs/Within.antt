@@ -20,7 +20,7 @@ head_of : (es : List (List ℕ)) (from : ℕ) → head_at (submission_at es from
 unfolding submission_at
 head_of es from = head_by (code_at (slice_index_or es from []) == 1) (u32_at 32 (slice_index_or es from [])) from
 
-each_within : (es : List (List ℕ)) (from to : ℕ) (ss : List Submission) → ReadsUpTo es from ss to → AllByRecursion (IsWithin es) ss
+pub each_within : (es : List (List ℕ)) (from to : ℕ) (ss : List Submission) → ReadsUpTo es from ss to → AllByRecursion (IsWithin es) ss
 each_within es from to [] r = tt
 each_within es from to (s ∷ ss) (lt, is, le, rest) =
     let head : head_at s ≡ from = ap head_at is ∙ head_of es from in
@@ -31,7 +31,7 @@ within bytes es ss e reads =
     let all : ReadsUpTo es 0 ss (length es) = subst (λ (z : List (List ℕ)). ReadsUpTo z 0 ss (length z)) (sym e) reads.all in
     All-from_recursion (IsWithin es) ss (each_within es 0 (length es) ss all)
 
-has_all : (es : List (List ℕ)) (s : Submission) (a : Audited) → IsAudited es s a → HasAll a
+pub has_all : (es : List (List ℕ)) (s : Submission) (a : Audited) → IsAudited es s a → HasAll a
 has_all es s a is =
     let fences : length a.fences.items ≡ length (members_in es s) = ap length is.fences ∙ length-map (members_in es s) is_fenced in
     let members : length a.members.items ≡ length (members_in es s) = is.members.count in

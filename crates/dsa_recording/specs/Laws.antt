@@ -1,4 +1,4 @@
--- What a recording says of listed descriptors.
+-- What a recording says of listed descriptors, and a report of entries.
 use Rattle.std.specs.Prelude.{◌≡◌, ℕ, List}
 use Rattle.dsa_descriptor.specs.declared.descriptor.Descriptor.{Descriptor}
 use Rattle.dsa_descriptor.specs.Descriptors.{fields}
@@ -8,7 +8,12 @@ use Rattle.dsa_ranges.specs.declared.span.Touched.{Touched}
 use Rattle.dsa_ranges.specs.Ranges.{read_spans, written_spans}
 use Rattle.dsa_audit.specs.declared.member.Member.{Member}
 use Rattle.dsa_audit.specs.declared.member.Member.TheVariants.{Known}
+use Rattle.std.specs.List.{AllByRecursion}
+use Rattle.dsa_descriptor.specs.Lists.{entries}
+use Rattle.dsa_recording.specs.declared.report.Report.{Report}
 use Rattle.dsa_recording.specs.Entries.{IsMember}
+use Rattle.dsa_recording.specs.Details.{IsPlaced}
+use Rattle.dsa_recording.specs.Reports.{IsReport}
 
 -- the entry of a listed descriptor, in a batch of its owner, is looked at, and what is known of it is what the
 -- descriptor reads and writes
@@ -17,3 +22,8 @@ ListedAreKnown =
     (d : Descriptor) (head : List ℕ) (m : Member) →
     AgreeOnOwner head (spelling (fields d)) → IsMember head (spelling (fields d)) m →
     (t : Touched) × (m ≡ Known t) × (t.reads.items ≡ read_spans (fields d)) × (t.writes.items ≡ written_spans (fields d))
+
+-- each finding of a report on a recording is of an entry, and a missing fence has a known conflict
+abbrev pub FindingsArePlaced : Type 0
+FindingsArePlaced =
+    (bytes : List ℕ) (r : Report) → IsReport bytes r → AllByRecursion (IsPlaced (entries bytes) r) r.findings.items

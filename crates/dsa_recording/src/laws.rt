@@ -1,8 +1,16 @@
 //! Laws of recordings.
 
-ghost use Rattle.dsa_recording.specs.Laws.{ListedAreKnown};
+ghost use Rattle.dsa_recording.specs.Laws.{ListedAreKnown, FindingsArePlaced};
 
 /// Listed descriptors are looked at, as what they read and write.
 pub fn listed_are_known()
     ensures { ListedAreKnown }
+{}
+
+/// Each finding of a report on a recording is of an entry, and a missing fence has a known conflict: [`detail_of`] answers
+/// of each.
+///
+/// [`detail_of`]: crate::detail_of
+pub fn findings_are_placed()
+    ensures { FindingsArePlaced }
 {}

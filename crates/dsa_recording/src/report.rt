@@ -1,9 +1,10 @@
 //! The report on a recording.
 
-ghost use Rattle.std.specs.Prelude.{◌≡◌, ◌≢◌, ◌⊎◌, MatchResult};
+ghost use Rattle.std.specs.Prelude.{◌≡◌, ◌≢◌, ◌⊎◌, List, MatchResult};
+ghost use Rattle.dsa_recording.specs.declared.stream.Submission.{Submission};
 ghost use Rattle.dsa_recording.specs.declared.stream.StreamFault.{StreamFault};
 ghost use Rattle.dsa_recording.specs.declared.stream.StreamFault.TheVariants.{Memory};
-ghost use Rattle.dsa_recording.specs.Streams.{IsStreamFault};
+ghost use Rattle.dsa_recording.specs.Streams.{ReadsStream, IsStreamFault};
 ghost use Rattle.dsa_recording.specs.Reports.{IsReport};
 
 use crate::findings::{Finding, findings_of};
@@ -28,6 +29,8 @@ pub struct Report {
 /// Those of [`read_stream`].
 pub fn audit_recording(alloc: Global, bytes: &[u8]) -> Result<Report, StreamFault>
     ensures answer { MatchResult result (IsReport bytes.now) (IsStreamFault bytes.now) }
+    ensures only { (list : List Submission) → ReadsStream bytes.now list →
+        MatchResult result (λ r. r.submissions.items ≡ list) (λ fault. fault ≡ Memory) }
     ensures refused { (fault : StreamFault) → fault ≢ Memory → IsStreamFault bytes.now fault →
         MatchResult result (λ _. ⊥) (λ other. (other ≡ fault) ⊎ (other ≡ Memory)) }
 {

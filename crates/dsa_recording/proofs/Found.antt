@@ -1,0 +1,156 @@
+-- Each finding of a report is of an entry.
+use Rattle.std.proofs.Common.{◌≡◌, ℕ, zero, suc, ◌+◌, ◌-◌, ◌<◌, ◌≤◌, List, [], ◌∷◌, ◌++◌, Option, Some, None, length, get_or, slice_get, drop, min, refl, sym, ap, subst, ◌∙◌, arith}
+use Rattle.std.specs.List.{AllByRecursion}
+use Rattle.std.proofs.lemmas.List.{length-take, length-drop}
+use Rattle.dsa_descriptor.specs.Lists.{entries}
+use Rattle.dsa_audit.specs.declared.member.Member.{Member}
+use Rattle.dsa_audit.specs.declared.member.Member.TheVariants as member
+use Rattle.dsa_audit.specs.declared.member.Unseen.TheVariants.{Operation}
+use Rattle.dsa_audit.specs.declared.missing.FencePlace.{FencePlace}
+use Rattle.dsa_audit.specs.declared.missing.FencePlace.TheVariants as fence_place
+use Rattle.dsa_audit.specs.declared.needless.FenceUse.{FenceUse}
+use Rattle.dsa_audit.specs.declared.needless.FenceUse.TheVariants as fence_use
+use Rattle.dsa_audit.specs.Members.{KnownConflict}
+use Rattle.dsa_audit.specs.Audits.{PlaceHolds}
+use Rattle.dsa_recording.specs.declared.stream.Submission.{Submission}
+use Rattle.dsa_recording.specs.declared.submission.Audited.{Audited}
+use Rattle.dsa_recording.specs.declared.findings.Finding.{Finding}
+use Rattle.dsa_recording.specs.declared.report.Report.{Report}
+use Rattle.dsa_recording.specs.Streams.{end_of, ReadsUpTo}
+use Rattle.dsa_recording.specs.Submissions.{IsWithin, IsAudited, AreAudited, members_in}
+use Rattle.dsa_recording.specs.Findings.{unseen_kind, missing_kind, needless_kind, finding_of, member_findings, findings_upto, submission_findings, recording_findings}
+use Rattle.dsa_recording.specs.Details.{IsOf, HasEntry, IsIn, IsPlaced}
+use Rattle.dsa_recording.specs.Reports.{IsReport}
+use Rattle.dsa_recording.proofs.Within.{each_within, has_all}
+
+all_append : {X : Type 0} (P : X → Type 0) (xs ys : List X) → AllByRecursion P xs → AllByRecursion P ys → AllByRecursion P (xs ++ ys)
+all_append P [] ys first second = second
+all_append P (x ∷ xs) ys (here, first) second = (here, all_append P xs ys first second)
+
+all_map : {X : Type 0} (P Q : X → Type 0) (xs : List X) → ((x : X) → P x → Q x) → AllByRecursion P xs → AllByRecursion Q xs
+all_map P Q [] step all = tt
+all_map P Q (x ∷ xs) step (here, all) = (step x here, all_map P Q xs step all)
+
+-- ---- in one submission
+
+record IsAt (number : ℕ) (ms : List Member) (f : Finding) : Type 0 where
+  pub number_is : f.submission ≡ number
+  pub member_is : f.member < length ms
+  pub kind : IsOf ms f.member f.kind
+
+found_unseen : (number k : ℕ) (ms : List Member) (m : Member) → k < length ms → AllByRecursion (IsAt number ms) (finding_of number k (unseen_kind m))
+found_unseen number k ms (member.Known t) lt = tt
+found_unseen number k ms (member.Unknown why) lt = (record { number_is = refl; member_is = lt; kind = tt }, tt)
+
+found_missing : (number k : ℕ) (ms : List Member) (g h : List _) (p : FencePlace) → k < length ms → PlaceHolds (KnownConflict ms) g h k p
+    → AllByRecursion (IsAt number ms) (finding_of number k (missing_kind p))
+found_missing number k ms g h fence_place.NoFence lt holds = tt
+found_missing number k ms g h fence_place.Given lt holds = tt
+found_missing number k ms g h (fence_place.Missing i) lt holds = (record { number_is = refl; member_is = lt; kind = (holds.before, lt, holds.conflict) }, tt)
+
+found_needless : (number k : ℕ) (ms : List Member) (u : FenceUse) → k < length ms → AllByRecursion (IsAt number ms) (finding_of number k (needless_kind u))
+found_needless number k ms fence_use.NoFence lt = tt
+found_needless number k ms fence_use.Needless lt = (record { number_is = refl; member_is = lt; kind = tt }, tt)
+found_needless number k ms (fence_use.Needed i j) lt = tt
+
+found_upto : (es : List (List ℕ)) (s : Submission) (number : ℕ) (a : Audited) (k : ℕ) → IsAudited es s a → k ≤ length a.members.items
+    → AllByRecursion (IsAt number a.members.items) (findings_upto number a k)
+found_upto es s number a zero is le = tt
+found_upto es s number a (suc k) is le =
+    let ms : List Member = a.members.items in
+    let m : Member = get_or ms k (member.Unknown Operation) in
+    let p : FencePlace = get_or a.audit.corrected.places.items k fence_place.NoFence in
+    let u : FenceUse = get_or a.audit.reduced.uses.items k fence_use.NoFence in
+    let lt : k < length ms = omega (arith, le) in
+    let has = has_all es s a is in
+    let places : length a.audit.corrected.places.items ≡ length a.fences.items = is.audit.corrected.count in
+    let within : k < length a.fences.items = omega (arith, lt, has.places, places) in
+    let holds = is.audit.corrected.each k within in
+    let here : AllByRecursion (IsAt number ms) (member_findings number k m p u) =
+    all_append (IsAt number ms) (finding_of number k (unseen_kind m) ++ finding_of number k (missing_kind p)) (finding_of number k (needless_kind u))
+    (all_append (IsAt number ms) (finding_of number k (unseen_kind m)) (finding_of number k (missing_kind p))
+    (found_unseen number k ms m lt) (found_missing number k ms a.fences.items a.audit.corrected.fences.items p lt holds))
+    (found_needless number k ms u lt) in
+    all_append (IsAt number ms) (findings_upto number a k) (member_findings number k m p u)
+    (found_upto es s number a k is (omega (arith, le))) here
+
+-- ---- in submissions, of which the first has this number
+
+record IsFrom (es : List (List ℕ)) (number : ℕ) (ss : List Submission) (audits : List Audited) (f : Finding) : Type 0 where
+  pub at : ℕ
+  pub submission : Submission
+  pub audited : Audited
+  pub number_is : f.submission ≡ number + at
+  pub submission_is : slice_get ss at ≡ Some submission
+  pub audited_is : slice_get audits at ≡ Some audited
+  pub is_within : IsWithin es submission
+  pub is_audited : IsAudited es submission audited
+  pub is_at : IsAt f.submission audited.members.items f
+
+from_first : (es : List (List ℕ)) (number : ℕ) (s : Submission) (ss : List Submission) (a : Audited) (audits : List Audited) → IsWithin es s → IsAudited es s a
+    → (f : Finding) → IsAt number a.members.items f → IsFrom es number (s ∷ ss) (a ∷ audits) f
+from_first es number s ss a audits within is f at = record {
+  at = 0;
+  submission = s;
+  audited = a;
+  number_is = at.number_is ∙ (omega arith);
+  submission_is = refl;
+  audited_is = refl;
+  is_within = within;
+  is_audited = is;
+  is_at = record { number_is = refl; member_is = at.member_is; kind = at.kind };
+}
+
+from_next : (es : List (List ℕ)) (number : ℕ) (s : Submission) (ss : List Submission) (a : Audited) (audits : List Audited)
+    → (f : Finding) → IsFrom es (suc number) ss audits f → IsFrom es number (s ∷ ss) (a ∷ audits) f
+from_next es number s ss a audits f there = record {
+  at = suc there.at;
+  submission = there.submission;
+  audited = there.audited;
+  number_is = there.number_is ∙ (omega arith);
+  submission_is = there.submission_is;
+  audited_is = there.audited_is;
+  is_within = there.is_within;
+  is_audited = there.is_audited;
+  is_at = there.is_at;
+}
+
+found_from : (es : List (List ℕ)) (number : ℕ) (ss : List Submission) (audits : List Audited) → AllByRecursion (IsWithin es) ss → AreAudited es ss audits
+    → AllByRecursion (IsFrom es number ss audits) (recording_findings number audits)
+found_from es number [] [] within all = tt
+found_from es number (s ∷ ss) (a ∷ audits) (inside, within) (is, all) =
+    all_append (IsFrom es number (s ∷ ss) (a ∷ audits)) (submission_findings number a) (recording_findings (suc number) audits)
+    (all_map (IsAt number a.members.items) (IsFrom es number (s ∷ ss) (a ∷ audits)) (submission_findings number a)
+    (from_first es number s ss a audits inside is) (found_upto es s number a (length a.members.items) is (omega arith)))
+    (all_map (IsFrom es (suc number) ss audits) (IsFrom es number (s ∷ ss) (a ∷ audits)) (recording_findings (suc number) audits)
+    (from_next es number s ss a audits) (found_from es (suc number) ss audits within all))
+found_from es number [] (a ∷ audits) within all = absurd all
+found_from es number (s ∷ ss) [] within all = absurd all
+
+-- ---- in a report
+
+entry_within : (es : List (List ℕ)) (s : Submission) (a : Audited) (k : ℕ) → IsWithin es s → IsAudited es s a → k < length a.members.items → s.first + k < length es
+entry_within es s a k within is lt =
+    let rest : length (drop s.first es) ≡ length es - s.first = length-drop s.first es in
+    let size : length (members_in es s) ≡ min (end_of s - s.first) (length (drop s.first es)) = length-take (end_of s - s.first) (drop s.first es) in
+    let ends : end_of s ≤ length es = within.members in
+    omega (arith, is.members.count, rest, size, lt, ends)
+
+from_report : (es : List (List ℕ)) (r : Report) (f : Finding) → IsFrom es 0 r.submissions.items r.audits.items f → IsPlaced es r f
+from_report es r f there =
+    let number : f.submission ≡ there.at = there.number_is ∙ (omega arith) in
+    let s_is : slice_get r.submissions.items f.submission ≡ Some there.submission = ap (slice_get r.submissions.items) number ∙ there.submission_is in
+    let a_is : slice_get r.audits.items f.submission ≡ Some there.audited = ap (slice_get r.audits.items) number ∙ there.audited_is in (
+      there.submission,
+      there.audited.members.items,
+      record { submission = s_is; audited = there.audited; audited_is = a_is; members = refl },
+      record { within = entry_within es there.submission there.audited f.member there.is_within there.is_audited there.is_at.member_is; kind = there.is_at.kind },
+    )
+
+pub report_placed : (bytes : List ℕ) (r : Report) → IsReport bytes r → AllByRecursion (IsPlaced (entries bytes) r) r.findings.items
+report_placed bytes r is =
+    let within = each_within (entries bytes) 0 (length (entries bytes)) r.submissions.items is.submissions.all in
+    let all = found_from (entries bytes) 0 r.submissions.items r.audits.items within is.audits in
+    let placed = all_map (IsFrom (entries bytes) 0 r.submissions.items r.audits.items) (IsPlaced (entries bytes) r) (recording_findings 0 r.audits.items)
+    (from_report (entries bytes) r) all in
+    subst (λ (fs : List Finding). AllByRecursion (IsPlaced (entries bytes) r) fs) (sym is.findings) placed

@@ -1,0 +1,22 @@
+-- The detail of a finding, from that within its submission.
+use Rattle.std.proofs.Common.{◌≡◌, ℕ, ◌<◌, List, Option, Some, None, slice_get, length, get_or, sym, ap, subst, ◌∙◌}
+use Rattle.std.specs.Prelude.{MatchOption}
+use Rattle.dsa_audit.specs.declared.member.Member.{Member}
+use Rattle.dsa_recording.specs.declared.stream.Submission.{Submission}
+use Rattle.dsa_recording.specs.declared.submission.Audited.{Audited}
+use Rattle.dsa_recording.specs.declared.findings.Finding.{Finding}
+use Rattle.dsa_recording.specs.declared.detail.Detail.{Detail}
+use Rattle.dsa_recording.specs.declared.report.Report.{Report}
+use Rattle.dsa_recording.specs.Details.{HasEntry, Describes, IsIn, IsPlaced, IsDetail}
+
+pub placed : (es : List (List ℕ)) (r : Report) (f : Finding) (s : Submission) (a : Audited) (ms : List Member) (o : Option Detail)
+    → slice_get r.submissions.items f.submission ≡ Some s → slice_get r.audits.items f.submission ≡ Some a → a.members.items ≡ ms
+    → MatchOption o (¬ HasEntry es s ms f) (Describes es s ms f) → MatchOption o (¬ IsPlaced es r f) (IsDetail es r f)
+placed es r f s a ms (Some d) i j e says = (s, ms, record { submission = i; audited = a; audited_is = j; members = e }, says)
+placed es r f s a ms None i j e none = λ (t, ns, there, has).
+    let first = there.submission in
+    let second = there.audited_is in
+    let one : t ≡ s = cc in
+    let other : there.audited ≡ a = cc in
+    let same : ns ≡ ms = sym there.members ∙ (ap (λ (z : Audited). z.members.items) other ∙ e) in
+    none (subst (λ (z : Submission). HasEntry es z ms f) one (subst (λ (z : List Member). HasEntry es t z f) same has))

@@ -1,0 +1,72 @@
+-- What a finding says of its entry.
+use Rattle.std.specs.Prelude.{ℕ, ◌≡◌, ◌+◌, ◌<◌, List, [], length, slice_get, slice_index_or, Some}
+use Rattle.dsa_descriptor.specs.Places.{code_at}
+use Rattle.dsa_audit.specs.declared.member.Member.{Member}
+use Rattle.dsa_audit.specs.declared.missing.FencePlace.{FencePlace}
+use Rattle.dsa_audit.specs.declared.missing.FencePlace.TheVariants as fence_place
+use Rattle.dsa_audit.specs.Members.{KnownConflict, IsHazardBetween}
+use Rattle.dsa_recording.specs.declared.stream.Submission.{Submission}
+use Rattle.dsa_recording.specs.declared.submission.Audited.{Audited}
+use Rattle.dsa_recording.specs.declared.findings.Finding.{Finding}
+use Rattle.dsa_recording.specs.declared.findings.FindingKind.{FindingKind}
+use Rattle.dsa_recording.specs.declared.findings.FindingKind.TheVariants.{NotSeen, MissingFence, NeedlessFence}
+use Rattle.dsa_recording.specs.declared.detail.Cause.{Cause}
+use Rattle.dsa_recording.specs.declared.detail.Cause.TheVariants as cause
+use Rattle.dsa_recording.specs.declared.detail.Detail.{Detail}
+use Rattle.dsa_recording.specs.declared.report.Report.{Report}
+
+-- what is found of member k can be said of these members: where a fence is missing, the earlier member is known to
+-- conflict with it
+abbrev pub IsOf : List Member → ℕ → FindingKind → Type 0
+IsOf ms k (NotSeen why) = Unit
+IsOf ms k (MissingFence earlier) = (earlier < k) × (k < length ms) × KnownConflict ms earlier k
+IsOf ms k NeedlessFence = Unit
+
+-- what is found, and of a missing fence the hazard between the two members
+abbrev pub IsCause : List Member → ℕ → FindingKind → Cause → Type 0
+IsCause ms k (NotSeen why) (cause.NotSeen other) = other ≡ why
+IsCause ms k (MissingFence earlier) (cause.MissingFence other h) = (other ≡ earlier) × IsHazardBetween ms earlier k h
+IsCause ms k NeedlessFence cause.NeedlessFence = Unit
+IsCause ms k (NotSeen why) (cause.MissingFence other h) = ⊥
+IsCause ms k (NotSeen why) cause.NeedlessFence = ⊥
+IsCause ms k (MissingFence earlier) (cause.NotSeen why) = ⊥
+IsCause ms k (MissingFence earlier) cause.NeedlessFence = ⊥
+IsCause ms k NeedlessFence (cause.NotSeen why) = ⊥
+IsCause ms k NeedlessFence (cause.MissingFence other h) = ⊥
+
+-- of a finding in a submission of these members: its member is an entry, and what is found can be said of it
+pub record HasEntry (es : List (List ℕ)) (s : Submission) (ms : List Member) (f : Finding) : Type 0 where
+  pub within : s.first + f.member < length es
+  pub kind : IsOf ms f.member f.kind
+
+-- the detail is of that entry
+pub record Describes (es : List (List ℕ)) (s : Submission) (ms : List Member) (f : Finding) (d : Detail) : Type 0 where
+  pub entry : d.entry ≡ s.first + f.member
+  pub code : d.code ≡ code_at (slice_index_or es (s.first + f.member) [])
+  pub number : d.submission ≡ f.submission
+  pub member : d.member ≡ f.member
+  pub is_batch : d.is_batch ≡ s.is_batch
+  pub cause : IsCause ms f.member f.kind d.cause
+
+-- the submission of the finding, and what is known of its members
+pub record IsIn (r : Report) (f : Finding) (s : Submission) (ms : List Member) : Type 0 where
+  pub submission : slice_get r.submissions.items f.submission ≡ Some s
+  pub audited : Audited
+  pub audited_is : slice_get r.audits.items f.submission ≡ Some audited
+  pub members : audited.members.items ≡ ms
+
+-- the finding is of an entry
+abbrev pub IsPlaced : List (List ℕ) → Report → Finding → Type 0
+IsPlaced es r f = (s : Submission) × (ms : List Member) × IsIn r f s ms × HasEntry es s ms f
+
+-- the detail is of the finding's entry
+abbrev pub IsDetail : List (List ℕ) → Report → Finding → Detail → Type 0
+IsDetail es r f d = (s : Submission) × (ms : List Member) × IsIn r f s ms × Describes es s ms f d
+
+-- ---- of a whole submission
+
+-- no fence is missing at the place
+abbrev pub IsRight : FencePlace → Type 0
+IsRight fence_place.NoFence = Unit
+IsRight fence_place.Given = Unit
+IsRight (fence_place.Missing earlier) = ⊥

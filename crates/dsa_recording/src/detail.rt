@@ -1,0 +1,126 @@
+//! What a finding says of its entry.
+
+ghost use Rattle.std.specs.Prelude.{◌↔◌, IsTrue, MatchOption};
+ghost use Rattle.std.specs.List.{AllByRecursion};
+ghost use Rattle.dsa_recording.specs.Details.{IsOf, IsCause, HasEntry, Describes, IsPlaced, IsDetail, IsRight};
+
+use crate::findings::{Finding, FindingKind};
+use crate::report::Report;
+use crate::stream::Submission;
+use crate::submission::Audited;
+use dsa_audit::{FencePlace, Member, Unseen, hazard_between};
+use dsa_descriptor::u32_at;
+use dsa_ranges::Hazard;
+
+/// What is found of an entry.
+#[derive(Clone, Copy, Debug, PartialEq, Eq)]
+pub enum Cause {
+    /// It is not looked at, for this reason.
+    NotSeen(Unseen),
+    /// A fence is missing before it: it conflicts with this earlier member, as the hazard says.
+    MissingFence(usize, Hazard),
+    /// The fence before it may go, once the missing ones of its batch are set.
+    NeedlessFence,
+}
+
+/// A finding, and the entry that it is of.
+#[derive(Clone, Copy, Debug, PartialEq, Eq)]
+pub struct Detail {
+    /// The number of the entry in the recording.
+    pub entry: usize,
+    /// The operation code of the entry.
+    pub code: u8,
+    /// The number of the submission.
+    pub submission: usize,
+    /// The number of its member.
+    pub member: usize,
+    /// Whether the submission is a batch.
+    pub is_batch: bool,
+    /// What is found.
+    pub cause: Cause,
+}
+
+/// What is found of a member, with the hazard of a missing fence.
+fn cause_of(members: &[Member], member: usize, kind: FindingKind) -> Option<Cause>
+    ensures { MatchOption result (¬ IsOf members.now member kind)
+        (IsCause members.now member kind) }
+{
+    match kind {
+        FindingKind::NotSeen(why) => Some(Cause::NotSeen(why)),
+        FindingKind::MissingFence(earlier) => {
+            if earlier >= member || member >= members.len() {
+                return None;
+            }
+            match hazard_between(members, earlier, member) {
+                Some(hazard) => Some(Cause::MissingFence(earlier, hazard)),
+                None => None,
+            }
+        }
+        FindingKind::NeedlessFence => Some(Cause::NeedlessFence),
+    }
+}
+
+/// A finding of a submission of these entries and members, with all that can be said of its entry.
+fn described(
+    all: &[[u8; 64]],
+    submission: Submission,
+    members: &[Member],
+    finding: Finding,
+) -> Option<Detail>
+    ensures { MatchOption result (¬ HasEntry all.now submission members.now finding)
+        (Describes all.now submission members.now finding) }
+{
+    let Some(entry) = submission.first.checked_add(finding.member) else {
+        return None;
+    };
+    if entry >= all.len() {
+        return None;
+    }
+    let code = u32_at(&all[entry], 4) >> 24;
+    let Some(cause) = cause_of(members, finding.member, finding.kind) else {
+        return None;
+    };
+    Some(Detail {
+        entry,
+        code: code as u8,
+        submission: finding.submission,
+        member: finding.member,
+        is_batch: submission.is_batch,
+        cause,
+    })
+}
+
+/// A finding of a report on these entries, with all that can be said of its entry.
+pub fn detail_of(all: &[[u8; 64]], report: &Report, finding: Finding) -> Option<Detail>
+    ensures { MatchOption result (¬ IsPlaced all.now report.now finding)
+        (IsDetail all.now report.now finding) }
+{
+    let number = finding.submission;
+    if number >= report.submissions.len() || number >= report.audits.len() {
+        return None;
+    }
+    let members = report.audits[number].members.as_slice();
+    described(all, report.submissions[number], members, finding)
+}
+
+/// Whether no fence is missing at this place.
+fn is_right(place: FencePlace) -> bool
+    ensures { IsTrue result ↔ IsRight place }
+{
+    match place {
+        FencePlace::NoFence | FencePlace::Given => true,
+        FencePlace::Missing(_) => false,
+    }
+}
+
+/// Whether no fence of a submission is missing.
+pub fn has_all_fences(audited: &Audited) -> bool
+    ensures { IsTrue result ↔ AllByRecursion IsRight audited.now.audit.corrected.places.items }
+{
+    audited
+        .audit
+        .corrected
+        .places
+        .iter()
+        .all(|place| is_right(*place))
+}

@@ -13,14 +13,27 @@ from pathlib import Path
 import common
 import golden
 from common import move, named, program, run_test
+import model
 from model import COMPARE, DELTA, DUALCAST, FILL, PATTERN, Op
 
+LEAST = model.Settings(4, 4096, 10, 14, 3, 0x10000)
 PAIR = "move 1 -> 2, 3 bytes, record 32"
 
 
 def expect(command, text, wanted):
     """The program writes this line, or these, and ends with the status of such an end."""
     common.expect_line([TEXT, *command.split()], text, wanted)
+
+
+def refused(command, text, begin, name):
+    """The program writes no answer but one line on standard error, which begins and ends so, and ends with status 1; behind
+    that of a missing fence stand the fences that are missing."""
+    ran = subprocess.run([TEXT, *command.split()], input=text.encode(), capture_output=True)
+    said = ran.stderr.decode()
+    line, rest = said.split("\n", 1) if "\n" in said else (said, "")
+    is_right = line.startswith(f"error: {begin}") and line.endswith(f" [{name}]") and (not rest or name.startswith("43 "))
+    what = f"{command} {text[:400]!r}: wanted error: {begin} .. [{name}], got status {ran.returncode}, {said!r}"
+    common.expect(ran.returncode == 1 and not ran.stdout and is_right, what)
 
 
 def written(command, text=""):
@@ -62,7 +75,8 @@ def as_planned(path):
     lines = [line.removeprefix("fence ") for line in staged if not line.startswith("#")]
     pieces = written("assemble", "\n".join(lines)).rstrip("\n")
     judge = {"do": "judge", "list": pieces, "plan": answer["plan"], "settings": rules}
-    expect("explain", json.dumps(judge), re.sub(r" \(operation [^)]*\)", "", explained).rstrip("\n"))
+    shown = re.sub(r" \(operation [^)]*\)", "", explained)
+    expect("explain", json.dumps(judge), f"{shown}least {answer['cost']}: no plan costs less")
 
 
 def examples():
@@ -91,23 +105,23 @@ def refusals():
     plan, run = (Path(f"examples/{name}.job").read_text() for name in ("plan", "run"))
     two = "move 1 -> 2, 3 bytes, record 32\nmove 1 - 2\n"
     many = "move 0 -> 4096, 64 bytes, record 8192\n" * 1025
-    for command, text, wanted in [
-        ("assemble", two, "refused 90 Line 2, column 8: expected ->"),
-        ("assemble", "\nmove 1 -> 2, 0 bytes, record 32\n", "refused 5 SizeZero 0, line 2"),
-        ("explain --lone 1000000001", PAIR + "\n", "refused 83 Settings"),
-        ("disassemble", "xy", "refused 84 Hex"),
-        ("disassemble", "000", "refused 84 Hex"),
-        ("explain", '{"do":"run"}', "refused 81 Member"),
-        ("explain", run, "refused 82 Do"),
-        ("explain --fence 3", plan, "refused 92 Options: a job has settings of its own"),
-        ("explain", re.sub(r'("list": *")', r"\1 ", plan), "refused 84 Hex"),
-        ("disassemble --staging --at 0x10001", "", "refused 83 Settings"),
-        ("disassemble --staging --at 0x8000000000000040", "", "refused 83 Settings"),
+    for command, text, begin, name in [
+        ("assemble", two, "line 2, column 8: expected ->, found '-'", "90 Line"),
+        ("assemble", "\nmove 1 -> 2, 0 bytes, record 32\n", "line 2, operation 0: the transfer size is 0", "5 SizeZero 0"),
+        ("explain --lone 1000000001", PAIR + "\n", "--lone: ", "83 Settings"),
+        ("disassemble", "xy", "bytes are no hexadecimal text", "84 Hex"),
+        ("disassemble", "000", "bytes are no hexadecimal text", "84 Hex"),
+        ("explain", '{"do":"run"}', "", "81 Member"),
+        ("explain", run, "a job to replay or to run is not explained", "82 Do"),
+        ("explain --fence 3", plan, "a job has settings of its own", "92 Options"),
+        ("explain", re.sub(r'("list": *")', r"\1 ", plan), "`list` is no hexadecimal text", "84 Hex"),
+        ("disassemble --staging --at 0x10001", "", "--at: '0x10001' is no multiple of 64", "83 Settings"),
+        ("disassemble --staging --at 0x8000000000000040", "", "--at: ", "83 Settings"),
         ("assemble", "compare 1 with patern 2, 8 bytes\n",
-         "refused 90 Line 1, column 16: expected a number below 2^64, or pattern"),
-        ("explain --svg --lone 0", many, "refused 91 Picture: 1025 groups, and 1024 at most"),
+         "line 1, column 16: expected a number below 2^64, or pattern, found 'patern'", "90 Line"),
+        ("explain --svg --lone 0", many, "1025 groups, a picture has 1024 at most", "91 Picture"),
     ]:
-        expect(command, text, wanted)
+        refused(command, text, begin, name)
 
 
 def arguments():
@@ -182,7 +196,7 @@ def grammar():
         (f"{PAIR}, flags 4", 40, "flags of 0x0002, 0x0020 and 0x0100 to 0x8000"),
         (f"{PAIR}, handle 65536", 41, "a number below 2^16"),
     ]:
-        expect("assemble", line, f"refused 90 Line 1, column {column}: expected {words}")
+        refused("assemble", line, f"line 1, column {column}: expected {words}, found ", "90 Line")
 
 
 def texts():
@@ -196,22 +210,44 @@ def texts():
         ("# none\n", ""),
         ("\n \r\n", ""),
         (f"# a move\r\n\r\n{PAIR}\r\n", move(1, 2, 3, 32).bytes().hex()),
-        ("\nmove 1 -> 2, 0 bytes, record 0\nmove 1\n", "refused 90 Line 3, column 7: expected ->"),
-        (f"# none\n{first}\n\nmove 1 -> 2, 0 bytes, record 0\n", "refused 5 SizeZero 1, line 4"),
-        (f"{PAIR}\n\nmove 1 -> 2, 3 bytes, record 64, pasid 1", "refused 12 MixedPasid 1, line 3"),
-        ("move 0x1000 -> 0x2000, 64 bytes, record 0x8010", "refused 7 RecordAlign 0, line 1"),
-        ("move 0x1000 -> 0x2000, 0 bytes, record 0x8000, check", "refused 3 FlagBits 0, line 1"),
-        ("dualcast 0x1000 -> 0x2000 and 0x3010, 16 bytes, record 0x8000", "refused 8 DualcastBits 0, line 1"),
     ]:
         expect("assemble", text, wanted)
-    expect("disassemble", "000000", "refused 1 Length")
+    for text, begin, name in [
+        ("\nmove 1 -> 2, 0 bytes, record 0\nmove 1\n", "line 3, column 7: expected ->", "90 Line"),
+        (f"# none\n{first}\n\nmove 1 -> 2, 0 bytes, record 0\n", "line 4, operation 1: ", "5 SizeZero 1"),
+        (f"{PAIR}\n\nmove 1 -> 2, 3 bytes, record 64, pasid 1", "line 3, column 40, operation 1: ", "12 MixedPasid 1"),
+        ("move 0x1000 -> 0x2000, 64 bytes, record 0x8010", "line 1, column 41, operation 0: ", "7 RecordAlign 0"),
+        ("move 0x1000 -> 0x2000, 0 bytes, record 0x8000, check", "line 1, column 48, operation 0: ", "3 FlagBits 0"),
+        ("dualcast 0x1000 -> 0x2000 and 0x3010, 16 bytes, record 0x8000", "line 1, operation 0: ", "8 DualcastBits 0"),
+    ]:
+        refused("assemble", text, begin, name)
+    refused("disassemble", "000000", "the list's length is no multiple of 64", "1 Length")
+
+
+def sentences():
+    """The program says what docs/FORMATS.md does of each cause of a job or a list, and knows no other cause. Those from 100
+    on are of prepared submissions, which no job has."""
+    source = Path("crates/dsa_text/src/sentences.rt").read_text()
+    known = {number: said for number, said in re.findall(r'\(\s*(\d+),\s*"([^"]*)",?\s*\)', source)}
+    rows = re.findall(r"^\| (\d+) \| ([A-Z]\w+)([^|]*) \| (.*) \|$", Path("docs/FORMATS.md").read_text(), re.M)
+    rows = [row for row in rows if int(row[0]) < 100]
+    for number, name, places, cause in rows:
+        said = known.get(number, "nothing")
+        for place in places.split():
+            said = said.replace("#", place, 1)
+        common.expect(cause.startswith(said), f"{number} {name} is {cause!r}, and the program says {said!r}")
+    common.expect({number for number, *_ in rows} == {*known}, "FORMATS.md has other causes than the program")
+
+
+def pieces_of(moves):
+    """Moves of 64 bytes."""
+    return [move(src, dst, record_at=0x2_0000 + 32 * k) for k, (src, dst) in enumerate(moves)]
 
 
 def explained(moves, plan):
     """A job that judges the plan of these moves of 64 bytes, where a piece alone costs 10, a batch of at most four 14, and a
     fence 3."""
-    pieces = [move(src, dst, record_at=0x1_0000 + 32 * k) for k, (src, dst) in enumerate(moves)]
-    return common.judge(pieces, plan)
+    return common.judge(pieces_of(moves), plan)
 
 
 def shown(moves, plan, reasons):
@@ -231,7 +267,10 @@ def shown(moves, plan, reasons):
             piece += 1
         whole += cost
     lone = 10 * len(moves)
-    return "\n".join([*rows, f"cost {whole}; {len(moves)} lone submissions cost {lone}, saved {lone - whole}"])
+    least = model.prices(pieces_of(moves), LEAST)[-1]
+    more = f"this plan costs {whole - least} more" if whole > least else "no plan costs less"
+    rows.append(f"cost {whole}; {len(moves)} lone submissions cost {lone}, saved {lone - whole}")
+    return "\n".join([*rows, f"least {least}: {more}"])
 
 
 def fences():
@@ -251,15 +290,15 @@ def fences():
         (chain, [[False, True], [False, True]], {1: f"1 after 0, {read} at 0x2000", 3: f"3 after 2, {read} at 0x4000"}),
     ]:
         expect("explain", explained(moves, plan), shown(moves, plan, reasons))
-    for plan, wanted in [
-        ([[False, True]], "refused 40 Count"),
-        ([[False, True, True], [True]], "refused 42 FirstFence 1"),
-        ([[], [False, True, True, True]], "refused 41 GroupSize 0"),
-        ([[False, True], [False, False]], "refused 43 Unfenced 2 3"),
+    for plan, begin, name in [
+        ([[False, True]], "the sizes of the groups do not add up", "40 Count"),
+        ([[False, True, True], [True]], "the first of group 1 is fenced", "42 FirstFence 1"),
+        ([[], [False, True, True, True]], "group 0 is empty", "41 GroupSize 0"),
+        ([[False, True], [False, False]], "pieces 2 and 3 of one group conflict", "43 Unfenced 2 3"),
     ]:
-        expect("explain", explained(chain, plan), wanted)
-    expect("explain", explained([(0x1000, 0x2000)] * 65_536, []), "refused 40 Count")
-    expect("explain", explained([(0x1000, 0x2000)] * 65_537, []), "refused 32 TooManyPieces")
+        refused("explain", explained(chain, plan), begin, name)
+    refused("explain", explained([(0x1000, 0x2000)] * 65_536, []), "", "40 Count")
+    refused("explain", explained([(0x1000, 0x2000)] * 65_537, []), "there are more than 65,536 pieces", "32 TooManyPieces")
 
 
 def large():
@@ -293,7 +332,7 @@ def files():
         common.expect(not fault, fault)
 
 
-PARTS = [examples, lists, refusals, arguments, lines, grammar, texts, fences, large, files]
+PARTS = [examples, lists, refusals, arguments, lines, grammar, texts, fences, sentences, large, files]
 
 
 def main(words):

@@ -20,4 +20,4 @@ pub use laws::{
 };
 pub use picture::{MOST_ROWS, draw};
 pub use reason::{Reason, reason_of};
-pub use words::{Origin, explanation_text};
+pub use words::{Origin, explanation_text, kind_text};

@@ -1,1 +1,2 @@
 pub mod PlannedNeeded
+pub mod AuditStatus

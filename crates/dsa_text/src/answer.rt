@@ -1,7 +1,7 @@
 //! What a command answers.
 
-use dsa_calls::{PlanFault, refusal_line};
-use dsa_descriptor::ListFault;
+use crate::messages::{grammar_message, line_message, message_of, message_with};
+use dsa_calls::PlanFault;
 use dsa_explain::ExplainFault;
 use dsa_lines::TextFault;
 use dsa_splitter::SplitFault;
@@ -10,9 +10,10 @@ use std::alloc::{AllocError, Global};
 /// What a command answers.
 #[derive(Debug, Drop)]
 pub struct Answer {
-    /// What is written: the answer, or one line that refuses it.
+    /// What is written: the answer to standard output, or why there is none to standard error.
     pub text: String,
-    /// The status of the program, 0 for an answer and 1 for a refusal.
+    /// The status of the program: 0 for an answer and 1 for a refusal; of an audit 1 where a fence is missing and 2 for a
+    /// refusal.
     pub status: u8,
 }
 
@@ -27,32 +28,34 @@ impl Answer {
         Answer { text, status: 1 }
     }
 
-    /// The refusal of a job or a list, as the program `dsa` writes it.
+    /// The refusal of a job or a list.
     pub fn fault(alloc: Global, fault: PlanFault) -> Result<Answer, AllocError> {
-        let line = refusal_line(fault);
-        Ok(Answer::refused(String::from_str(alloc, line.as_str())?))
+        Ok(Answer::refused(message_of(alloc, fault)?))
     }
 
-    /// The refusal of a list whose text has lines.
-    fn list_fault(alloc: Global, line: usize, fault: ListFault) -> Result<Answer, AllocError> {
-        let told = refusal_line(PlanFault::from(fault));
-        let words = told.as_str().trim_end();
-        Ok(Answer::refused(format!(in alloc; "{words}, line {line}\n")?))
+    /// The refusal of a job or a list, in words that tell more than its cause does.
+    pub(crate) fn fault_with(
+        alloc: Global,
+        fault: PlanFault,
+        words: &str,
+    ) -> Result<Answer, AllocError> {
+        Ok(Answer::refused(message_with(alloc, fault, words)?))
     }
 
     /// The refusal of a text.
-    pub(crate) fn text_fault(alloc: Global, fault: TextFault) -> Result<Answer, AllocError> {
-        match fault {
+    pub(crate) fn text_fault(
+        alloc: Global,
+        text: &[u8],
+        fault: TextFault,
+    ) -> Result<Answer, AllocError> {
+        let message = match fault {
             TextFault::Grammar(line, column, expected) => {
-                let words = expected.text();
-                let front = format!(in alloc; "refused 90 Line {line}, column {column}: ")?;
-                let mut text = front;
-                text.push_str(&format!(in alloc; "expected {words}\n")?)?;
-                Ok(Answer::refused(text))
+                grammar_message(alloc, text, line, column, expected)?
             }
-            TextFault::List(line, fault) => Answer::list_fault(alloc, line, fault),
-            TextFault::Memory => Answer::fault(alloc, PlanFault::Memory),
-        }
+            TextFault::List(line, fault) => line_message(alloc, text, line, fault)?,
+            TextFault::Memory => message_of(alloc, PlanFault::Memory)?,
+        };
+        Ok(Answer::refused(message))
     }
 
     /// The refusal of a plan that is to be explained.

@@ -14,7 +14,7 @@ pub fn assemble_list(alloc: Global, text: &[u8]) -> Result<Answer, AllocError> {
             list.push_str("\n")?;
             Ok(Answer::done(list))
         }
-        Err(fault) => Answer::text_fault(alloc, fault),
+        Err(fault) => Answer::text_fault(alloc, text, fault),
     }
 }
 
@@ -29,6 +29,6 @@ pub fn assemble_job(alloc: Global, text: &[u8], settings: &Settings) -> Result<A
             job.push_str("}\n")?;
             Ok(Answer::done(job))
         }
-        Err(fault) => Answer::text_fault(alloc, fault),
+        Err(fault) => Answer::text_fault(alloc, text, fault),
     }
 }

@@ -1,12 +1,13 @@
 //! `explain`: what the plan of a text or a job does, in words or as a picture.
 
 use crate::answer::Answer;
+use crate::judged::{missing_message, push_least};
 use dsa_calls::{PlanFault, check_bytes, judge_bytes, plan_list};
 use dsa_cert::Certificate;
 use dsa_descriptor::{Descriptor, read_list};
 use dsa_explain::{MOST_ROWS, Origin, draw, explain, explanation_text};
 use dsa_lines::assemble;
-use dsa_plan::{Plan, Settings, read_emission};
+use dsa_plan::{LegalFault, Plan, Settings, read_emission};
 use std::alloc::{AllocError, Global};
 
 /// Of which operation each piece is.
@@ -49,8 +50,8 @@ fn answer_plan(
     }
     let groups = plan.groups().len();
     if groups > MOST_ROWS {
-        let line = format!(in alloc; "refused 91 Picture: {groups} groups, and 1024 at most\n")?;
-        return Ok(Answer::refused(line));
+        let front = format!(in alloc; "error: {groups} groups, a picture has 1024 at most")?;
+        return Ok(Answer::refused(format!(in alloc; "{front} [91 Picture]\n")?));
     }
     Ok(Answer::done(draw(alloc, &explanation, pieces, origins)?))
 }
@@ -90,11 +91,12 @@ pub fn explain_text(
 ) -> Result<Answer, AllocError> {
     match assemble(alloc, text) {
         Ok(list) => explain_list(alloc, &list, settings, drawn),
-        Err(fault) => Answer::text_fault(alloc, fault),
+        Err(fault) => Answer::text_fault(alloc, text, fault),
     }
 }
 
-/// What a plan of listed pieces does and why, if it may be submitted.
+/// What a plan of listed pieces does and why, if it may be submitted, and what the least plan costs. Of one that lacks
+/// fences each missing fence is told.
 pub fn explain_judged(
     alloc: Global,
     list: &[u8],
@@ -102,13 +104,26 @@ pub fn explain_judged(
     settings: &Settings,
     drawn: bool,
 ) -> Result<Answer, AllocError> {
-    if let Err(fault) = judge_bytes(alloc, list, plan, settings) {
-        return Answer::fault(alloc, fault);
+    let judged = judge_bytes(alloc, list, plan, settings);
+    let pieces = match read_list(alloc, list) {
+        Ok(pieces) => pieces,
+        Err(fault) => return Answer::fault(alloc, PlanFault::from(fault)),
+    };
+    let cost = match judged {
+        Ok(cost) => cost,
+        Err(fault @ PlanFault::Legal(LegalFault::Unfenced(_, _))) => {
+            return Ok(Answer::refused(missing_message(alloc, fault, plan, &pieces)?));
+        }
+        Err(fault) => return Answer::fault(alloc, fault),
+    };
+    let mut answer = answer_plan(alloc, plan, &pieces, [].as_slice(), settings, drawn)?;
+    if !drawn && answer.status == 0 {
+        match push_least(alloc, &mut answer.text, list, settings, cost) {
+            Ok(()) => {}
+            Err(fault) => return Answer::fault(alloc, fault),
+        }
     }
-    match read_list(alloc, list) {
-        Ok(pieces) => answer_plan(alloc, plan, &pieces, [].as_slice(), settings, drawn),
-        Err(fault) => Answer::fault(alloc, PlanFault::from(fault)),
-    }
+    Ok(answer)
 }
 
 /// What the plan that a portal and a staging area submit does and why, if the certificate shows that none costs less.

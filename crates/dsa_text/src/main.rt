@@ -1,30 +1,65 @@
-//! Descriptors as text: `assemble`, `disassemble` and `explain`, from standard input to standard output.
+//! Descriptors as text: `assemble`, `disassemble`, `explain` and `audit`, from a file or standard input to standard output.
 #![tactic(auto)]
 
 mod answer;
 mod assembling;
+mod audit;
+mod audit_json;
 mod bytes;
+mod diagnosis;
 mod disassembling;
 mod explaining;
+mod findings;
+mod judged;
 pub mod laws;
+mod messages;
 mod numbers;
+mod places;
+mod sentences;
 mod settings;
+mod totals;
+mod words;
 
 use crate::answer::Answer;
 use crate::assembling::{assemble_job, assemble_list};
+use crate::audit::{AuditOptions, audit};
+use crate::diagnosis::job_fault;
 use crate::disassembling::{disassemble_list, disassemble_portal, disassemble_staging};
 use crate::explaining::{explain_checked, explain_judged, explain_list, explain_text};
+use crate::findings::Denied;
+use crate::messages::message_of;
 use crate::numbers::number_of;
-use crate::settings::{SettingsWords, settings_of};
+use crate::settings::{Setting, SettingsWords, settings_fault, settings_of};
 use clap::error::ErrorKind;
 use clap::parser::ValueSource;
 use clap::{Arg, ArgAction, ArgMatches, Command};
-use dsa_calls::{PlanFault, refusal_line};
+use dsa_calls::PlanFault;
 use dsa_plan::Settings;
 use dsa_report::{Job, Stop, read_job, read_text, write_line};
 use std::alloc::{AllocError, Global};
+use std::fs::File;
 use std::io;
 use std::process::ExitCode;
+
+/// The version of the program, which is that of bindings/c/dsa_planner.h.
+const VERSION: &str = "1.0.0";
+
+/// What is said where memory was refused, which takes none.
+const NO_MEMORY: &str = "error: there was not enough memory [73 Memory]\n";
+
+/// What the help of each command says of numbers.
+const UNITS: &str =
+    "Sizes are in bytes, prices in one unit of your choice. Numbers are decimal, or hexadecimal behind 0x.";
+
+/// What the help of `assemble` says of lines.
+const LINES: &str = "A line is an operation, as docs/FORMATS.md has them:
+
+  move 0x1000 -> 0x2000, 64 bytes, record 0x8000
+  fill 0x1000 with 0102030405060708, 64 bytes, record 0x8000
+  compare 0x1000 with 0x2000, 64 bytes, expect 0, record 0x8000, check
+
+Sizes are in bytes, prices in one unit of your choice. Numbers are decimal, or hexadecimal behind 0x.
+Example: dsa_text assemble --job store.txt | dsa";
 
 /// An option with a value.
 fn value<'a>(alloc: Global, name: &'a str, default: &'a str, help: &'a str) -> Arg<'a> {
@@ -42,6 +77,14 @@ fn flag<'a>(alloc: Global, name: &'a str, help: &'a str) -> Arg<'a> {
         .long(name)
         .action(ArgAction::SetTrue)
         .help(help)
+}
+
+/// The file to read.
+fn file<'a>(alloc: Global) -> Arg<'a> {
+    Arg::new(alloc, "file")
+        .value_name("FILE")
+        .action(ArgAction::Set)
+        .help("what to read; standard input where none is named")
 }
 
 /// The command with the options of the settings.
@@ -76,6 +119,8 @@ fn with_settings<'a>(alloc: Global, command: Command<'a>) -> Result<Command<'a>,
 fn assemble_command<'a>(alloc: Global) -> Result<Command<'a>, AllocError> {
     let command = Command::new(alloc, "assemble")
         .about("Reads lines of operations, and writes their list in hexadecimal")
+        .after_help(LINES)
+        .arg(file(alloc))?
         .arg(flag(alloc, "job", "write a whole job to plan the list"))?;
     with_settings(alloc, command)
 }
@@ -91,6 +136,8 @@ fn at<'a>(alloc: Global) -> Result<Arg<'a>, AllocError> {
 fn disassemble_command<'a>(alloc: Global) -> Result<Command<'a>, AllocError> {
     Command::new(alloc, "disassemble")
         .about("Reads a list in hexadecimal, and writes its lines")
+        .after_help("Example: dsa_text disassemble --staging --at 0x10000 staging.hex")
+        .arg(file(alloc))?
         .arg(flag(alloc, "portal", "read the entries of a portal"))?
         .arg(flag(alloc, "staging", "read a staging area").conflicts_with("portal")?)?
         .arg(at(alloc)?)
@@ -100,39 +147,52 @@ fn disassemble_command<'a>(alloc: Global) -> Result<Command<'a>, AllocError> {
 fn explain_command<'a>(alloc: Global) -> Result<Command<'a>, AllocError> {
     let command = Command::new(alloc, "explain")
         .about("Reads lines or a job to plan, judge or check, and tells what the plan does and why")
+        .after_help(UNITS)
+        .arg(file(alloc))?
         .arg(flag(alloc, "svg", "draw the plan"))?;
     with_settings(alloc, command)
+}
+
+/// The command `audit`.
+fn audit_command<'a>(alloc: Global) -> Result<Command<'a>, AllocError> {
+    Command::new(alloc, "audit")
+        .about("Reads a recording of what was submitted, and reports missing and needless fences")
+        .arg(file(alloc))?
+        .arg(flag(alloc, "json", "write the report as JSON"))?
+        .arg(
+            Arg::new(alloc, "deny")
+                .long("deny")
+                .value_name("needless,unseen")
+                .action(ArgAction::Set)
+                .help("take these findings for errors too"),
+        )
 }
 
 /// The commands and their options.
 fn commands<'a>(alloc: Global) -> Result<Command<'a>, AllocError> {
     Command::new(alloc, "dsa_text")
         .about("Descriptors of the data streaming accelerator as text")
+        .version(VERSION)
         .subcommand_required(true)
         .subcommand(assemble_command(alloc)?)?
         .subcommand(disassemble_command(alloc)?)?
-        .subcommand(explain_command(alloc)?)
+        .subcommand(explain_command(alloc)?)?
+        .subcommand(audit_command(alloc)?)
 }
 
-/// The names of the options of the settings.
-const SETTINGS: [&str; 7] = [
-    "greatest-batch",
-    "greatest-transfer",
-    "lone",
-    "batch",
-    "batches",
-    "fence",
-    "staging",
-];
+/// Whether an option was given.
+fn is_given(matches: &ArgMatches<'_>, name: &str) -> bool {
+    matches.value_source(name) == Some(ValueSource::CommandLine)
+}
 
 /// Whether some option of the settings was given.
 fn are_settings_given(matches: &ArgMatches<'_>) -> bool {
-    for name in SETTINGS {
-        if matches.value_source(name) == Some(ValueSource::CommandLine) {
+    for setting in Setting::ALL {
+        if is_given(matches, setting.option()) {
             return true;
         }
     }
-    false
+    is_given(matches, "batches")
 }
 
 /// The value of an option.
@@ -143,9 +203,9 @@ fn word<'a>(matches: &ArgMatches<'a>, name: &str) -> &'a str {
     }
 }
 
-/// The settings of the options.
-fn settings_in(alloc: Global, matches: &ArgMatches<'_>) -> Result<Option<Settings>, AllocError> {
-    let words = SettingsWords {
+/// The settings as the options spell them.
+fn settings_words<'a>(matches: &ArgMatches<'a>) -> SettingsWords<'a> {
+    SettingsWords {
         greatest_batch: word(matches, "greatest-batch"),
         greatest_transfer: word(matches, "greatest-transfer"),
         lone: word(matches, "lone"),
@@ -153,14 +213,20 @@ fn settings_in(alloc: Global, matches: &ArgMatches<'_>) -> Result<Option<Setting
         batches: matches.get_str("batches"),
         fence: word(matches, "fence"),
         staging: word(matches, "staging"),
-    };
-    settings_of(alloc, &words)
+    }
+}
+
+/// The refusal of settings that the words spell.
+fn refused_settings(alloc: Global, words: &SettingsWords<'_>) -> Result<Answer, AllocError> {
+    let message = settings_fault(alloc, words)?;
+    Answer::fault_with(alloc, PlanFault::Settings, &message)
 }
 
 /// What `assemble` answers.
 fn assemble(alloc: Global, matches: &ArgMatches<'_>, text: &[u8]) -> Result<Answer, AllocError> {
-    let Some(settings) = settings_in(alloc, matches)? else {
-        return Answer::fault(alloc, PlanFault::Settings);
+    let words = settings_words(matches);
+    let Some(settings) = settings_of(alloc, &words)? else {
+        return refused_settings(alloc, &words);
     };
     if matches.get_flag("job") {
         assemble_job(alloc, text, &settings)
@@ -171,8 +237,11 @@ fn assemble(alloc: Global, matches: &ArgMatches<'_>, text: &[u8]) -> Result<Answ
 
 /// What `disassemble` answers.
 fn disassemble(alloc: Global, matches: &ArgMatches<'_>, text: &[u8]) -> Result<Answer, AllocError> {
-    let Some(at) = number_of(word(matches, "at")) else {
-        return Answer::fault(alloc, PlanFault::Settings);
+    let word = word(matches, "at");
+    let Some(at) = number_of(word).filter(|at| Setting::Staging.allows(*at)) else {
+        let limits = Setting::Staging.limits();
+        let message = format!(in alloc; "--at: '{word}' is no {limits}")?;
+        return Answer::fault_with(alloc, PlanFault::Settings, &message);
     };
     if matches.get_flag("portal") {
         disassemble_portal(alloc, text)
@@ -196,7 +265,11 @@ fn explain_job(alloc: Global, job: &Job, drawn: bool) -> Result<Answer, AllocErr
             &job.settings,
             drawn,
         ),
-        Job::Replay(_) | Job::Run(_) => Answer::fault(alloc, PlanFault::Do),
+        Job::Replay(_) | Job::Run(_) => {
+            let message =
+                "a job to replay or to run is not explained, but one to plan, judge or check";
+            Answer::fault_with(alloc, PlanFault::Do, message)
+        }
     }
 }
 
@@ -204,7 +277,7 @@ fn explain_job(alloc: Global, job: &Job, drawn: bool) -> Result<Answer, AllocErr
 fn explain_job_text(alloc: Global, text: &[u8], drawn: bool) -> Result<Answer, AllocError> {
     match read_job(alloc, text) {
         Ok(job) => explain_job(alloc, &job, drawn),
-        Err(fault) => Answer::fault(alloc, fault),
+        Err(fault) => job_fault(alloc, text, fault),
     }
 }
 
@@ -213,15 +286,36 @@ fn explain(alloc: Global, matches: &ArgMatches<'_>, text: &[u8]) -> Result<Answe
     let drawn = matches.get_flag("svg");
     if text.trim_ascii().first().copied() == Some(b'{') {
         if are_settings_given(matches) {
-            let line = "refused 92 Options: a job has settings of its own\n";
+            let line =
+                "error: a job has settings of its own, so no option gives any [92 Options]\n";
             return Ok(Answer::refused(String::from_str(alloc, line)?));
         }
         return explain_job_text(alloc, text, drawn);
     }
-    match settings_in(alloc, matches)? {
+    let words = settings_words(matches);
+    match settings_of(alloc, &words)? {
         Some(settings) => explain_text(alloc, text, &settings, drawn),
-        None => Answer::fault(alloc, PlanFault::Settings),
+        None => refused_settings(alloc, &words),
     }
+}
+
+/// The findings that an option denies, if it names findings.
+fn denied_in(matches: &ArgMatches<'_>) -> Option<Denied> {
+    let mut denied = Denied {
+        needless: false,
+        unseen: false,
+    };
+    let Some(names) = matches.get_str("deny") else {
+        return Some(denied);
+    };
+    for name in names.split(',') {
+        match name {
+            "needless" => denied.needless = true,
+            "unseen" => denied.unseen = true,
+            _ => return None,
+        }
+    }
+    Some(denied)
 }
 
 /// What the command of the matches answers.
@@ -238,18 +332,29 @@ fn answer_command(
     }
 }
 
-/// Writes the line of a refusal, which takes no memory, and ends.
-fn refuse(rt: &HostRuntime, fault: PlanFault) -> ExitCode {
-    let line = refusal_line(fault);
-    ended(rt, line.as_str(), 1)
+/// Writes the message of a refusal to standard error, and ends with a status, or with 2 where writing fails.
+fn refuse(rt: &HostRuntime, message: &str) -> ExitCode {
+    match eprint!(rt; "{message}") {
+        Ok(()) => ExitCode::from(1),
+        Err(_) => ExitCode::from(2),
+    }
 }
 
-/// Writes a text, and ends with a status, or with 2 where writing fails.
-fn ended(rt: &HostRuntime, text: &str, status: u8) -> ExitCode {
+/// Writes a text to standard output, and ends with a status.
+fn written(rt: &HostRuntime, text: &str, status: u8) -> ExitCode {
     if write_line(&mut io::writer(rt), text.as_bytes()) {
         ExitCode::from(status)
     } else {
-        ExitCode::from(2)
+        failed(rt, "error: the answer can't be written\n")
+    }
+}
+
+/// Writes an answer to standard output, or why there is none to standard error, and ends.
+fn ended(rt: &HostRuntime, answer: &Answer) -> ExitCode {
+    if answer.status == 0 {
+        written(rt, &answer.text, 0)
+    } else {
+        refuse(rt, &answer.text)
     }
 }
 
@@ -273,31 +378,103 @@ fn arguments(rt: &HostRuntime) -> Result<Option<Vec<String>>, AllocError> {
     }
 }
 
+/// Says what failed, and ends. The status tells enough where standard error is not there.
+fn failed(rt: &HostRuntime, message: &str) -> ExitCode {
+    match eprint!(rt; "{message}") {
+        Ok(()) | Err(_) => ExitCode::from(2),
+    }
+}
+
+/// The text of the file, or of standard input where none is named.
+fn input(rt: &HostRuntime, file: Option<&str>) -> Result<Vec<u8>, Stop> {
+    let Some(path) = file else {
+        return read_text(rt.alloc(), &mut rt.reader());
+    };
+    match File::open(rt, path) {
+        Ok(mut opened) => read_text(rt.alloc(), &mut opened),
+        Err(error) if error.kind() == io::ErrorKind::OutOfMemory => {
+            Err(Stop::Refusal(PlanFault::Memory))
+        }
+        Err(_) => Err(Stop::Fault),
+    }
+}
+
+/// Says that the input could not be read to its end, and ends.
+fn unread(rt: &HostRuntime, file: Option<&str>) -> Result<ExitCode, AllocError> {
+    let name = file.unwrap_or("the input");
+    let message = format!(in rt.alloc(); "error: {name} can't be read to its end\n")?;
+    Ok(failed(rt, &message))
+}
+
+/// Answers the command of the matches.
+fn run_command(rt: &HostRuntime, matches: &ArgMatches<'_>) -> Result<ExitCode, AllocError> {
+    let file = matches
+        .subcommand()
+        .and_then(|(_, options)| options.get_str("file"));
+    match input(rt, file) {
+        Ok(text) => {
+            let answer = answer_command(rt.alloc(), matches, &text)?;
+            Ok(ended(rt, &answer))
+        }
+        Err(Stop::Refusal(fault)) => Ok(ended(rt, &Answer::fault(rt.alloc(), fault)?)),
+        Err(Stop::Fault) => unread(rt, file),
+    }
+}
+
+/// Answers `audit`. Status 1 is that a fence is missing, so the report goes to standard output, and a refusal has status 2.
+fn audited(rt: &HostRuntime, matches: &ArgMatches<'_>) -> Result<ExitCode, AllocError> {
+    let Some(denied) = denied_in(matches) else {
+        let reason = "error: --deny takes needless and unseen, with a comma between\n";
+        return Ok(failed(rt, reason));
+    };
+    let options = AuditOptions {
+        json: matches.get_flag("json"),
+        denied,
+    };
+    let file = matches.get_str("file");
+    match input(rt, file) {
+        Ok(text) => {
+            let answer = audit(rt.alloc(), &text, options)?;
+            if answer.status == 2 {
+                Ok(failed(rt, &answer.text))
+            } else {
+                Ok(written(rt, &answer.text, answer.status))
+            }
+        }
+        Err(Stop::Refusal(fault)) => Ok(failed(rt, &message_of(rt.alloc(), fault)?)),
+        Err(Stop::Fault) => unread(rt, file),
+    }
+}
+
+/// Runs `audit`.
+fn run_audit(rt: &HostRuntime, matches: &ArgMatches<'_>) -> ExitCode {
+    match audited(rt, matches) {
+        Ok(code) => code,
+        Err(AllocError) => failed(rt, NO_MEMORY),
+    }
+}
+
 /// Runs one command.
 fn run(rt: &HostRuntime) -> Result<ExitCode, AllocError> {
     let alloc = rt.alloc();
     let Some(words) = arguments(rt)? else {
-        return Ok(ExitCode::from(2));
+        return Ok(failed(rt, "error: the arguments are no text\n"));
     };
     let matches = match commands(alloc)?.try_get_matches_from(words.as_slice()) {
         Ok(matches) => matches,
         Err(error) => return show(rt, &error),
     };
-    match read_text(alloc, &mut rt.reader()) {
-        Ok(text) => {
-            let answer = answer_command(alloc, &matches, &text)?;
-            Ok(ended(rt, &answer.text, answer.status))
-        }
-        Err(Stop::Refusal(fault)) => Ok(refuse(rt, fault)),
-        Err(Stop::Fault) => Ok(ExitCode::from(2)),
+    match matches.subcommand() {
+        Some(("audit", options)) => Ok(run_audit(rt, options)),
+        Some(_) | None => run_command(rt, &matches),
     }
 }
 
-/// Runs one command. The status is 0 for an answer and 1 for a refusal, which is one line; 2 where reading or writing
-/// failed, and for invalid arguments, with a message on standard error if they are text.
+/// Runs one command. The status is 0 for an answer; 1 for a refusal, which is one line on standard error; 2 where reading
+/// or writing failed, and for invalid arguments, with a message on standard error if they are text.
 fn main(rt: HostRuntime) -> ExitCode {
     match run(&rt) {
         Ok(code) => code,
-        Err(AllocError) => refuse(&rt, PlanFault::Memory),
+        Err(AllocError) => refuse(&rt, NO_MEMORY),
     }
 }

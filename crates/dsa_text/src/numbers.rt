@@ -33,6 +33,17 @@ pub fn number_of(word: &str) -> Option<u64> {
     numeral(bytes, 10)
 }
 
+/// A number of bytes: K or M behind it stands for 1,024 or 1,048,576 of them.
+pub(crate) fn size_of(word: &str) -> Option<u64> {
+    if let Some(count) = word.strip_suffix('K') {
+        return number_of(count)?.checked_mul(1024);
+    }
+    if let Some(count) = word.strip_suffix('M') {
+        return number_of(count)?.checked_mul(1_048_576);
+    }
+    number_of(word)
+}
+
 /// Numbers with commas between.
 pub(crate) fn numbers_of(alloc: Global, word: &str) -> Result<Option<Vec<u64>>, AllocError> {
     let mut numbers = Vec::new(alloc);

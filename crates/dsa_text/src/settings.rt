@@ -1,6 +1,6 @@
 //! Settings, from arguments and as the member of a job.
 
-use crate::numbers::{number_of, numbers_of};
+use crate::numbers::{number_of, numbers_of, size_of};
 use dsa_plan::Settings;
 use std::alloc::{AllocError, Global};
 
@@ -23,11 +23,143 @@ pub struct SettingsWords<'a> {
     pub staging: &'a str,
 }
 
+/// One of the settings that are a number.
+#[derive(Clone, Copy, Debug)]
+pub(crate) enum Setting {
+    GreatestBatch,
+    GreatestTransfer,
+    Lone,
+    Batch,
+    Fence,
+    Staging,
+}
+
+impl Setting {
+    /// All of them, in the order in which they are tested.
+    pub(crate) const ALL: [Setting; 6] = [
+        Setting::GreatestBatch,
+        Setting::GreatestTransfer,
+        Setting::Lone,
+        Setting::Batch,
+        Setting::Fence,
+        Setting::Staging,
+    ];
+
+    /// Its name among the options.
+    pub(crate) fn option(self) -> &'static str {
+        match self {
+            Setting::GreatestBatch => "greatest-batch",
+            Setting::GreatestTransfer => "greatest-transfer",
+            Setting::Lone => "lone",
+            Setting::Batch => "batch",
+            Setting::Fence => "fence",
+            Setting::Staging => "staging",
+        }
+    }
+
+    /// Its name in a job.
+    pub(crate) fn member(self) -> &'static str {
+        match self {
+            Setting::GreatestBatch => "greatest_batch",
+            Setting::GreatestTransfer => "greatest_transfer",
+            Setting::Lone => "lone",
+            Setting::Batch => "batch",
+            Setting::Fence => "fence",
+            Setting::Staging => "staging",
+        }
+    }
+
+    /// What it has to be: a ..
+    pub(crate) fn limits(self) -> &'static str {
+        match self {
+            Setting::GreatestBatch => "number from 2 to 1024",
+            Setting::GreatestTransfer => "multiple of 8 from 8 to 2147483648 (2048M)",
+            Setting::Lone | Setting::Batch | Setting::Fence => "number from 0 to 1000000000",
+            Setting::Staging => "multiple of 64 from 0 to 0x8000000000000000",
+        }
+    }
+
+    /// Whether the number is within its limits.
+    pub(crate) fn allows(self, number: u64) -> bool {
+        match self {
+            Setting::GreatestBatch => Settings::new(number, 8, 0, 0, 0, 0).is_ok(),
+            Setting::GreatestTransfer => Settings::new(2, number, 0, 0, 0, 0).is_ok(),
+            Setting::Lone => Settings::new(2, 8, number, 0, 0, 0).is_ok(),
+            Setting::Batch => Settings::new(2, 8, 0, number, 0, 0).is_ok(),
+            Setting::Fence => Settings::new(2, 8, 0, 0, number, 0).is_ok(),
+            Setting::Staging => Settings::new(2, 8, 0, 0, 0, number).is_ok(),
+        }
+    }
+
+    /// The word that spells it.
+    fn word<'a>(self, words: &SettingsWords<'a>) -> &'a str {
+        match self {
+            Setting::GreatestBatch => words.greatest_batch,
+            Setting::GreatestTransfer => words.greatest_transfer,
+            Setting::Lone => words.lone,
+            Setting::Batch => words.batch,
+            Setting::Fence => words.fence,
+            Setting::Staging => words.staging,
+        }
+    }
+
+    /// The number that the word spells; sizes may have a K or an M behind them.
+    fn read(self, word: &str) -> Option<u64> {
+        match self {
+            Setting::GreatestTransfer => size_of(word),
+            Setting::GreatestBatch
+            | Setting::Lone
+            | Setting::Batch
+            | Setting::Fence
+            | Setting::Staging => number_of(word),
+        }
+    }
+}
+
+/// What is wrong with a number of the table of prices, or how many there have to be.
+fn table_fault(
+    alloc: Global,
+    words: &SettingsWords<'_>,
+    batches: &str,
+) -> Result<String, AllocError> {
+    let mut count: u64 = 0;
+    for word in batches.split(',') {
+        if !number_of(word).is_some_and(|number| Setting::Batch.allows(number)) {
+            let limits = Setting::Batch.limits();
+            return format!(in alloc; "--batches: '{word}' is no {limits}");
+        }
+        count = count.saturating_add(1);
+    }
+    let greatest = number_of(words.greatest_batch).unwrap_or(2);
+    let needed = greatest.saturating_sub(1);
+    format!(in alloc;
+        "--batches: {count} prices, {needed} are needed for batches of up to {greatest}"
+    )
+}
+
+/// What is wrong with the settings that the words spell.
+pub(crate) fn settings_fault(
+    alloc: Global,
+    words: &SettingsWords<'_>,
+) -> Result<String, AllocError> {
+    for setting in Setting::ALL {
+        let word = setting.word(words);
+        if !setting
+            .read(word)
+            .is_some_and(|number| setting.allows(number))
+        {
+            let (option, limits) = (setting.option(), setting.limits());
+            return format!(in alloc; "--{option}: '{word}' is no {limits}");
+        }
+    }
+    table_fault(alloc, words, words.batches.unwrap_or(""))
+}
+
 /// The settings with one price for all batches.
 fn with_price(words: &SettingsWords<'_>) -> Option<Settings> {
     Settings::new(
         number_of(words.greatest_batch)?,
-        number_of(words.greatest_transfer)?,
+        size_of(words.greatest_transfer)?,
         number_of(words.lone)?,
         number_of(words.batch)?,
         number_of(words.fence)?,
@@ -40,7 +172,7 @@ fn with_price(words: &SettingsWords<'_>) -> Option<Settings> {
 fn with_table(words: &SettingsWords<'_>, table: &[u64]) -> Option<Settings> {
     Settings::with_table(
         number_of(words.greatest_batch)?,
-        number_of(words.greatest_transfer)?,
+        size_of(words.greatest_transfer)?,
         number_of(words.lone)?,
         table,
         number_of(words.fence)?,

@@ -1,0 +1,70 @@
+-- The words of a report on a recording (this project's choice): of each finding where it is, how severe, what, and why.
+use Rattle.std.specs.Prelude.{ℕ, Bool, true, false, List, [], ◌∷◌, ◌++◌, codes, decimal, if◌then◌else◌}
+use Rattle.dsa_audit.specs.declared.member.Unseen.{Unseen}
+use Rattle.dsa_audit.specs.declared.member.Unseen.TheVariants.{Operation, Nested, Owner, Empty, Wrap}
+use Rattle.dsa_ranges.specs.declared.hazards.HazardKind.{HazardKind}
+use Rattle.dsa_ranges.specs.declared.hazards.HazardKind.TheVariants.{ReadAfterWrite, WriteAfterRead, WriteAfterWrite}
+use Rattle.dsa_recording.specs.declared.detail.Detail.{Detail}
+use Rattle.dsa_recording.specs.declared.detail.Cause.{Cause}
+use Rattle.dsa_recording.specs.declared.detail.Cause.TheVariants.{NotSeen, MissingFence, NeedlessFence}
+use Rattle.dsa_lines.specs.Numbers.{hex}
+use Rattle.dsa_text.specs.declared.findings.Severity.{Severity}
+use Rattle.dsa_text.specs.declared.findings.Severity.TheVariants.{Error, Warning, Note}
+use Rattle.dsa_text.specs.declared.findings.Denied.{Denied}
+
+-- ---- where
+
+abbrev pub member_words : Bool → ℕ → List ℕ
+member_words true k = codes ", member " ++ (decimal k ++ codes ")")
+member_words false k = codes ", lone)"
+
+abbrev pub entry_words : ℕ → ℕ → List ℕ → List ℕ
+entry_words entry submission behind = codes "entry " ++ (decimal entry ++ (codes " (submission " ++ (decimal submission ++ behind)))
+
+abbrev pub place_words : Detail → List ℕ
+place_words d = entry_words d.entry d.submission (member_words d.is_batch d.member)
+
+-- ---- how severe: a missing fence is an error, and so is what is denied
+
+abbrev pub severity_of : Denied → Cause → Severity
+severity_of denied (NotSeen why) = if denied.unseen then Error else Warning
+severity_of denied (MissingFence earlier hazard) = Error
+severity_of denied NeedlessFence = if denied.needless then Error else Note
+
+abbrev pub severity_words : Severity → List ℕ
+severity_words Error = codes ": error: "
+severity_words Warning = codes ": warning: "
+severity_words Note = codes ": note: "
+
+-- ---- what, and why
+
+abbrev pub unseen_words : Unseen → ℕ → List ℕ
+unseen_words Operation code = codes "not looked at: operation " ++ hex code
+unseen_words Nested code = codes "not looked at: a batch in a batch"
+unseen_words Owner code = codes "not looked at: another PASID or privilege than its batch"
+unseen_words Empty code = codes "not looked at: size 0"
+unseen_words Wrap code = codes "not looked at: data or completion record past the last address"
+
+abbrev pub hazard_words : HazardKind → ℕ → ℕ → List ℕ
+hazard_words ReadAfterWrite earlier address =
+    codes "missing fence, read after write: reads what member " ++ (decimal earlier ++ (codes " writes, at " ++ hex address))
+hazard_words WriteAfterRead earlier address =
+    codes "missing fence, write after read: writes what member " ++ (decimal earlier ++ (codes " reads, at " ++ hex address))
+hazard_words WriteAfterWrite earlier address =
+    codes "missing fence, write after write: writes what member " ++ (decimal earlier ++ (codes " writes, at " ++ hex address))
+
+abbrev pub needless_words : Bool → List ℕ
+needless_words true = codes "needless fence"
+needless_words false = codes "needless fence, once the missing fences of its batch are set"
+
+-- `complete`: no fence of its submission is missing
+abbrev pub cause_words : Bool → ℕ → Cause → List ℕ
+cause_words complete code (NotSeen why) = unseen_words why code
+cause_words complete code (MissingFence earlier hazard) = hazard_words hazard.kind earlier hazard.address
+cause_words complete code NeedlessFence = needless_words complete
+
+-- ---- the line of a finding
+
+abbrev pub finding_words : Denied → Bool → Detail → List ℕ
+finding_words denied complete d =
+    place_words d ++ (severity_words (severity_of denied d.cause) ++ (cause_words complete d.code d.cause ++ 10 ∷ []))

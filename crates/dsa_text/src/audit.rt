@@ -1,0 +1,169 @@
+//! `audit`: which fences of recorded submissions are missing, and which are needless.
+
+ghost use Rattle.std.specs.Prelude.{◌≡◌, ◌≢◌, ◌↔◌, IfOk, IsTrue};
+ghost use Rattle.dsa_recording.specs.declared.stream.StreamFault.TheVariants.{Memory};
+ghost use Rattle.dsa_text.specs.AuditAnswers.{is_harmless, AreHarmless, IsStatusOf, IsStatus};
+
+use crate::answer::Answer;
+use crate::audit_json::report_json;
+use crate::findings::{Denied, finding_text};
+use crate::places::digit_text;
+use crate::totals::{totals_of, totals_text};
+use dsa_descriptor::u32_at;
+use dsa_recording::{
+    Finding, FindingKind, Form, Report, StreamFault, audit_recording, bytes_of_text, detail_of,
+    form_of, has_all_fences, is_text,
+};
+use hex::FromHexError;
+use std::alloc::{AllocError, Global};
+
+/// How an audit is written, and what it denies.
+#[derive(Clone, Copy, Debug)]
+pub struct AuditOptions {
+    /// Whether the report is one line of JSON.
+    pub json: bool,
+    /// The findings that count as errors.
+    pub denied: Denied,
+}
+
+/// Of each submission whether none of its fences is missing.
+pub(crate) fn completeness(alloc: Global, report: &Report) -> Result<Vec<bool>, AllocError> {
+    let mut complete = Vec::new(alloc);
+    for audited in &report.audits {
+        complete.push(has_all_fences(audited))?;
+    }
+    Ok(complete)
+}
+
+/// Whether no fence is missing in the submission of that number.
+pub(crate) fn is_complete(complete: &[bool], submission: usize) -> bool {
+    complete.get(submission).copied().unwrap_or(false)
+}
+
+/// Whether what was found is neither a missing fence nor denied.
+fn is_harmless(denied: Denied, kind: FindingKind) -> bool
+    ensures { result ≡ is_harmless denied kind }
+{
+    match kind {
+        FindingKind::NotSeen(_) => !denied.unseen,
+        FindingKind::MissingFence(_) => false,
+        FindingKind::NeedlessFence => !denied.needless,
+    }
+}
+
+/// Whether no finding is an error.
+fn are_harmless(denied: Denied, findings: &[Finding]) -> bool
+    ensures { IsTrue result ↔ AreHarmless denied findings.now }
+{
+    findings
+        .iter()
+        .all(|finding| is_harmless(denied, finding.kind))
+}
+
+/// The status of a report with these findings.
+fn status_of(denied: Denied, findings: &[Finding]) -> u8
+    ensures { IsStatusOf denied findings.now result }
+{
+    if are_harmless(denied, findings) { 0 } else { 1 }
+}
+
+/// The report in words: a line for each finding, and what they come to.
+fn report_text(
+    alloc: Global,
+    all: &[[u8; 64]],
+    report: &Report,
+    denied: Denied,
+) -> Result<String, AllocError> {
+    let complete = completeness(alloc, report)?;
+    let mut text = String::new(alloc);
+    for finding in &report.findings {
+        if let Some(detail) = detail_of(all, report, *finding) {
+            let known = is_complete(&complete, detail.submission);
+            text.push_str(&finding_text(alloc, &detail, known, denied)?)?;
+        }
+    }
+    text.push_str(&totals_text(alloc, &totals_of(report))?)?;
+    Ok(text)
+}
+
+/// The answer of a report, with status 1 where some finding is an error.
+fn answer_report(
+    alloc: Global,
+    all: &[[u8; 64]],
+    report: &Report,
+    options: AuditOptions,
+) -> Result<Answer, AllocError>
+    ensures { IfOk result
+        (λ answer. IsStatusOf options.denied report.now.findings.items answer.status) }
+{
+    let text = if options.json {
+        report_json(alloc, all, report, options.denied)?
+    } else {
+        report_text(alloc, all, report, options.denied)?
+    };
+    let status = status_of(options.denied, &report.findings);
+    Ok(Answer { text, status })
+}
+
+/// Why bytes are no recording.
+fn fault_text(alloc: Global, bytes: &[u8], fault: StreamFault) -> Result<String, AllocError>
+    ensures { IfOk result (λ _. fault ≢ Memory) }
+{
+    match fault {
+        StreamFault::Length => {
+            let (entry, rest) = (bytes.len() / 64, bytes.len() % 64);
+            format!(in alloc;
+                "entry {entry}: error: the recording ends after {rest} of its 64 bytes\n"
+            )
+        }
+        StreamFault::CutOff(at) => {
+            let (all, _) = bytes.as_chunks::<64>();
+            let size = match all.get(at) {
+                Some(entry) => u32_at(entry, 32),
+                None => 0,
+            };
+            let there = all.len().saturating_sub(at).saturating_sub(1);
+            format!(in alloc;
+                "entry {at}: error: the recording ends after {there} of the {size} members of this batch\n"
+            )
+        }
+        StreamFault::Memory => Err(AllocError),
+    }
+}
+
+/// The report on the entries of a recording.
+fn audit_bytes(alloc: Global, bytes: &[u8], options: AuditOptions) -> Result<Answer, AllocError>
+    ensures { IfOk result (λ answer. IsStatus bytes.now options.denied answer.status) }
+{
+    match audit_recording(alloc, bytes) {
+        Ok(report) => {
+            let (all, _) = bytes.as_chunks::<64>();
+            answer_report(alloc, all, &report, options)
+        }
+        Err(fault) => {
+            let text = fault_text(alloc, bytes, fault)?;
+            Ok(Answer { text, status: 2 })
+        }
+    }
+}
+
+/// The report on a recording, as bytes or as a text. The status is 0 where nothing is wrong, 1 where a fence is missing or
+/// what is denied was found, and 2 with the reason where there is no recording.
+pub fn audit(alloc: Global, input: &[u8], options: AuditOptions) -> Result<Answer, AllocError> {
+    if !is_text(input) {
+        return audit_bytes(alloc, input, options);
+    }
+    let Some(form) = form_of(input) else {
+        return refusal(digit_text(alloc, Form::Plain, input)?);
+    };
+    match bytes_of_text(alloc, form, input) {
+        Ok(bytes) => audit_bytes(alloc, &bytes, options),
+        Err(FromHexError::OutOfMemory) => Err(AllocError),
+        Err(_) => refusal(digit_text(alloc, form, input)?),
+    }
+}
+
+/// The answer where there is no recording.
+fn refusal(text: String) -> Result<Answer, AllocError> {
+    Ok(Answer { text, status: 2 })
+}

@@ -1,0 +1,126 @@
+//! A report on a recording as JSON.
+
+use crate::audit::{completeness, is_complete};
+use crate::findings::{Denied, Severity, severity_of};
+use crate::totals::{Totals, totals_of};
+use dsa_audit::Unseen;
+use dsa_ranges::{Hazard, HazardKind};
+use dsa_recording::{Cause, Detail, Report, detail_of};
+use serde_json::{Value, json};
+use std::alloc::{AllocError, Global};
+
+/// The name of a severity.
+fn severity_name(severity: Severity) -> &'static str {
+    match severity {
+        Severity::Error => "error",
+        Severity::Warning => "warning",
+        Severity::Note => "note",
+    }
+}
+
+/// The name of a reason why a member is not looked at.
+fn unseen_name(why: Unseen) -> &'static str {
+    match why {
+        Unseen::Operation => "operation",
+        Unseen::Nested => "nested",
+        Unseen::Owner => "owner",
+        Unseen::Empty => "empty",
+        Unseen::Wrap => "wrap",
+    }
+}
+
+/// The name of a hazard.
+fn hazard_name(kind: HazardKind) -> &'static str {
+    match kind {
+        HazardKind::ReadAfterWrite => "read after write",
+        HazardKind::WriteAfterRead => "write after read",
+        HazardKind::WriteAfterWrite => "write after write",
+    }
+}
+
+/// Why a fence is missing.
+fn hazard_json(alloc: Global, earlier: usize, hazard: Hazard) -> Result<Value, AllocError> {
+    let (name, address) = (hazard_name(hazard.kind), hazard.address);
+    let address = format!(in alloc; "0x{address:x}")?;
+    let earlier = earlier as u64;
+    json!(in alloc; {"kind": "missing", "earlier": earlier, "hazard": name, "address": address})
+}
+
+/// What was found, and why; `complete`: no fence of its submission is missing.
+fn cause_json(alloc: Global, detail: &Detail, complete: bool) -> Result<Value, AllocError> {
+    match detail.cause {
+        Cause::NotSeen(why) => {
+            let (why, operation) = (unseen_name(why), u64::from(detail.code));
+            json!(in alloc; {"kind": "unseen", "why": why, "operation": operation})
+        }
+        Cause::MissingFence(earlier, hazard) => hazard_json(alloc, earlier, hazard),
+        Cause::NeedlessFence => {
+            let later = !complete;
+            json!(in alloc; {"kind": "needless", "once_corrected": later})
+        }
+    }
+}
+
+/// The object of a finding.
+fn finding_json(
+    alloc: Global,
+    detail: &Detail,
+    complete: bool,
+    denied: Denied,
+) -> Result<Value, AllocError> {
+    let (entry, submission) = (detail.entry as u64, detail.submission as u64);
+    let member = if detail.is_batch {
+        Value::from(detail.member as u64)
+    } else {
+        Value::Null
+    };
+    let severity = severity_name(severity_of(denied, detail.cause));
+    let what = cause_json(alloc, detail, complete)?;
+    json!(in alloc; {
+        "entry": entry,
+        "submission": submission,
+        "member": member,
+        "severity": severity,
+        "what": what
+    })
+}
+
+/// The object of the numbers.
+fn totals_json(alloc: Global, totals: &Totals) -> Result<Value, AllocError> {
+    let (batches, lone) = (totals.batches as u64, totals.lone as u64);
+    let (descriptors, unseen) = (totals.descriptors as u64, totals.unseen as u64);
+    let (fences, missing) = (totals.fences as u64, totals.missing as u64);
+    let needless = totals.needless as u64;
+    json!(in alloc; {
+        "batches": batches,
+        "lone": lone,
+        "descriptors": descriptors,
+        "unseen": unseen,
+        "fences": fences,
+        "missing": missing,
+        "needless": needless
+    })
+}
+
+/// The report as one line of JSON.
+pub(crate) fn report_json(
+    alloc: Global,
+    all: &[[u8; 64]],
+    report: &Report,
+    denied: Denied,
+) -> Result<String, AllocError> {
+    let complete = completeness(alloc, report)?;
+    let mut findings = Vec::new(alloc);
+    for finding in &report.findings {
+        if let Some(detail) = detail_of(all, report, *finding) {
+            let known = is_complete(&complete, detail.submission);
+            findings.push(finding_json(alloc, &detail, known, denied)?)?;
+        }
+    }
+    let totals = totals_json(alloc, &totals_of(report))?;
+    let findings = Value::Array(findings);
+    let value = json!(in alloc; {"findings": findings, "totals": totals})?;
+    let mut line = value.to_string(alloc)?;
+    line.push_str("\n")?;
+    Ok(line)
+}

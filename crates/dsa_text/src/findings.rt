@@ -1,0 +1,182 @@
+//! The words of what an audit finds.
+
+ghost use Rattle.std.specs.Prelude.{◌≡◌, ◌++◌, true, IfOk, OnOk, codes, string_bytes};
+ghost use Rattle.dsa_recording.specs.declared.detail.Detail.{Detail};
+ghost use Rattle.dsa_text.specs.AuditWords.{entry_words, member_words, place_words, severity_of, severity_words, unseen_words, hazard_words, needless_words, cause_words, finding_words};
+
+use dsa_audit::Unseen;
+use dsa_ranges::{Hazard, HazardKind};
+use dsa_recording::{Cause, Detail};
+use std::alloc::{AllocError, Global};
+
+/// How severe a finding is.
+#[derive(Clone, Copy, Debug, PartialEq, Eq)]
+pub enum Severity {
+    /// The program ends with status 1.
+    Error,
+    /// The audit says less than it could.
+    Warning,
+    /// It may be left as it is.
+    Note,
+}
+
+/// The findings that count as errors beside missing fences.
+#[derive(Clone, Copy, Debug, PartialEq, Eq)]
+pub struct Denied {
+    /// Needless fences.
+    pub needless: bool,
+    /// Members that are not looked at.
+    pub unseen: bool,
+}
+
+/// How severe it is that this was found.
+pub fn severity_of(denied: Denied, cause: Cause) -> Severity
+    ensures { result ≡ severity_of denied cause }
+{
+    match cause {
+        Cause::NotSeen(_) => {
+            if denied.unseen {
+                Severity::Error
+            } else {
+                Severity::Warning
+            }
+        }
+        Cause::MissingFence(_, _) => Severity::Error,
+        Cause::NeedlessFence => {
+            if denied.needless {
+                Severity::Error
+            } else {
+                Severity::Note
+            }
+        }
+    }
+}
+
+/// Where a member of a batch is.
+fn batch_place(
+    alloc: Global,
+    entry: usize,
+    submission: usize,
+    member: usize,
+) -> Result<String, AllocError>
+    ensures { IfOk result (λ s. string_bytes s ≡
+        entry_words entry submission (member_words true member)) }
+{
+    format!(in alloc; "entry {entry} (submission {submission}, member {member})")
+}
+
+/// Where a lone descriptor is.
+fn lone_place(alloc: Global, entry: usize, submission: usize) -> Result<String, AllocError>
+    ensures { IfOk result (λ s. string_bytes s ≡
+        entry_words entry submission (codes ", lone)")) }
+{
+    format!(in alloc; "entry {entry} (submission {submission}, lone)")
+}
+
+/// Where it was found: the submission and its member.
+fn place_text(alloc: Global, detail: &Detail) -> Result<String, AllocError>
+    ensures { IfOk result (λ s. string_bytes s ≡ place_words detail.now) }
+{
+    if detail.is_batch {
+        batch_place(alloc, detail.entry, detail.submission, detail.member)
+    } else {
+        lone_place(alloc, detail.entry, detail.submission)
+    }
+}
+
+/// Writes how severe it is.
+fn push_severity(text: &mut String, severity: Severity) -> Result<(), AllocError>
+    ensures { OnOk result (string_bytes text.new ≡ string_bytes text.old ++
+        severity_words severity) }
+{
+    match severity {
+        Severity::Error => text.push_str(": error: "),
+        Severity::Warning => text.push_str(": warning: "),
+        Severity::Note => text.push_str(": note: "),
+    }
+}
+
+/// Why a member of this operation code is not looked at.
+fn unseen_text(alloc: Global, why: Unseen, code: u8) -> Result<String, AllocError>
+    ensures { IfOk result (λ s. string_bytes s ≡ unseen_words why code) }
+{
+    match why {
+        Unseen::Operation => format!(in alloc; "not looked at: operation 0x{code:x}"),
+        Unseen::Nested => String::from_str(alloc, "not looked at: a batch in a batch"),
+        Unseen::Owner => String::from_str(
+            alloc,
+            "not looked at: another PASID or privilege than its batch",
+        ),
+        Unseen::Empty => String::from_str(alloc, "not looked at: size 0"),
+        Unseen::Wrap => String::from_str(
+            alloc,
+            "not looked at: data or completion record past the last address",
+        ),
+    }
+}
+
+/// Why a fence is missing behind an earlier member.
+fn hazard_text(alloc: Global, earlier: usize, hazard: Hazard) -> Result<String, AllocError>
+    ensures { IfOk result (λ s. string_bytes s ≡ hazard_words hazard.kind earlier hazard.address) }
+{
+    let address = hazard.address;
+    match hazard.kind {
+        HazardKind::ReadAfterWrite => {
+            format!(in alloc;
+                "missing fence, read after write: reads what member {earlier} writes, at 0x{address:x}"
+            )
+        }
+        HazardKind::WriteAfterRead => {
+            format!(in alloc;
+                "missing fence, write after read: writes what member {earlier} reads, at 0x{address:x}"
+            )
+        }
+        HazardKind::WriteAfterWrite => {
+            format!(in alloc;
+                "missing fence, write after write: writes what member {earlier} writes, at 0x{address:x}"
+            )
+        }
+    }
+}
+
+/// That a fence is needless, at once or with the missing ones.
+fn needless_text(alloc: Global, complete: bool) -> Result<String, AllocError>
+    ensures { IfOk result (λ s. string_bytes s ≡ needless_words complete) }
+{
+    if complete {
+        String::from_str(alloc, "needless fence")
+    } else {
+        String::from_str(
+            alloc,
+            "needless fence, once the missing fences of its batch are set",
+        )
+    }
+}
+
+/// What was found, and why; `complete`: no fence of its submission is missing.
+fn cause_text(alloc: Global, detail: &Detail, complete: bool) -> Result<String, AllocError>
+    ensures { IfOk result (λ s. string_bytes s ≡
+        cause_words complete detail.now.code detail.now.cause) }
+{
+    match detail.cause {
+        Cause::NotSeen(why) => unseen_text(alloc, why, detail.code),
+        Cause::MissingFence(earlier, hazard) => hazard_text(alloc, earlier, hazard),
+        Cause::NeedlessFence => needless_text(alloc, complete),
+    }
+}
+
+/// The line of a finding: where it is, how severe, what, and why; `complete`: no fence of its submission is missing.
+pub fn finding_text(
+    alloc: Global,
+    detail: &Detail,
+    complete: bool,
+    denied: Denied,
+) -> Result<String, AllocError>
+    ensures { IfOk result (λ s. string_bytes s ≡ finding_words denied complete detail.now) }
+{
+    let mut line = place_text(alloc, detail)?;
+    push_severity(&mut line, severity_of(denied, detail.cause))?;
+    line.push_str(&cause_text(alloc, detail, complete)?)?;
+    line.push_str("\n")?;
+    Ok(line)
+}

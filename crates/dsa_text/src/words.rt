@@ -1,0 +1,135 @@
+//! The word at a place of a text, and what helps where another was expected.
+
+use dsa_descriptor::{FieldFault, ListFault};
+use dsa_lines::Expected;
+use std::alloc::{AllocError, Global};
+
+/// The most bytes of a word that a message shows.
+const MOST_SHOWN: usize = 40;
+
+/// The bytes of a byte order mark.
+const MARK: [u8; 3] = [0xef, 0xbb, 0xbf];
+
+/// Whether the byte parts words of a line, or begins a comment.
+fn is_between(byte: u8) -> bool {
+    matches!(byte, b' ' | b'\t' | b'\r' | b',' | b'#')
+}
+
+/// The line of this number, from 1 on.
+fn line_at(text: &[u8], line: usize) -> &[u8] {
+    text.split(|byte| *byte == b'\n')
+        .nth(line.saturating_sub(1))
+        .unwrap_or(&[])
+}
+
+/// What stands at a column of a line, both from 1 on: a word, a comma, or nothing at the end of the line.
+pub(crate) fn word_at(text: &[u8], line: usize, column: usize) -> &[u8] {
+    let rest = line_at(text, line)
+        .get(column.saturating_sub(1)..)
+        .unwrap_or(&[]);
+    if let [b',', ..] = rest {
+        return &rest[..1];
+    }
+    rest.split(|byte| is_between(*byte)).next().unwrap_or(&[])
+}
+
+/// The column of the word of this name in a line, or of the one behind it.
+fn column_of(line: &[u8], name: &[u8], is_behind: bool) -> Option<usize> {
+    let mut column: usize = 1;
+    let mut is_named = false;
+    for word in line.split(|byte| is_between(*byte)) {
+        if !word.is_empty() {
+            if is_named || (word == name && !is_behind) {
+                return Some(column);
+            }
+            is_named = word == name;
+        }
+        column = column.saturating_add(word.len()).saturating_add(1);
+    }
+    None
+}
+
+/// The column of the word that is at fault in an operation's line, where one is.
+pub(crate) fn column_at_fault(text: &[u8], line: usize, fault: ListFault) -> Option<usize> {
+    let line = line_at(text, line);
+    match fault {
+        ListFault::Field(_, FieldFault::FlagBits) => column_of(line, b"check".as_slice(), false),
+        ListFault::Field(_, FieldFault::RecordAlign) => column_of(line, b"record".as_slice(), true),
+        ListFault::MixedPasid(_) => column_of(line, b"pasid".as_slice(), true),
+        ListFault::Field(
+            _,
+            FieldFault::Opcode
+            | FieldFault::Reserved
+            | FieldFault::SizeZero
+            | FieldFault::Wrap
+            | FieldFault::DualcastBits
+            | FieldFault::Overlap
+            | FieldFault::Delta
+            | FieldFault::Expected
+            | FieldFault::RecordMeetsData,
+        )
+        | ListFault::Length
+        | ListFault::Memory => None,
+    }
+}
+
+/// Writes what stands at a place, in quotes.
+pub(crate) fn push_found(alloc: Global, text: &mut String, word: &[u8]) -> Result<(), AllocError> {
+    if word.is_empty() {
+        return text.push_str("the end of the line");
+    }
+    text.push_str("'")?;
+    for byte in word.iter().take(MOST_SHOWN) {
+        if byte.is_ascii_graphic() {
+            text.push(*byte as char)?;
+        } else {
+            text.push_str(&format!(in alloc; "\\x{byte:02x}")?)?;
+        }
+    }
+    text.push_str(if word.len() > MOST_SHOWN { "..'" } else { "'" })
+}
+
+/// Whether the bytes have an arrow somewhere.
+fn has_arrow(word: &[u8]) -> bool {
+    word.windows(2).any(|pair| matches!(pair, [b'-', b'>']))
+}
+
+/// What helps where a number was expected.
+fn hint_of_number(word: &[u8]) -> Option<&'static str> {
+    match word {
+        [b'0', b'X', ..] => Some("0x stands before hexadecimal digits"),
+        [b'0'..=b'9', .., b'h' | b'H'] => Some("0x stands before hexadecimal digits"),
+        [b'0'..=b'9', .., b'k' | b'K' | b'm' | b'M'] => Some("in bytes: 4K is 4096"),
+        [b'0'..=b'9', .., b's'] => Some("a blank stands before `bytes`"),
+        _ => None,
+    }
+}
+
+/// What helps where something else was expected than this word.
+pub(crate) fn hint_of(word: &[u8], expected: Expected) -> Option<&'static str> {
+    if word.starts_with(&MARK) {
+        return Some("a byte order mark: save the text without one");
+    }
+    if has_arrow(word) {
+        return Some("blanks stand around ->");
+    }
+    match expected {
+        Expected::Number | Expected::NumberOrPattern | Expected::Size => hint_of_number(word),
+        Expected::Pattern => Some("byte 0 first, as 0102030405060708"),
+        Expected::Bytes => Some("`bytes` stands behind each size, of 1 too"),
+        Expected::Option => Some("each stands once"),
+        Expected::Operation
+        | Expected::Pasid
+        | Expected::Handle
+        | Expected::Flags
+        | Expected::Bit
+        | Expected::Comma
+        | Expected::CommaOrEnd
+        | Expected::Arrow
+        | Expected::With
+        | Expected::And
+        | Expected::Expect
+        | Expected::Record
+        | Expected::End => None,
+    }
+}

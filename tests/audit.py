@@ -1,0 +1,395 @@
+"""Runs `dsa_text audit` on recordings. Random ones, which a seed makes, are judged by brute force: every set of fences of
+each batch is tried, addresses are sets of bytes, and nothing is shared with the program. Recordings of what the planner
+submits have no finding, and lack a fence where one is left out. Every operation code, recordings that end early, and how
+long large recordings take. The words are names of parts; a number is how many random recordings are judged, 200 without
+one."""
+
+import itertools
+import json
+import random
+import shutil
+import struct
+import subprocess
+import time
+from pathlib import Path
+
+import common
+from common import move, named, program, run_test
+from model import COMPARE, DELTA, DUALCAST, FILL, MOVE, PATTERN, Op
+
+COUNT = 200
+WRAP = 1 << 64
+
+# ---- entries
+
+
+def entry(code, flags=0x0C, record=0x8000, first=0, second=0, size=0, own=0, owner=0):
+    """The 64 bytes of an entry, whatever its fields are."""
+    text = struct.pack("<IIQQQI", owner, code << 24 | flags, record, first, second, size)
+    return text + bytes(4) + own.to_bytes(8, "little") + bytes(16)
+
+
+def batch(*members, flags=0x0C, owner=0):
+    """A batch as it is recorded: its descriptor and its members."""
+    return entry(0x01, flags, 0x7000, 0x10000, size=len(members), owner=owner) + b"".join(members)
+
+
+def audited(recording, words=""):
+    """The report on a recording as JSON, and the status."""
+    ran = subprocess.run([TEXT, "audit", "--json", *words.split()], input=recording, capture_output=True)
+    common.expect(ran.returncode in (0, 1) and not ran.stderr, f"audit ends with {ran.returncode}: {ran.stderr[:300]}")
+    return json.loads(ran.stdout or "{}"), ran.returncode
+
+
+# ---- what an entry reads and writes, byte by byte
+
+
+def span(first, size):
+    return range(first, first + size)
+
+
+def accesses(it, owner):
+    """The bytes that an entry reads and those that it writes; or why nothing is known of it."""
+    its, word, record, first, second, size = struct.unpack_from("<IIQQQI", it)
+    code, own = word >> 24, int.from_bytes(it[40:48], "little")
+    if code not in (0, 1, MOVE, FILL, COMPARE, PATTERN, DELTA, DUALCAST):
+        return "operation"
+    if code == 1:
+        return "nested"
+    if (its & 0x800FFFFF) != (owner & 0x800FFFFF):
+        return "owner"
+    if code != 0 and size == 0:
+        return "empty"
+    if code == DELTA:
+        own &= 0xFFFFFFFF
+    op = Op(code, size, record, first, second, own)
+    reads = [span(*it) for it in op.sources()]
+    writes = [span(*it) for it in op.targets()] + ([span(record, 32)] if word & 0x0C == 0x0C else [])
+    if any(it.stop > WRAP for it in reads + writes):
+        return "wrap"
+    return set().union(*reads), set().union(*writes)
+
+
+def conflict(one, other):
+    return bool(one[1] & (other[0] | other[1]) or one[0] & other[1])
+
+
+def separated(fences, pair):
+    """A fence stands behind the earlier member, and at the later one at the latest."""
+    return any(pair[0] < fence <= pair[1] for fence in fences)
+
+
+def all_separated(fences, pairs):
+    return all(separated(fences, pair) for pair in pairs)
+
+
+def fewest(given, choice, pairs):
+    """The least number of fences of the choice with which, beside those given, all pairs are separated."""
+    for count in range(len(choice) + 1):
+        for some in itertools.combinations(choice, count):
+            if all_separated(given | set(some), pairs):
+                return count
+    return None
+
+
+# ---- the brute force
+
+
+class Batch:
+    """A recorded submission, and what the report says of it."""
+
+    def __init__(self, number, head, entries, findings):
+        self.number, self.entries = number, entries
+        owner = struct.unpack_from("<I", head)[0]
+        self.known = [accesses(it, owner) for it in entries]
+        self.fences = {k for k, it in enumerate(entries) if it[4] & 1}
+        pairs = list(itertools.combinations(range(len(entries)), 2))
+        is_seen = [not isinstance(it, str) for it in self.known]
+        clash = {p for p in pairs if all(is_seen[k] for k in p) and conflict(*(self.known[k] for k in p))}
+        self.certain = [p for p in pairs if p in clash]
+        self.possible = [p for p in pairs if p in clash or not all(is_seen[k] for k in p)]
+        self.found = {"missing": {}, "needless": {}, "unseen": {}}
+        for finding in findings:
+            self.found[finding["what"]["kind"]][finding["member"] or 0] = finding["what"]
+        self.corrected = self.fences | set(self.found["missing"])
+        self.reduced = self.corrected - set(self.found["needless"])
+
+    def faults(self):
+        yield from self.unseen_faults()
+        for later, what in self.found["missing"].items():
+            yield from self.missing_faults(what, later)
+        if not all_separated(self.corrected, self.certain):
+            yield "a conflict is left"
+        free = [k for k in range(len(self.entries)) if k not in self.fences]
+        least = fewest(self.fences, free, self.certain)
+        if len(self.found["missing"]) != least:
+            yield f"{least} fences are missing at least"
+        yield from self.needless_faults()
+
+    def unseen_faults(self):
+        wanted = {k: it for k, it in enumerate(self.known) if isinstance(it, str)}
+        got = {k: it["why"] for k, it in self.found["unseen"].items()}
+        if wanted != got:
+            yield f"not looked at are {wanted}, and not {got}"
+        for k, what in self.found["unseen"].items():
+            if what["operation"] != self.entries[k][7]:
+                yield f"member {k} has another operation"
+
+    def missing_faults(self, what, later):
+        """The two members conflict within an epoch, at this address, as this hazard says."""
+        earlier = what["earlier"]
+        if (earlier, later) not in self.certain or separated(self.fences, (earlier, later)):
+            yield f"no fence is missing between {earlier} and {later}"
+            return
+        (reads, writes), (reads2, writes2) = self.known[earlier], self.known[later]
+        hazards = {
+            "read after write": writes & reads2,
+            "write after write": writes & writes2,
+            "write after read": reads & writes2,
+        }
+        kind = next(name for name, shared in hazards.items() if shared)
+        if what["hazard"] != kind or int(what["address"], 16) not in hazards[kind]:
+            yield f"{earlier} and {later} have another hazard than {what}"
+
+    def needless_faults(self):
+        if not set(self.found["needless"]) <= self.fences:
+            yield "a fence is needless that is not there"
+        held = [pair for pair in self.possible if separated(self.corrected, pair)]
+        if not all_separated(self.reduced, held):
+            yield "a needless fence is needed"
+        least = fewest(set(), sorted(self.corrected), held)
+        if len(self.reduced) != least:
+            yield f"{least} fences are needed"
+        complete = not self.found["missing"]
+        if any(what["once_corrected"] == complete for what in self.found["needless"].values()):
+            yield "what is needless once fences are set is not so"
+
+
+def submissions(recording, report):
+    """The submissions of a recording, each with its findings."""
+    entries = [recording[k : k + 64] for k in range(0, len(recording), 64)]
+    findings, at, number = {}, 0, 0
+    for finding in report["findings"]:
+        findings.setdefault(finding["submission"], []).append(finding)
+    while at < len(entries):
+        is_batch = entries[at][7] == 1
+        first, size = (at + 1, struct.unpack_from("<I", entries[at], 32)[0]) if is_batch else (at, 1)
+        mine = findings.get(number, [])
+        for it in mine:
+            right = it["entry"] == first + (it["member"] or 0) and (it["member"] is None) != is_batch
+            common.expect(right, f"submission {number}: {it} stands at no entry of it")
+        yield Batch(number, entries[at], entries[first : first + size], mine), is_batch
+        at, number = first + size, number + 1
+
+
+def judge(recording, report, status, name):
+    """Compares a report with what the brute force finds."""
+    totals = dict.fromkeys(("batches", "lone", "descriptors", "unseen", "fences", "missing", "needless"), 0)
+    for it, is_batch in submissions(recording, report):
+        for fault in it.faults():
+            common.expect(False, f"{name}, submission {it.number}: {fault}")
+        totals["batches" if is_batch else "lone"] += 1
+        totals["descriptors"] += len(it.entries)
+        totals["fences"] += len(it.fences)
+        for kind, some in it.found.items():
+            totals[kind] += len(some)
+    common.expect(report["totals"] == totals, f"{name}: totals {report['totals']}, and not {totals}")
+    common.expect(status == int(totals["missing"] > 0), f"{name}: status {status}")
+    return totals
+
+
+# ---- random recordings
+
+
+class Maker:
+    """Makes a recording of a few submissions, which are as the seed says."""
+
+    def __init__(self, seed):
+        self.random = random.Random(seed)
+        self.crowd = self.random.choice([2, 4, 8, 16, 40])
+
+    def address(self):
+        return 0x1000 + 8 * self.random.randrange(self.crowd)
+
+    def member(self, number, k, is_lone):
+        choose, size = self.random.random, 8 * self.random.randint(1, 2)
+        record = 0x800000 + 32 * (number * 16 + (k if choose() < 0.97 else 0))
+        flags = 0x0C if choose() < 0.9 else self.random.choice([0, 0x04, 0x08, 0x1C, 0x0E])
+        flags |= int(choose() < (0.35 if k else 0.05))
+        code = self.random.choices(
+            [MOVE, FILL, COMPARE, PATTERN, DELTA, DUALCAST, 0x00, 0x10, 0x01, 0x02, "empty", "wrap", "owner"],
+            [50, 15, 15, 5, 3, 4, 3, 1, 0 if is_lone else 1, 1, 1, 1, 0 if is_lone else 1],
+        )[0]
+        if code == "wrap":
+            return entry(MOVE, flags, record, WRAP - 8, self.address(), 16)
+        if code == "empty":
+            return entry(MOVE, flags, record, self.address(), self.address(), 0)
+        if code == "owner":
+            return entry(MOVE, flags, record, self.address(), self.address(), size, owner=self.random.choice([7, 1 << 31]))
+        own = 10 if code == DELTA else self.address() + 0x8000 if code == DUALCAST else 0
+        size = 0 if code == 0 else size
+        return entry(code, flags, record, self.address(), self.address(), size, own)
+
+    def recording(self):
+        text = b""
+        for number in range(self.random.randint(0, 12)):
+            if self.random.random() < 0.15:
+                text += self.member(number, 0, True)
+            else:
+                members = [self.member(number, k, False) for k in range(self.random.randint(0, 8))]
+                text += batch(*members)
+        return text
+
+
+def brute_force():
+    """Random recordings, judged."""
+    sums = {}
+    for seed in range(COUNT):
+        recording = Maker(seed).recording()
+        report, status = audited(recording)
+        for name, number in judge(recording, report, status, f"seed {seed}").items():
+            sums[name] = sums.get(name, 0) + number
+    print(", ".join(f"{number} {name}" for name, number in sums.items()))
+    common.expect(all(sums[name] > COUNT // 10 for name in ("missing", "needless", "unseen")), f"too few findings: {sums}")
+
+
+# ---- what the planner submits
+
+
+def recorded(portal, staging, address):
+    """A recording of the entries of a portal, and of the members of its batches in a staging area."""
+    text = b""
+    for k in range(0, len(portal), 64):
+        text += portal[k : k + 64]
+        if portal[k + 7] == 1:
+            first = int.from_bytes(portal[k + 16 : k + 24], "little") - address
+            text += staging[first : first + 64 * int.from_bytes(portal[k + 32 : k + 36], "little")]
+    return text
+
+
+def planned():
+    """What the planner submits has no finding, and lacks a fence where one is left out."""
+    without = 0
+    for path in sorted(Path("tests/jobs").glob("plan-*.job")) + sorted(Path("examples").glob("**/p*.job")):
+        answer = subprocess.run([program("dsa")], input=path.read_bytes(), capture_output=True).stdout
+        if answer.startswith(b"refused"):
+            continue
+        answer, job = json.loads(answer), json.loads(path.read_text())
+        portal, staging = bytes.fromhex(answer["portal"]), bytes.fromhex(answer["staging"])
+        recording = recorded(portal, staging, job["settings"]["staging"])
+        report, status = audited(recording, "--deny needless,unseen")
+        common.expect(report["findings"] == [] and status == 0, f"{path}: {report}")
+        fenced = [k for k in range(0, len(recording), 64) if recording[k + 4] & 1]
+        common.expect(report["totals"]["fences"] == len(fenced), f"{path}: {report['totals']}")
+        for k in fenced[:3]:
+            report, status = audited(recording[: k + 4] + bytes([recording[k + 4] - 1]) + recording[k + 5 :])
+            kinds = {it["what"]["kind"] for it in report["findings"]}
+            common.expect("missing" in kinds and status == 1, f"{path}, without the fence of entry {k // 64}: {report}")
+            without += 1
+    common.expect(without > 10, f"only {without} fences were left out")
+
+
+# ---- recordings made by hand
+
+
+def unseen():
+    """Every operation code, and a batch of members that are all not looked at."""
+    listed = (0, MOVE, FILL, COMPARE, PATTERN, DELTA, DUALCAST)
+    for code in range(256):
+        if code == 1:
+            continue
+        report, status = audited(entry(code, 0, first=0x1000, second=0x2000, size=8))
+        what = {"kind": "unseen", "operation": code, "why": "operation"}
+        place = {"entry": 0, "member": None, "severity": "warning", "submission": 0, "what": what}
+        common.expect(report["findings"] == ([] if code in listed else [place]), f"operation {code}: {report}")
+        common.expect(status == 0, f"operation {code}: status {status}")
+    report, status = audited(batch(entry(0x10, size=8), *[entry(0x10, 0x0D, size=8)] * 63), "--deny unseen")
+    kinds = [it["what"]["kind"] for it in report["findings"]]
+    common.expect(kinds == ["unseen"] * 64, f"64 unseen: {kinds}")
+    common.expect(status == 1, "members that are denied end with status 1")
+    common.expect({it["severity"] for it in report["findings"]} == {"error"}, "what is denied is an error")
+
+
+def ends():
+    """Recordings that end early: status 2, nothing on standard output, and where and why on standard error."""
+    whole = batch(*[move(0x1000, 0x2000).bytes()] * 3)
+    for recording, reason in [
+        (whole[:65], "entry 1: error: the recording ends after 1 of its 64 bytes\n"),
+        (whole[:-1], "entry 3: error: the recording ends after 63 of its 64 bytes\n"),
+        (whole[:64], "entry 0: error: the recording ends after 0 of the 3 members of this batch\n"),
+        (whole + whole[:192], "entry 4: error: the recording ends after 2 of the 3 members of this batch\n"),
+        (entry(0x01, size=0xFFFFFFFF), "entry 0: error: the recording ends after 0 of the 4294967295 members of this batch\n"),
+    ]:
+        ran = subprocess.run([TEXT, "audit"], input=recording, capture_output=True, text=False)
+        got = (ran.returncode, ran.stdout, ran.stderr.decode())
+        common.expect(got == (2, b"", reason), f"{len(recording)} bytes: {got}")
+
+
+def xxd(recording):
+    lines = []
+    for at in range(0, len(recording), 16):
+        row = recording[at : at + 16]
+        pairs = " ".join(row[k : k + 2].hex() for k in range(0, len(row), 2))
+        signs = "".join(chr(byte) if 32 <= byte < 127 else "." for byte in row)
+        lines.append(f"{at:08x}: {pairs:39}  {signs}\n")
+    return "".join(lines)
+
+
+def plain(recording):
+    digits = recording.hex()
+    return "".join(digits[k : k + 60] + "\n" for k in range(0, len(digits), 60))
+
+
+def hexdump(recording):
+    lines = []
+    for at in range(0, len(recording), 16):
+        row = recording[at : at + 16]
+        halves = "  ".join(" ".join(f"{byte:02x}" for byte in row[k : k + 8]) for k in (0, 8))
+        signs = "".join(chr(byte) if 32 <= byte < 127 else "." for byte in row)
+        lines.append(f"{at:08x}  {halves:48}  |{signs}|\n")
+    return "".join(lines) + (f"{len(recording):08x}\n" if recording else "")
+
+
+def forms():
+    """A recording has the same report in each form, and each form is what its program writes, where that is there."""
+    writers = {"xxd": (xxd, ["xxd"]), "xxd -p": (plain, ["xxd", "-p"]), "hexdump": (hexdump, ["hexdump", "-v", "-C"])}
+    for seed in range(40):
+        recording = Maker(seed).recording()
+        report = audited(recording)
+        for name, (write, command) in writers.items():
+            text = write(recording).encode()
+            common.expect(audited(text) == report, f"seed {seed}, {name}: another report")
+            common.expect(audited(text.replace(b"\n", b"\r\n")) == report, f"seed {seed}, {name}, newlines as in DOS: another report")
+            if shutil.which(command[0]):
+                wrote = subprocess.run(command, input=recording, capture_output=True).stdout
+                common.expect(text == wrote, f"seed {seed}, {name} writes otherwise")
+
+
+def speed():
+    """65,536 entries in batches of 1,024 members. What it takes is printed; more than ten seconds is a fault."""
+    count, size = 64, 1023
+    for name, member in [
+        ("apart", lambda k: move(0x1000000 + 64 * k, 0x9000000 + 64 * k, record_at=0x20000000 + 32 * k)),
+        ("fenced all", lambda k: move(0x1000000 + 64 * k, 0x9000000 + 64 * k, record_at=0x20000000 + 32 * k)),
+        ("all conflict", lambda k: move(0x1000, 0x2000, record_at=0x20000000 + 32 * k)),
+    ]:
+        members = [member(k).bytes(fenced=name == "fenced all") for k in range(size)]
+        recording = batch(*members) * count
+        start = time.monotonic()
+        report, _ = audited(recording)
+        took = time.monotonic() - start
+        print(f"{count} batches of {size}, {name}: {took:.2f} s, {len(report['findings'])} findings")
+        common.expect(took < 10, f"{name}: {took:.1f} s")
+
+
+def main(words):
+    global TEXT, COUNT
+    TEXT = program("dsa_text")
+    numbers = [int(word) for word in words if word.isdigit()]
+    COUNT = numbers[-1] if numbers else COUNT
+    for part in named([brute_force, planned, unseen, ends, forms, speed], [it for it in words if not it.isdigit()]):
+        part()
+
+
+if __name__ == "__main__":
+    run_test(main)

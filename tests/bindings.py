@@ -1,7 +1,7 @@
-"""Builds the callers of the C library, in C and in Rust, and the lines of the README, and looks at what they print:
-golden output, each allocation refused in turn, random lists beside the program. It uses valgrind, sanitizers and
-cargo where they are, and says so where they aren't; without a C compiler it is skipped. CC names the compiler, LISTS
-how many random lists (250). The words are names of parts."""
+"""Builds callers in C of the proved archive, before it is packed, and looks at what they print: golden output, each
+allocation refused in turn, random lists beside the program. It uses valgrind and sanitizers where they are, and says so
+where they aren't; without a C compiler it is skipped. CC names the compiler, LISTS how many random lists (250).
+tests/package.py has the callers of the package. The words are names of parts."""
 
 import os
 import re
@@ -11,7 +11,10 @@ import sys
 import tempfile
 from pathlib import Path
 
-from common import ROOT, block_after, compiler, crates_up_to, expect, named, program, run_test, stop
+from common import ROOT, compiler, expect, named, program, run_test
+
+sys.path.insert(0, str(ROOT / "bindings/package"))
+import make
 
 ARCHIVE = ROOT / "crates/dsa_c/out/libdsa_c.a"
 WARN = ["-Wall", "-Wextra", "-Werror"]
@@ -27,19 +30,20 @@ def tried(what, command, printed=None, **how):
 
 
 def compiled(source, *words, memory=True):
-    """Builds a caller, over the memory functions of the kit unless it has its own; answers where the program is."""
+    """Builds a caller, over the memory functions of the package unless it has its own; answers where the program is."""
     output = f"{WORK}/{Path(source).stem}{len(os.listdir(WORK))}"
     flags = ["-std=c11", "-D_GNU_SOURCE", *WARN, "-O2", "-g", "-I", "bindings/c"]
-    libraries = [ARCHIVE, *([f"{KIT}/c/liblibc_c.a"] if memory else [])]
-    tried(f"the build of {source}", [compiler(), *flags, source, *libraries, *words, "-o", output])
+    sources = [source, *(["bindings/c/memory.c"] if memory else [])]
+    tried(f"the build of {source}", [compiler(), *flags, *sources, ARCHIVE, *words, "-o", output])
     return output
 
 
 def header():
-    """The header declares each function that the archive exports and no other, and is C++ too."""
+    """The header declares each function that the archive exports, and beside them the version alone; it is C++ too."""
     symbols = subprocess.run(["nm", "-g", "--defined-only", ARCHIVE], capture_output=True, text=True).stdout
     exported = set(re.findall(r" T (dsa_[a-z_]*)$", symbols, re.M))
     declared = set(re.findall(r"\b(dsa_[a-z_]*)\(", Path("bindings/c/dsa_planner.h").read_text()))
+    declared.remove("dsa_planner_version")
     expect(exported and exported == declared, f"the archive exports {exported}, the header declares {declared}")
     plus = [compiler(), "-x", "c++", "-std=c++17", *WARN, "-fsyntax-only"]
     if subprocess.run([*plus, "/dev/null"], capture_output=True).returncode == 0:
@@ -49,14 +53,12 @@ def header():
 
 
 def examples():
-    """The examples in C and the lines of the README; submit is not run, since it needs the device."""
+    """The examples in C; submit is not run, since it needs the device."""
     golden = Path("bindings/c/two_moves.stdout").read_text()
     tried("two_moves", [compiled("bindings/c/two_moves.c")], golden)
     golden = Path("bindings/c/own_memory.stdout").read_text()
     tried("own_memory", [compiled("bindings/c/own_memory.c", memory=False)], golden)
     compiled("bindings/c/submit.c")
-    Path(WORK, "readme.c").write_text(block_after("README.md", "## From C", "c"))
-    tried("the C lines of the README", [compiled(f"{WORK}/readme.c")], "0: cost 10\n")
 
 
 def calls():
@@ -96,45 +98,20 @@ def random_lists():
     expect(True, "")
 
 
-def rust():
-    """The Rust wrapper: its tests, its example, and the lines of the README."""
-    if not shutil.which("cargo"):
-        print("there is no cargo")
-        return
-    places = {"RATTLE_KIT": KIT, "DSA_C_OUT": str(ARCHIVE.parent), "CARGO_TARGET_DIR": f"{WORK}/target"}
-    how = {"env": os.environ | places}
-    crate = shutil.copytree("bindings/rust", f"{WORK}/rust")
-    Path(crate, "examples/readme.rs").write_text(block_after("README.md", "## From Rust", "rust"))
-    cargo = ["-q", "--offline", "--manifest-path", f"{crate}/Cargo.toml"]
-    tried("the Rust wrapper", ["cargo", "test", *cargo], **how)
-    golden = Path("bindings/rust/examples/two_moves.stdout").read_text()
-    tried("two_moves in Rust", ["cargo", "run", *cargo, "--example", "two_moves"], golden, **how)
-    tried("the Rust lines of the README", ["cargo", "run", *cargo, "--example", "readme"], "cost 10\n", **how)
-
-
 def speed():
     """How long short lists take from C: printed, not judged."""
     ran = subprocess.run([compiled("tests/bindings/speed.c"), "5"], stdout=subprocess.PIPE, text=True)
     print("\n".join(line for line in ran.stdout.splitlines() if " 32 moves" in line))
 
 
-def need_archive():
-    """Ends the test where the archive is missing, or older than the code that it is built from."""
-    sources = [path for crate in crates_up_to("dsa_c") for path in Path("crates", crate, "src").rglob("*.rt")]
-    if not ARCHIVE.exists() or ARCHIVE.stat().st_mtime < max(path.stat().st_mtime for path in sources):
-        stop("build crates/dsa_c first: cd crates/dsa_c && rt lib")
-
-
 def main(words):
-    global KIT, WORK
+    global WORK
     if not compiler():
         print("skipped, there is no C compiler")
         sys.exit(0)
-    need_archive()
-    page = subprocess.run(["rt", "doc"], capture_output=True, text=True).stdout
-    KIT = os.environ.get("RATTLE_KIT") or os.path.dirname(page)
+    make.need_proved("libdsa_c.a")
     with tempfile.TemporaryDirectory() as WORK:
-        for part in named([header, examples, calls, random_lists, rust, speed], words):
+        for part in named([header, examples, calls, random_lists, speed], words):
             part()
 
 

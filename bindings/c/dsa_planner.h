@@ -2,13 +2,22 @@
  * dsa_planner.h: plans lists of descriptors of Intel's Data Streaming Accelerator, from C or C++.
  *
  * A list of operations goes in, 64 bytes for each (struct dsa_hw_desc of linux/idxd.h); out come the bytes that submit
- * it, as batches and lone descriptors with fences, at least cost. What each call promises is proved: the contracts stand
- * at the functions of the same names in crates/dsa_c/src.
+ * it, as batches and lone descriptors with fences, at least cost. What each call promises, but for
+ * dsa_planner_version, is proved: the contracts stand at the functions of the same names in crates/dsa_c/src.
  *
- * Link:      cc app.c libdsa_c.a liblibc_c.a
- *            libdsa_c.a is crates/dsa_c/out/libdsa_c.a (`cd crates/dsa_c && rt lib` proves and builds it).
- *            liblibc_c.a, of the toolchain, has the three functions of memory below over malloc, realloc and free; a
- *            program may define the three itself and leave that archive out.
+ * Link:      cc app.c $(pkg-config --cflags --libs dsa_planner)            with the shared object libdsa_planner.so.1
+ *            cc app.c $(pkg-config --cflags --libs dsa_planner_static)     with the archive libdsa_planner.a
+ *            cc app.c $(pkg-config --cflags --libs dsa_planner_own_memory) with libdsa_planner_own_memory.a, for a
+ *            program that defines the three functions of memory below. The first two take their memory from malloc.
+ *            CMake: find_package(dsa_planner 1.0), and the targets dsa_planner::shared, dsa_planner::static and
+ *            dsa_planner::own_memory.
+ *
+ * Versions:  DSA_PLANNER_MAJOR, _MINOR and _PATCH below are the version of this header, and dsa_planner_version() is that
+ *            of the library. A new MINOR may add calls and numbers, and accept input that was refused; a new PATCH does
+ *            neither. In all versions of one MAJOR, which is the number of libdsa_planner.so too,
+ *              - calls, layouts of structs, and the numbers of refusals and their meaning stay as they are;
+ *              - input that is accepted gets the same answer, byte for byte (or DSA_MEMORY, which may come at any time);
+ *              - a program runs with a library of its own MINOR or a later one.
  *
  * Platform:  x86-64, System V calling convention, instructions up to x86-64-v2.
  *
@@ -23,7 +32,9 @@
  *   - each pointer is aligned and not NULL, and points to as many items as its length says, which can be read (const) or
  *     written (not const). With length 0 it is not read, and any aligned non-null address will do.
  *   - no output of a call overlaps another output or an input of that call. Outputs need not be initialised.
- *   - the calling thread has 256 KiB of stack free for dsa_check and dsa_judge, and 64 KiB for the other calls.
+ *   - the calling thread has 256 KiB of stack free for dsa_check and dsa_judge, and 64 KiB for the other calls
+ *     (measured: 166,088 bytes for dsa_check). Main threads and those of glibc have 8 MiB if no limit is set lower. A
+ *     thread of musl has 128 KiB, too little for dsa_check and dsa_judge, unless pthread_attr_setstacksize gives it more.
  *   - its rattle_alloc, rattle_realloc and rattle_dealloc, where it has its own, return, and may be called by several
  *     threads at once where calls are.
  *   - nothing else writes to inputs or outputs, or reads outputs, during the call.
@@ -42,12 +53,26 @@
 extern "C" {
 #endif
 
+/* The version of this header. DSA_PLANNER_VERSION is 10000 for 1.0.0: a number that #if can compare. */
+#define DSA_PLANNER_MAJOR 1
+#define DSA_PLANNER_MINOR 0
+#define DSA_PLANNER_PATCH 0
+#define DSA_PLANNER_VERSION (DSA_PLANNER_MAJOR * 10000 + DSA_PLANNER_MINOR * 100 + DSA_PLANNER_PATCH)
+
+/* The version of the library that runs, as DSA_PLANNER_VERSION is of this header. It takes no memory. */
+uint32_t dsa_planner_version(void);
+
 /* The most pieces of a planned list. An operation longer than greatest_transfer is several pieces. */
 #define DSA_MOST_PIECES 65536u
 
 /* Bytes that are always enough for portal and staging of n pieces. */
+#ifdef __cplusplus
+#define DSA_PORTAL_ROOM(n) (sizeof(uint8_t[64]) * static_cast<size_t>(n))
+#define DSA_STAGING_ROOM(n) (sizeof(uint8_t[80]) * static_cast<size_t>(n))
+#else
 #define DSA_PORTAL_ROOM(n) ((size_t)64 * (size_t)(n))
 #define DSA_STAGING_ROOM(n) ((size_t)80 * (size_t)(n))
+#endif
 
 /*
  * The limits of the device and of its work queue, and what submissions cost.
@@ -232,12 +257,13 @@ uint32_t dsa_judge(const struct dsa_settings *settings,
                    struct dsa_refusal *refusal);
 
 /*
- * What the library takes its memory with, for programs that bring their own (a pool of DPDK or SPDK, an arena); else link
- * liblibc_c.a. `ok` is 1 and `at` the block, or `ok` is 0 and `at` some address that is not NULL. A block of size bytes
- * is aligned to align, which is a power of two, at most 16. A size of 0 wants a block too. rattle_realloc gives a block of
- * size bytes that begins as the old one did, and takes the old one back; where it fails, the old one stays as it is. The
- * three are called on the thread of the call, which has given every block back when it returns. dsa_count_pieces calls
- * none of them.
+ * What the library takes its memory with, for programs that bring their own (a pool of DPDK or SPDK, an arena) and
+ * link libdsa_planner_own_memory.a; the other two libraries neither have nor use functions of these names. `ok` is 1
+ * and `at` the block, or `ok` is 0 and `at` some address that is not NULL. A block of size bytes is aligned to align,
+ * which is a power of two, at most 16. A size of 0 wants a block too. rattle_realloc gives a block of size bytes that
+ * begins as the old one did, and takes the old one back; where it fails, the old one stays as it is. The three are
+ * called on the thread of the call, which has given every block back when it returns. dsa_count_pieces and
+ * dsa_planner_version call none of them.
  */
 struct rattle_block {
     uint64_t ok;

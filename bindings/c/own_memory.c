@@ -1,5 +1,5 @@
 /* A program that brings its own memory: one block of the caller's, from which the library takes what it needs for one
- * call, and which is empty again when the call returns. Nothing of malloc is used; leave liblibc_c.a out of the link.
+ * call, and which is empty again when the call returns. Nothing of malloc is used: link libdsa_planner_own_memory.a.
  * A program with several threads gives each its own pool (`_Thread_local`), as here. */
 #include <inttypes.h>
 #include <stdio.h>

@@ -1,15 +1,49 @@
 //! Plans lists of descriptors of Intel's Data Streaming Accelerator: slices in, vectors or errors out.
 //!
-//! This is a thin wrapper of the proved archive `libdsa_c.a`. What the calls promise stands in the contracts of
-//! `crates/dsa_c`; `bindings/c/dsa_planner.h` says the same to C. The declarations in the module `raw` are written by
-//! hand, and tests alone compare them with the archive.
+//! A list of operations goes in, 64 bytes for each; out come the bytes that submit it, as batches and lone descriptors with
+//! fences, at least cost. This is a safe wrapper of the proved library of the package dsa-planner, which has to be
+//! installed: `build.rs` finds it by `DSA_PLANNER_PREFIX` or by pkg-config, and says what to do where it doesn't. What the
+//! calls promise is proved of the library; this wrapper is tested.
+//!
+//! ```
+//! use dsa_planner::{plan_list, BatchPrice, Settings};
+//!
+//! # fn main() -> Result<(), dsa_planner::Refusal> {
+//! let mut list = [0u8; 64]; // a move of 64 bytes from 0x1000 to 0x2000, with its completion record at 0x8000
+//! (list[4], list[7], list[9], list[17], list[25], list[32]) = (0x0c, 0x03, 0x80, 0x10, 0x20, 64);
+//! let (lone, batch, fence) = (10, BatchPrice::Flat(14), 3);
+//! let settings = Settings { greatest_batch: 4, greatest_transfer: 4096, lone, batch, fence, staging: 0x10000 };
+//! assert_eq!(plan_list(&settings, &list)?.cost, 10);
+//! # Ok(())
+//! # }
+//! ```
+//!
+//! **Threads.** No call keeps state, takes a lock or starts a thread; calls may run at the same time. All types are plain
+//! data: they are `Send` and `Sync`. [`check`] and [`judge`] need 256 KiB of stack, the other calls 64 KiB; a thread that
+//! `std` starts has 2 MiB.
+//!
+//! **Memory.** The library takes its memory from the program's global allocator and has given it back when a call returns.
+//! Where the allocator fails within the library, the answer is [`Cause::Memory`].
+//!
+//! **Features.** `std`, which is on unless turned off: [`Refusal`] implements `std::error::Error`. Without it the crate
+//! needs `core` and `alloc` alone.
 
-#![warn(missing_docs)]
+#![no_std]
+#![deny(missing_docs, unsafe_op_in_unsafe_fn)]
 
+extern crate alloc;
+#[cfg(feature = "std")]
+extern crate std;
+
+mod cause;
+mod memory;
 mod raw;
 
-use std::error::Error;
-use std::fmt;
+use alloc::vec;
+use alloc::vec::Vec;
+use core::fmt;
+
+pub use cause::Cause;
 
 /// The most pieces of a planned list. An operation longer than `greatest_transfer` is several pieces.
 pub const MOST_PIECES: usize = 65_536;
@@ -21,7 +55,14 @@ pub const BEGINS: u8 = 1;
 pub const FENCED: u8 = 2;
 
 /// What a batch costs, without its fences.
-#[derive(Clone, Copy, Debug)]
+///
+/// ```
+/// # use dsa_planner::BatchPrice;
+/// let flat = BatchPrice::Flat(14); // each batch costs 14
+/// let by_size = BatchPrice::BySize(&[14, 16, 30]); // of two, three and four pieces, where `greatest_batch` is 4
+/// # assert_ne!(flat, by_size);
+/// ```
+#[derive(Clone, Copy, Debug, PartialEq, Eq)]
 pub enum BatchPrice<'a> {
     /// One price for all sizes, at most 1,000,000,000.
     Flat(u64),
@@ -30,7 +71,7 @@ pub enum BatchPrice<'a> {
 }
 
 /// The limits of the device, and what submissions cost, in a unit of the caller's choice.
-#[derive(Clone, Copy, Debug)]
+#[derive(Clone, Copy, Debug, PartialEq, Eq)]
 pub struct Settings<'a> {
     /// The most pieces of a batch, 2 to 1,024.
     pub greatest_batch: u64,
@@ -66,31 +107,68 @@ impl<'a> Settings<'a> {
     }
 }
 
-/// Why a call refuses. `docs/FORMATS.md` explains the numbers.
-#[repr(C)]
-#[derive(Clone, Copy, Debug, Default, PartialEq, Eq)]
+/// Why a call refuses, and the places that the cause names.
+///
+/// ```
+/// use dsa_planner::{judge, BatchPrice, Cause, Settings};
+///
+/// let (lone, batch, fence) = (10, BatchPrice::Flat(14), 3);
+/// let settings = Settings { greatest_batch: 4, greatest_transfer: 4096, lone, batch, fence, staging: 0x10000 };
+/// let refusal = judge(&settings, &[0; 65], &[]).unwrap_err();
+/// assert_eq!(refusal.cause, Cause::Length);
+/// assert_eq!(refusal.to_string(), "refused 1 Length: the length of the list is no multiple of 64 bytes");
+/// ```
+#[derive(Clone, Copy, Debug, PartialEq, Eq, Hash)]
 pub struct Refusal {
-    /// The number of the cause.
-    pub number: u32,
-    /// The number of the cause within, of a plan or a piece that is refused in its turn, else 0.
-    pub inner: u32,
-    /// The first index that the cause names, else 0; of 90 the bytes that `portal` needs, of 91 the number of pieces.
+    /// The cause.
+    pub cause: Cause,
+    /// The cause within: of [`Cause::Plan`] that of the plan's fault, of [`Cause::Entry`] that of the piece's.
+    pub inner: Option<Cause>,
+    /// The first index that the cause names, else 0; of [`Cause::NoRoom`] the bytes that `portal` needs, of
+    /// [`Cause::NoRoomForCertificate`] the number of pieces.
     pub first: u64,
-    /// The second, else 0; of 90 the bytes that `staging` needs.
+    /// The second, else 0; of [`Cause::NoRoom`] the bytes that `staging` needs.
     pub second: u64,
+}
+
+impl Refusal {
+    // The refusal that the library wrote.
+    fn of(raw: &raw::Refusal) -> Refusal {
+        Refusal {
+            cause: Cause::of(raw.number),
+            inner: (raw.inner != 0).then(|| Cause::of(raw.inner)),
+            first: raw.first,
+            second: raw.second,
+        }
+    }
+
+    // Writes a sentence with the places filled in.
+    fn write_sentence(&self, f: &mut fmt::Formatter<'_>, sentence: &str) -> fmt::Result {
+        for (k, part) in sentence.split('{').enumerate() {
+            match (k, part.strip_prefix("0}"), part.strip_prefix("1}")) {
+                (1.., Some(rest), _) => write!(f, "{}{rest}", self.first)?,
+                (1.., _, Some(rest)) => write!(f, "{}{rest}", self.second)?,
+                (_, _, _) => f.write_str(part)?,
+            }
+        }
+        Ok(())
+    }
 }
 
 impl fmt::Display for Refusal {
     fn fmt(&self, f: &mut fmt::Formatter<'_>) -> fmt::Result {
-        write!(f, "refused {}", self.number)?;
-        if self.inner != 0 {
-            write!(f, " for {}", self.inner)?;
+        write!(f, "refused {}: ", self.cause)?;
+        self.write_sentence(f, self.cause.sentence())?;
+        if let Some(inner) = self.inner {
+            write!(f, ": {inner}: ")?;
+            self.write_sentence(f, inner.sentence())?;
         }
-        write!(f, ", first {}, second {}", self.first, self.second)
+        Ok(())
     }
 }
 
-impl Error for Refusal {}
+#[cfg(feature = "std")]
+impl std::error::Error for Refusal {}
 
 /// What was written of a planned list, and what it costs.
 #[repr(C)]
@@ -138,8 +216,31 @@ const NONE: raw::Pair = raw::Pair {
     second: u32::MAX,
 };
 
+/// The version of the library: major, minor and patch.
+///
+/// ```
+/// assert_eq!(dsa_planner::library_version().0, 1);
+/// ```
+#[must_use]
+pub fn library_version() -> (u32, u32, u32) {
+    // SAFETY: the function has no arguments and only returns a number.
+    let number = unsafe { raw::dsa_planner_version() };
+    (number / 10_000, number / 100 % 100, number % 100)
+}
+
 /// How many pieces a list has: 64 bytes for each are enough for `portal`, and 80 for `staging`. It is 65,537 for more
 /// pieces than may be planned, and 0 for settings that are refused (and for an empty list).
+///
+/// ```
+/// # use dsa_planner::{count_pieces, BatchPrice, Settings};
+/// # let (lone, batch, fence) = (10, BatchPrice::Flat(14), 3);
+/// # let settings = Settings { greatest_batch: 4, greatest_transfer: 4096, lone, batch, fence, staging: 0x10000 };
+/// # let mut list = [0u8; 64];
+/// # (list[4], list[7], list[9], list[17], list[25], list[32]) = (0x0c, 0x03, 0x80, 0x10, 0x20, 64);
+/// // `list` has one move of 64 bytes, and `settings` allow 4,096 in a piece
+/// assert_eq!(count_pieces(&settings, &list), 1);
+/// ```
+#[must_use]
 pub fn count_pieces(settings: &Settings, list: &[u8]) -> u64 {
     let (raw, table) = settings.raw();
     // SAFETY: each pointer and length are those of one slice, or of one struct.
@@ -147,7 +248,22 @@ pub fn count_pieces(settings: &Settings, list: &[u8]) -> u64 {
 }
 
 /// Plans a list into buffers of the caller: 64 bytes for each operation, in the order in which they are to take effect.
-/// Where it is refused the buffers are as before.
+///
+/// # Errors
+/// The first fault of the list or the settings; [`Cause::NoRoom`] where a buffer is too small; [`Cause::Memory`]. The
+/// buffers are then as before.
+///
+/// ```
+/// # use dsa_planner::{plan_into, BatchPrice, Settings};
+/// # let (lone, batch, fence) = (10, BatchPrice::Flat(14), 3);
+/// # let settings = Settings { greatest_batch: 4, greatest_transfer: 4096, lone, batch, fence, staging: 0x10000 };
+/// # let mut list = [0u8; 64];
+/// # (list[4], list[7], list[9], list[17], list[25], list[32]) = (0x0c, 0x03, 0x80, 0x10, 0x20, 64);
+/// let (mut portal, mut staging) = ([0; 64], [0; 80]);
+/// let summary = plan_into(&settings, &list, &mut portal, &mut staging)?;
+/// assert_eq!((summary.portal_len, portal), (64, list));
+/// # Ok::<(), dsa_planner::Refusal>(())
+/// ```
 pub fn plan_into(
     settings: &Settings,
     list: &[u8],
@@ -155,7 +271,7 @@ pub fn plan_into(
     staging: &mut [u8],
 ) -> Result<Summary, Refusal> {
     let (raw, table) = settings.raw();
-    let (mut summary, mut refusal) = (Summary::default(), Refusal::default());
+    let (mut summary, mut refusal) = (Summary::default(), raw::Refusal::default());
     // SAFETY: each pointer and length are those of one slice, or of one struct, and no output overlaps another argument.
     let code = unsafe {
         raw::dsa_plan_list(
@@ -176,13 +292,27 @@ pub fn plan_into(
 }
 
 /// Plans a list: 64 bytes for each operation, in the order in which they are to take effect.
+///
+/// # Errors
+/// The first fault of the list or the settings; [`Cause::Memory`].
+///
+/// ```
+/// # use dsa_planner::{plan_list, BatchPrice, Settings};
+/// # let (lone, batch, fence) = (10, BatchPrice::Flat(14), 3);
+/// # let settings = Settings { greatest_batch: 4, greatest_transfer: 4096, lone, batch, fence, staging: 0x10000 };
+/// # let mut list = [0u8; 64];
+/// # (list[4], list[7], list[9], list[17], list[25], list[32]) = (0x0c, 0x03, 0x80, 0x10, 0x20, 64);
+/// let planned = plan_list(&settings, &list)?;
+/// assert_eq!((planned.cost, planned.certificate.prices), (10, vec![0, 10]));
+/// # Ok::<(), dsa_planner::Refusal>(())
+/// ```
 pub fn plan_list(settings: &Settings, list: &[u8]) -> Result<Planned, Refusal> {
     let (raw, table) = settings.raw();
     let pieces = usize::try_from(count_pieces(settings, list)).map_or(0, |n| n.min(MOST_PIECES));
     let (mut portal, mut staging) = (vec![0; 64 * pieces], vec![0; 80 * pieces]);
     let (mut prices, mut pairs, mut marks) =
         (vec![0; pieces + 1], vec![NONE; pieces], vec![0; pieces]);
-    let (mut summary, mut refusal) = (Summary::default(), Refusal::default());
+    let (mut summary, mut refusal) = (Summary::default(), raw::Refusal::default());
     // SAFETY: each pointer and length are those of one slice, or of one struct, and no output overlaps another argument.
     let code = unsafe {
         raw::dsa_plan_list_certified(
@@ -227,6 +357,20 @@ pub fn plan_list(settings: &Settings, list: &[u8]) -> Result<Planned, Refusal> {
 
 /// What the bytes of a portal and a staging area cost, where each conflict within a batch has its fence and the
 /// certificate shows that no legal plan of their pieces costs less. It needs 256 KiB of stack.
+///
+/// # Errors
+/// The first fault of the settings, the bytes or the certificate.
+///
+/// ```
+/// # use dsa_planner::{check, plan_list, BatchPrice, Settings};
+/// # let (lone, batch, fence) = (10, BatchPrice::Flat(14), 3);
+/// # let settings = Settings { greatest_batch: 4, greatest_transfer: 4096, lone, batch, fence, staging: 0x10000 };
+/// # let mut list = [0u8; 64];
+/// # (list[4], list[7], list[9], list[17], list[25], list[32]) = (0x0c, 0x03, 0x80, 0x10, 0x20, 64);
+/// let planned = plan_list(&settings, &list)?;
+/// assert_eq!(check(&settings, &planned.portal, &planned.staging, &planned.certificate)?, planned.cost);
+/// # Ok::<(), dsa_planner::Refusal>(())
+/// ```
 pub fn check(
     settings: &Settings,
     portal: &[u8],
@@ -238,7 +382,7 @@ pub fn check(
         pair.map_or(NONE, |(first, second)| raw::Pair { first, second })
     };
     let pairs: Vec<_> = certificate.pairs.iter().map(pair_of).collect();
-    let (mut cost, mut refusal) = (0, Refusal::default());
+    let (mut cost, mut refusal) = (0, raw::Refusal::default());
     // SAFETY: each pointer and length are those of one slice, or of one struct, and no output overlaps another argument.
     let code = unsafe {
         raw::dsa_check(
@@ -263,9 +407,22 @@ pub fn check(
 
 /// What a plan of the caller's costs, a mark for each descriptor of the list, where it is within the limits and each
 /// conflict within a batch has its fence. No descriptor is split. It needs 256 KiB of stack.
+///
+/// # Errors
+/// The first fault of the settings, the list or the plan, as [`Cause::Unfenced`].
+///
+/// ```
+/// # use dsa_planner::{judge, BatchPrice, Settings, BEGINS};
+/// # let (lone, batch, fence) = (10, BatchPrice::Flat(14), 3);
+/// # let settings = Settings { greatest_batch: 4, greatest_transfer: 4096, lone, batch, fence, staging: 0x10000 };
+/// # let mut list = [0u8; 64];
+/// # (list[4], list[7], list[9], list[17], list[25], list[32]) = (0x0c, 0x03, 0x80, 0x10, 0x20, 64);
+/// assert_eq!(judge(&settings, &list, &[BEGINS])?, 10);
+/// # Ok::<(), dsa_planner::Refusal>(())
+/// ```
 pub fn judge(settings: &Settings, list: &[u8], marks: &[u8]) -> Result<u64, Refusal> {
     let (raw, table) = settings.raw();
-    let (mut cost, mut refusal) = (0, Refusal::default());
+    let (mut cost, mut refusal) = (0, raw::Refusal::default());
     // SAFETY: each pointer and length are those of one slice, or of one struct, and no output overlaps another argument.
     let code = unsafe {
         raw::dsa_judge(
@@ -284,10 +441,17 @@ pub fn judge(settings: &Settings, list: &[u8], marks: &[u8]) -> Result<u64, Refu
 }
 
 // What a call answers, by its number.
-fn answer<T>(code: u32, value: T, refusal: Refusal) -> Result<T, Refusal> {
+fn answer<T>(code: u32, value: T, refusal: raw::Refusal) -> Result<T, Refusal> {
     if code == 0 {
         Ok(value)
     } else {
-        Err(refusal)
+        Err(Refusal::of(&refusal))
     }
 }
+
+// All types may go to other threads and be shared among them.
+const _: fn() = || {
+    fn is_send_and_sync<T: Send + Sync>() {}
+    is_send_and_sync::<(BatchPrice, Settings, Cause, Refusal)>();
+    is_send_and_sync::<(Summary, Certificate, Planned)>();
+};

@@ -1,6 +1,6 @@
-//! The functions of the archive, as `bindings/c/dsa_planner.h` declares them.
+//! The functions of the archive, as `dsa_planner.h` declares them.
 
-use crate::{Refusal, Summary};
+use crate::Summary;
 
 #[repr(C)]
 pub struct Settings {
@@ -20,7 +20,18 @@ pub struct Pair {
     pub second: u32,
 }
 
+#[repr(C)]
+#[derive(Default)]
+pub struct Refusal {
+    pub number: u32,
+    pub inner: u32,
+    pub first: u64,
+    pub second: u64,
+}
+
 extern "C" {
+    pub fn dsa_planner_version() -> u32;
+
     pub fn dsa_count_pieces(
         settings: &Settings,
         table: *const u64,

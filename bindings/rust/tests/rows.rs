@@ -1,8 +1,8 @@
 //! Rows worked by hand.
 
 use dsa_planner::{
-    check, count_pieces, judge, plan_into, plan_list, BatchPrice, Certificate, Refusal, Settings,
-    Summary, BEGINS, FENCED,
+    check, count_pieces, judge, plan_into, plan_list, BatchPrice, Cause, Certificate, Refusal,
+    Settings, Summary, BEGINS, FENCED,
 };
 
 const SETTINGS: Settings = Settings {
@@ -35,8 +35,8 @@ fn two_moves() -> Vec<u8> {
 
 fn refused(number: u32, inner: u32, first: u64, second: u64) -> Refusal {
     Refusal {
-        number,
-        inner,
+        cause: Cause::of(number),
+        inner: (inner != 0).then(|| Cause::of(inner)),
         first,
         second,
     }
@@ -172,7 +172,7 @@ fn refusals_leave_the_buffers() {
     assert_eq!((portal, staging), ([0xee; 64], [0xee; 159]));
     assert_eq!(
         refused(60, 43, 0, 1).to_string(),
-        "refused 60 for 43, first 0, second 1"
+        "refused 60 Plan: the plan is not legal: 43 Unfenced: pieces 0 and 1 conflict, and no fence stands between them"
     );
 }
 
@@ -329,14 +329,66 @@ fn planning_into_buffers_is_planning() {
 #[test]
 fn refusals_are_shown() {
     for (refusal, shown) in [
-        (refused(83, 0, 0, 0), "refused 83, first 0, second 0"),
-        (refused(43, 0, 0, 1), "refused 43, first 0, second 1"),
         (
-            refused(60, 43, 0, 1),
-            "refused 60 for 43, first 0, second 1",
+            refused(83, 0, 0, 0),
+            "83 Settings: a setting is outside its limits, or the table of prices has a wrong length",
         ),
-        (refused(47, 5, 7, 0), "refused 47 for 5, first 7, second 0"),
+        (
+            refused(63, 0, 4, 9),
+            "63 Price: the certificate's price at 9 is higher than one group from 4 on allows",
+        ),
+        (
+            refused(90, 0, 64, 160),
+            "90 NoRoom: portal needs 64 bytes and staging 160",
+        ),
+        (
+            refused(47, 5, 7, 0),
+            "47 Entry: piece 7 is refused: 5 SizeZero: the transfer size of descriptor 7 is 0",
+        ),
+        (
+            refused(99, 0, 1, 2),
+            "99 Unknown: a cause of a later version of the library",
+        ),
     ] {
-        assert_eq!(refusal.to_string(), shown);
+        assert_eq!(refusal.to_string(), format!("refused {shown}"));
     }
+}
+
+// A refusal is an error as others are, and goes to other threads.
+#[test]
+fn refusals_are_errors() {
+    let error: Box<dyn std::error::Error + Send + Sync> = refused(83, 0, 0, 0).into();
+    assert!(error.source().is_none());
+    for cause in Cause::ALL {
+        assert_eq!(Cause::of(cause.number()), *cause);
+        assert!(!cause.sentence().is_empty() && !cause.name().is_empty());
+    }
+}
+
+#[test]
+fn the_library_has_the_version_of_the_crate() {
+    let (major, minor, patch) = dsa_planner::library_version();
+    assert_eq!(
+        format!("{major}.{minor}.{patch}"),
+        env!("CARGO_PKG_VERSION")
+    );
+}
+
+// Calls on several threads at once answer as calls one after another do.
+#[test]
+fn calls_run_side_by_side() {
+    let wanted = plan_list(&SETTINGS, &two_moves());
+    std::thread::scope(|scope| {
+        for _ in 0..8 {
+            scope.spawn(|| {
+                for _ in 0..200 {
+                    let planned = plan_list(&SETTINGS, &two_moves());
+                    assert_eq!(planned, wanted);
+                    let it = planned.unwrap();
+                    let checked = check(&SETTINGS, &it.portal, &it.staging, &it.certificate);
+                    assert_eq!(checked, Ok(17));
+                }
+            });
+        }
+    });
 }

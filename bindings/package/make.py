@@ -1,0 +1,334 @@
+#!/usr/bin/env -S python3 -B
+"""Makes the packages in out/ from what was proved: an archive to unpack, and one for Debian.
+
+    bindings/package/make.py [FOLDER]
+
+It needs the proved archive and both programs (`./run dsa`, `./run dsa_text`, `cd crates/dsa_c && rt lib`), a C compiler
+(CC names it), binutils, and dpkg-deb for the second. Where the folder is given the packages are written there. Equal
+inputs give equal packages, byte for byte."""
+
+import gzip
+import hashlib
+import io
+import os
+import re
+import shutil
+import subprocess
+import sys
+import tarfile
+import tempfile
+from pathlib import Path
+
+sys.path.insert(0, str(Path(__file__).resolve().parent))
+import completion
+import manual
+import rows
+
+HERE = Path(__file__).resolve().parent
+ROOT = HERE.parent.parent
+HEADER = ROOT / "bindings/c/dsa_planner.h"
+PROVED = {
+    "libdsa_c.a": ROOT / "crates/dsa_c/out/libdsa_c.a",
+    "dsa": ROOT / "crates/dsa/out/dsa",
+    "dsa_text": ROOT / "crates/dsa_text/out/dsa_text",
+}
+COMPILE = ["-std=c11", "-O2", "-fPIC", "-Wall", "-Wextra", "-Werror", "-ffunction-sections"]
+HARDEN = ["-Wl,-z,relro,-z,now,-z,noexecstack,-z,defs,-z,text"]
+# Where the package has its files, unpacked anywhere or installed by dpkg.
+ANYWHERE = {"prefix": "${pcfiledir}/../..", "lib": "lib", "python": "share/dsa-planner/python"}
+DEBIAN = {"prefix": "/usr", "lib": "lib/x86_64-linux-gnu", "python": "lib/python3/dist-packages"}
+# Before dpkg removes the Python module: what Python has compiled of it.
+PRERM = """#!/bin/sh
+set -e
+rm -f "$DPKG_ROOT"/usr/lib/python3/dist-packages/__pycache__/dsa_planner.*.pyc
+rmdir "$DPKG_ROOT"/usr/lib/python3/dist-packages/__pycache__ 2>/dev/null || true
+"""
+
+
+def run(*command, **how):
+    """What a command prints; the words that it fails with end the script."""
+    ran = subprocess.run([str(word) for word in command], capture_output=True, text=True, **how)
+    if ran.returncode != 0:
+        sys.exit(f"make.py: {' '.join(map(str, command))}: {ran.stderr.strip()}")
+    return ran.stdout
+
+
+def version():
+    """Major, minor and patch, from the header, which is their one place."""
+    found = re.findall(r"^#define DSA_PLANNER_(?:MAJOR|MINOR|PATCH) (\d+)$", HEADER.read_text(), re.M)
+    return tuple(map(int, found))
+
+
+def exported():
+    """The functions that callers may use."""
+    return sorted(set(re.findall(r"^(?:uint32_t|uint64_t) (dsa_\w+)\(", HEADER.read_text(), re.M)))
+
+
+def sources_of(crate):
+    """The code, the definitions and the proofs from which a crate is built, those of the crates below it too."""
+    lines = [line.partition(":") for line in (ROOT / "crates.txt").read_text().splitlines() if line[:1] not in ("", "#")]
+    below = {name.split()[0]: rest.split() for name, _, rest in lines}
+    found, waiting = set(), [crate]
+    while waiting:
+        name = waiting.pop()
+        if name in below and name not in found:
+            found.add(name)
+            waiting += below[name]
+    kinds = [("src", "*.rt"), ("specs", "*.antt"), ("proofs", "*.antt")]
+    folders = [(ROOT / "crates" / name / folder, files) for name in found for folder, files in kinds]
+    return [path for folder, files in folders for path in folder.rglob(files)]
+
+
+# Ends with status 0 where each crate that is named is built from the sources that it has, by the sums that the gate noted.
+IS_MADE = """
+import sys, toolchain
+known = toolchain.crates()
+sys.exit(not all(known[name].is_made() for name in sys.argv[1:]))
+"""
+
+
+def is_current(path, crate):
+    """Whether what was built is of the sources as they are: no source is newer, or the gate noted the sum of them all."""
+    if path.stat().st_mtime >= max(source.stat().st_mtime for source in sources_of(crate)):
+        return True
+    ask = [sys.executable, "-B", "-c", IS_MADE, crate]
+    return subprocess.run(ask, cwd=ROOT / "tests/gate", capture_output=True).returncode == 0
+
+
+def need_proved(*files):
+    """Ends the script where something isn't built, or is older than what it is built from."""
+    for path in [PROVED[file] for file in files or PROVED]:
+        crate = path.parent.parent.name
+        build = f"cd crates/{crate} && rt lib" if crate == "dsa_c" else f"./run {crate} --help"
+        if not path.exists():
+            sys.exit(f"{path.relative_to(ROOT)} is missing; build it first: {build}")
+        if not is_current(path, crate):
+            sys.exit(f"{path.relative_to(ROOT)} is older than its sources; build it first: {build}")
+
+
+def libraries(to):
+    """Both archives and the shared object. Each archive has one object, in which all but the header's names are hidden."""
+    numbers, names = version(), exported()
+    with tempfile.TemporaryDirectory() as work:
+        for source in ("memory", "version"):
+            flags = [*COMPILE, "-ffile-prefix-map=" + str(ROOT) + "=.", "-I", HEADER.parent]
+            run(os.environ.get("CC", "cc"), *flags, "-c", HEADER.parent / f"{source}.c", "-o", f"{work}/{source}.o")
+        run("ar", "x", PROVED["libdsa_c.a"], cwd=work)
+        for name, members in {"": ["dsa_c.o", "memory.o", "version.o"], "_own_memory": ["dsa_c.o", "version.o"]}.items():
+            joined = f"{work}/dsa_planner{name}.o"
+            run("ld", "-r", "-o", joined, *(f"{work}/{member}" for member in members))
+            keep = [f"--keep-global-symbol={symbol}" for symbol in names]
+            run("objcopy", *keep, "--remove-section=.llvm_addrsig", joined)
+            run("ar", "rcsD", to / f"libdsa_planner{name}.a", joined)
+        shared = to / f"libdsa_planner.so.{'.'.join(map(str, numbers))}"
+        soname = f"libdsa_planner.so.{numbers[0]}"
+        script = [f"-Wl,-soname,{soname}", f"-Wl,--version-script={HERE}/dsa_planner.map"]
+        linked = [f"{work}/{name}.o" for name in ("dsa_c", "memory", "version")]
+        run(os.environ.get("CC", "cc"), "-shared", *script, *HARDEN, *linked, "-o", shared)
+        run("strip", "--strip-unneeded", shared)
+    (to / soname).symlink_to(shared.name)
+    (to / "libdsa_planner.so").symlink_to(soname)
+
+
+def filled(template, **values):
+    """A template with its `@name@` filled in."""
+    return re.sub(r"@(\w+)@", lambda mark: str(values[mark[1]]), (HERE / template).read_text())
+
+
+def build_files(to, places):
+    """What pkg-config and CMake look for."""
+    numbers = version()
+    common = {"version": ".".join(map(str, numbers)), "major": numbers[0], **places}
+    archive = "${libdir}/lib%s.a"
+    kinds = {
+        "dsa_planner": ("the shared object", "-L${libdir} -ldsa_planner"),
+        "dsa_planner_static": ("the archive", archive % "dsa_planner"),
+        "dsa_planner_own_memory": ("the archive for programs with memory functions of their own", None),
+    }
+    for name, (what, libs) in kinds.items():
+        text = filled("pkgconfig.in", name=name, what=what, libs=libs or archive % name, **common)
+        write(to / f"pkgconfig/{name}.pc", text)
+    up = "/".join([".."] * (len(Path(places["lib"]).parts) + 2))
+    write(to / "cmake/dsa_planner/dsa_planner-config.cmake", filled("config.cmake.in", up=up, **common))
+    write(to / "cmake/dsa_planner/dsa_planner-config-version.cmake", filled("config-version.cmake.in", **common))
+
+
+def write(path, text):
+    path.parent.mkdir(parents=True, exist_ok=True)
+    path.write_text(text)
+
+
+def promises():
+    """The table of promises, from README.md."""
+    text = (ROOT / "README.md").read_text()
+    rows = re.search(r"^## How sure\n.*?^\| Promise [^\n]*\n\|-[^\n]*\n((?:\|[^\n]*\n)+)", text, re.M | re.S)[1]
+    cells = [[cell.strip() for cell in row.strip("|\n").split("|")] for row in rows.splitlines()]
+    return "\n".join(f"- {promise}. Clauses: {place}." for promise, place in cells)
+
+
+def commit():
+    """The commit that this tree has, whether it has changes, and the commit's time."""
+    if subprocess.run(["git", "-C", str(ROOT), "rev-parse", "HEAD"], capture_output=True).returncode != 0:
+        return "unknown (no git)", 0
+    name = run("git", "-C", ROOT, "rev-parse", "HEAD").strip()
+    changes = run("git", "-C", ROOT, "status", "--porcelain").strip()
+    time = int(run("git", "-C", ROOT, "log", "-1", "--format=%ct"))
+    return name + (", with changes that are not committed" if changes else ""), time
+
+
+def proved():
+    """The file that says what was proved."""
+    name, _ = commit()
+    kit = re.search(r'^KIT_ID = "(.*)"', (ROOT / "tests/gate/toolchain.py").read_text(), re.M)[1]
+    sums = "\n".join(f"{hashlib.sha256(path.read_bytes()).hexdigest()}  {file}" for file, path in PROVED.items())
+    return f"""What was proved of dsa-planner {".".join(map(str, version()))}
+
+Commit: {name}
+Toolchain: {kit}
+
+The toolchain proved each function of the archive libdsa_c.a and of the programs dsa and dsa_text before it compiled them.
+Their SHA-256 sums:
+
+{sums}
+
+libdsa_planner.a, libdsa_planner_own_memory.a and libdsa_planner.so have the code of libdsa_c.a as it is. Not proved, and
+in this package beside it: memory.c (three functions over malloc, realloc and free; not in libdsa_planner_own_memory.a),
+version.c (one function), the Rust crate, the Python module, and that a caller in C keeps what dsa_planner.h asks of it.
+
+Promises, for all inputs, with the functions whose clauses carry them:
+
+{promises()}
+"""
+
+
+def tree(root, places):
+    """All files of the package, under one folder."""
+    numbers = ".".join(map(str, version()))
+    library = root / places["lib"]
+    docs = root / "share/doc/dsa-planner"
+    for folder in (root / "bin", root / "include", library, docs / "examples"):
+        folder.mkdir(parents=True)
+    for name in ("dsa", "dsa_text"):
+        shutil.copy(PROVED[name], root / "bin" / name)
+    shutil.copy(HEADER, root / "include")
+    libraries(library)
+    build_files(library, places)
+    manuals(root / "share/man", numbers)
+    script = completion.bash(str(PROVED["dsa_text"]), "dsa_text")
+    write(root / "share/bash-completion/completions/dsa_text", script)
+    write(docs / "PROVED", proved())
+    for page in ("USING.md", "FORMATS.md", "PRICES.md", "jobs.schema.json"):
+        shutil.copy(ROOT / f"docs/{page}", docs)
+    shutil.copy(ROOT / "CHANGELOG.md", docs)
+    examples(docs / "examples")
+    crate = root / "share/dsa-planner/rust"
+    ignored = shutil.ignore_patterns("target", "Cargo.lock", ".gitignore", "*.stdout")
+    shutil.copytree(ROOT / "bindings/rust", crate, ignore=ignored)
+    write(root / places["python"] / "dsa_planner.py", (ROOT / "bindings/python/dsa_planner.py").read_text())
+
+
+def manuals(to, numbers):
+    """The manual pages, dated by the commit."""
+    date = run("date", "-u", "-d", f"@{commit()[1]}", "+%Y-%m-%d").strip()
+    head = {"version": numbers, "date": date}
+    pages = {
+        "dsa.1": manual.dsa(head),
+        "dsa_text.1": manual.dsa_text(head, str(PROVED["dsa_text"])),
+        "dsa_planner.3": manual.dsa_planner(head),
+    }
+    for name, text in pages.items():
+        path = to / f"man{name[-1]}" / f"{name}.gz"
+        path.parent.mkdir(parents=True, exist_ok=True)
+        path.write_bytes(gzip.compress(text.encode(), mtime=0))
+
+
+def examples(to):
+    """Examples of the calls, of jobs and of operations as text, and rows for tests of a caller's own, with three readers."""
+    for name in ("two_moves.c", "own_memory.c", "submit.c"):
+        shutil.copy(ROOT / "bindings/c" / name, to)
+    for path in [*(ROOT / "examples").glob("*.job"), *(ROOT / "examples/text").glob("*.txt")]:
+        shutil.copy(path, to)
+    for path in (ROOT / "tests/package").glob("rows.*"):
+        shutil.copy(path, to)
+    write(to / "rows.txt", rows.rows(ROOT / "tests/jobs"))
+
+
+def tidy(root):
+    """Gives each file of a tree the time of the commit and plain rights, so that packages can be compared."""
+    time = commit()[1]
+    for path in [root, *root.rglob("*")]:
+        if not path.is_symlink():
+            executable = path.is_dir() or path.parent.name == "bin" or path.name == "install.sh"
+            path.chmod(0o755 if executable else 0o644)
+        os.utime(path, (time, time), follow_symlinks=False)
+
+
+def tarball(root, to):
+    """Packs a tree. Names are in order, owners are root, and the packed file has no time of its own."""
+
+    def plain(info):
+        info.uid = info.gid = 0
+        info.uname = info.gname = "root"
+        return info
+
+    packed = io.BytesIO()
+    with tarfile.open(fileobj=packed, mode="w", format=tarfile.GNU_FORMAT) as out:
+        for path in [root, *sorted(root.rglob("*"))]:
+            out.add(path, path.relative_to(root.parent), recursive=False, filter=plain)
+    replace(to, gzip.compress(packed.getvalue(), mtime=0))
+
+
+def replace(path, content):
+    """Writes a file so that no reader sees part of it."""
+    part = path.with_name(f"{path.name}.{os.getpid()}")
+    part.write_bytes(content)
+    part.replace(path)
+
+
+def debian(root, to, numbers):
+    """Packs a tree, which has usr, for Debian."""
+    files = [path for path in root.rglob("*") if path.is_file() and not path.is_symlink()]
+    built = [path for path in files if path.parent.name == "bin" or ".so." in path.name]
+    needed = {tuple(map(int, it.split("."))) for path in built
+              for it in re.findall(r"GLIBC_([\d.]+)", run("readelf", "-VW", path))}
+    libc = ".".join(map(str, max(needed)))
+    size = sum(path.stat().st_size for path in files) // 1024 + 1
+    sums = "".join(f"{hashlib.md5(path.read_bytes()).hexdigest()}  {path.relative_to(root)}\n" for path in sorted(files))
+    write(root / "DEBIAN/md5sums", sums)
+    write(root / "DEBIAN/triggers", "activate-noawait ldconfig\n")
+    write(root / "DEBIAN/prerm", PRERM)
+    write(root / "DEBIAN/shlibs", f"libdsa_planner {numbers.split('.')[0]} dsa-planner (>= {numbers})\n")
+    write(root / "DEBIAN/control", filled("control.in", version=numbers, libc=libc, size=size))
+    tidy(root)
+    (root / "DEBIAN/prerm").chmod(0o755)
+    part = to.with_name(f"{to.name}.{os.getpid()}")
+    time = dict(os.environ, SOURCE_DATE_EPOCH=str(commit()[1]))
+    run("dpkg-deb", "--root-owner-group", "-Zxz", "--build", root, part, env=time)
+    part.replace(to)
+
+
+def make(to):
+    """Makes the packages; answers where they are."""
+    need_proved()
+    numbers = ".".join(map(str, version()))
+    name = f"dsa-planner-{numbers}-x86_64-linux"
+    to.mkdir(parents=True, exist_ok=True)
+    made = [to / f"{name}.tar.gz"]
+    with tempfile.TemporaryDirectory() as work:
+        root = Path(work, name)
+        tree(root, ANYWHERE)
+        shutil.copy(HERE / "install.sh", root)
+        tidy(root)
+        tarball(root, made[0])
+        if shutil.which("dpkg-deb"):
+            made.append(to / f"dsa-planner_{numbers}_amd64.deb")
+            tree(Path(work, "debian/usr"), DEBIAN)
+            debian(Path(work, "debian"), made[1], numbers)
+        else:
+            print("there is no dpkg-deb, so no package for Debian")
+    return made
+
+
+if __name__ == "__main__":
+    for path in make(Path(sys.argv[1]) if len(sys.argv) > 1 else ROOT / "out"):
+        print(path)

@@ -1,0 +1,183 @@
+"""Writes the manual pages from what stands elsewhere: docs/FORMATS.md, the programs' `--help`, and the header."""
+
+import re
+from pathlib import Path
+
+from completion import commands_of, help_of
+
+ROOT = Path(__file__).resolve().parent.parent.parent
+PAGE = '.TH {title} {section} "{date}" "dsa-planner {version}" "dsa-planner"\n'
+
+
+def plain(text):
+    """Text as roff takes it: no letter of it is a command."""
+    text = text.replace("\\", "\\e").replace("-", "\\-").replace("'", "\\(aq").replace("`", "\\(ga")
+    return re.sub(r"^\.", r"\\&.", text, flags=re.M)
+
+
+def inline(text):
+    """A line of Markdown: code and bold are printed bold, a link as its words."""
+    text = re.sub(r"\[([^]]*)\]\([^)]*\)", r"\1", text)
+    parts = re.split(r"(``[^`]+``|`[^`]+`|\*\*[^*]+\*\*)", text)
+    return "".join(f"\\fB{plain(it.strip('`*'))}\\fR" if k % 2 else plain(it) for k, it in enumerate(parts))
+
+
+def shown(lines):
+    """Lines as they stand."""
+    return [".PP", ".RS 4", ".nf", *map(plain, lines), ".fi", ".RE"]
+
+
+def table(lines):
+    """A table: the first cell of a row is its tag, and the others follow behind the names of their columns."""
+    rows = [[cell.strip() for cell in re.split(r"(?<!\\)\|", line.strip().strip("|"))] for line in lines]
+    names, out = rows[0], []
+    for row in rows[2:]:
+        rest = [f"{name}: {cell}" if name and len(row) > 2 else cell for name, cell in zip(names[1:], row[1:]) if cell]
+        out += [".TP", inline(row[0]), inline(". ".join(rest)) or "\\&"]
+    return out
+
+
+def roff(markdown):
+    """A piece of Markdown as roff: headings, paragraphs, lists, tables, and blocks of code."""
+    out, lines, at = [], markdown.strip("\n").split("\n"), 0
+
+    def run(begins):
+        nonlocal at
+        start = at
+        while at < len(lines) and lines[at] and re.match(begins, lines[at]):
+            at += 1
+        return lines[start:at]
+
+    while at < len(lines):
+        line = lines[at]
+        if not line:
+            at += 1
+        elif line.startswith("#"):
+            out.append(f".SS {inline(line.lstrip('# '))}")
+            at += 1
+        elif line.startswith("    "):
+            out += shown([it[4:] for it in run("    ")])
+        elif line.startswith("|"):
+            out += table(run(r"\|"))
+        elif mark := re.match(r"(- |\d+\. )", line):
+            bullet = "\\(bu" if mark[1] == "- " else mark[1].strip()
+            out += [f".IP {bullet} 4", inline(line[mark.end() :])]
+            at += 1
+        else:
+            out += [".PP", inline(" ".join(run(r"(?!- |\d+\. |\||#|    )")))]
+    return "\n".join(out) + "\n"
+
+
+def section(page, heading):
+    """What stands under a heading of a page of the docs."""
+    text = (ROOT / page).read_text()
+    found = re.search(rf"^## {re.escape(heading)}\n(.*?)(?=^## |\Z)", text, re.M | re.S)
+    return found[1]
+
+
+def sections(**parts):
+    """Sections of a manual page from their roff; `_` in a name stands for a blank."""
+    return "".join(f'.SH "{name.replace("_", " ")}"\n{text}' for name, text in parts.items())
+
+
+STATUS = roff("""
+| Status | Meaning |
+|---|---|
+| 0 | an answer is on standard output |
+| 1 | a refusal is on standard output |
+| 2 | reading or writing failed, or the arguments are wrong |
+""")
+
+
+TEXT_STATUS = roff("""
+| Status | Meaning |
+|---|---|
+| 0 | an answer is on standard output |
+| 1 | there is none, and standard error says why; of `audit`, a fence is missing |
+| 2 | reading or writing failed, or the arguments are wrong; of `audit`, there is no recording |
+""")
+
+
+def dsa(head):
+    """dsa(1)."""
+    about = """
+`dsa` reads one job, a JSON object, on standard input and writes one line on standard output: the answer, or a refusal
+with the number and the name of its first cause. All addresses are the device's; nothing here touches a device.
+"""
+    return PAGE.format(title="DSA", section=1, **head) + sections(
+        NAME=plain("dsa - plan, check, judge, replay and run lists of DSA descriptors") + "\n",
+        SYNOPSIS=".B dsa\n< JOB\n",
+        DESCRIPTION=roff(about),
+        JOBS=roff(section("docs/FORMATS.md", "Jobs")),
+        LISTS=roff(section("docs/FORMATS.md", "What a list may hold (profile)")),
+        REFUSALS=roff(section("docs/FORMATS.md", "Refusals")),
+        EXIT_STATUS=STATUS,
+        SEE_ALSO=".BR dsa_text (1),\n.BR dsa_planner (3)\n",
+    )
+
+
+def dsa_text(head, program):
+    """dsa_text(1)."""
+    synopsis = "".join(f".B dsa_text {name}\n[OPTIONS] [FILE]\n.br\n" for name in commands_of(help_of(program)))
+    texts = [(name, help_of(program, name)) for name in commands_of(help_of(program))]
+    described = "".join(roff(f"## {name}") + roff(text.split("\n")[0] + ".") + options(text) for name, text in texts)
+    return PAGE.format(title="DSA_TEXT", section=1, **head) + sections(
+        NAME=plain("dsa_text - descriptors of the data streaming accelerator as text, and explanations of plans") + "\n",
+        SYNOPSIS=synopsis,
+        DESCRIPTION=roff("Each command reads a file, or standard input, and writes to standard output.") + described,
+        TEXT=roff(section("docs/FORMATS.md", "Operations as text")),
+        EXIT_STATUS=TEXT_STATUS,
+        SEE_ALSO=".BR dsa (1),\n.BR dsa_planner (3)\n",
+    )
+
+
+def options(text):
+    """The options of a help text."""
+    out = []
+    for spelling, meaning in re.findall(r"^ +(-.*?)  +(\S.*)$", text, re.M):
+        out += [".TP", f"\\fB{plain(spelling)}\\fR", plain(meaning)]
+    return "\n".join(out) + "\n"
+
+
+def dsa_planner(head):
+    """dsa_planner(3), from the comments of the header and what stands behind each."""
+    header = (ROOT / "bindings/c/dsa_planner.h").read_text()
+    blocks = re.findall(r"^/\*(.*?)\*/\n(.*?)(?=^/\*|\Z)", header, re.M | re.S)
+    about, rest = blocks[0][0], blocks[1:]
+    name, about = re.match(r"\s*\* dsa_planner\.h: (.*?)\n \*\n(.*)", about, re.S).groups()
+    calls = []
+    for comment, code in rest:
+        code = re.sub(r"^#ifdef __cplusplus\n#define.*?^#else\n", "", code, flags=re.M | re.S)
+        code = re.sub(r"^#(ifdef|else|endif|if).*\n|^extern \"C\" \{\n|^}\n", "", code, flags=re.M).strip("\n")
+        if code:
+            calls.append("\n".join(shown(code.split("\n"))) + "\n" + paragraphs(comment))
+    return PAGE.format(title="DSA_PLANNER", section=3, **head) + sections(
+        NAME=plain(f"dsa_planner - {name.split(',')[0]}") + "\n",
+        SYNOPSIS=".B #include <dsa_planner.h>\n",
+        DESCRIPTION=paragraphs(about),
+        CALLS="".join(calls),
+        SEE_ALSO=".BR dsa (1),\n.BR dsa_text (1)\n",
+    )
+
+
+def paragraphs(comment):
+    """A comment of C: its paragraphs, its lists, and the lines that begin with a word and a colon as tags."""
+    out, is_open, in_tag = [], False, False
+    for line in comment.strip().split("\n"):
+        line = re.sub(r"^ ?\* ?", "", line).rstrip()
+        tag = re.match(r"([A-Z]\w+): +(.*)", line)
+        words = line.strip()
+        if not words:
+            is_open = in_tag = False
+        elif tag:
+            out += [".TP 11", f"\\fB{tag[1]}\\fR", plain(tag[2])]
+            is_open = in_tag = True
+        elif words.startswith("- "):
+            out += [*([".br"] if in_tag else [".IP \\(bu 4"]), ("\\(bu " if in_tag else "") + plain(words[2:])]
+            is_open = True
+        elif words.startswith("cc "):
+            out += [".br", plain(words)]
+        else:
+            out += [plain(words)] if is_open else [".PP", plain(words)]
+            is_open = True
+    return "\n".join(out) + "\n"

@@ -1,0 +1,390 @@
+"""Plans lists of descriptors of Intel's Data Streaming Accelerator: bytes in, bytes or an exception out.
+
+    from dsa_planner import Refusal, Settings, plan_list
+
+    settings = Settings(greatest_batch=4, greatest_transfer=4096, lone=10, batch=14, fence=3, staging=0x10000)
+    print(plan_list(settings, bytes_of_descriptors).cost)
+
+The five calls are those of the C library (dsa_planner.h says what each promises, and docs/FORMATS.md explains the bytes);
+a call that refuses raises `Refusal`. Calls may run on several threads at once, and other threads of Python run meanwhile.
+
+The library is libdsa_planner.so.1: the file that the variable DSA_PLANNER_LIBRARY names, else the one of the prefix that
+this module is installed in, else the one that the system's loader finds. Where none can be used, importing this module
+raises `ImportError`, which says what to do."""
+
+from __future__ import annotations
+
+import ctypes
+import os
+from dataclasses import dataclass
+from pathlib import Path
+from typing import Dict, List, NamedTuple, Optional, Sequence, Tuple, Union
+
+__all__ = [
+    "BEGINS", "CAUSES", "FENCED", "MOST_PIECES", "Certificate", "Planned", "Refusal", "Settings", "Summary",
+    "check", "count_pieces", "judge", "library_version", "plan_list", "plan_list_certified",
+]
+
+MOST_PIECES = 65_536
+"""The most pieces of a planned list. An operation longer than `greatest_transfer` is several pieces."""
+BEGINS = 1
+"""The mark of a piece that begins a group: a batch, or a descriptor by itself."""
+FENCED = 2
+"""The mark of a piece that carries the fence; it is added to `BEGINS`."""
+
+Bytes = Union[bytes, bytearray, memoryview]
+Pair = Optional[Tuple[int, int]]
+
+# The library that this module was written for: its major version, and the least minor version.
+_MAJOR, _MINOR = 1, 0
+_SONAME = f"libdsa_planner.so.{_MAJOR}"
+_NONE = 2**32 - 1
+
+
+class _Settings(ctypes.Structure):
+    _fields_ = [
+        (name, ctypes.c_uint64)
+        for name in ("version", "greatest_batch", "greatest_transfer", "lone", "batch", "fence", "staging")
+    ]
+
+
+class _Planned(ctypes.Structure):
+    _fields_ = [(name, ctypes.c_uint64) for name in ("cost", "pieces", "portal_len", "staging_len")]
+
+
+class _Refusal(ctypes.Structure):
+    _fields_ = [
+        ("number", ctypes.c_uint32),
+        ("inner", ctypes.c_uint32),
+        ("first", ctypes.c_uint64),
+        ("second", ctypes.c_uint64),
+    ]
+
+
+class _Pair(ctypes.Structure):
+    _fields_ = [("first", ctypes.c_uint32), ("second", ctypes.c_uint32)]
+
+
+# ---- the library
+
+
+def _places() -> List[str]:
+    """Where the library may be, best first."""
+    named = os.environ.get("DSA_PLANNER_LIBRARY")
+    if named:
+        return [named]
+    folder = Path(__file__).resolve().parent
+    is_installed = folder.parts[-3:] == ("share", "dsa-planner", "python")
+    own = folder.parent.parent.parent / "lib" / _SONAME
+    return [str(own), _SONAME] if is_installed and own.exists() else [_SONAME]
+
+
+def _open() -> ctypes.CDLL:
+    """The library, with its version looked at and its calls declared."""
+    fault: Optional[OSError] = None
+    for place in _places():
+        try:
+            library = ctypes.CDLL(place)
+        except OSError as error:
+            fault = fault or error
+            continue
+        _need_version(library, place)
+        _declare(library)
+        return library
+    what_to_do = "Install the package dsa-planner, or set DSA_PLANNER_LIBRARY to the file."
+    raise ImportError(f"dsa_planner: cannot load {_SONAME} ({fault}). {what_to_do}")
+
+
+def _need_version(library: ctypes.CDLL, place: str) -> None:
+    """Raises ImportError where the library is none, or too old, or of another major version."""
+    try:
+        number = library.dsa_planner_version
+    except AttributeError:
+        raise ImportError(f"dsa_planner: {place} is no library of dsa-planner {_MAJOR}.{_MINOR} or later") from None
+    number.restype, number.argtypes = ctypes.c_uint32, []
+    major, minor = number() // 10_000, number() // 100 % 100
+    if major != _MAJOR or minor < _MINOR:
+        raise ImportError(
+            f"dsa_planner: {place} has version {major}.{minor}, and this module needs {_MAJOR}.{_MINOR} or a later "
+            f"{_MAJOR}.x: install the package dsa-planner anew"
+        )
+
+
+def _declare(library: ctypes.CDLL) -> None:
+    """Declares the calls as dsa_planner.h does."""
+    byte, word = ctypes.POINTER(ctypes.c_uint8), ctypes.POINTER(ctypes.c_uint64)
+    size, pairs = ctypes.c_size_t, ctypes.POINTER(_Pair)
+    listed = [ctypes.POINTER(_Settings), word, size, byte, size]
+    planned, refusal = ctypes.POINTER(_Planned), ctypes.POINTER(_Refusal)
+    rooms = [byte, size, byte, size]
+    certificate = [word, size, pairs, size]
+    calls = {
+        "dsa_count_pieces": (ctypes.c_uint64, listed),
+        "dsa_plan_list": (ctypes.c_uint32, [*listed, *rooms, planned, refusal]),
+        "dsa_plan_list_certified": (ctypes.c_uint32, [*listed, *rooms, *certificate, byte, size, planned, refusal]),
+        "dsa_check": (ctypes.c_uint32, [*listed, byte, size, ctypes.c_uint64, *certificate, word, refusal]),
+        "dsa_judge": (ctypes.c_uint32, [*listed, byte, size, word, refusal]),
+    }
+    for name, (result, arguments) in calls.items():
+        call = getattr(library, name)
+        call.restype, call.argtypes = result, arguments
+
+
+_library = _open()
+
+
+def library_version() -> Tuple[int, int, int]:
+    """The version of the library that is used: major, minor and patch."""
+    number = int(_library.dsa_planner_version())
+    return number // 10_000, number // 100 % 100, number % 100
+
+
+# ---- what goes in and out
+
+
+def _whole(name: str, value: int, limit: int = 2**64) -> int:
+    """The value where it is a whole number from 0 to below the limit."""
+    if isinstance(value, bool) or not isinstance(value, int):
+        raise TypeError(f"{name} is {value!r}, and has to be a whole number")
+    if not 0 <= value < limit:
+        raise ValueError(f"{name} is {value}, and has to be from 0 to {limit - 1}")
+    return value
+
+
+@dataclass(frozen=True)
+class Settings:
+    """The limits of the device, and what submissions cost, in a unit of the caller's choice."""
+
+    greatest_batch: int
+    """The most pieces of a batch, 2 to 1,024."""
+    greatest_transfer: int
+    """The most bytes of a piece, 8 to 2^31, a multiple of 8."""
+    lone: int
+    """The price of a descriptor by itself, at most 1,000,000,000."""
+    batch: Union[int, Sequence[int]]
+    """The price of a batch without its fences, or the prices of batches of 2, 3, .. `greatest_batch` pieces."""
+    fence: int
+    """The price of each fence."""
+    staging: int
+    """The address where the staging bytes will stand, a multiple of 64, at most 2^63."""
+
+    @property
+    def version(self) -> int:
+        """1, or 2 where prices are by size; a certificate has the version of the settings that it was written for."""
+        return 1 if isinstance(self.batch, int) else 2
+
+    def _raw(self) -> Tuple[_Settings, "ctypes.Array[ctypes.c_uint64]", int]:
+        """The settings as C lays them out, and the table of prices with its length."""
+        prices = [] if isinstance(self.batch, int) else list(self.batch)
+        flat = self.batch if isinstance(self.batch, int) else 0
+        numbers = {
+            "version": self.version, "greatest_batch": self.greatest_batch, "greatest_transfer": self.greatest_transfer,
+            "lone": self.lone, "batch": flat, "fence": self.fence, "staging": self.staging,
+        }
+        raw = _Settings(**{name: _whole(name, value) for name, value in numbers.items()})
+        return raw, _words([_whole("a price of a batch", price) for price in prices]), len(prices)
+
+
+class Summary(NamedTuple):
+    """What `plan_list` answers."""
+
+    cost: int
+    """What the plan costs. No legal plan of these pieces costs less."""
+    pieces: int
+    """The number of pieces."""
+    portal: bytes
+    """The bytes for the work queue's portal, 64 for each group."""
+    staging: bytes
+    """The bytes for the staging area."""
+
+
+@dataclass(frozen=True)
+class Certificate:
+    """What shows that no legal plan costs less than a plan does."""
+
+    version: int
+    """The version of the settings that it was written for."""
+    prices: List[int]
+    """The least cost of the first 0, 1, .. pieces."""
+    pairs: List[Pair]
+    """For each piece the pair of conflicting pieces that its chain goes on with, if any."""
+
+
+@dataclass(frozen=True)
+class Planned:
+    """What `plan_list_certified` answers."""
+
+    cost: int
+    """What the plan costs. No legal plan of these pieces costs less."""
+    portal: bytes
+    """The bytes for the work queue's portal, 64 for each group."""
+    staging: bytes
+    """The bytes for the staging area."""
+    marks: bytes
+    """The mark of each piece: `BEGINS`, `FENCED` or their sum."""
+    certificate: Certificate
+
+
+CAUSES: Dict[int, Tuple[str, str]] = {
+    1: ("Length", "the length of the list is no multiple of 64 bytes"),
+    2: ("Opcode", "descriptor {0} has an operation code that cannot be planned"),
+    3: ("FlagBits", "descriptor {0} lacks a flag that it needs, or has one that is not allowed"),
+    4: ("Reserved", "a reserved bit or byte of descriptor {0} is not zero"),
+    5: ("SizeZero", "the transfer size of descriptor {0} is 0"),
+    6: ("Wrap", "an address of descriptor {0} would be 2^64 or more"),
+    7: ("RecordAlign", "the completion record of descriptor {0} is not at a multiple of 32"),
+    8: ("DualcastBits", "the low twelve bits of the two destinations of descriptor {0} differ"),
+    9: ("Overlap", "two regions of descriptor {0} overlap that must not"),
+    10: ("Delta", "descriptor {0}, a delta, has a size or a destination that no delta may have"),
+    11: ("Expected", "the expected result of descriptor {0} is above 1"),
+    12: ("MixedPasid", "descriptor {0} has another PASID or privilege than the first"),
+    13: ("RecordMeetsData", "the completion record of descriptor {0} overlaps its data"),
+    30: ("DeltaTooLong", "operation {0}, a delta, is longer than greatest_transfer"),
+    31: ("ExpectedSplit", "operation {0}, a compare that checks its result, is longer than greatest_transfer"),
+    32: ("TooManyPieces", "the list has more than 65,536 pieces"),
+    33: ("StagingMeets", "piece {0} touches the staging area"),
+    34: ("RowMeetsData", "the completion records of the pieces of operation {0} overlap its data"),
+    35: ("RowWrap", "an address of the completion records of the pieces of operation {0} would be 2^64 or more"),
+    37: ("OverTransfer", "descriptor {0} is longer than greatest_transfer"),
+    40: ("Count", "the plan and the list have different numbers of pieces"),
+    41: ("GroupSize", "group {0} is empty or larger than greatest_batch"),
+    42: ("FirstFence", "the first piece of group {0} is fenced"),
+    43: ("Unfenced", "pieces {0} and {1} conflict, and no fence stands between them"),
+    44: ("PortalLength", "the length of the portal bytes is no multiple of 64"),
+    45: ("BatchFields", "a field of the batch descriptor of group {0} is wrong"),
+    46: ("StagingLength", "the length of the staging bytes does not fit the portal bytes"),
+    47: ("Entry", "piece {0} is refused"),
+    48: ("EntryFence", "the first piece of group {0} is fenced"),
+    49: ("RecordBytes", "the completion record of batch {0} is not all zero"),
+    60: ("Plan", "the plan is not legal"),
+    61: ("Lengths", "the certificate does not have n + 1 prices and n pairs for n pieces"),
+    62: ("Pair", "the certificate's pair of piece {0} is not one of conflicting pieces from there on"),
+    63: ("Price", "the certificate's price at {1} is higher than one group from {0} on allows"),
+    64: ("Total", "the certificate's last price is not the cost of the plan"),
+    65: ("Version", "the certificate has another version than the settings"),
+    73: ("Memory", "an allocation failed"),
+    83: ("Settings", "a setting is outside its limits, or the table of prices has a wrong length"),
+    90: ("NoRoom", "portal needs {0} bytes and staging {1}"),
+    91: ("NoRoomForCertificate", "the arrays of the certificate need room for {0} pieces"),
+}
+"""The name and the sentence of each cause, by its number; {0} and {1} stand for the places that a refusal names."""
+
+
+class Refusal(Exception):
+    """Why a call refuses: its cause, and the places that the cause names."""
+
+    number: int
+    """The number of the cause; `CAUSES` has its name and its sentence."""
+    inner: int
+    """The number of the cause within, of a plan or a piece that is refused in its turn, else 0."""
+    first: int
+    """The first index that the cause names, else 0; of 90 the bytes that portal needs, of 91 the number of pieces."""
+    second: int
+    """The second index, else 0; of 90 the bytes that staging needs."""
+
+    def __init__(self, number: int, inner: int = 0, first: int = 0, second: int = 0) -> None:
+        super().__init__(number, inner, first, second)
+        self.number, self.inner, self.first, self.second = number, inner, first, second
+
+    @property
+    def name(self) -> str:
+        """The name of the cause, as Unfenced."""
+        return CAUSES.get(self.number, ("Unknown", ""))[0]
+
+    def __str__(self) -> str:
+        unknown = ("Unknown", "a cause of a later version of the library")
+        numbers = [self.number, self.inner] if self.inner else [self.number]
+        whole = ": ".join("{} {}: {}".format(number, *CAUSES.get(number, unknown)) for number in numbers)
+        return f"refused {whole}".format(self.first, self.second)
+
+
+# ---- the calls
+
+
+def _words(values: Sequence[int]) -> "ctypes.Array[ctypes.c_uint64]":
+    """An array of the values, of one item at the least, so that it has an address."""
+    return (ctypes.c_uint64 * max(1, len(values)))(*values)
+
+
+def _room(size: int) -> "ctypes.Array[ctypes.c_uint8]":
+    return (ctypes.c_uint8 * max(1, size))()
+
+
+def _given(name: str, data: Bytes) -> Tuple["ctypes.Array[ctypes.c_uint8]", int]:
+    """A copy of bytes of the caller's, and how many they are."""
+    if not isinstance(data, (bytes, bytearray, memoryview)):
+        raise TypeError(f"{name} is of type {type(data).__name__}, and has to be bytes")
+    held = bytes(data)
+    return (ctypes.c_uint8 * max(1, len(held))).from_buffer_copy(held or b"\0"), len(held)
+
+
+def _answered(code: int, refusal: _Refusal) -> None:
+    if code != 0:
+        raise Refusal(refusal.number, refusal.inner, refusal.first, refusal.second)
+
+
+def count_pieces(settings: Settings, operations: Bytes) -> int:
+    """How many pieces a list has: 65,537 for more than may be planned, and 0 for settings that are refused."""
+    raw, table, entries = settings._raw()
+    listed, size = _given("operations", operations)
+    return int(_library.dsa_count_pieces(raw, table, entries, listed, size))
+
+
+def plan_list(settings: Settings, operations: Bytes) -> Summary:
+    """Plans a list: 64 bytes for each operation, in the order in which they are to take effect. Raises `Refusal`."""
+    raw, table, entries = settings._raw()
+    listed, size = _given("operations", operations)
+    pieces = min(int(_library.dsa_count_pieces(raw, table, entries, listed, size)), MOST_PIECES)
+    portal, staging = _room(64 * pieces), _room(80 * pieces)
+    planned, refusal = _Planned(), _Refusal()
+    rooms = portal, 64 * pieces, staging, 80 * pieces
+    _answered(_library.dsa_plan_list(raw, table, entries, listed, size, *rooms, planned, refusal), refusal)
+    to_portal, to_staging = bytes(portal)[: planned.portal_len], bytes(staging)[: planned.staging_len]
+    return Summary(planned.cost, planned.pieces, to_portal, to_staging)
+
+
+def plan_list_certified(settings: Settings, operations: Bytes) -> Planned:
+    """Plans a list, with the marks of its pieces and the certificate of the plan. Raises `Refusal`."""
+    raw, table, entries = settings._raw()
+    listed, size = _given("operations", operations)
+    pieces = min(int(_library.dsa_count_pieces(raw, table, entries, listed, size)), MOST_PIECES)
+    portal, staging, marks = _room(64 * pieces), _room(80 * pieces), _room(pieces)
+    prices, pairs = _words([0] * (pieces + 1)), (_Pair * max(1, pieces))()
+    planned, refusal = _Planned(), _Refusal()
+    rooms = portal, 64 * pieces, staging, 80 * pieces
+    certified = prices, pieces + 1, pairs, pieces, marks, pieces
+    code = _library.dsa_plan_list_certified(raw, table, entries, listed, size, *rooms, *certified, planned, refusal)
+    _answered(code, refusal)
+    count = planned.pieces
+    couples = [(pair.first, pair.second) for pair in pairs[:count]]
+    found: List[Pair] = [None if couple == (_NONE, _NONE) else couple for couple in couples]
+    certificate = Certificate(settings.version, list(prices[: count + 1]), found)
+    to_portal, to_staging = bytes(portal)[: planned.portal_len], bytes(staging)[: planned.staging_len]
+    return Planned(planned.cost, to_portal, to_staging, bytes(marks)[:count], certificate)
+
+
+def check(settings: Settings, portal: Bytes, staging: Bytes, certificate: Certificate) -> int:
+    """What the bytes of a portal and a staging area cost, where each conflict within a batch has its fence and the
+    certificate shows that no legal plan of their pieces costs less. Raises `Refusal`. It needs 256 KiB of stack."""
+    raw, table, entries = settings._raw()
+    to_portal, to_staging = _given("portal", portal), _given("staging", staging)
+    prices = _words([_whole("a price", price) for price in certificate.prices])
+    pairs = (_Pair * max(1, len(certificate.pairs)))()
+    for at, pair in enumerate(certificate.pairs):
+        first, second = pair or (_NONE, _NONE)
+        pairs[at] = _Pair(_whole("a pair's index", first, 2**32), _whole("a pair's index", second, 2**32))
+    cost, refusal = ctypes.c_uint64(), _Refusal()
+    version = _whole("the version", certificate.version)
+    certified = version, prices, len(certificate.prices), pairs, len(certificate.pairs)
+    _answered(_library.dsa_check(raw, table, entries, *to_portal, *to_staging, *certified, cost, refusal), refusal)
+    return cost.value
+
+
+def judge(settings: Settings, operations: Bytes, marks: Bytes) -> int:
+    """What a plan of the caller's costs, a mark for each descriptor of the list, where it is within the limits and each
+    conflict within a batch has its fence. No descriptor is split. Raises `Refusal`. It needs 256 KiB of stack."""
+    raw, table, entries = settings._raw()
+    cost, refusal = ctypes.c_uint64(), _Refusal()
+    listed, marked = _given("operations", operations), _given("marks", marks)
+    _answered(_library.dsa_judge(raw, table, entries, *listed, *marked, cost, refusal), refusal)
+    return cost.value

@@ -1,0 +1,111 @@
+/* Measures how much stack each call takes, on lists of 2 to 65,536 moves: stack MOST_FOR_PLANNING MOST_FOR_CHECKING. It
+ * prints the greatest number of bytes for each call, and fails where one is above what the header asks of a caller. */
+#include <pthread.h>
+#include <stdio.h>
+#include <stdlib.h>
+#include <string.h>
+#include <sys/mman.h>
+
+#include <dsa_planner.h>
+
+enum { MOST = DSA_MOST_PIECES, STACK = 1 << 20, CALLS = 5 };
+
+static const struct dsa_settings settings = {1, 1024, 4096, 10, 14, 3, UINT64_C(1) << 40};
+static uint8_t list[64 * MOST], portal[64 * MOST], staging[80 * MOST], marks[MOST];
+static uint64_t prices[MOST + 1], cost;
+static struct dsa_pair pairs[MOST];
+static struct dsa_planned planned;
+static struct dsa_refusal refusal;
+static size_t len;
+
+/* Moves of 64 bytes, of which each third reads what the one before writes. */
+static void put_moves(uint64_t n)
+{
+    for (uint64_t i = 0; i < n; i++) {
+        uint64_t fields[3] = {UINT64_C(0x80000000) + 32 * i, 0x1000 * (i % 3 == 2 ? i - 1 : i + MOST), 0x1000 * i};
+        uint8_t *d = list + 64 * i;
+        memset(d, 0, 64);
+        d[4] = 0x0c;
+        d[7] = 0x03;
+        memcpy(d + 8, fields, 24);
+        d[32] = 64;
+    }
+    len = 64 * n;
+}
+
+static void *call(void *which)
+{
+    const struct dsa_settings *s = &settings;
+    uint64_t n = planned.pieces;
+    uint32_t code = 0;
+    switch (*(int *)which) {
+    case 0:
+        cost = dsa_count_pieces(s, &s->batch, 0, list, len);
+        break;
+    case 1:
+        code = dsa_plan_list(s, &s->batch, 0, list, len, portal, sizeof portal, staging, sizeof staging, &planned, &refusal);
+        break;
+    case 2:
+        code = dsa_plan_list_certified(s, &s->batch, 0, list, len, portal, sizeof portal, staging, sizeof staging, prices,
+                                       MOST + 1, pairs, MOST, marks, MOST, &planned, &refusal);
+        break;
+    case 3:
+        code = dsa_check(s, &s->batch, 0, portal, planned.portal_len, staging, planned.staging_len, 1, prices, n + 1,
+                         pairs, n, &cost, &refusal);
+        break;
+    default:
+        code = dsa_judge(s, &s->batch, 0, list, len, marks, n, &cost, &refusal);
+    }
+    return code == DSA_OK ? NULL : which;
+}
+
+static void *nothing(void *which)
+{
+    (void)which;
+    return NULL;
+}
+
+/* How many bytes of its stack a thread that runs this has written. */
+static size_t touched_by(void *(*run)(void *), int which)
+{
+    pthread_t thread;
+    pthread_attr_t attributes;
+    void *failed = NULL;
+    uint8_t *stack = mmap(NULL, STACK, PROT_READ | PROT_WRITE, MAP_PRIVATE | MAP_ANONYMOUS, -1, 0);
+    memset(stack, 0xa5, STACK);
+    if (pthread_attr_init(&attributes) || pthread_attr_setstack(&attributes, stack, STACK) ||
+        pthread_create(&thread, &attributes, run, &which) || pthread_join(thread, &failed) || failed) {
+        printf("call %d failed: %u\n", which, (unsigned)refusal.number);
+        exit(EXIT_FAILURE);
+    }
+    size_t untouched = 0;
+    while (stack[untouched] == 0xa5)
+        untouched++;
+    munmap(stack, STACK);
+    return STACK - untouched;
+}
+
+int main(int argc, char **argv)
+{
+    static const char *const names[CALLS] = {"count_pieces", "plan_list", "plan_list_certified", "check", "judge"};
+    static const uint64_t lengths[] = {2, 63, 65, 3000, MOST};
+    size_t greatest[CALLS] = {0}, limits[2] = {0, 0};
+    if (argc != 3)
+        return EXIT_FAILURE;
+    for (int i = 0; i < 2; i++)
+        limits[i] = strtoull(argv[i + 1], NULL, 10);
+    size_t base = touched_by(nothing, 0);
+    for (int k = 0; k < 5; k++) {
+        put_moves(lengths[k]);
+        for (int which = 0; which < CALLS; which++) {
+            size_t bytes = touched_by(call, which) - base;
+            greatest[which] = bytes > greatest[which] ? bytes : greatest[which];
+        }
+    }
+    int is_over = 0;
+    for (int which = 0; which < CALLS; which++) {
+        printf("%s: %zu bytes of stack\n", names[which], greatest[which]);
+        is_over |= greatest[which] > limits[which >= 3];
+    }
+    return is_over;
+}

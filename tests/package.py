@@ -1,0 +1,469 @@
+"""Makes the packages, installs them, and builds callers in C, C++, Rust and Python from what was installed alone: in a
+folder without the repository, with a path of /usr/bin and /bin (and cargo's). The same rows go to each caller. It uses
+dpkg, man, cmake, g++, clang and cargo where they are, and says so where they aren't. The words are names of parts."""
+
+import gzip
+import os
+import re
+import shutil
+import subprocess
+import sys
+import tarfile
+import tempfile
+from pathlib import Path
+
+from common import ROOT, block_after, compiler, expect, named, program, run_test, stop
+
+sys.path.insert(0, str(ROOT / "bindings/package"))
+import make
+
+STRICT = ["-Wall", "-Wextra", "-pedantic", "-Werror", "-O2"]
+MEMORY = {"malloc", "realloc", "free"}
+COPYING = {"memcpy", "memmove", "memset"}
+OWN_MEMORY = {"rattle_alloc", "rattle_realloc", "rattle_dealloc"}
+
+
+def environment(**more):
+    """The variables of a user who has the installed package and nothing else."""
+    return {"PATH": "/usr/bin:/bin", "LC_ALL": "C", "PKG_CONFIG_PATH": f"{PREFIX}/lib/pkgconfig", **more}
+
+
+def ran(*command, **more):
+    """What a command printed and how it ended, in the folder of callers."""
+    how = {"cwd": FOLDER, "capture_output": True, "text": True, "stdin": subprocess.DEVNULL}
+    return subprocess.run([str(word) for word in command], env=environment(**more), **how)
+
+
+def tried(what, *command, printed=None, **more):
+    """A case: the command ends with status 0, and prints just this text where one is wanted. Answers what it printed."""
+    end = ran(*command, **more)
+    right = end.returncode == 0 and printed in (None, end.stdout)
+    said = "\n".join((end.stdout + end.stderr).splitlines()[-15:])
+    expect(right, f"{what} ends with status {end.returncode}:\n{said}")
+    return end.stdout
+
+
+def refused(what, words, *command, **more):
+    """A case: the command fails, by no signal, and says these words."""
+    end = ran(*command, **more)
+    said = end.stdout + end.stderr
+    right = end.returncode > 0 and all(word in said for word in words) and "Traceback (most recent" not in said[:20]
+    expect(right, f"{what} ends with status {end.returncode}, and not with {words}:\n{said[-1500:]}")
+
+
+def has(*names):
+    """Whether the programs are there for a user of /usr/bin and /bin; says which are missing."""
+    missing = [name for name in names if not shutil.which(name, path="/usr/bin:/bin")]
+    if missing:
+        print(f"there is no {' and no '.join(missing)}")
+    return not missing
+
+
+def linking(package):
+    """The words that pkg-config gives for a compiler."""
+    return ran("pkg-config", "--cflags", "--libs", package).stdout.split()
+
+
+# ---- the packages
+
+
+def version():
+    """The number of the header is that of the crate, of the Python module, of the exported names and of the changes."""
+    numbers = make.version()
+    whole = ".".join(map(str, numbers))
+    cargo = Path("bindings/rust/Cargo.toml").read_text()
+    expect(f'\nversion = "{whole}"\n' in cargo, f"bindings/rust/Cargo.toml has another version than {whole}")
+    module = Path("bindings/python/dsa_planner.py").read_text()
+    needed = tuple(map(int, re.search(r"^_MAJOR, _MINOR = (\d+), (\d+)$", module, re.M).groups()))
+    expect(needed[0] == numbers[0] and needed[1] <= numbers[1], f"dsa_planner.py needs {needed}, the header has {whole}")
+    nodes = re.findall(r"^DSA_PLANNER_(\d+)\.(\d+) \{", Path("bindings/package/dsa_planner.map").read_text(), re.M)
+    nodes = [tuple(map(int, node)) for node in nodes]
+    expect(all(node[0] == numbers[0] and node <= numbers[:2] for node in nodes), f"dsa_planner.map has {nodes}")
+    pages = {
+        "README.md": [f"dsa-planner_{whole}_amd64.deb", f"dsa-planner-{whole}-x86_64-linux.tar.gz"],
+        "docs/USING.md": [f"dsa-planner-{whole}-x86_64-linux/install.sh", f"find_package(dsa_planner {numbers[0]}.0)"],
+        "bindings/c/dsa_planner.h": [f"find_package(dsa_planner {numbers[0]}.0)"],
+    }
+    missing = [(page, word) for page, words in pages.items() for word in words if word not in Path(page).read_text()]
+    expect(not missing, f"other versions than {whole} stand in pages: {missing}")
+    expect(f"\n## {whole}\n" in Path("CHANGELOG.md").read_text(), f"CHANGELOG.md has no part {whole}")
+    for name in ("dsa", "dsa_text"):
+        end = subprocess.run([program(name), "--version"], capture_output=True, text=True, stdin=subprocess.DEVNULL)
+        if end.returncode == 0:
+            expect(end.stdout == f"{name} {whole}\n", f"{name} --version prints {end.stdout!r}, the header has {whole}")
+        else:
+            print(f"{name} has no --version")
+
+
+def causes():
+    """The crate and the Python module name each cause as the header and docs/FORMATS.md do."""
+    header = dict(re.findall(r"^    DSA_(\w+) = (\d+)", Path("bindings/c/dsa_planner.h").read_text(), re.M))
+    header = {int(number): name.title().replace("_", "") for name, number in header.items() if number != "0"}
+    rust = dict(re.findall(r"^    (\w+) = (\d+): \"", Path("bindings/rust/src/cause.rs").read_text(), re.M))
+    rust = {int(number): name for name, number in rust.items()}
+    python = re.findall(r'^    (\d+): \("(\w+)", ', Path("bindings/python/dsa_planner.py").read_text(), re.M)
+    python = {int(number): name for number, name in python}
+    expect(header == rust == python, f"the causes differ: {header.items() ^ rust.items() ^ python.items()}")
+    formats = Path("docs/FORMATS.md").read_text()
+    page = re.findall(r"^\| (\d+) \| ([A-Z]\w+)", formats, re.M) + re.findall(r"(\d+) \(([A-Z]\w+)\)", formats)
+    page = {int(number): name for number, name in page}
+    other = {number for number in header if number < 90 and page.get(number) != header[number]}
+    expect(not other, f"docs/FORMATS.md names other causes: {other}")
+
+
+def reproduced():
+    """Made again, the packages are the same, byte for byte."""
+    for path in make.make(Path(WORK, "again")):
+        first = ROOT / "out" / path.name
+        expect(first.read_bytes() == path.read_bytes(), f"{path.name} differs when it is made again")
+
+
+def installed():
+    """What is in the archive is in the prefix, a second installation takes the place of the first, and what is taken away
+    leaves what others had there and nothing else."""
+    with tarfile.open(TARBALL) as packed:
+        names = {name.partition("/")[2] for name in packed.getnames()} - {"", "install.sh"}
+    prefix = Path(WORK, "other prefix")
+    (prefix / "lib").mkdir(parents=True)
+    (prefix / "lib/theirs").write_text("theirs")
+    script = str(UNPACKED / "install.sh")
+    for _ in range(2):
+        tried("the installation", script, prefix)
+        found = {str(path.relative_to(prefix)) for path in prefix.rglob("*")}
+        rest = found ^ (names | {"lib/theirs", "share/dsa-planner/installed"})
+        expect(not rest, f"the installation and the archive differ in {rest}")
+    tried("the removal", script, "--remove", prefix)
+    found = {str(path.relative_to(prefix)) for path in prefix.rglob("*")}
+    expect(found == {"lib", "lib/theirs"}, f"the removal leaves {found}")
+    new = Path(WORK, "new prefix")
+    tried("the installation", script, new)
+    tried("Python from the prefix", "python3", "-c", "import dsa_planner", PYTHONPATH=f"{new}/share/dsa-planner/python")
+    tried("the removal", script, "--remove", new)
+    expect(not new.exists(), f"the removal leaves {new}")
+    refused("a removal of nothing", ["nothing is installed there"], script, "--remove", new)
+    refused("no prefix", ["install.sh PREFIX"], script)
+    refused("a prefix that is a file", ["cannot write to"], script, "/dev/null/prefix")
+
+
+def debian():
+    """dpkg installs the package, what it installed runs, and it purges all of it."""
+    path = ROOT / "out" / f"dsa-planner_{'.'.join(map(str, make.version()))}_amd64.deb"
+    if not has("dpkg", "dpkg-deb") or os.getuid() != 0:
+        print("dpkg is not tried: it needs root")
+        return
+    root = Path(WORK, "debian")
+    (root / "var/lib/dpkg/info").mkdir(parents=True)
+    (root / "var/lib/dpkg/updates").mkdir()
+    (root / "var/lib/dpkg/status").touch()
+    before = {*root.rglob("*")}
+    dpkg = ["dpkg", f"--root={root}", "--force-depends", "--force-script-chrootless", "--no-triggers", "--log=/dev/null"]
+    tools = {"PATH": "/usr/bin:/bin:/usr/sbin:/sbin"}
+    tried("dpkg --install", *dpkg, "--install", path, **tools)
+    library = root / "usr/lib/x86_64-linux-gnu/libdsa_planner.so.1"
+    module = {"PYTHONPATH": f"{root}/usr/lib/python3/dist-packages", "DSA_PLANNER_LIBRARY": str(library)}
+    tried("Python from the Debian package", "python3", "-c", "import dsa_planner", **module)
+    pages = {path.name for path in root.rglob("*.gz")}
+    expect(pages == {"dsa.1.gz", "dsa_text.1.gz", "dsa_planner.3.gz"}, f"the Debian package has the pages {pages}")
+    tried("dpkg --purge", *dpkg, "--purge", "dsa-planner", **tools)
+    rest = {path for path in {*root.rglob("*")} - before if "var/lib/dpkg" not in str(path)}
+    expect(not rest, f"dpkg --purge leaves {rest}")
+
+
+def symbols():
+    """Libraries define the header's names and no other, and need no more than memory and copying; nothing in the package
+    has a stack or a text that could be changed, and all is bound before it starts."""
+    names = set(make.exported())
+    library = Path(PREFIX, "lib")
+    for file, needed in {"libdsa_planner.a": MEMORY, "libdsa_planner_own_memory.a": OWN_MEMORY}.items():
+        defined = set(re.findall(r" [A-TV-Z] (\S+)", tried("nm", "nm", "-g", "--defined-only", library / file)))
+        missing = set(re.findall(r" U (\S+)", tried("nm", "nm", "-u", library / file)))
+        expect((defined, missing) == (names, needed | COPYING), f"{file} defines {defined} and needs {missing}")
+        notes = tried("readelf", "readelf", "-SW", library / file)
+        stack = re.findall(r"\.note\.GNU-stack.*", notes)
+        expect(stack and not any(" X " in note for note in stack), f"{file} asks for an executable stack")
+    shared = library / "libdsa_planner.so.1"
+    dynamic = set(re.findall(r" [B-TV-Z] (\S+?)(?:@|$)", tried("nm", "nm", "-D", "--defined-only", shared), re.M))
+    expect(dynamic == names, f"the shared object exports {dynamic}")
+    needed = set(re.findall(r" U (\S+?)(?:@|$)", tried("nm", "nm", "-D", "-u", shared), re.M))
+    expect(needed == MEMORY | COPYING, f"the shared object needs {needed}")
+    soname = f"Library soname: [libdsa_planner.so.{make.version()[0]}]"
+    expect(soname in tried("readelf", "readelf", "-dW", shared), f"the shared object has no {soname}")
+    for path in (shared, Path(PREFIX, "bin/dsa"), Path(PREFIX, "bin/dsa_text")):
+        said = tried("readelf", "readelf", "-dlW", path)
+        stack = re.search(r"GNU_STACK +(?:\S+ +){5}(R?W?E?) ", said)
+        right = stack and stack[1] == "RW" and "GNU_RELRO" in said and "BIND_NOW" in said and "TEXTREL" not in said
+        expect(right and "RUNPATH" not in said and "RPATH" not in said, f"{path.name} is not hardened:\n{said}")
+
+
+def pages():
+    """The manual pages have no fault that man sees, each call and each cause, and each option."""
+    if not has("man"):
+        return
+    shown = {}
+    for page in ("man1/dsa.1", "man1/dsa_text.1", "man3/dsa_planner.3"):
+        source = Path(FOLDER, Path(page).name)
+        source.write_bytes(gzip.decompress(Path(PREFIX, f"share/man/{page}.gz").read_bytes()))
+        end = ran("man", "--warnings", "-l", source, MANWIDTH="200", LC_ALL="C.UTF-8")
+        expect(end.returncode == 0 and not end.stderr, f"man {page}: {end.stderr[:500]}")
+        shown[page] = end.stdout
+    words = {"man1/dsa.1": ["Unfenced", "greatest_transfer", "DualcastBits"], "man3/dsa_planner.3": make.exported()}
+    words["man1/dsa_text.1"] = ["--greatest-batch", "--svg", "--at", "dualcast"]
+    for page, wanted in words.items():
+        missing = [word for word in wanted if word not in shown[page]]
+        expect(not missing, f"{page} does not say {missing}")
+        is_plain = page.endswith("3") or not re.search(r"`|\*\*", shown[page])
+        expect(is_plain, f"{page} has marks of Markdown")
+
+
+def completion():
+    """What bash offers behind the beginning of a line."""
+    script = f"{PREFIX}/share/bash-completion/completions/dsa_text"
+    lines = {
+        "dsa_text ex": "explain",
+        "dsa_text disassemble --st": "--staging",
+        "dsa_text explain --sv": "--svg",
+        "dsa_text assemble --jo": "--job",
+        "dsa_text assemble --lone ": "",
+        "dsa_text help dis": "disassemble",
+        "dsa_text disassemble --sv": "",
+    }
+    for line, offered in lines.items():
+        words = " ".join(f'"{word}"' for word in line.split(" "))
+        line_is = f"COMP_WORDS=({words}); COMP_CWORD={len(line.split(' ')) - 1}"
+        ask = f'. "{script}"; {line_is}; _dsa_text; echo "${{COMPREPLY[*]}}"'
+        tried(f"completion of {line!r}", "bash", "-c", ask, printed=f"{offered}\n")
+
+
+def said():
+    """The file PROVED names the commit, the toolchain, each promise of README.md, and the sums of the programs."""
+    text = Path(PREFIX, "share/doc/dsa-planner/PROVED").read_text()
+    kit = re.search(r'^KIT_ID = "(.*)"', Path("tests/gate/toolchain.py").read_text(), re.M)[1]
+    expect(f"Toolchain: {kit}\n" in text and make.commit()[0] in text, "PROVED does not name the toolchain and the commit")
+    rows = re.findall(r"^\| (.*?) \| ", Path("README.md").read_text().split("## How sure")[1].split("\n- ")[0], re.M)
+    expect(len(rows) > 5 and all(row in text for row in rows[1:]), "PROVED does not have the promises of README.md")
+    for name in ("dsa", "dsa_text"):
+        summed = tried("sha256sum", "sha256sum", f"{PREFIX}/bin/{name}").split()[0]
+        expect(f"{summed}  {name}\n" in text, f"PROVED has another sum of {name}")
+
+
+# ---- callers
+
+
+def c():
+    """C by pkg-config, and C++17: static and shared, by each compiler."""
+    for name in ("two_moves", "own_memory"):
+        golden = Path(f"bindings/c/{name}.stdout").read_text()
+        package = "dsa_planner_own_memory" if name == "own_memory" else "dsa_planner"
+        words = ["cc", "-std=c11", *STRICT, EXAMPLES / f"{name}.c", *linking(package), "-o", name]
+        tried(f"the build of {name}", *words)
+        tried(name, f"./{name}", printed=golden, LD_LIBRARY_PATH=f"{PREFIX}/lib")
+    for cc, language in (("gcc", "c11"), ("clang", "c11"), ("g++", "c++17"), ("clang++", "c++17")):
+        if not has(cc):
+            continue
+        words = ["-x", "c" if language == "c11" else "c++", f"-std={language}", *STRICT, "-Wconversion"]
+        source = [*words, EXAMPLES / "rows.c", "-x", "none"]
+        for package in ("dsa_planner", "dsa_planner_static"):
+            output = f"rows_{cc}_{package}"
+            tried(f"rows.c by {cc}, {package}", cc, *source, *linking(package), "-o", output)
+            tried(output, f"./{output}", ROWS, printed=WANTED, LD_LIBRARY_PATH=f"{PREFIX}/lib")
+    Path(FOLDER, "older.c").write_text("unsigned dsa_planner_version(void) { return 900; }\n")
+    Path(FOLDER, "older.map").write_text("DSA_PLANNER_0.9 { global: dsa_planner_version; local: *; };\n")
+    Path(FOLDER, "older").mkdir()
+    older = ["-shared", "-fPIC", "-Wl,-soname,libdsa_planner.so.1", "-Wl,--version-script=older.map", "older.c"]
+    tried("an older library", "cc", *older, "-o", "older/libdsa_planner.so.1")
+    needed = "version `DSA_PLANNER_1.0' not found"
+    refused("C over an older library", [needed], "./two_moves", LD_LIBRARY_PATH=f"{FOLDER}/older")
+    headers = {"gcc": ["-std=c90", "-Wno-long-long"], "g++": ["-std=c++11", "-Wold-style-cast"]}
+    Path(FOLDER, "header.c").write_text("#include <dsa_planner.h>\nsize_t n = DSA_PORTAL_ROOM(2);\n")
+    for cc, words in headers.items():
+        if has(cc):
+            what = ["-x", "c" if cc == "gcc" else "c++", *STRICT, *words, "-fsyntax-only", f"-I{PREFIX}/include", "header.c"]
+            tried(f"the header by {' '.join(words)}", cc, *what)
+    tried("a static program", "cc", "-static", EXAMPLES / "rows.c", *linking("dsa_planner_static"), "-o", "rows_all_static")
+    tried("a static program", "./rows_all_static", ROWS, printed=WANTED)
+
+
+def cmake():
+    """C and C++ by CMake, and what CMake says where the version is too old."""
+    if not has("cmake", "make"):
+        return
+    folder = Path(FOLDER, "cmake")
+    folder.mkdir()
+    for source in (ROOT / "tests/package/CMakeLists.txt", EXAMPLES / "rows.c", EXAMPLES / "own_memory.c"):
+        shutil.copy(source, folder)
+    shutil.copy(EXAMPLES / "rows.c", folder / "rows.cpp")
+    where = f"-DCMAKE_PREFIX_PATH={PREFIX}"
+    tried("cmake", "cmake", "-S", folder, "-B", folder / "out", where)
+    tried("cmake --build", "cmake", "--build", folder / "out")
+    for name in ("rows_shared", "rows_static", "rows_cxx_shared", "rows_cxx_static"):
+        tried(f"{name} by CMake", folder / "out" / name, ROWS, printed=WANTED)
+    tried("own_memory by CMake", folder / "out/own_memory", printed=Path("bindings/c/own_memory.stdout").read_text())
+    text = (folder / "CMakeLists.txt").read_text()
+    major, minor, _ = make.version()
+    for needed in (f"{major}.{minor + 1}", f"{major + 1}.0", f"{major - 1}.9"):
+        (folder / "CMakeLists.txt").write_text(text.replace("dsa_planner 1.0", f"dsa_planner {needed}"))
+        words = ["compatible with", f'version "{needed}"', f"version: {'.'.join(map(str, make.version()))}"]
+        refused(f"find_package of {needed}", words, "cmake", "-S", folder, "-B", folder / f"out{needed}", where)
+
+
+def cargo(*words, **more):
+    """A command of cargo, with the variables that say where cargo is."""
+    found = shutil.which("cargo")
+    own = {name: os.environ[name] for name in ("HOME", "CARGO_HOME", "RUSTUP_HOME") if name in os.environ}
+    places = {**own, "PATH": f"{Path(found).parent}:/usr/bin:/bin", "CARGO_TARGET_DIR": f"{WORK}/target"}
+    return ["cargo", *words, "-q", "--offline"], {**places, **more}
+
+
+def rust():
+    """The crate of the package: its own tests, a caller that has it as a dependency, and what it says of bad installations."""
+    if not shutil.which("cargo"):
+        print("there is no cargo")
+        return
+    crate = shutil.copytree(f"{PREFIX}/share/dsa-planner/rust", f"{FOLDER}/crate")
+    command, places = cargo("test", "--manifest-path", f"{crate}/Cargo.toml")
+    tried("the tests of the crate", *command, **places)
+    command, places = cargo("build", "--no-default-features", "--manifest-path", f"{crate}/Cargo.toml")
+    tried("the crate without std", *command, **places)
+    command, places = cargo("run", "--example", "two_moves", "--manifest-path", f"{crate}/Cargo.toml")
+    tried("two_moves in Rust", *command, printed=Path("bindings/rust/examples/two_moves.stdout").read_text(), **places)
+    caller = Path(FOLDER, "caller")
+    (caller / "src/bin").mkdir(parents=True)
+    package = f'[package]\nname = "caller"\nversion = "0.0.0"\nedition = "2021"\n\n[dependencies]\n'
+    needs = f'dsa_planner = {{ path = "{PREFIX}/share/dsa-planner/rust" }}\n'
+    Path(caller, "Cargo.toml").write_text(package + needs)
+    shutil.copy(EXAMPLES / "rows.rs", caller / "src/bin/rows.rs")
+    Path(caller, "src/bin/readme.rs").write_text(block_after("README.md", "### From Rust", "rust"))
+    manifest = ["--manifest-path", f"{caller}/Cargo.toml"]
+    command, places = cargo("run", *manifest, "--bin", "rows")
+    tried("rows in Rust", *command, "--", ROWS, printed=WANTED, **places)
+    command, places = cargo("run", *manifest, "--bin", "readme")
+    tried("the Rust lines of README.md", *command, printed="cost 10\n", **places)
+    bad_rust(f"{crate}/Cargo.toml")
+
+
+def bad_rust(manifest):
+    """What the build of the crate says where the package is missing, or of another version."""
+    old = shutil.copytree(PREFIX, f"{WORK}/old")
+    header = Path(old, "include/dsa_planner.h")
+    text = header.read_text()
+    what_to_do = ["Install the package dsa-planner", "DSA_PLANNER_PREFIX"]
+    needed = "and this crate needs {}.{} or a later one".format(*make.version())
+    for major in (make.version()[0] - 1, make.version()[0] + 1):
+        header.write_text(re.sub(r"MAJOR \d+", f"MAJOR {major}", text))
+        command, places = cargo("build", "--manifest-path", manifest, DSA_PLANNER_PREFIX=old)
+        refused(f"the crate over {major}.x", [f"has version {major}.", needed, *what_to_do], *command, **places)
+    header.unlink()
+    command, places = cargo("build", "--manifest-path", manifest, DSA_PLANNER_PREFIX=old)
+    refused("the crate without a header", ["cannot read", *what_to_do], *command, **places)
+    command, places = cargo("build", "--manifest-path", manifest, DSA_PLANNER_PREFIX="/nowhere")
+    refused("the crate over no prefix", ["DSA_PLANNER_PREFIX is /nowhere", *what_to_do], *command, **places)
+    for program_of in ("pkg-config", "/nowhere/pkg-config"):
+        command, places = cargo("build", "--manifest-path", manifest, PKG_CONFIG_PATH="/nowhere", PKG_CONFIG=program_of)
+        refused("the crate over nothing", ["the package dsa-planner is not found", *what_to_do], *command, **places)
+
+
+def python():
+    """The module of the package, and what it says of bad libraries and of arguments that C would take otherwise."""
+    if not has("python3"):
+        return
+    module = f"{PREFIX}/share/dsa-planner/python"
+    tried("rows in Python", "python3", "-B", EXAMPLES / "rows.py", ROWS, printed=WANTED, PYTHONPATH=module)
+    Path(FOLDER, "readme.py").write_text(block_after("README.md", "### From Python", "python"))
+    tried("the Python lines of README.md", "python3", "-B", "readme.py", printed="cost 10\n", PYTHONPATH=module)
+    Path(FOLDER, "none.c").write_text("int nothing;\n")
+    Path(FOLDER, "old.c").write_text("unsigned dsa_planner_version(void) { return 901; }\n")
+    Path(FOLDER, "next.c").write_text("unsigned dsa_planner_version(void) { return 20000; }\n")
+    Path(FOLDER, "text.so").write_text("no library")
+    for name in ("none", "old", "next"):
+        tried(f"the build of {name}.so", "cc", "-shared", "-fPIC", f"{name}.c", "-o", f"{name}.so")
+    text = Path(module, "dsa_planner.py").read_text()
+    needed = "{}.{}".format(*re.search(r"^_MAJOR, _MINOR = (\d+), (\d+)$", text, re.M).groups())
+    said_of = {
+        "none": f"is no library of dsa-planner {needed} or later",
+        "old": f"has version 0.9, and this module needs {needed}",
+        "next": f"has version 2.0, and this module needs {needed}",
+        "text": "Install the package dsa-planner",
+        "missing": "Install the package dsa-planner",
+    }
+    for name, words in said_of.items():
+        library = {"PYTHONPATH": module, "DSA_PLANNER_LIBRARY": f"{FOLDER}/{name}.so"}
+        words = ["ImportError: dsa_planner: ", words]
+        refused(f"Python over {name}.so", words, "python3", "-Bc", "import dsa_planner", **library)
+    bad = {
+        "Settings(4, 4096, -1, 14, 3, 0)": "ValueError: lone is -1",
+        "Settings(4, 4096, 2**64 + 10, 14, 3, 0)": "ValueError: lone is 18446744073709551626",
+        "Settings(4, 4096, 10, [1, 2, 2**64], 3, 0)": "ValueError: a price of a batch is",
+        "Settings(4, 4096, 10.0, 14, 3, 0)": "TypeError: lone is 10.0",
+        "Settings(4, 4096, 10, 14, True, 0)": "TypeError: fence is True",
+    }
+    for settings, words in bad.items():
+        lines = f"from dsa_planner import Settings, plan_list\nplan_list({settings}, b'')"
+        refused(settings, [words], "python3", "-Bc", lines, PYTHONPATH=module)
+    good = "Settings(4, 4096, 10, 14, 3, 65536)"
+    lines = f"from dsa_planner import Settings, plan_list\nplan_list({good}, 'text')"
+    refused("a list that is text", ["TypeError: operations is of type str"], "python3", "-Bc", lines, PYTHONPATH=module)
+
+
+def sentences():
+    """The crate and the module say the same of each refusal."""
+    if not has("python3") or not Path(WORK, "target/debug/rows").exists():
+        print("sentences are compared after the part rust alone")
+        return
+    module = f"{PREFIX}/share/dsa-planner/python"
+    of_python = tried("sentences in Python", "python3", "-B", EXAMPLES / "rows.py", ROWS, "say", PYTHONPATH=module)
+    of_rust = tried("sentences in Rust", f"{WORK}/target/debug/rows", ROWS, "say")
+    expect(of_python == of_rust and ": refused " in of_rust, "the crate and the module say other sentences")
+
+
+def readme():
+    """The lines of README.md in C."""
+    Path(FOLDER, "app.c").write_text(block_after("README.md", "### From C", "c"))
+    tried("the C lines of README.md", "cc", *STRICT, "app.c", *linking("dsa_planner_static"), "-o", "app")
+    tried("the C lines of README.md", "./app", printed="0: cost 10\n")
+
+
+def threads():
+    """Random lists from eight threads at once with sanitizers (LISTS sets how many, 100), and the stack that each call
+    takes beside what the header says."""
+    asked = Path(PREFIX, "include/dsa_planner.h").read_text()
+    limits = re.search(r"has (\d+) KiB of stack free for dsa_check and dsa_judge, and (\d+) KiB for the other calls", asked)
+    common = ["cc", "-std=c11", "-D_GNU_SOURCE", "-O1", "-g", "-Wall", "-Wextra", "-Werror", "-pthread"]
+    tried("stack.c", *common, ROOT / "tests/bindings/stack.c", *linking("dsa_planner_static"), "-o", "stack")
+    checking, planning = (1024 * int(number) for number in limits.groups())
+    tried("the stack of each call", "./stack", planning, checking)
+    Path(FOLDER, "empty.c").write_text("int main(void) { return 0; }\n")
+    for kind in ([], ["-fsanitize=address,undefined", "-fno-sanitize-recover=all"], ["-fsanitize=thread"]):
+        if kind and ran("cc", *kind, "empty.c", "-o", "empty").returncode + ran("./empty").returncode:
+            print(f"there is no {kind[0]}")
+            continue
+        source = ROOT / "tests/bindings/threads.c"
+        tried(f"threads.c {kind}", *common, *kind, source, *linking("dsa_planner_static"), "-o", "threads")
+        tried(f"threads {kind}", "./threads", os.environ.get("LISTS", "100"), 8, 20261124)
+
+
+PARTS = [version, causes, reproduced, installed, debian, symbols, pages, completion, said]
+PARTS += [c, cmake, rust, python, sentences, readme, threads]
+
+
+def main(words):
+    global WORK, FOLDER, PREFIX, UNPACKED, EXAMPLES, ROWS, WANTED, TARBALL
+    if not compiler() or not has("cc", "pkg-config", "nm", "readelf", "ld", "objcopy"):
+        print("skipped, there is no C compiler, no binutils or no pkg-config")
+        sys.exit(0)
+    parts = named(PARTS, words)
+    with tempfile.TemporaryDirectory() as WORK:
+        TARBALL = make.make(ROOT / "out")[0]
+        FOLDER, PREFIX = f"{WORK}/callers", f"{WORK}/prefix"
+        Path(FOLDER).mkdir()
+        subprocess.run(["tar", "xf", TARBALL, "-C", WORK], check=True)
+        UNPACKED = Path(WORK, TARBALL.name.removesuffix(".tar.gz"))
+        subprocess.run([UNPACKED / "install.sh", PREFIX], check=True)
+        EXAMPLES = Path(PREFIX, "share/doc/dsa-planner/examples")
+        ROWS = EXAMPLES / "rows.txt"
+        WANTED = f"{ROWS.read_text().count(chr(10) + 'row ')} rows, 0 wrong\n"
+        for part in parts:
+            part()
+
+
+if __name__ == "__main__":
+    run_test(main)

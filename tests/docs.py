@@ -42,6 +42,7 @@ def noted(block):
 def README():
     """What explaining an example prints, and how the answer of the first job begins."""
     session(block_after("README.md", "## Look at a plan").replace(" > store.svg", " | cmp - examples/text/store.svg"))
+    session(block_after("README.md", "## Look at batches that other software submits"))
     answer = printed("crates/dsa/out/dsa < examples/plan.job")
     line = block_after("README.md", "has a list of two moves").strip().replace("..", "")
     start = line[: line.index('"portal"')]
@@ -49,8 +50,9 @@ def README():
 
 
 def USING():
-    """The commands that check a recorded batch, and the lines of Python that do."""
+    """The commands that audit a recording and check a batch, and the lines of Python that do."""
     checking = "## Checking other software's batches"
+    session(block_after("docs/USING.md", "One command reads the recording"))
     noted(block_after("docs/USING.md", checking, "sh"))
     code = block_after("docs/USING.md", checking, "python")
     ran = subprocess.run([sys.executable, "-c", code], capture_output=True, text=True)

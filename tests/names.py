@@ -1,6 +1,7 @@
 """Looks for names in the pages that the tree does not have: paths, crates, and words in `code` marks that look like
 names. A word is known where the code, the definitions or the proofs have it outside of comments, or where it names a
-file: a must-fail edit, a patch, a test. It needs no program. The words are names of pages, as docs/MODEL.md."""
+file: a must-fail edit, a patch, a test. It looks for unsafe code too. It needs no program. The words are names of pages,
+as docs/MODEL.md."""
 
 import io
 import re
@@ -13,11 +14,14 @@ from common import crates, expect, having, run_test
 
 PAGES = ["README.md", "CONTRIBUTING.md", *sorted(glob("docs/*.md", root_dir=Path(__file__).parent.parent))]
 
-# Names of others: Linux, the toolchain, Rust, C, and the packages and programs that the pages speak of.
+# Names of others: Linux, the toolchain, Rust, C, and the packages, libraries and programs that the pages speak of.
 OTHERS = set(
     """
     max_batch_size max_transfer_size
-    Net Processes alloc apt cargo gcc git patch python3 rt rustfmt rustup valgrind
+    desc desc_addr desc_count desc_list_addr desc_ring dsa_hw_desc idxd_hw_desc op_flags opcode
+    Net Processes alloc apt cargo gcc git nice patch python3 rt rustfmt rustup valgrind
+    binutils clang cmake ctypes dpkg find_package man pthread_attr_setstacksize toml
+    dsa_planner dsa_planner_static dsa_planner_own_memory libdsa_planner libdsa_planner_own_memory libdsa_c
     """.split()
 )
 # Paths that a reader makes, or that a build does.
@@ -100,9 +104,18 @@ def look(page):
             expect(is_known(name), f"{page}: the tree has no {name} (in `{mark}`)")
 
 
+def look_for_unsafe():
+    """No crate but that of the calls from C has code of which the checker of borrows knows nothing."""
+    found = [path for path in glob("crates/*/src/**/*.rt", recursive=True) if re.search(r"\bunsafe\b", Path(path).read_text())]
+    others = [path for path in found if not path.startswith("crates/dsa_c/")]
+    expect(found and not others, f"unsafe code outside dsa_c: {others}")
+
+
 def main(words):
     for page in having(PAGES, words):
         look(page)
+    if not words:
+        look_for_unsafe()
 
 
 if __name__ == "__main__":

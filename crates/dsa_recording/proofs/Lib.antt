@@ -7,3 +7,4 @@ pub mod Within
 pub mod Placed
 pub mod Spelled
 pub mod Found
+pub mod Status

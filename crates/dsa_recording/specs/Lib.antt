@@ -5,4 +5,6 @@ pub mod Findings
 pub mod Reports
 pub mod Details
 pub mod Forms
+pub mod Words
+pub mod Answers
 pub mod Laws

@@ -1,15 +1,22 @@
-//! Recorded submissions: the entries of a stream as batches and lone descriptors, and what is known of each.
+//! Recorded submissions: the entries of a stream as batches and lone descriptors, what is known of each, and the report
+//! on their fences.
 #![tactic(auto)]
 
+mod answer;
 mod detail;
 mod findings;
 mod forms;
 mod laws;
 mod member;
+mod places;
 mod report;
+mod report_json;
 mod stream;
 mod submission;
+mod totals;
+mod words;
 
+pub use answer::{AuditAnswer, AuditOptions, audit};
 pub use detail::{Cause, Detail, detail_of, has_all_fences};
 pub use findings::{Finding, FindingKind, findings_of};
 pub use forms::{Form, Part, bytes_of_text, first_part, form_of, is_passed, is_text, next_part};
@@ -18,3 +25,5 @@ pub use member::{member_of, unseen_reason};
 pub use report::{Report, audit_recording};
 pub use stream::{StreamFault, Submission, read_stream};
 pub use submission::{Audited, audit_submission, audit_submissions};
+pub use totals::Totals;
+pub use words::{Denied, Severity, finding_text, severity_of};

@@ -1,2 +1,1 @@
 pub mod PlannedNeeded
-pub mod AuditStatus

@@ -1,3 +1,1 @@
 pub mod Laws
-pub mod AuditWords
-pub mod AuditAnswers

@@ -12,8 +12,7 @@ use std::alloc::{AllocError, Global};
 pub struct Answer {
     /// What is written: the answer to standard output, or why there is none to standard error.
     pub text: String,
-    /// The status of the program: 0 for an answer and 1 for a refusal; of an audit 1 where a fence is missing and 2 for a
-    /// refusal.
+    /// The status of the program: 0 for an answer and 1 for a refusal.
     pub status: u8,
 }
 

@@ -3,30 +3,23 @@
 
 mod answer;
 mod assembling;
-mod audit;
-mod audit_json;
 mod bytes;
 mod diagnosis;
 mod disassembling;
 mod explaining;
-mod findings;
 mod judged;
 pub mod laws;
 mod messages;
 mod numbers;
-mod places;
 mod sentences;
 mod settings;
-mod totals;
 mod words;
 
 use crate::answer::Answer;
 use crate::assembling::{assemble_job, assemble_list};
-use crate::audit::{AuditOptions, audit};
 use crate::diagnosis::job_fault;
 use crate::disassembling::{disassemble_list, disassemble_portal, disassemble_staging};
 use crate::explaining::{explain_checked, explain_judged, explain_list, explain_text};
-use crate::findings::Denied;
 use crate::messages::message_of;
 use crate::numbers::number_of;
 use crate::settings::{Setting, SettingsWords, settings_fault, settings_of};
@@ -35,6 +28,7 @@ use clap::parser::ValueSource;
 use clap::{Arg, ArgAction, ArgMatches, Command};
 use dsa_calls::PlanFault;
 use dsa_plan::Settings;
+use dsa_recording::{AuditOptions, Denied, audit};
 use dsa_report::{Job, Stop, read_job, read_text, write_line};
 use std::alloc::{AllocError, Global};
 use std::fs::File;

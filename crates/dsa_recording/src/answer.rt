@@ -1,19 +1,19 @@
-//! `audit`: which fences of recorded submissions are missing, and which are needless.
+//! The answer to a recording: which fences of its submissions are missing, and which are needless.
 
 ghost use Rattle.std.specs.Prelude.{◌≡◌, ◌≢◌, ◌↔◌, IfOk, IsTrue};
 ghost use Rattle.dsa_recording.specs.declared.stream.StreamFault.TheVariants.{Memory};
-ghost use Rattle.dsa_text.specs.AuditAnswers.{is_harmless, AreHarmless, IsStatusOf, IsStatus};
+ghost use Rattle.dsa_recording.specs.Answers.{is_harmless, AreHarmless, IsStatusOf, IsStatus};
 
-use crate::answer::Answer;
-use crate::audit_json::report_json;
-use crate::findings::{Denied, finding_text};
+use crate::detail::{detail_of, has_all_fences};
+use crate::findings::{Finding, FindingKind};
+use crate::forms::{Form, bytes_of_text, form_of, is_text};
 use crate::places::digit_text;
+use crate::report::{Report, audit_recording};
+use crate::report_json::report_json;
+use crate::stream::StreamFault;
 use crate::totals::{totals_of, totals_text};
+use crate::words::{Denied, finding_text};
 use dsa_descriptor::u32_at;
-use dsa_recording::{
-    Finding, FindingKind, Form, Report, StreamFault, audit_recording, bytes_of_text, detail_of,
-    form_of, has_all_fences, is_text,
-};
 use hex::FromHexError;
 use std::alloc::{AllocError, Global};
 
@@ -24,6 +24,15 @@ pub struct AuditOptions {
     pub json: bool,
     /// The findings that count as errors.
     pub denied: Denied,
+}
+
+/// What an audit answers.
+#[derive(Debug, Drop)]
+pub struct AuditAnswer {
+    /// The report, or why there is none.
+    pub text: String,
+    /// 0 where nothing is wrong, 1 where a fence is missing or what is denied was found, 2 where there is no recording.
+    pub status: u8,
 }
 
 /// Of each submission whether none of its fences is missing.
@@ -92,7 +101,7 @@ fn answer_report(
     all: &[[u8; 64]],
     report: &Report,
     options: AuditOptions,
-) -> Result<Answer, AllocError>
+) -> Result<AuditAnswer, AllocError>
     ensures { IfOk result
         (λ answer. IsStatusOf options.denied report.now.findings.items answer.status) }
 {
@@ -102,7 +111,7 @@ fn answer_report(
         report_text(alloc, all, report, options.denied)?
     };
     let status = status_of(options.denied, &report.findings);
-    Ok(Answer { text, status })
+    Ok(AuditAnswer { text, status })
 }
 
 /// Why bytes are no recording.
@@ -132,7 +141,11 @@ fn fault_text(alloc: Global, bytes: &[u8], fault: StreamFault) -> Result<String,
 }
 
 /// The report on the entries of a recording.
-fn audit_bytes(alloc: Global, bytes: &[u8], options: AuditOptions) -> Result<Answer, AllocError>
+fn audit_bytes(
+    alloc: Global,
+    bytes: &[u8],
+    options: AuditOptions,
+) -> Result<AuditAnswer, AllocError>
     ensures { IfOk result (λ answer. IsStatus bytes.now options.denied answer.status) }
 {
     match audit_recording(alloc, bytes) {
@@ -142,14 +155,18 @@ fn audit_bytes(alloc: Global, bytes: &[u8], options: AuditOptions) -> Result<Ans
         }
         Err(fault) => {
             let text = fault_text(alloc, bytes, fault)?;
-            Ok(Answer { text, status: 2 })
+            Ok(AuditAnswer { text, status: 2 })
         }
     }
 }
 
 /// The report on a recording, as bytes or as a text. The status is 0 where nothing is wrong, 1 where a fence is missing or
 /// what is denied was found, and 2 with the reason where there is no recording.
-pub fn audit(alloc: Global, input: &[u8], options: AuditOptions) -> Result<Answer, AllocError> {
+pub fn audit(
+    alloc: Global,
+    input: &[u8],
+    options: AuditOptions,
+) -> Result<AuditAnswer, AllocError> {
     if !is_text(input) {
         return audit_bytes(alloc, input, options);
     }
@@ -164,6 +181,6 @@ pub fn audit(alloc: Global, input: &[u8], options: AuditOptions) -> Result<Answe
 }
 
 /// The answer where there is no recording.
-fn refusal(text: String) -> Result<Answer, AllocError> {
-    Ok(Answer { text, status: 2 })
+fn refusal(text: String) -> Result<AuditAnswer, AllocError> {
+    Ok(AuditAnswer { text, status: 2 })
 }

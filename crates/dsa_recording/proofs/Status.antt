@@ -3,8 +3,8 @@ use Rattle.std.proofs.Common.{ℕ, List, inl, Result, Ok, Err}
 use Rattle.std.specs.Prelude.{IfOk}
 use Rattle.dsa_recording.specs.declared.report.Report.{Report}
 use Rattle.dsa_recording.specs.Reports.{IsReport}
-use Rattle.dsa_text.specs.declared.findings.Denied.{Denied}
-use Rattle.dsa_text.specs.AuditAnswers.{IsStatusOf, IsStatus}
+use Rattle.dsa_recording.specs.declared.words.Denied.{Denied}
+use Rattle.dsa_recording.specs.Answers.{IsStatusOf, IsStatus}
 
 pub reported : {X E : Type 0} (r : Result X E) (status : X → ℕ) (bytes : List ℕ) (denied : Denied) (report : Report) → IsReport bytes report
     → IfOk r (λ x. IsStatusOf denied report.findings.items (status x)) → IfOk r (λ x. IsStatus bytes denied (status x))

@@ -8,9 +8,9 @@ use Rattle.dsa_recording.specs.declared.detail.Detail.{Detail}
 use Rattle.dsa_recording.specs.declared.detail.Cause.{Cause}
 use Rattle.dsa_recording.specs.declared.detail.Cause.TheVariants.{NotSeen, MissingFence, NeedlessFence}
 use Rattle.dsa_lines.specs.Numbers.{hex}
-use Rattle.dsa_text.specs.declared.findings.Severity.{Severity}
-use Rattle.dsa_text.specs.declared.findings.Severity.TheVariants.{Error, Warning, Note}
-use Rattle.dsa_text.specs.declared.findings.Denied.{Denied}
+use Rattle.dsa_recording.specs.declared.words.Severity.{Severity}
+use Rattle.dsa_recording.specs.declared.words.Severity.TheVariants.{Error, Warning, Note}
+use Rattle.dsa_recording.specs.declared.words.Denied.{Denied}
 
 -- ---- where
 

@@ -1,6 +1,6 @@
 //! Where the text of a recording leaves its form.
 
-use dsa_recording::{Form, first_part, is_passed, next_part};
+use crate::forms::{Form, first_part, is_passed, next_part};
 use std::alloc::{AllocError, Global};
 
 /// A place in a text: the line and the column in it, both from 1 on, and the byte that stands there, if the text does not

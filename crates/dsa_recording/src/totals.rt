@@ -3,7 +3,10 @@
 ghost use Rattle.std.specs.Prelude.{◌≡◌};
 ghost use Rattle.std.specs.List.{count_by, sum_by};
 
-use dsa_recording::{Audited, Finding, FindingKind, Report, Submission};
+use crate::findings::{Finding, FindingKind};
+use crate::report::Report;
+use crate::stream::Submission;
+use crate::submission::Audited;
 use std::alloc::{AllocError, Global};
 
 /// What was submitted, and what is found, in numbers.

@@ -1,11 +1,12 @@
 //! A report on a recording as JSON.
 
-use crate::audit::{completeness, is_complete};
-use crate::findings::{Denied, Severity, severity_of};
+use crate::answer::{completeness, is_complete};
+use crate::detail::{Cause, Detail, detail_of};
+use crate::report::Report;
 use crate::totals::{Totals, totals_of};
+use crate::words::{Denied, Severity, severity_of};
 use dsa_audit::Unseen;
 use dsa_ranges::{Hazard, HazardKind};
-use dsa_recording::{Cause, Detail, Report, detail_of};
 use serde_json::{Value, json};
 use std::alloc::{AllocError, Global};
 

@@ -1,5 +1,5 @@
-use Rattle.dsa_text.proofs.AuditStatus.{reported}
-use Rattle.dsa_text.proofs.audit.audit_bytes.Goals as goal
+use Rattle.dsa_recording.proofs.Status.{reported}
+use Rattle.dsa_recording.proofs.answer.audit_bytes.Goals as goal
 
 pub returns-in-Ok : goal.returns-in-Ok
 returns-in-Ok c =

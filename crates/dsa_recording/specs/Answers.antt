@@ -8,7 +8,7 @@ use Rattle.dsa_recording.specs.declared.report.Report.{Report}
 use Rattle.dsa_recording.specs.declared.stream.Submission.{Submission}
 use Rattle.dsa_recording.specs.Streams.{ReadsStream}
 use Rattle.dsa_recording.specs.Reports.{IsReport}
-use Rattle.dsa_text.specs.declared.findings.Denied.{Denied}
+use Rattle.dsa_recording.specs.declared.words.Denied.{Denied}
 
 -- it is neither a missing fence nor denied
 abbrev pub is_harmless : Denied → FindingKind → Bool

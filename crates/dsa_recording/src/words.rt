@@ -2,11 +2,11 @@
 
 ghost use Rattle.std.specs.Prelude.{◌≡◌, ◌++◌, true, IfOk, OnOk, codes, string_bytes};
 ghost use Rattle.dsa_recording.specs.declared.detail.Detail.{Detail};
-ghost use Rattle.dsa_text.specs.AuditWords.{entry_words, member_words, place_words, severity_of, severity_words, unseen_words, hazard_words, needless_words, cause_words, finding_words};
+ghost use Rattle.dsa_recording.specs.Words.{entry_words, member_words, place_words, severity_of, severity_words, unseen_words, hazard_words, needless_words, cause_words, finding_words};
 
+use crate::detail::{Cause, Detail};
 use dsa_audit::Unseen;
 use dsa_ranges::{Hazard, HazardKind};
-use dsa_recording::{Cause, Detail};
 use std::alloc::{AllocError, Global};
 
 /// How severe a finding is.

@@ -2,7 +2,7 @@
 
 `rt ci` builds libraries whose kept work no later check can use. The gate proves each crate over an empty folder, keeps
 what it proved in the crate's out/, and tries edits and builds programs over that. It reads functions of one kit's `rt`,
-so it stops where the kit is another."""
+so it stops where the kit is another. Run as a program it says whether the kit is that one."""
 import importlib.machinery
 import importlib.util
 import os
@@ -111,3 +111,7 @@ def stop_on_text(crate, crates_of_all):
     why = fault_of_text(crate)
     if why:
         rtlib.stop(f"{crate.name}: {why}")
+
+
+if __name__ == "__main__":
+    print(f"the gate runs with {KIT_ID}", flush=True)

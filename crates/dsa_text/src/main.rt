@@ -81,42 +81,49 @@ fn file<'a>(alloc: Global) -> Arg<'a> {
         .help("what to read; standard input where none is named")
 }
 
-/// The command with the options of the settings.
-fn with_settings<'a>(alloc: Global, command: Command<'a>) -> Result<Command<'a>, AllocError> {
-    let batches = Arg::new(alloc, "batches")
+/// The option of a table of prices.
+fn batches<'a>(alloc: Global) -> Result<Arg<'a>, AllocError> {
+    Arg::new(alloc, "batches")
         .long("batches")
         .value_name("N,N,..")
         .action(ArgAction::Set)
-        .conflicts_with("batch")?
-        .help("prices of batches by their size, from 2 pieces on, in place of --batch");
-    command
-        .arg(value(
+        .help("prices of batches by their size, from 2 pieces on, in place of --batch")
+        .conflicts_with("batch")
+}
+
+/// The options of the settings.
+fn settings_options<'a>(alloc: Global) -> Result<Vec<Arg<'a>>, AllocError> {
+    let batches = batches(alloc)?;
+    Ok(vec![in alloc;
+        value(
             alloc,
             "greatest-batch",
             "32",
-            "most pieces of a batch, 2 to 1024",
-        ))?
-        .arg(value(
+            "most pieces of a batch, 2 to 1024"
+        ),
+        value(
             alloc,
             "greatest-transfer",
             "2097152",
-            "most bytes of a piece",
-        ))?
-        .arg(value(alloc, "lone", "10", "price of a piece by itself"))?
-        .arg(value(alloc, "batch", "14", "price of a batch"))?
-        .arg(batches)?
-        .arg(value(alloc, "fence", "3", "price of a fence in a batch"))?
-        .arg(value(alloc, "staging", "0x10000", "address of the staging area"))
+            "most bytes of a piece"
+        ),
+        value(alloc, "lone", "10", "price of a piece by itself"),
+        value(alloc, "batch", "14", "price of a batch"),
+        batches,
+        value(alloc, "fence", "3", "price of a fence in a batch"),
+        value(alloc, "staging", "0x10000", "address of the staging area"),
+    ]?)
 }
 
 /// The command `assemble`.
 fn assemble_command<'a>(alloc: Global) -> Result<Command<'a>, AllocError> {
-    let command = Command::new(alloc, "assemble")
+    let options = settings_options(alloc)?;
+    Command::new(alloc, "assemble")
         .about("Reads lines of operations, and writes their list in hexadecimal")
         .after_help(LINES)
         .arg(file(alloc))?
-        .arg(flag(alloc, "job", "write a whole job to plan the list"))?;
-    with_settings(alloc, command)
+        .arg(flag(alloc, "job", "write a whole job to plan the list"))?
+        .args(options)
 }
 
 /// The option of the staging area's address.
@@ -139,12 +146,13 @@ fn disassemble_command<'a>(alloc: Global) -> Result<Command<'a>, AllocError> {
 
 /// The command `explain`.
 fn explain_command<'a>(alloc: Global) -> Result<Command<'a>, AllocError> {
-    let command = Command::new(alloc, "explain")
+    let options = settings_options(alloc)?;
+    Command::new(alloc, "explain")
         .about("Reads lines or a job to plan, judge or check, and tells what the plan does and why")
         .after_help(UNITS)
         .arg(file(alloc))?
-        .arg(flag(alloc, "svg", "draw the plan"))?;
-    with_settings(alloc, command)
+        .arg(flag(alloc, "svg", "draw the plan"))?
+        .args(options)
 }
 
 /// The command `audit`.

@@ -11,9 +11,9 @@ use Rattle.dsa_descriptor.specs.Data.{targets}
 use Rattle.dsa_descriptor.specs.Fields.{Fields}
 use Rattle.dsa_descriptor.specs.Profile.{HasDeltaUnits, HasEqualLowBits, IsListed}
 use Rattle.dsa_descriptor.specs.Spans.{InSome, span}
-use Rattle.dsa_relocation.specs.Relocated.{relocated_op}
-use Rattle.dsa_relocation.specs.Regions.{relocated, LiesInOne, LieInOne}
-use Rattle.dsa_relocation.specs.Listed.{HasAlignedDelta, IsAlignedAt}
+use Rattle.dsa_prepared.specs.Relocated.{relocated_op}
+use Rattle.dsa_prepared.specs.Regions.{relocated, LiesInOne, LieInOne}
+use Rattle.dsa_prepared.specs.Listed.{HasAlignedDelta, IsAlignedAt}
 use Rattle.dsa_prepared.specs.declared.tie.Tie.{Tie}
 use Rattle.dsa_prepared.specs.Entries.{place_in}
 use Rattle.dsa_prepared.specs.Sound.{IsUnit, AreUnits}

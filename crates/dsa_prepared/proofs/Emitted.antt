@@ -14,9 +14,9 @@ use Rattle.dsa_emission.specs.Emission.{is_batch, batch_count, batched_count, pl
 use Rattle.dsa_emission.proofs.Told.{unfenced_same}
 use Rattle.dsa_plan.specs.Plan.{Group, Plan}
 use Rattle.dsa_plan.specs.Settings.{Limits}
-use Rattle.dsa_relocation.specs.Relocated.{relocated_fields}
-use Rattle.dsa_relocation.specs.Regions.{relocated, LieInOne}
-use Rattle.dsa_relocation.specs.Submissions.{staged_at}
+use Rattle.dsa_prepared.specs.Relocated.{relocated_fields}
+use Rattle.dsa_prepared.specs.Regions.{relocated, LieInOne}
+use Rattle.dsa_prepared.specs.Submissions.{staged_at}
 use Rattle.dsa_prepared.specs.declared.entry.Entry.{Entry}
 use Rattle.dsa_prepared.specs.Entries.{filled, filled_entry, entry_of, fenced_entries, batch_entry_of}
 use Rattle.dsa_prepared.specs.Templates.{gathered, group_entries, group_staged, portal_entries, staging_entries}

@@ -1,3 +1,13 @@
+pub mod RelocatedSpans
+pub mod Conflicts
+pub mod Choice
+pub mod Regions
+pub mod ByRegions
+pub mod PiecesRelocate
+pub mod Submissions
+pub mod Listed
+pub mod PiecesLie
+pub mod Samples
 pub mod Words
 pub mod Emitted
 pub mod Spans

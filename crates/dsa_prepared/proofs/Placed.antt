@@ -3,7 +3,7 @@ use Rattle.std.proofs.Common.{◌≡◌, ℕ, suc, ◌+◌, ◌-◌, ◌<◌, �
 use Rattle.std.proofs.lemmas.List.{drop_more, drop_all}
 use Rattle.dsa_descriptor.specs.declared.span.Span.{Span}
 use Rattle.dsa_descriptor.specs.Spans.{InSpan}
-use Rattle.dsa_relocation.proofs.Regions.{in_tells}
+use Rattle.dsa_prepared.proofs.Regions.{in_tells}
 use Rattle.dsa_prepared.specs.Entries.{place_in, behind}
 
 -- a place that many regions further

@@ -21,14 +21,14 @@ use Rattle.dsa_splitter.proofs.PieceListed.{piece_listed}
 use Rattle.dsa_splitter.proofs.PiecesWhole.{pieces_up, pieces_down}
 use Rattle.dsa_splitter.proofs.Walks.{length_all}
 use Rattle.dsa_calls.specs.Planned.{Submission, Plans}
-use Rattle.dsa_relocation.specs.Relocated.{relocated_fields}
-use Rattle.dsa_relocation.specs.Regions.{Region, base_span, new_span, relocated, AreDisjoint, LiesInOne, LieInOne, AllLieInOne, LiesWhole}
-use Rattle.dsa_relocation.specs.Listed.{IsAlignedAt}
-use Rattle.dsa_relocation.specs.Submissions.{MayRelocate, staged_at, with_pieces}
-use Rattle.dsa_relocation.proofs.Listed.{listed_relocates, plans_relocate}
-use Rattle.dsa_relocation.proofs.PiecesLie.{all_join, all_first, pieces_lie}
-use Rattle.dsa_relocation.proofs.ByRegions.{pieces_relocate}
-use Rattle.dsa_relocation.proofs.Submissions.{may_split}
+use Rattle.dsa_prepared.specs.Relocated.{relocated_fields}
+use Rattle.dsa_prepared.specs.Regions.{Region, base_span, new_span, relocated, AreDisjoint, LiesInOne, LieInOne, AllLieInOne, LiesWhole}
+use Rattle.dsa_prepared.specs.Listed.{IsAlignedAt}
+use Rattle.dsa_prepared.specs.Submissions.{MayRelocate, staged_at, with_pieces}
+use Rattle.dsa_prepared.proofs.Listed.{listed_relocates, plans_relocate}
+use Rattle.dsa_prepared.proofs.PiecesLie.{all_join, all_first, pieces_lie}
+use Rattle.dsa_prepared.proofs.ByRegions.{pieces_relocate}
+use Rattle.dsa_prepared.proofs.Submissions.{may_split}
 use Rattle.dsa_prepared.specs.Templates.{Template, template_of}
 use Rattle.dsa_prepared.specs.Preparing.{IsPreparedOf, relocation}
 use Rattle.dsa_prepared.specs.Filling.{HasBases, CanFill, relocated_list}

@@ -22,9 +22,9 @@ use Rattle.dsa_calls.specs.Lists.{IsListOf}
 use Rattle.dsa_calls.specs.Planned.{Submission, IsSubmissionOf, Plans}
 use Rattle.dsa_calls.proofs.Over.{one_list}
 use Rattle.dsa_calls.proofs.Submissions.{one_planned}
-use Rattle.dsa_relocation.specs.Regions.{AllLieInOne, LiesWhole}
-use Rattle.dsa_relocation.proofs.PiecesLie.{pieces_lie}
-use Rattle.dsa_relocation.proofs.Submissions.{all_at}
+use Rattle.dsa_prepared.specs.Regions.{AllLieInOne, LiesWhole}
+use Rattle.dsa_prepared.proofs.PiecesLie.{pieces_lie}
+use Rattle.dsa_prepared.proofs.Submissions.{all_at}
 use Rattle.dsa_prepared.specs.declared.fault.PrepareFault.{PrepareFault}
 use Rattle.dsa_prepared.specs.declared.fault.PrepareFault.TheVariants.{Plan as InPlan, RegionWrap, RegionOrder, Outside}
 use Rattle.dsa_prepared.specs.Sound.{AreNonempty}

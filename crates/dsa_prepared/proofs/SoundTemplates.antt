@@ -16,8 +16,8 @@ use Rattle.dsa_emission.specs.declared.place.Place.{Place}
 use Rattle.dsa_emission.specs.Emission.{is_batch, batch_count, batched_count, place_of}
 use Rattle.dsa_emission.proofs.Places.{batch_yes, batch_no, counts_within}
 use Rattle.dsa_plan.specs.Plan.{Group, Plan, piece_count}
-use Rattle.dsa_relocation.specs.Regions.{LiesInOne, LieInOne, AllLieInOne}
-use Rattle.dsa_relocation.proofs.PiecesLie.{all_join}
+use Rattle.dsa_prepared.specs.Regions.{LiesInOne, LieInOne, AllLieInOne}
+use Rattle.dsa_prepared.proofs.PiecesLie.{all_join}
 use Rattle.dsa_prepared.specs.declared.entry.Entry.{Entry}
 use Rattle.dsa_prepared.specs.Entries.{word_at, first_word, second_word, own_word, entry_of, fenced_entries, batch_entry_of}
 use Rattle.dsa_prepared.specs.Sound.{IsWithin, AreWithin, IsTieWithin, IsSound}

@@ -4,8 +4,8 @@ use Rattle.std.specs.Prelude.{⊤}
 use Rattle.std.specs.List.{AllByRecursion}
 use Rattle.dsa_descriptor.specs.declared.span.Span.{Span}
 use Rattle.dsa_descriptor.specs.Spans.{InSpan, InSome, ApartFrom, IsAddressable}
-use Rattle.dsa_relocation.specs.Regions.{base_span, new_span, AreDisjoint}
-use Rattle.dsa_relocation.proofs.Regions.{in_tells}
+use Rattle.dsa_prepared.specs.Regions.{base_span, new_span, AreDisjoint}
+use Rattle.dsa_prepared.proofs.Regions.{in_tells}
 use Rattle.dsa_prepared.specs.Entries.{place_in}
 use Rattle.dsa_prepared.specs.Preparing.{region_at, AreRegions, relocation}
 use Rattle.dsa_prepared.specs.Filling.{AllBelow, new_region, FitsAt, IsApartFromEarlier, IsClearAt}

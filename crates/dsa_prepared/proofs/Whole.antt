@@ -8,8 +8,8 @@ use Rattle.dsa_descriptor.specs.declared.span.Span.{Span}
 use Rattle.dsa_descriptor.specs.Descriptors.{fields}
 use Rattle.dsa_descriptor.specs.Fields.{Fields}
 use Rattle.dsa_descriptor.specs.Profile.{IsListed}
-use Rattle.dsa_relocation.specs.Regions.{relocated, AllLieInOne, LieInOne}
-use Rattle.dsa_relocation.specs.Listed.{IsAlignedAt}
+use Rattle.dsa_prepared.specs.Regions.{relocated, AllLieInOne, LieInOne}
+use Rattle.dsa_prepared.specs.Listed.{IsAlignedAt}
 use Rattle.dsa_prepared.specs.Templates.{op_ties, units_of, ties_of}
 use Rattle.dsa_prepared.specs.Preparing.{relocation}
 use Rattle.dsa_prepared.specs.Filling.{IsTied}

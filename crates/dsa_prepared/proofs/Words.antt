@@ -16,9 +16,9 @@ use Rattle.dsa_descriptor.specs.Spelling.{owner_word, spelling}
 use Rattle.dsa_emission.specs.declared.place.Place.{Place}
 use Rattle.dsa_emission.specs.Emission.{with_fence, batch_spelling}
 use Rattle.dsa_plan.specs.Plan.{Group}
-use Rattle.dsa_relocation.specs.Relocated.{relocated_op, relocated_fields}
-use Rattle.dsa_relocation.specs.Regions.{relocated, LiesInOne, LieInOne}
-use Rattle.dsa_relocation.proofs.Regions.{in_tells}
+use Rattle.dsa_prepared.specs.Relocated.{relocated_op, relocated_fields}
+use Rattle.dsa_prepared.specs.Regions.{relocated, LiesInOne, LieInOne}
+use Rattle.dsa_prepared.proofs.Regions.{in_tells}
 use Rattle.dsa_prepared.specs.Entries.{word_at, word_value, filled_entry, first_word, second_word, own_word, entry_of, batch_entry_of}
 use Rattle.dsa_prepared.specs.Preparing.{relocation}
 

@@ -11,7 +11,7 @@ use Rattle.dsa_descriptor.specs.Spelling.{spelling}
 use Rattle.dsa_plan.specs.Plan.{Group}
 use Rattle.dsa_plan.specs.Emission.{with_fence}
 use Rattle.dsa_emission.specs.declared.place.Place.{Place}
-use Rattle.dsa_relocation.specs.Regions.{has_address}
+use Rattle.dsa_prepared.specs.Regions.{has_address}
 use Rattle.dsa_prepared.specs.declared.word.Word.{Word}
 use Rattle.dsa_prepared.specs.declared.word.Word.TheVariants.{InRegion, InStaging, Fixed}
 use Rattle.dsa_prepared.specs.declared.entry.Entry.{Entry}

@@ -8,9 +8,9 @@ use Rattle.dsa_descriptor.specs.Spans.{span, Apart, IsAddressable}
 use Rattle.dsa_plan.specs.Settings.{Limits}
 use Rattle.dsa_splitter.specs.Rules.{staging_area}
 use Rattle.dsa_calls.specs.Planned.{Submission, Plans}
-use Rattle.dsa_relocation.specs.Relocated.{relocated_fields}
-use Rattle.dsa_relocation.specs.Regions.{relocated}
-use Rattle.dsa_relocation.specs.Submissions.{staged_at}
+use Rattle.dsa_prepared.specs.Relocated.{relocated_fields}
+use Rattle.dsa_prepared.specs.Regions.{relocated}
+use Rattle.dsa_prepared.specs.Submissions.{staged_at}
 use Rattle.dsa_prepared.specs.declared.fault.FillFault.{FillFault}
 use Rattle.dsa_prepared.specs.declared.fault.FillFault.TheVariants.{Bases, Room, RegionWrap, Misaligned, DualcastBits, RegionsMeet, StagingMeets, Staging}
 use Rattle.dsa_prepared.specs.declared.tie.Tie.{Tie}

@@ -8,10 +8,10 @@ use Rattle.dsa_plan.specs.Plan.{Plan}
 use Rattle.dsa_plan.specs.Settings.{Limits}
 use Rattle.dsa_plan.specs.Emission.{portal_bytes, staging_bytes}
 use Rattle.dsa_calls.specs.Planned.{Submission, Plans}
-use Rattle.dsa_relocation.specs.Relocated.{relocated_fields}
-use Rattle.dsa_relocation.specs.Regions.{relocated, AllLieInOne}
-use Rattle.dsa_relocation.specs.Submissions.{staged_at}
-use Rattle.dsa_relocation.specs.Listed.{IsAlignedAt}
+use Rattle.dsa_prepared.specs.Relocated.{relocated_fields}
+use Rattle.dsa_prepared.specs.Regions.{relocated, AllLieInOne}
+use Rattle.dsa_prepared.specs.Submissions.{staged_at}
+use Rattle.dsa_prepared.specs.Listed.{IsAlignedAt}
 use Rattle.dsa_prepared.specs.Templates.{template_of, filled_portal, filled_staging}
 use Rattle.dsa_prepared.specs.Preparing.{IsPreparedOf, relocation}
 use Rattle.dsa_prepared.specs.Templates.{Template}

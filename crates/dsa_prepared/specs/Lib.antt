@@ -1,3 +1,9 @@
+pub mod Relocated
+pub mod Regions
+pub mod Submissions
+pub mod Listed
+pub mod Samples
+pub mod Relocation
 pub mod Entries
 pub mod Templates
 pub mod Preparing

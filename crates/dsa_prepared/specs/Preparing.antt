@@ -9,7 +9,7 @@ use Rattle.dsa_descriptor.specs.Spans.{span, IsAddressable}
 use Rattle.dsa_plan.specs.Settings.{Limits, AreInLimits}
 use Rattle.dsa_calls.specs.Lists.{IsListOf}
 use Rattle.dsa_calls.specs.Planned.{Submission, IsSubmissionOf, Plans}
-use Rattle.dsa_relocation.specs.Regions.{Region, LiesWhole}
+use Rattle.dsa_prepared.specs.Regions.{Region, LiesWhole}
 use Rattle.dsa_prepared.specs.declared.fault.PrepareFault.{PrepareFault}
 use Rattle.dsa_prepared.specs.declared.fault.PrepareFault.TheVariants.{Plan, RegionWrap, RegionOrder, Outside}
 use Rattle.dsa_prepared.specs.Templates.{Template, template_of}

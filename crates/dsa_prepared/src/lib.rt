@@ -5,6 +5,7 @@ mod entry;
 mod fault;
 mod filling;
 mod groups;
+mod keeping;
 mod laws;
 mod places;
 mod prepared;
@@ -14,6 +15,11 @@ mod tie;
 mod word;
 
 pub use fault::{FillFault, PrepareFault};
+pub use keeping::{
+    choice_stays, conflicts_stay, listed_relocates, meeting_spans_stay, pieces_lie,
+    pieces_relocate, plans_relocate, regions_are_one_to_one, regions_keep_offsets,
+    samples_relocate, submission_relocates,
+};
 pub use laws::{aligned_bases_align, filled_is_emission, filled_is_planned};
 pub use prepared::Prepared;
 pub use preparing::prepare;

@@ -6,7 +6,7 @@ ghost use Rattle.dsa_descriptor.specs.Descriptors.{fields};
 ghost use Rattle.dsa_descriptor.specs.Spans.{InSpan};
 ghost use Rattle.dsa_splitter.specs.Operations.{IsSplittable};
 ghost use Rattle.dsa_splitter.specs.Pieces.{row_span};
-ghost use Rattle.dsa_relocation.specs.Regions.{LiesIn, LiesInOne, LiesWhole};
+ghost use Rattle.dsa_prepared.specs.Regions.{LiesIn, LiesInOne, LiesWhole};
 ghost use Rattle.dsa_prepared.specs.Entries.{place_in, word_at};
 ghost use Rattle.dsa_prepared.specs.Preparing.{AreRegions, IsFirstOutside, IsRegionFault};
 

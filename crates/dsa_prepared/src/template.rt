@@ -6,7 +6,7 @@ ghost use Rattle.dsa_descriptor.specs.Pieces.{most_pieces};
 ghost use Rattle.dsa_descriptor.specs.Spelling.{spelling};
 ghost use Rattle.dsa_plan.specs.Plan.{piece_count};
 ghost use Rattle.dsa_plan.specs.Emission.{with_fence};
-ghost use Rattle.dsa_relocation.specs.Regions.{AllLieInOne};
+ghost use Rattle.dsa_prepared.specs.Regions.{AllLieInOne};
 ghost use Rattle.dsa_prepared.specs.Entries.{entry_of, first_word, own_word, second_word};
 ghost use Rattle.dsa_prepared.specs.Sound.{AreNonempty};
 ghost use Rattle.dsa_prepared.specs.Templates.{asked, raised, template_of, ties_of, units_of};

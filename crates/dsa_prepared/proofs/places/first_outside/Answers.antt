@@ -3,7 +3,7 @@ use Rattle.std.specs.Prelude.{map}
 use Rattle.std.proofs.lemmas.Bool.{false≢true}
 use Rattle.std.proofs.lemmas.List.{length-map}
 use Rattle.dsa_descriptor.specs.Descriptors.{fields}
-use Rattle.dsa_relocation.specs.Regions.{LiesWhole}
+use Rattle.dsa_prepared.specs.Regions.{LiesWhole}
 use Rattle.dsa_prepared.proofs.Outside.{field_there, one_more, all_of}
 use Rattle.dsa_prepared.proofs.places.first_outside.Goals as goal
 

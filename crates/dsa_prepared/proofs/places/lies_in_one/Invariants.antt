@@ -1,6 +1,6 @@
 use Rattle.std.proofs.Common.{drop}
 use Rattle.std.specs.Prelude.{◌↔◌}
-use Rattle.dsa_relocation.specs.Regions.{LiesInOne}
+use Rattle.dsa_prepared.specs.Regions.{LiesInOne}
 use Rattle.dsa_prepared.proofs.places.lies_in_one.Given as goal
 
 -- the span lies in one of the regions exactly where it lies in one of the rest

@@ -5,7 +5,7 @@ use Rattle.dsa_descriptor.specs.declared.descriptor.Descriptor.{Descriptor}
 use Rattle.dsa_descriptor.specs.Descriptors.{fields}
 use Rattle.dsa_calls.specs.declared.fault.PlanFault.{PlanFault}
 use Rattle.dsa_calls.specs.Planned.{submission_of}
-use Rattle.dsa_relocation.specs.Regions.{AllLieInOne, LiesWhole}
+use Rattle.dsa_prepared.specs.Regions.{AllLieInOne, LiesWhole}
 use Rattle.dsa_splitter.specs.Operations.{IsSplittable}
 use Rattle.dsa_prepared.specs.declared.fault.PrepareFault.TheVariants.{Plan as InPlan, Outside}
 use Rattle.dsa_prepared.specs.Preparing.{IsFirstOutside, IsPreparedOf}

@@ -1,0 +1,48 @@
+-- When a relocated descriptor is one that a list may hold.
+use Rattle.std.specs.Prelude.{ℕ, ◌≡◌, ◌%◌, ◌<◌, ⊤, List, map, Ok}
+use Rattle.std.specs.List.{AllByRecursion}
+use Rattle.dsa_descriptor.specs.declared.descriptor.Descriptor.{Descriptor}
+use Rattle.dsa_descriptor.specs.declared.op.Op.{Op}
+use Rattle.dsa_descriptor.specs.declared.op.Op.TheVariants.{Move, Fill, Compare, ComparePattern, ApplyDelta, Dualcast}
+use Rattle.dsa_descriptor.specs.Descriptors.{fields}
+use Rattle.dsa_descriptor.specs.Fields.{Fields}
+use Rattle.dsa_descriptor.specs.Lists.{list_spelling}
+use Rattle.dsa_descriptor.specs.Profile.{HasEqualLowBits, IsListed}
+use Rattle.dsa_descriptor.specs.Spans.{IsAddressable}
+use Rattle.dsa_plan.specs.Settings.{Limits}
+use Rattle.dsa_calls.specs.Lists.{IsListOf}
+use Rattle.dsa_calls.specs.Planned.{Submission, IsSubmissionOf, Plans}
+use Rattle.dsa_prepared.specs.Relocated.{relocated_op, relocated_fields}
+use Rattle.dsa_prepared.specs.Regions.{Region, base_span, new_span, relocated, AreDisjoint, LieInOne}
+use Rattle.dsa_prepared.specs.Submissions.{staged_at, with_pieces, MayRelocate}
+
+-- a delta's destination goes to a multiple of 8
+abbrev pub HasAlignedDelta : (ℕ → ℕ) → Op → Type 0
+HasAlignedDelta to (Move src dst) = ⊤
+HasAlignedDelta to (Fill pattern dst) = ⊤
+HasAlignedDelta to (Compare src src2 expected) = ⊤
+HasAlignedDelta to (ComparePattern src pattern expected) = ⊤
+HasAlignedDelta to (ApplyDelta delta dst record_size) = to dst % 8 ≡ 0
+HasAlignedDelta to (Dualcast src dst dst2) = ⊤
+
+-- at its relocated addresses, a descriptor's record, a delta's destination and a dualcast's two destinations are aligned as
+-- the profile asks
+pub record IsAlignedAt (to : ℕ → ℕ) (f : Fields) : Type 0 where
+  pub record_aligned : to f.record_at % 32 ≡ 0
+  pub delta_aligned : HasAlignedDelta to f.op
+  pub low_bits : HasEqualLowBits (relocated_op to f.op)
+
+-- a listed descriptor whose spans each lie in one region is listed after relocation, if it is aligned there
+abbrev pub ListedRelocates : Type 0
+ListedRelocates =
+    (rs : List Region) (f : Fields) → AreDisjoint rs → AllByRecursion (λ r. IsAddressable (new_span r)) rs →
+    IsListed f → LieInOne (map base_span rs) f → IsAlignedAt (relocated rs) f → IsListed (relocated_fields (relocated rs) f)
+
+-- planning the relocated list answers the relocated submission
+abbrev pub PlansRelocate : Type 0
+PlansRelocate =
+    (rs : List Region) (staging : ℕ) (s : Limits) (bytes : List ℕ) (ds ds' pieces : List Descriptor) (p : Submission) →
+    0 < s.greatest_transfer → MayRelocate rs staging s (map fields ds) → IsListOf bytes ds → IsSubmissionOf s (map fields ds) p →
+    map fields ds' ≡ map (relocated_fields (relocated rs)) (map fields ds) →
+    map fields pieces ≡ map (relocated_fields (relocated rs)) (map fields p.pieces) →
+    Plans (list_spelling (map fields ds')) (staged_at staging s) (Ok (with_pieces (staged_at staging s) pieces p))

@@ -1,5 +1,0 @@
-use Rattle.dsa_relocation.proofs.ByRegions.{conflicts_stay, places_stay}
-use Rattle.dsa_relocation.proofs.laws.conflicts_stay.Goals as goal
-
-pub returns : goal.returns
-returns c = record { two = conflicts_stay; places = places_stay }

@@ -1,5 +1,0 @@
-use Rattle.dsa_relocation.proofs.Regions.{regions_are_one_to_one}
-use Rattle.dsa_relocation.proofs.laws.regions_are_one_to_one.Goals as goal
-
-pub returns : goal.returns
-returns c = regions_are_one_to_one

@@ -135,13 +135,15 @@ fn at<'a>(alloc: Global) -> Result<Arg<'a>, AllocError> {
 
 /// The command `disassemble`.
 fn disassemble_command<'a>(alloc: Global) -> Result<Command<'a>, AllocError> {
+    let mut options = Vec::new(alloc);
+    options.push(file(alloc))?;
+    options.push(flag(alloc, "portal", "read the entries of a portal"))?;
+    options.push(flag(alloc, "staging", "read a staging area").conflicts_with("portal")?)?;
+    options.push(at(alloc)?)?;
     Command::new(alloc, "disassemble")
         .about("Reads a list in hexadecimal, and writes its lines")
         .after_help("Example: dsa_text disassemble --staging --at 0x10000 staging.hex")
-        .arg(file(alloc))?
-        .arg(flag(alloc, "portal", "read the entries of a portal"))?
-        .arg(flag(alloc, "staging", "read a staging area").conflicts_with("portal")?)?
-        .arg(at(alloc)?)
+        .args(options)
 }
 
 /// The command `explain`.
@@ -155,31 +157,42 @@ fn explain_command<'a>(alloc: Global) -> Result<Command<'a>, AllocError> {
         .args(options)
 }
 
-/// The command `audit`.
-fn audit_command<'a>(alloc: Global) -> Result<Command<'a>, AllocError> {
-    Command::new(alloc, "audit")
-        .about("Reads a recording of what was submitted, and reports missing and needless fences")
-        .arg(file(alloc))?
-        .arg(flag(alloc, "json", "write the report as JSON"))?
-        .arg(
-            Arg::new(alloc, "deny")
-                .long("deny")
-                .value_name("needless,unseen")
-                .action(ArgAction::Set)
-                .help("take these findings for errors too"),
-        )
+/// The option of the findings that count as errors.
+fn deny<'a>(alloc: Global) -> Arg<'a> {
+    Arg::new(alloc, "deny")
+        .long("deny")
+        .value_name("needless,unseen")
+        .action(ArgAction::Set)
+        .help("take these findings for errors too")
 }
 
-/// The commands and their options.
+/// The command `audit`.
+fn audit_command<'a>(alloc: Global) -> Result<Command<'a>, AllocError> {
+    let json = flag(alloc, "json", "write the report as JSON");
+    let options = vec![in alloc; file(alloc), json, deny(alloc)]?;
+    Command::new(alloc, "audit")
+        .about("Reads a recording of what was submitted, and reports missing and needless fences")
+        .args(options)
+}
+
+/// The commands.
+fn subcommands<'a>(alloc: Global) -> Result<Vec<Command<'a>>, AllocError> {
+    let mut commands = Vec::new(alloc);
+    commands.push(assemble_command(alloc)?)?;
+    commands.push(disassemble_command(alloc)?)?;
+    commands.push(explain_command(alloc)?)?;
+    commands.push(audit_command(alloc)?)?;
+    Ok(commands)
+}
+
+/// The program's commands and their options.
 fn commands<'a>(alloc: Global) -> Result<Command<'a>, AllocError> {
+    let subcommands = subcommands(alloc)?;
     Command::new(alloc, "dsa_text")
         .about("Descriptors of the data streaming accelerator as text")
         .version(VERSION)
         .subcommand_required(true)
-        .subcommand(assemble_command(alloc)?)?
-        .subcommand(disassemble_command(alloc)?)?
-        .subcommand(explain_command(alloc)?)?
-        .subcommand(audit_command(alloc)?)
+        .subcommands(subcommands)
 }
 
 /// Whether an option was given.

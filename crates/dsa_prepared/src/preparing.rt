@@ -35,7 +35,7 @@ pub fn prepare(
     // A refusal is the first cause, or that an allocation failed.
     ensures fault { IfErr result (λ fault. (fault ≡ Plan Memory) ⊎
         IsFirstPrepareFault list.now settings.now regions.now fault) }
-    // Where a cause stands, it is the answer, unless an allocation failed before it was found.
+    // The first cause is the answer, unless an allocation failed before it was found.
     ensures refused { (fault : PrepareFault) →
         IsFirstPrepareFault list.now settings.now regions.now fault →
         (result ≡ Err fault) ⊎ (result ≡ Err (Plan Memory)) }

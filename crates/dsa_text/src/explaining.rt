@@ -95,8 +95,8 @@ pub fn explain_text(
     }
 }
 
-/// What a plan of listed pieces does and why, if it may be submitted, and what the least plan costs. Of one that lacks
-/// fences each missing fence is told.
+/// What a plan of listed pieces does and why, if it may be submitted, and what the least plan costs. The refusal of a plan
+/// that lacks fences lists each of them.
 pub fn explain_judged(
     alloc: Global,
     list: &[u8],

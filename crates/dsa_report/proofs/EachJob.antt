@@ -1,5 +1,5 @@
 -- What is proved of each job by a case of its own.
-use Rattle.std.proofs.Common.{◌≡◌, ◌≢◌, ◌⊎◌, inl, inr, ℕ, Bool, ◌&&◌, List, [], ◌∷◌, map, true, true≢false, Result, Err, refl, sym, ap, ◌∙◌}
+use Rattle.std.proofs.Common.{◌≡◌, ◌≢◌, ◌<◌, ◌≤◌, ◌⊎◌, inl, inr, ℕ, Bool, ◌&&◌, List, [], ◌∷◌, map, get_or, true, true≢false, Result, Err, refl, sym, ap, ◌∙◌, arith}
 use Rattle.std.specs.Ordering.{is_lt, nat_cmp}
 use Rattle.std.specs.Cmp.Lexicographic.{slice_cmp}
 use Rattle.std.proofs.lemmas.Slice.Eq.{bytes_eq-Decides}
@@ -56,6 +56,20 @@ row Plan = record { named = refl; set = refl; apart = refl; ordered = refl }
 row Check = record { named = refl; set = refl; apart = refl; ordered = refl }
 row Replay = record { named = refl; set = refl; apart = refl; ordered = refl }
 row Run = record { named = refl; set = refl; apart = refl; ordered = refl }
+
+-- ---- the name of a job
+
+-- the jobs in the order in which a name is looked for
+abbrev pub in_order : List JobName
+in_order = Judge ∷ Plan ∷ Check ∷ Replay ∷ Run ∷ []
+
+-- where none of them goes by the name, no job does
+pub none_named : (text : List ℕ) (n : ℕ) → 5 ≤ n → ((k : ℕ) → k < n → name_text (get_or in_order k Judge) ≢ text) → (name : JobName) → name_text name ≢ text
+none_named text n le before Judge = before 0 (omega arith)
+none_named text n le before Plan = before 1 (omega arith)
+none_named text n le before Check = before 2 (omega arith)
+none_named text n le before Replay = before 3 (omega arith)
+none_named text n le before Run = before 4 (omega arith)
 
 -- ---- one outcome
 

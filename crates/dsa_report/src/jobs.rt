@@ -1,11 +1,11 @@
 //! A job: its name, its reader, and its line.
 
-ghost use Rattle.std.specs.Prelude.{◌≡◌, ◌⊎◌, ◌↔◌, IsTrue, MatchOption};
+ghost use Rattle.std.specs.Prelude.{◌≡◌, ◌≢◌, ◌⊎◌, ◌↔◌, IsTrue, MatchOption, map};
 ghost use Rattle.serde_json.specs.Errors.{IsMemory};
 ghost use Rattle.serde_json.specs.View.{view};
 ghost use Rattle.dsa_report.specs.Calls.{AnswersRead};
 ghost use Rattle.dsa_report.specs.Gives.{GivesLine};
-ghost use Rattle.dsa_report.specs.Job.{HasMembers, HasName, NamesJob};
+ghost use Rattle.dsa_report.specs.Job.{HasMembers, HasName, NamesJob, member_name, members_of, name_text};
 ghost use Rattle.dsa_report.specs.Read.{IsJob, ReadsJob, ReadsJobText};
 
 use crate::check_job::{CheckJob, check_line, check_of};
@@ -34,6 +34,56 @@ pub enum JobName {
     Replay,
     /// `run`: what engines leave that run a planned list.
     Run,
+}
+
+/// The row of a job.
+#[derive(Clone, Copy)]
+struct Row {
+    /// What stands under `do`.
+    name: &'static str,
+    /// The names of the members, in their order.
+    members: &'static [&'static str],
+}
+
+impl JobName {
+    /// All names, in the order in which they are looked for.
+    const ALL: [JobName; 5] = [
+        JobName::Judge,
+        JobName::Plan,
+        JobName::Check,
+        JobName::Replay,
+        JobName::Run,
+    ];
+
+    /// The row of the job that goes by this name.
+    fn row(self) -> Row
+        ensures name { result.name.now ≡ name_text self }
+        ensures members { map (λ member. member.now) result.members.now ≡
+            map member_name (members_of self) }
+    {
+        match self {
+            JobName::Judge => Row {
+                name: "judge",
+                members: &["do", "list", "plan", "settings"],
+            },
+            JobName::Plan => Row {
+                name: "plan",
+                members: &["do", "list", "settings"],
+            },
+            JobName::Check => Row {
+                name: "check",
+                members: &["certificate", "do", "portal", "settings", "staging"],
+            },
+            JobName::Replay => Row {
+                name: "replay",
+                members: &["do", "engines", "image", "list", "settings", "trace"],
+            },
+            JobName::Run => Row {
+                name: "run",
+                members: &["do", "engines", "image", "list", "settings"],
+            },
+        }
+    }
 }
 
 /// A job that was read.
@@ -87,39 +137,27 @@ fn job_of(alloc: Global, value: &Value) -> Result<Job, PlanFault>
 fn job_name(value: &Value) -> Option<JobName>
     ensures { MatchOption result (¬ NamesJob (view value.now)) (HasName (view value.now)) }
 {
-    let name = value.get("do")?.as_str()?;
-    if name == "judge" {
-        Some(JobName::Judge)
-    } else if name == "plan" {
-        Some(JobName::Plan)
-    } else if name == "check" {
-        Some(JobName::Check)
-    } else if name == "replay" {
-        Some(JobName::Replay)
-    } else if name == "run" {
-        Some(JobName::Run)
-    } else {
-        None
+    job_named(value.get("do")?.as_str()?)
+}
+
+/// The job that goes by this name.
+fn job_named(text: &str) -> Option<JobName>
+    ensures { MatchOption result ((name : JobName) → name_text name ≢ text.now)
+        (λ name. name_text name ≡ text.now) }
+{
+    for name in JobName::ALL {
+        if name.row().name == text {
+            return Some(name);
+        }
     }
+    None
 }
 
 /// Whether the value is an object with the members of such a job, and with no other.
 pub(crate) fn has_members(value: &Value, name: JobName) -> bool
     ensures { IsTrue result ↔ HasMembers (view value.now) name }
 {
-    match name {
-        JobName::Judge => has_names(value, &["do", "list", "plan", "settings"]),
-        JobName::Plan => has_names(value, &["do", "list", "settings"]),
-        JobName::Check => has_names(
-            value,
-            &["certificate", "do", "portal", "settings", "staging"],
-        ),
-        JobName::Replay => has_names(
-            value,
-            &["do", "engines", "image", "list", "settings", "trace"],
-        ),
-        JobName::Run => has_names(value, &["do", "engines", "image", "list", "settings"]),
-    }
+    has_names(value, name.row().members)
 }
 
 /// Why a text was not read as JSON.

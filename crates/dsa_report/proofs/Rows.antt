@@ -1,9 +1,11 @@
 -- The members of a job, read one after another by its row.
-use Rattle.std.proofs.Common.{◌≡◌, ◌≢◌, ℕ, Bool, true, false, ◌||◌, List, [], ◌∷◌, map, codes, Option, Some, None, is_some, Ordering, Less, Equal, Greater, is_eq, nat_cmp, refl, sym, ap, subst, ◌∙◌, true≢false}
+use Rattle.std.proofs.Common.{◌≡◌, ◌≢◌, ℕ, Bool, true, false, ◌||◌, List, [], ◌∷◌, map, codes, Option, Some, None, is_some, option_map, Ordering, Less, Equal, Greater, is_eq, nat_cmp, refl, sym, ap, subst, ◌∙◌, true≢false}
 use Rattle.std.proofs.lemmas.Slice.Eq.{bytes_eq-Decides}
 use Rattle.std.proofs.lemmas.Map.Text.{is_eq-slice_cmp}
 use Rattle.std.specs.Cmp.Lexicographic.{slice_cmp}
 use Rattle.std.specs.Ordering.{match_ordering}
+use Rattle.std.specs.Prelude.{IsSome}
+use Rattle.std.proofs.lemmas.Option.{same_Some}
 use Rattle.std.specs.Str.{bytes_eq}
 use Rattle.std.specs.List.{AllByRecursion}
 use Rattle.serde_json.specs.Data.{Data, null, boolean, number, string, array, object, Members as Entries, no_members, member}
@@ -17,7 +19,7 @@ use Rattle.dsa_report.specs.Image.{image_shown, image_value}
 use Rattle.dsa_report.specs.Plan.{plan_value}
 use Rattle.dsa_report.specs.Settings.{settings_shown, settings_value}
 use Rattle.dsa_report.specs.Job.{Member, the_certificate, the_name, the_engines, the_image, the_list, the_plan, the_portal, the_settings, the_staging, the_trace, members_of, member_name, is_same, is_among, has, HeldIf, JobMembers, value_if, member_value, job_fields, named_value, HasName, HasMembers}
-use Rattle.dsa_report.specs.Read.{held_if, members_shown, ReadsIf, ReadsHeld}
+use Rattle.dsa_report.specs.Read.{AreRead, IsRead, ReadsHeld, ReadsMembers}
 use Rattle.dsa_report.proofs.EachJob.{row}
 use Rattle.dsa_report.proofs.SameJobs.{same_member, one_member, get_among}
 
@@ -78,24 +80,18 @@ is_held (number n) name m e = cc
 is_held (string s) name m e = cc
 is_held (array ds) name m e = cc
 
--- where what stands there spells nothing, the value spells no job
+-- where what stands at the name of a member spells nothing, the value spells no job
 apart : {A : Type 0} (there : Bool) (spelling : A → Data) (held : HeldIf there A) (found : Option Data) → (there ≡ true → found ≡ Some (value_if there spelling held))
     → there ≡ true → ((y : A) → found ≢ Some (spelling y)) → ⊥
 apart true spelling held found is there none = none held (is refl)
 apart false spelling held found is there none = true≢false (sym there)
 
--- what the reader of a member says where it answers nothing
-nothing_read : {X Y : Type 0} (there : Bool) (name : List ℕ) (spelling : Y → Data) (shown : X → Y) (d : Data) → ReadsIf there name spelling shown d None
-    → (there ≡ true) × ((y : Y) → get name d ≢ Some (spelling y))
-nothing_read true name spelling shown d none = (refl, none)
-nothing_read false name spelling shown d none = absurd (true≢false (sym none))
-
 pub no_such_job : {X Y : Type 0} (m : Member) (spelling : Y → Data) (shown : X → Y) (d : Data) (name : JobName) (held : JobMembers name → HeldIf (has name m) Y)
-    → ((j : JobMembers name) → member_value name j m ≡ value_if (has name m) spelling (held j)) → ReadsIf (has name m) (member_name m) spelling shown d None
+    → ((j : JobMembers name) → member_value name j m ≡ value_if (has name m) spelling (held j)) → HasMembers d name → ReadsHeld (member_name m) spelling shown d None
     → (j : JobMembers name) → d ≢ named_value name j
-no_such_job m spelling shown d name held is none j e =
-    let (there, other) = nothing_read (has name m) (member_name m) spelling shown d none in
-    apart (has name m) spelling (held j) (get (member_name m) d) (λ listed. ap (get (member_name m)) e ∙ get_among (member_value name j) (members_of name) m listed ∙ ap Some (is j)) there other
+no_such_job m spelling shown d name held is members (some, other) j e =
+    apart (has name m) spelling (held j) (get (member_name m) d) (λ listed. ap (get (member_name m)) e ∙ get_among (member_value name j) (members_of name) m listed ∙ ap Some (is j))
+    (sym (is_held d name m members) ∙ some) other
 
 -- ---- the whole of a job
 
@@ -120,20 +116,47 @@ row_names : (f : Member → Data) (ms : List Member) → map (λ (field : List �
 row_names f [] = refl
 row_names f (m ∷ ms) = ap (λ (names : List (List ℕ)). member_name m ∷ names) (row_names f ms)
 
--- what was read of a member is what it spells
-read_value : {X Y : Type 0} (there : Bool) (name : List ℕ) (spelling : Y → Data) (shown : X → Y) (d : Data) (x : X) → ReadsIf there name spelling shown d (Some x)
-    → there ≡ true → get name d ≡ Some (value_if there spelling (held_if there (shown x)))
-read_value true name spelling shown d x is there = is
-read_value false name spelling shown d x is there = absurd (true≢false (sym there))
+-- ---- what was read
 
-read_held : {X Y : Type 0} (d : Data) (name : JobName) (m : Member) (spelling : Y → Data) (shown : X → Y) (x : X) → HasMembers d name
-    → ReadsHeld (member_name m) spelling shown d (Some x) → has name m ≡ true → get (member_name m) d ≡ Some (value_if (has name m) spelling (held_if (has name m) (shown x)))
-read_held d name m spelling shown x members is there =
-    read_value (has name m) (member_name m) spelling shown d x
-    (subst (λ (b : Bool). ReadsIf b (member_name m) spelling shown d (Some x)) (is_held d name m members) is) there
+abbrev held_of : {A : Type 0} (there : Bool) (found : Option A) → is_some found ≡ there → HeldIf there A
+held_of true (Some a) e = a
+held_of true None e = absurd (true≢false (sym e))
+held_of false found e = tt
+
+is_read : {A : Type 0} (there : Bool) (found : Option A) (e : is_some found ≡ there) → IsRead there (held_of there found e) found
+is_read true (Some a) e = refl
+is_read true None e = absurd (true≢false (sym e))
+is_read false (Some a) e = absurd (true≢false e)
+is_read false None e = refl
+
+option_same : {A : Type 0} (o : Option A) → option_map (λ x. x) o ≡ o
+option_same (Some a) = refl
+option_same None = refl
+
+-- something was read where something stands at the name, which is where the job has the member
+some_read : {X Y : Type 0} (name : List ℕ) (spelling : Y → Data) (shown : X → Y) (d : Data) (found : Option X) → ReadsHeld name spelling shown d (Some found)
+    → is_some (option_map shown found) ≡ is_some (get name d)
+some_read name spelling shown d (Some x) is = sym (ap is_some is)
+some_read name spelling shown d None is = sym (ap is_some is)
+
+read_there : {X Y : Type 0} (m : Member) (spelling : Y → Data) (shown : X → Y) (d : Data) (name : JobName) (found : Option X) → HasMembers d name
+    → ReadsHeld (member_name m) spelling shown d (Some found) → is_some (option_map shown found) ≡ has name m
+read_there m spelling shown d name found members is = some_read (member_name m) spelling shown d found is ∙ is_held d name m members
+
+-- what was read of a member is what it spells
+read_value : {X Y : Type 0} (there : Bool) (name : List ℕ) (spelling : Y → Data) (shown : X → Y) (d : Data) (found : Option X) (e : is_some (option_map shown found) ≡ there)
+    → ReadsHeld name spelling shown d (Some found) → there ≡ true → get name d ≡ Some (value_if there spelling (held_of there (option_map shown found) e))
+read_value true name spelling shown d (Some x) e is there = is
+read_value true name spelling shown d None e is there = absurd (true≢false (sym e))
+read_value false name spelling shown d found e is there = absurd (true≢false (sym there))
+
+-- a value that stands at a name, where it is looked at as it is
+pub got : {X : Type 0} (found : Option X) (value : X → Data) (name : List ℕ) (d : Data) → option_map value found ≡ get name d → ReadsHeld name (λ x. x) value d (Some found)
+got (Some x) value name d is = sym is
+got None value name d is = sym is
 
 -- where all members were read, the value spells the job
-pub members_spelled : (d : Data) (name : JobName) (m : Members) → HasMembers d name → HasName d name
+pub members_read : (d : Data) (name : JobName) (m : Members) → HasMembers d name → HasName d name
     → get (codes "settings") d ≡ Some (settings_value (settings_shown m.settings))
     → ReadsHeld (codes "certificate") (λ x. x) (λ found. view found.now) d (Some m.certificate)
     → ReadsHeld (codes "engines") whole (λ n. n) d (Some m.engines)
@@ -143,20 +166,111 @@ pub members_spelled : (d : Data) (name : JobName) (m : Members) → HasMembers d
     → ReadsHeld (codes "portal") string (λ text. text.now) d (Some m.portal)
     → ReadsHeld (codes "staging") string (λ text. text.now) d (Some m.staging)
     → ReadsHeld (codes "trace") (λ x. x) (λ found. view found.now) d (Some m.trace)
-    → d ≡ named_value name (members_shown name m)
-members_spelled d name m names named settings certificate engines image list plan portal staging trace =
-    let j = members_shown name m in
-    let same = row_names (member_value name j) (members_of name) in
-    object_spelled d (job_fields name j) (names ∙ ap Some (sym same)) (ap are_apart same ∙ (row name).apart) (all_found d (member_value name j) (members_of name) at)
+    → ReadsMembers d name (Some m)
+members_read d name m names named settings certificate engines image list plan portal staging trace = (j, spelled, are_read)
   where
-    at : (n : Member) → has name n ≡ true → get (member_name n) d ≡ Some (member_value name (members_shown name m) n)
-    at the_certificate there = read_held d name the_certificate (λ x. x) (λ found. view found.now) m.certificate names certificate there
+    has_certificate : is_some (option_map (λ found. view found.now) m.certificate) ≡ has name the_certificate
+    has_certificate = read_there the_certificate (λ x. x) (λ found. view found.now) d name m.certificate names certificate
+
+    has_engines : is_some (option_map (λ n. n) m.engines) ≡ has name the_engines
+    has_engines = read_there the_engines whole (λ n. n) d name m.engines names engines
+
+    has_image : is_some (option_map image_shown m.image) ≡ has name the_image
+    has_image = read_there the_image image_value image_shown d name m.image names image
+
+    has_list : is_some (option_map (λ text. text.now) m.list) ≡ has name the_list
+    has_list = read_there the_list string (λ text. text.now) d name m.list names list
+
+    has_plan : is_some (option_map (λ plan. plan) m.plan) ≡ has name the_plan
+    has_plan = read_there the_plan plan_value (λ plan. plan) d name m.plan names plan
+
+    has_portal : is_some (option_map (λ text. text.now) m.portal) ≡ has name the_portal
+    has_portal = read_there the_portal string (λ text. text.now) d name m.portal names portal
+
+    has_staging : is_some (option_map (λ text. text.now) m.staging) ≡ has name the_staging
+    has_staging = read_there the_staging string (λ text. text.now) d name m.staging names staging
+
+    has_trace : is_some (option_map (λ found. view found.now) m.trace) ≡ has name the_trace
+    has_trace = read_there the_trace (λ x. x) (λ found. view found.now) d name m.trace names trace
+
+    j : JobMembers name
+    j = record {
+      settings = settings_shown m.settings;
+      certificate = held_of (has name the_certificate) (option_map (λ found. view found.now) m.certificate) has_certificate;
+      engines = held_of (has name the_engines) (option_map (λ n. n) m.engines) has_engines;
+      image = held_of (has name the_image) (option_map image_shown m.image) has_image;
+      list = held_of (has name the_list) (option_map (λ text. text.now) m.list) has_list;
+      plan = held_of (has name the_plan) (option_map (λ plan. plan) m.plan) has_plan;
+      portal = held_of (has name the_portal) (option_map (λ text. text.now) m.portal) has_portal;
+      staging = held_of (has name the_staging) (option_map (λ text. text.now) m.staging) has_staging;
+      trace = held_of (has name the_trace) (option_map (λ found. view found.now) m.trace) has_trace;
+    }
+
+    at : (n : Member) → has name n ≡ true → get (member_name n) d ≡ Some (member_value name j n)
+    at the_certificate there = read_value (has name the_certificate) (member_name the_certificate) (λ x. x) (λ found. view found.now) d m.certificate has_certificate certificate there
     at the_name there = named
-    at the_engines there = read_held d name the_engines whole (λ n. n) m.engines names engines there
-    at the_image there = read_held d name the_image image_value image_shown m.image names image there
-    at the_list there = read_held d name the_list string (λ text. text.now) m.list names list there
-    at the_plan there = read_held d name the_plan plan_value (λ plan. plan) m.plan names plan there
-    at the_portal there = read_held d name the_portal string (λ text. text.now) m.portal names portal there
+    at the_engines there = read_value (has name the_engines) (member_name the_engines) whole (λ n. n) d m.engines has_engines engines there
+    at the_image there = read_value (has name the_image) (member_name the_image) image_value image_shown d m.image has_image image there
+    at the_list there = read_value (has name the_list) (member_name the_list) string (λ text. text.now) d m.list has_list list there
+    at the_plan there = read_value (has name the_plan) (member_name the_plan) plan_value (λ plan. plan) d m.plan has_plan plan there
+    at the_portal there = read_value (has name the_portal) (member_name the_portal) string (λ text. text.now) d m.portal has_portal portal there
     at the_settings there = settings
-    at the_staging there = read_held d name the_staging string (λ text. text.now) m.staging names staging there
-    at the_trace there = read_held d name the_trace (λ x. x) (λ found. view found.now) m.trace names trace there
+    at the_staging there = read_value (has name the_staging) (member_name the_staging) string (λ text. text.now) d m.staging has_staging staging there
+    at the_trace there = read_value (has name the_trace) (member_name the_trace) (λ x. x) (λ found. view found.now) d m.trace has_trace trace there
+
+    same : map (λ (field : List ℕ × Data). field.0) (job_fields name j) ≡ map member_name (members_of name)
+    same = row_names (member_value name j) (members_of name)
+
+    spelled : d ≡ named_value name j
+    spelled = object_spelled d (job_fields name j) (names ∙ ap Some (sym same)) (ap are_apart same ∙ (row name).apart) (all_found d (member_value name j) (members_of name) at)
+
+    are_read : AreRead name j m
+    are_read = record {
+      settings = refl;
+      certificate = is_read (has name the_certificate) (option_map (λ found. view found.now) m.certificate) has_certificate;
+      engines = subst (IsRead (has name the_engines) j.engines) (option_same m.engines) (is_read (has name the_engines) (option_map (λ n. n) m.engines) has_engines);
+      image = is_read (has name the_image) (option_map image_shown m.image) has_image;
+      list = is_read (has name the_list) (option_map (λ text. text.now) m.list) has_list;
+      plan = subst (IsRead (has name the_plan) j.plan) (option_same m.plan) (is_read (has name the_plan) (option_map (λ plan. plan) m.plan) has_plan);
+      portal = is_read (has name the_portal) (option_map (λ text. text.now) m.portal) has_portal;
+      staging = is_read (has name the_staging) (option_map (λ text. text.now) m.staging) has_staging;
+      trace = is_read (has name the_trace) (option_map (λ found. view found.now) m.trace) has_trace;
+    }
+
+-- ---- a job by what was read
+
+one_held : {A : Type 0} (there : Bool) (a b : HeldIf there A) (found : Option A) → IsRead there a found → IsRead there b found → a ≡ b
+one_held true a b found is is' = same_Some a b (sym is ∙ is')
+one_held false a b found is is' = refl
+
+-- what was read are the members of one job
+one_read : (name : JobName) (j k : JobMembers name) (m : Members) → AreRead name j m → AreRead name k m → j ≡ k
+one_read name j k m a b =
+    let settings = a.settings ∙ sym b.settings in
+    let certificate = one_held (has name the_certificate) j.certificate k.certificate (option_map (λ found. view found.now) m.certificate) a.certificate b.certificate in
+    let engines = one_held (has name the_engines) j.engines k.engines m.engines a.engines b.engines in
+    let image = one_held (has name the_image) j.image k.image (option_map image_shown m.image) a.image b.image in
+    let list = one_held (has name the_list) j.list k.list (option_map (λ text. text.now) m.list) a.list b.list in
+    let plan = one_held (has name the_plan) j.plan k.plan m.plan a.plan b.plan in
+    let portal = one_held (has name the_portal) j.portal k.portal (option_map (λ text. text.now) m.portal) a.portal b.portal in
+    let staging = one_held (has name the_staging) j.staging k.staging (option_map (λ text. text.now) m.staging) a.staging b.staging in
+    let trace = one_held (has name the_trace) j.trace k.trace (option_map (λ found. view found.now) m.trace) a.trace b.trace in
+    λ i. record {
+      settings = settings i;
+      certificate = certificate i;
+      engines = engines i;
+      image = image i;
+      list = list i;
+      plan = plan i;
+      portal = portal i;
+      staging = staging i;
+      trace = trace i;
+    }
+
+pub spelled_by : (d : Data) (name : JobName) (m : Members) (k : JobMembers name) → ReadsMembers d name (Some m) → AreRead name k m → d ≡ named_value name k
+spelled_by d name m k (j, spelled, is) are = spelled ∙ ap (named_value name) (one_read name j k m is are)
+
+-- what a job has was read
+pub some_there : {X Y : Type 0} (o : Option X) (f : X → Y) (y : Y) → option_map f o ≡ Some y → IsSome o
+some_there (Some x) f y e = refl
+some_there None f y e = cc

@@ -1,0 +1,156 @@
+-- The members of each job, as they were read.
+use Rattle.std.proofs.Common.{◌≡◌, ℕ, Bool, List, Some, option_map, refl}
+use Rattle.serde_json.specs.Data.{Data}
+use Rattle.serde_json.specs.View.{view}
+use Rattle.dsa_report.specs.declared.jobs.JobName.TheVariants.{Judge, Plan, Check, Replay, Run}
+use Rattle.dsa_report.specs.declared.members.Members.{Members}
+use Rattle.dsa_report.specs.Image.{ImageText, image_shown}
+use Rattle.dsa_report.specs.Settings.{settings_shown}
+use Rattle.dsa_report.specs.Job.{JobMembers, named_value}
+use Rattle.dsa_report.specs.Read.{ReadsMembers}
+use Rattle.dsa_report.proofs.Rows.{spelled_by}
+
+-- of a job to judge
+abbrev pub judge_text : Members → List ℕ → List (List Bool) → JobMembers Judge
+judge_text m list plan = record {
+  settings = settings_shown m.settings;
+  certificate = tt;
+  engines = tt;
+  image = tt;
+  list = list;
+  plan = plan;
+  portal = tt;
+  staging = tt;
+  trace = tt;
+}
+
+pub judge_spelled : (d : Data) (m : Members) (list : List ℕ) (plan : List (List Bool)) → ReadsMembers d Judge (Some m) → option_map (λ text. text.now) m.list ≡ Some list → m.plan ≡ Some plan → d ≡ named_value Judge (judge_text m list plan)
+judge_spelled d m list plan (j, spelled, is) is_list is_plan =
+    spelled_by d Judge m (judge_text m list plan) (j, spelled, is)
+    (record {
+      settings = refl;
+      certificate = is.certificate;
+      engines = is.engines;
+      image = is.image;
+      list = is_list;
+      plan = is_plan;
+      portal = is.portal;
+      staging = is.staging;
+      trace = is.trace;
+    })
+
+-- of a job to plan
+abbrev pub plan_text : Members → List ℕ → JobMembers Plan
+plan_text m list = record {
+  settings = settings_shown m.settings;
+  certificate = tt;
+  engines = tt;
+  image = tt;
+  list = list;
+  plan = tt;
+  portal = tt;
+  staging = tt;
+  trace = tt;
+}
+
+pub plan_spelled : (d : Data) (m : Members) (list : List ℕ) → ReadsMembers d Plan (Some m) → option_map (λ text. text.now) m.list ≡ Some list → d ≡ named_value Plan (plan_text m list)
+plan_spelled d m list (j, spelled, is) is_list =
+    spelled_by d Plan m (plan_text m list) (j, spelled, is)
+    (record {
+      settings = refl;
+      certificate = is.certificate;
+      engines = is.engines;
+      image = is.image;
+      list = is_list;
+      plan = is.plan;
+      portal = is.portal;
+      staging = is.staging;
+      trace = is.trace;
+    })
+
+-- of a job to check
+abbrev pub check_text : Members → Data → List ℕ → List ℕ → JobMembers Check
+check_text m certificate portal staging = record {
+  settings = settings_shown m.settings;
+  certificate = certificate;
+  engines = tt;
+  image = tt;
+  list = tt;
+  plan = tt;
+  portal = portal;
+  staging = staging;
+  trace = tt;
+}
+
+pub check_spelled : (d : Data) (m : Members) (certificate : Data) (portal : List ℕ) (staging : List ℕ) → ReadsMembers d Check (Some m) → option_map (λ found. view found.now) m.certificate ≡ Some certificate → option_map (λ text. text.now) m.portal ≡ Some portal → option_map (λ text. text.now) m.staging ≡ Some staging → d ≡ named_value Check (check_text m certificate portal staging)
+check_spelled d m certificate portal staging (j, spelled, is) is_certificate is_portal is_staging =
+    spelled_by d Check m (check_text m certificate portal staging) (j, spelled, is)
+    (record {
+      settings = refl;
+      certificate = is_certificate;
+      engines = is.engines;
+      image = is.image;
+      list = is.list;
+      plan = is.plan;
+      portal = is_portal;
+      staging = is_staging;
+      trace = is.trace;
+    })
+
+-- of a job to replay
+abbrev pub replay_text : Members → ℕ → ImageText → List ℕ → Data → JobMembers Replay
+replay_text m engines image list trace = record {
+  settings = settings_shown m.settings;
+  certificate = tt;
+  engines = engines;
+  image = image;
+  list = list;
+  plan = tt;
+  portal = tt;
+  staging = tt;
+  trace = trace;
+}
+
+pub replay_spelled : (d : Data) (m : Members) (engines : ℕ) (image : ImageText) (list : List ℕ) (trace : Data) → ReadsMembers d Replay (Some m) → m.engines ≡ Some engines → option_map image_shown m.image ≡ Some image → option_map (λ text. text.now) m.list ≡ Some list → option_map (λ found. view found.now) m.trace ≡ Some trace → d ≡ named_value Replay (replay_text m engines image list trace)
+replay_spelled d m engines image list trace (j, spelled, is) is_engines is_image is_list is_trace =
+    spelled_by d Replay m (replay_text m engines image list trace) (j, spelled, is)
+    (record {
+      settings = refl;
+      certificate = is.certificate;
+      engines = is_engines;
+      image = is_image;
+      list = is_list;
+      plan = is.plan;
+      portal = is.portal;
+      staging = is.staging;
+      trace = is_trace;
+    })
+
+-- of a job to run
+abbrev pub run_text : Members → ℕ → ImageText → List ℕ → JobMembers Run
+run_text m engines image list = record {
+  settings = settings_shown m.settings;
+  certificate = tt;
+  engines = engines;
+  image = image;
+  list = list;
+  plan = tt;
+  portal = tt;
+  staging = tt;
+  trace = tt;
+}
+
+pub run_spelled : (d : Data) (m : Members) (engines : ℕ) (image : ImageText) (list : List ℕ) → ReadsMembers d Run (Some m) → m.engines ≡ Some engines → option_map image_shown m.image ≡ Some image → option_map (λ text. text.now) m.list ≡ Some list → d ≡ named_value Run (run_text m engines image list)
+run_spelled d m engines image list (j, spelled, is) is_engines is_image is_list =
+    spelled_by d Run m (run_text m engines image list) (j, spelled, is)
+    (record {
+      settings = refl;
+      certificate = is.certificate;
+      engines = is_engines;
+      image = is_image;
+      list = is_list;
+      plan = is.plan;
+      portal = is.portal;
+      staging = is.staging;
+      trace = is.trace;
+    })

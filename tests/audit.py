@@ -70,6 +70,12 @@ def accesses(it, owner):
     return set().union(*reads), set().union(*writes)
 
 
+def can_fail(it, known):
+    """The entry can end with another status than 1: a checked compare, a delta, or one of which nothing is known."""
+    flags, code = it[4], it[7]
+    return isinstance(known, str) or code == DELTA or (code in (COMPARE, PATTERN) and bool(flags & 0x80))
+
+
 def conflict(one, other):
     return bool(one[1] & (other[0] | other[1]) or one[0] & other[1])
 
@@ -108,7 +114,8 @@ class Batch:
         clash = {p for p in pairs if all(is_seen[k] for k in p) and conflict(*(self.known[k] for k in p))}
         self.certain = [p for p in pairs if p in clash]
         self.possible = [p for p in pairs if p in clash or not all(is_seen[k] for k in p)]
-        self.found = {"missing": {}, "needless": {}, "unseen": {}}
+        self.fallible = [k for k, it in enumerate(entries) if can_fail(it, self.known[k])]
+        self.found = {"missing": {}, "needless": {}, "guarding": {}, "unseen": {}}
         for finding in findings:
             self.found[finding["what"]["kind"]][finding["member"] or 0] = finding["what"]
         self.corrected = self.fences | set(self.found["missing"])
@@ -157,9 +164,15 @@ class Batch:
         held = [pair for pair in self.possible if separated(self.corrected, pair)]
         if not all_separated(self.reduced, held):
             yield "a needless fence is needed"
-        least = fewest(set(), sorted(self.corrected), held)
-        if len(self.reduced) != least:
-            yield f"{least} fences are needed"
+        guards = {k for k in self.corrected if self.fallible and self.fallible[0] < k}
+        least = len(guards) + fewest(guards, sorted(self.corrected - guards), held)
+        if not guards <= self.reduced or len(self.reduced) != least:
+            yield f"{least} fences stay, {sorted(guards)} of them behind a member that can fail"
+        spare = {k for k in guards if all_separated(self.reduced - {k}, held)}
+        if spare != set(self.found["guarding"]) or not spare <= self.fences:
+            yield f"guarding fences are {sorted(spare)}"
+        if any(what["earlier"] != self.fallible[0] for what in self.found["guarding"].values()):
+            yield f"member {self.fallible[0]} is the first that can fail"
         complete = not self.found["missing"]
         if any(what["once_corrected"] == complete for what in self.found["needless"].values()):
             yield "what is needless once fences are set is not so"
@@ -184,7 +197,7 @@ def submissions(recording, report):
 
 def judge(recording, report, status, name):
     """Compares a report with what the brute force finds."""
-    totals = dict.fromkeys(("batches", "lone", "descriptors", "unseen", "fences", "missing", "needless"), 0)
+    totals = dict.fromkeys(("batches", "lone", "descriptors", "unseen", "fences", "missing", "needless", "guarding"), 0)
     for it, is_batch in submissions(recording, report):
         for fault in it.faults():
             common.expect(False, f"{name}, submission {it.number}: {fault}")
@@ -216,6 +229,7 @@ class Maker:
         record = 0x800000 + 32 * (number * 16 + (k if choose() < 0.97 else 0))
         flags = 0x0C if choose() < 0.9 else self.random.choice([0, 0x04, 0x08, 0x1C, 0x0E])
         flags |= int(choose() < (0.35 if k else 0.05))
+        flags |= 0x80 * int(choose() < 0.1)
         code = self.random.choices(
             [MOVE, FILL, COMPARE, PATTERN, DELTA, DUALCAST, 0x00, 0x10, 0x01, 0x02, "empty", "wrap", "owner"],
             [50, 15, 15, 5, 3, 4, 3, 1, 0 if is_lone else 1, 1, 1, 1, 0 if is_lone else 1],
@@ -250,7 +264,7 @@ def brute_force():
         for name, number in judge(recording, report, status, f"seed {seed}").items():
             sums[name] = sums.get(name, 0) + number
     print(", ".join(f"{number} {name}" for name, number in sums.items()))
-    common.expect(all(sums[name] > COUNT // 10 for name in ("missing", "needless", "unseen")), f"too few findings: {sums}")
+    common.expect(all(sums[name] > COUNT // 10 for name in ("missing", "needless", "guarding", "unseen")), f"too few findings: {sums}")
 
 
 # ---- what the planner submits

@@ -1,5 +1,5 @@
 -- What an audit promises holds.
-use Rattle.std.proofs.Common.{inl, inr, ◌≡◌, ℕ, ◌+◌, ◌-◌, ◌<◌, Some, List, length, get_or, false, ap, ◌∙◌, subst, arith, slice_get}
+use Rattle.std.proofs.Common.{inl, inr, ◌≡◌, ◌↔◌, ℕ, Bool, ◌+◌, ◌-◌, ◌<◌, Some, List, length, get_or, false, ap, ◌∙◌, subst, arith, slice_get}
 use Rattle.std.proofs.lemmas.Option.{slice_get-get_or}
 use Rattle.std.proofs.lemmas.Bool.{cases_lt}
 use Rattle.dsa_settings.specs.Plan.{Group}
@@ -10,8 +10,8 @@ use Rattle.dsa_audit.specs.declared.missing.FencePlace.{FencePlace}
 use Rattle.dsa_audit.specs.declared.missing.FencePlace.TheVariants.{NoFence, Given, Missing}
 use Rattle.dsa_audit.specs.declared.needless.FenceUse.{FenceUse}
 use Rattle.dsa_audit.specs.Members.{AreKnownToConflict, CanConflict, KnownConflict, PossibleConflict}
-use Rattle.dsa_audit.specs.Audits.{HasFence, IsMissing, PlaceHolds, IsCorrected, IsReduced, Separates}
-use Rattle.dsa_audit.specs.Laws.{IsBetween, Holds}
+use Rattle.dsa_audit.specs.Audits.{HasFence, IsSeparated, IsMissing, PlaceHolds, IsCorrected, IsReduced, Separates}
+use Rattle.dsa_audit.specs.Laws.{IsBetween, AllCanFail, Starts, Holds}
 use Rattle.dsa_audit.proofs.Flags.{fence_within}
 
 known_can : (m n : Member) → AreKnownToConflict m n → CanConflict m n
@@ -23,35 +23,43 @@ known_can (Unknown why) (Unknown other) c = tt
 known_possible : (ms : List Member) (i j : ℕ) → KnownConflict ms i j → PossibleConflict ms i j
 known_possible ms i j c = (c.0, c.1, c.2, c.3, known_can c.0 c.1 c.4)
 
-spare : (ms : List Member) (T : ℕ → ℕ → Type 0) (h k : Group) (uses : List FenceUse) → ((i j : ℕ) → T i j → PossibleConflict ms i j)
-    → IsReduced (PossibleConflict ms) h uses k → Separates T h → Separates T k
-spare ms T h k uses may reduced separates a b ordered within conflict =
+spare : (ms : List Member) (bs : List Bool) (T : ℕ → ℕ → Type 0) (h k : Group) (uses : List FenceUse) → ((i j : ℕ) → T i j → PossibleConflict ms i j)
+    → IsReduced (PossibleConflict ms) bs h uses k → Separates T h → Separates T k
+spare ms bs T h k uses may reduced separates a b ordered within conflict =
     let inside : b < length h = omega (arith, reduced.less.same_length) in
     reduced.separates a b ordered inside (may a b conflict) (separates a b ordered inside conflict)
 
-given_at : (ms : List Member) (g h k : Group) (uses : List FenceUse) (m : ℕ) (place : FencePlace) → length h ≡ length g → m < length g
-    → IsReduced (PossibleConflict ms) h uses k → HasFence h m → ¬ HasFence k m → PlaceHolds (KnownConflict ms) g h m place → HasFence g m
-given_at ms g h k uses m NoFence same within reduced here gone is = absurd (is.1 here)
-given_at ms g h k uses m Given same within reduced here gone is = is.0
-given_at ms g h k uses m (Missing i) same within reduced here gone is =
+given_at : (ms : List Member) (bs : List Bool) (g h k : Group) (uses : List FenceUse) (m : ℕ) (place : FencePlace) → length h ≡ length g → m < length g
+    → IsReduced (PossibleConflict ms) bs h uses k → HasFence h m → ¬ HasFence k m → PlaceHolds (KnownConflict ms) g h m place → HasFence g m
+given_at ms bs g h k uses m NoFence same within reduced here gone is = absurd (is.1 here)
+given_at ms bs g h k uses m Given same within reduced here gone is = is.0
+given_at ms bs g h k uses m (Missing i) same within reduced here gone is =
     let p = reduced.separates i m is.before (omega arith) (known_possible ms i m is.conflict) (record { at = m; behind = is.before; up_to = omega arith; fence = here }) in
     elim (cases_lt p.at m) [
       | inl before ↦ absurd (is.alone p.at p.behind before (reduced.less.fences p.at p.fence))
       | inr from ↦ let e : p.at ≡ m = omega (arith, p.up_to) in absurd (gone (subst (HasFence k) e p.fence))
     ]
 
-pub held : (ms : List Member) (T : ℕ → ℕ → Type 0) (g h k : Group) (places : List FencePlace) (uses : List FenceUse)
-    → IsBetween ms T → IsCorrected (KnownConflict ms) g places h → IsReduced (PossibleConflict ms) h uses k → Holds T ms g h k places
-held ms T g h k places uses between corrected reduced =
+same_starts : (ms : List Member) (bs : List Bool) (h k : Group) (uses : List FenceUse) (failed : ℕ → Bool) (b : ℕ) → IsReduced (PossibleConflict ms) bs h uses k
+    → AllCanFail bs failed → Starts failed h b ↔ Starts failed k b
+same_starts ms bs h k uses failed b reduced can = (
+  (λ starts a fails p. starts a fails (record { at = p.at; behind = p.behind; up_to = p.up_to; fence = reduced.less.fences p.at p.fence })),
+  (λ starts a fails p. starts a fails (record { at = p.at; behind = p.behind; up_to = p.up_to; fence = reduced.guards a p.at (can a fails) p.behind p.fence })),
+)
+
+pub held : (ms : List Member) (bs : List Bool) (T : ℕ → ℕ → Type 0) (g h k : Group) (places : List FencePlace) (uses : List FenceUse)
+    → IsBetween ms T → IsCorrected (KnownConflict ms) g places h → IsReduced (PossibleConflict ms) bs h uses k → Holds T ms bs g h k places
+held ms bs T g h k places uses between corrected reduced =
     record {
       missing = λ i m within is.
           let found : IsMissing (KnownConflict ms) g h i m = subst (PlaceHolds (KnownConflict ms) g h m) is (corrected.each m within) in
-          (between.known i m found.conflict, found.unseparated);
-      spared = spare ms T h k uses between.possible reduced;
+          (found.before, between.known i m found.conflict, found.unseparated);
+      spared = spare ms bs T h k uses between.possible reduced;
       given = λ m here gone.
           let w : m < length g = omega (arith, fence_within h m here, corrected.more.same_length) in
-          given_at ms g h k uses m (get_or places m NoFence) corrected.more.same_length w reduced here gone (corrected.each m w);
-      legal = spare ms (KnownConflict ms) h k uses (known_possible ms) reduced corrected.separates;
+          given_at ms bs g h k uses m (get_or places m NoFence) corrected.more.same_length w reduced here gone (corrected.each m w);
+      legal = spare ms bs (KnownConflict ms) h k uses (known_possible ms) reduced corrected.separates;
+      starts = λ failed b can. same_starts ms bs h k uses failed b reduced can;
     }
 
 pub separates : (C : ℕ → ℕ → Type 0) (start : ℕ) (g : Group) → Separates (λ a b. C (start + a) (start + b)) g → SeparatesConflicts C start g

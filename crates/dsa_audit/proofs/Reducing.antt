@@ -1,15 +1,16 @@
 -- A batch whose needless fences are gone up to some member.
-use Rattle.std.proofs.Common.{◌≡◌, ℕ, ◌+◌, ◌<◌, ◌≤◌, ◌⊎◌, inl, inr, Bool, true, false, List, [], ◌∷◌, ◌++◌, length, get_or, take, refl, sym, subst, arith, length-append}
+use Rattle.std.proofs.Common.{◌≡◌, ℕ, ◌+◌, ◌<◌, ◌≤◌, ◌⊎◌, inl, inr, ◌-◌, Option, Some, None, Bool, true, false, List, [], ◌∷◌, ◌++◌, length, get_or, take, refl, sym, subst, arith, length-append}
+use Rattle.std.specs.Prelude.{MatchOption}
 use Rattle.std.proofs.Math.ListN.{get_or-append}
 use Rattle.std.proofs.Math.Seq.{get_or-append_seam}
 use Rattle.std.proofs.lemmas.Bool.{true≢false, cases_lt}
 use Rattle.dsa_settings.specs.Plan.{Group, fence_count}
 use Rattle.dsa_audit.specs.declared.needless.FenceUse.{FenceUse}
 use Rattle.dsa_audit.specs.declared.needless.FenceUse.TheVariants as fence_use
-use Rattle.dsa_audit.specs.Audits.{HasFence, IsSeparated, SeparatesAsMuch, HasFencesOf, UseHolds, IsReduced}
-use Rattle.dsa_audit.specs.Steps.{IsNextUse, IsWitness, is_kept, epoch_kept}
+use Rattle.dsa_audit.specs.Audits.{HasFence, IsSeparated, SeparatesAsMuch, HasFencesOf, CanFail, KeepsGuards, IsFirstToFail, UseHolds, IsReduced}
+use Rattle.dsa_audit.specs.Steps.{IsNextUse, IsSpare, IsWitness, is_kept, epoch_kept}
 use Rattle.dsa_audit.proofs.Flags.{fence_within, pushed_before, pushed_back, pushed_last, pushed_old, separated_pushed, count_more, count_all, count_true, count_false}
-use Rattle.dsa_audit.proofs.Scanned.{IsCounted}
+use Rattle.dsa_audit.proofs.Scanned.{IsCounted, IsMore}
 
 -- a fence that is still to be looked at, up to member b
 pub record IsLater (g : Group) (at b : ℕ) : Type 0 where
@@ -18,7 +19,7 @@ pub record IsLater (g : Group) (at b : ℕ) : Type 0 where
   pub up_to : place ≤ b
   pub fence : HasFence g place
 
-pub record Reducing (C : ℕ → ℕ → Type 0) (g : Group) (at epoch : ℕ) (us : List FenceUse) (h : Group) : Type 0 where
+pub record Reducing (C : ℕ → ℕ → Type 0) (bs : List Bool) (g : Group) (at epoch : ℕ) (us : List FenceUse) (h : Group) : Type 0 where
   pub count : length h ≡ at
   pub uses : length us ≡ at
   pub behind : epoch ≤ at
@@ -26,13 +27,26 @@ pub record Reducing (C : ℕ → ℕ → Type 0) (g : Group) (at epoch : ℕ) (u
   pub opened : (k : ℕ) → epoch < k → ¬ HasFence h k
   pub given : (k : ℕ) → HasFence h k → HasFence g k
   pub separates : (a b m : ℕ) → b < length g → C a b → a < m → m ≤ b → m < at → HasFence g m → IsSeparated h a b ⊎ IsLater g at b
-  pub least : (other : Group) → HasFencesOf other g → SeparatesAsMuch C g other → IsCounted h at epoch other
-  pub each : (k : ℕ) → k < at → UseHolds C g h k (get_or us k fence_use.NoFence)
+  pub guards : (m k : ℕ) → k < at → CanFail bs m → m < k → HasFence g k → HasFence h k
+  pub least : (other : Group) → HasFencesOf other g → SeparatesAsMuch C g other → KeepsGuards bs g other → IsCounted h at epoch other
+  pub each : (k : ℕ) → k < at → UseHolds C bs g h k (get_or us k fence_use.NoFence)
 
-use_pushed : (C : ℕ → ℕ → Type 0) (g h : Group) (x : Bool) (k : ℕ) (u : FenceUse) → k < length h → UseHolds C g h k u → UseHolds C g (h ++ x ∷ []) k u
-use_pushed C g h x k fence_use.NoFence lt (given, none) = (given, λ f. none (pushed_old h x k lt f))
-use_pushed C g h x k fence_use.Needless lt (given, none) = (given, λ f. none (pushed_old h x k lt f))
-use_pushed C g h x k (fence_use.Needed i j) lt is =
+use_pushed : (C : ℕ → ℕ → Type 0) (bs : List Bool) (g h : Group) (x : Bool) (k : ℕ) (u : FenceUse) → k < length h → UseHolds C bs g h k u → UseHolds C bs g (h ++ x ∷ []) k u
+use_pushed C bs g h x k fence_use.NoFence lt (given, none) = (given, λ f. none (pushed_old h x k lt f))
+use_pushed C bs g h x k fence_use.Needless lt (given, none, safe) = (given, (λ f. none (pushed_old h x k lt f)), safe)
+use_pushed C bs g h x k (fence_use.Guarding m) lt is =
+    record {
+      before = is.before;
+      first = is.first;
+      given = is.given;
+      stays = pushed_before h x k is.stays;
+      unneeded = λ i j before behind within conflict.
+          elim (is.unneeded i j before behind within conflict) [
+            | inl here ↦ inl (separated_pushed h x i (k - 1) here)
+            | inr there ↦ inr there
+          ];
+    }
+use_pushed C bs g h x k (fence_use.Needed i j) lt is =
     record {
       before = is.before;
       behind = is.behind;
@@ -44,20 +58,20 @@ use_pushed C g h x k (fence_use.Needed i j) lt is =
       alone_after = is.alone_after;
     }
 
-each_pushed : (C : ℕ → ℕ → Type 0) (g h : Group) (x : Bool) (at : ℕ) (us : List FenceUse) (u : FenceUse) → length h ≡ at → length us ≡ at
-    → ((k : ℕ) → k < at → UseHolds C g h k (get_or us k fence_use.NoFence)) → UseHolds C g (h ++ x ∷ []) at u
-    → (k : ℕ) → k < at + 1 → UseHolds C g (h ++ x ∷ []) k (get_or (us ++ u ∷ []) k fence_use.NoFence)
-each_pushed C g h x at us u count uses each last k lt =
+each_pushed : (C : ℕ → ℕ → Type 0) (bs : List Bool) (g h : Group) (x : Bool) (at : ℕ) (us : List FenceUse) (u : FenceUse) → length h ≡ at → length us ≡ at
+    → ((k : ℕ) → k < at → UseHolds C bs g h k (get_or us k fence_use.NoFence)) → UseHolds C bs g (h ++ x ∷ []) at u
+    → (k : ℕ) → k < at + 1 → UseHolds C bs g (h ++ x ∷ []) k (get_or (us ++ u ∷ []) k fence_use.NoFence)
+each_pushed C bs g h x at us u count uses each last k lt =
     elim (cases_lt k at) [
       | inl below ↦
-          subst (UseHolds C g (h ++ x ∷ []) k) (sym (get_or-append us (u ∷ []) fence_use.NoFence k (omega arith)))
-          (use_pushed C g h x k (get_or us k fence_use.NoFence) (omega arith) (each k below))
+          subst (UseHolds C bs g (h ++ x ∷ []) k) (sym (get_or-append us (u ∷ []) fence_use.NoFence k (omega arith)))
+          (use_pushed C bs g h x k (get_or us k fence_use.NoFence) (omega arith) (each k below))
       | inr above ↦
           let e : length us ≡ k = omega arith in
           let here : get_or (us ++ u ∷ []) k fence_use.NoFence ≡ u =
           subst (λ (z : ℕ). get_or (us ++ u ∷ []) z fence_use.NoFence ≡ u) e (get_or-append_seam us u [] fence_use.NoFence) in
           let same : at ≡ k = omega arith in
-          subst (UseHolds C g (h ++ x ∷ []) k) (sym here) (subst (λ (z : ℕ). UseHolds C g (h ++ x ∷ []) z u) same last)
+          subst (UseHolds C bs g (h ++ x ∷ []) k) (sym here) (subst (λ (z : ℕ). UseHolds C bs g (h ++ x ∷ []) z u) same last)
     ]
 
 not_last : (h : Group) (at : ℕ) → length h ≡ at → ¬ HasFence (h ++ false ∷ []) at
@@ -68,11 +82,12 @@ not_last h at count f =
     ]
 
 -- no fence stays at `at`; where there is one, what it separates is separated without it
-dropped_next : (C : ℕ → ℕ → Type 0) (g : Group) (at epoch : ℕ) (us : List FenceUse) (h : Group) (u : FenceUse) → Reducing C g at epoch us h
-    → UseHolds C g (h ++ false ∷ []) at u
+dropped_next : (C : ℕ → ℕ → Type 0) (bs : List Bool) (g : Group) (at epoch : ℕ) (us : List FenceUse) (h : Group) (u : FenceUse) → Reducing C bs g at epoch us h
+    → UseHolds C bs g (h ++ false ∷ []) at u
     → ((a b : ℕ) → b < length g → C a b → a < at → at ≤ b → HasFence g at → IsSeparated (h ++ false ∷ []) a b ⊎ IsLater g (at + 1) b)
-    → Reducing C g (at + 1) epoch (us ++ u ∷ []) (h ++ false ∷ [])
-dropped_next C g at epoch us h u s is spare =
+    → ((m : ℕ) → m < at → CanFail bs m → HasFence g at → ⊥)
+    → Reducing C bs g (at + 1) epoch (us ++ u ∷ []) (h ++ false ∷ [])
+dropped_next C bs g at epoch us h u s is spare safe =
     record {
       count = omega (arith, s.count, length-append h (false ∷ []));
       uses = omega (arith, s.uses, length-append us (u ∷ []));
@@ -103,23 +118,31 @@ dropped_next C g at epoch us h u s is spare =
                       ]
                 ]
           ];
-      least = λ other less separates.
-          let l = s.least other less separates in
+      guards = λ m k below fails before f.
+          elim (cases_lt k at) [
+            | inl less ↦ pushed_before h false k (s.guards m k less fails before f)
+            | inr more ↦ let e : k ≡ at = omega arith in absurd (safe m (omega arith) fails (subst (HasFence g) e f))
+          ];
+      least = λ other less separates keeps.
+          let l = s.least other less separates keeps in
           record {
             end = l.end;
             within = omega (arith, l.within);
             up_to = l.up_to;
             counted = omega (arith, l.counted, count_false h);
           };
-      each = each_pushed C g h false at us u s.count s.uses s.each is;
+      each = each_pushed C bs g h false at us u s.count s.uses s.each is;
     }
 
-kept_next : (C : ℕ → ℕ → Type 0) (g : Group) (at epoch : ℕ) (us : List FenceUse) (h : Group) (i j : ℕ) → Reducing C g at epoch us h
-    → HasFence g at → IsWitness C g epoch at i j → Reducing C g (at + 1) at (us ++ fence_use.Needed i j ∷ []) (h ++ true ∷ [])
-kept_next C g at epoch us h i j s fenced witness =
+-- the fence at `at` stays, and whatever separates as much and keeps guards has one for it
+kept_next : (C : ℕ → ℕ → Type 0) (bs : List Bool) (g : Group) (at epoch : ℕ) (us : List FenceUse) (h : Group) (u : FenceUse) → Reducing C bs g at epoch us h
+    → HasFence g at → UseHolds C bs g (h ++ true ∷ []) at u
+    → ((other : Group) → HasFencesOf other g → SeparatesAsMuch C g other → KeepsGuards bs g other → IsMore at epoch other)
+    → Reducing C bs g (at + 1) at (us ++ u ∷ []) (h ++ true ∷ [])
+kept_next C bs g at epoch us h u s fenced is more_of =
     record {
       count = omega (arith, s.count, length-append h (true ∷ []));
-      uses = omega (arith, s.uses, length-append us (fence_use.Needed i j ∷ []));
+      uses = omega (arith, s.uses, length-append us (u ∷ []));
       behind = omega arith;
       starts = λ some. pushed_last h at s.count;
       opened = λ k after f.
@@ -141,39 +164,107 @@ kept_next C g at epoch us h i j s fenced witness =
                   | inr later ↦ inl (record { at = at; behind = omega arith; up_to = omega (arith, later.from, later.up_to); fence = pushed_last h at s.count })
                 ]
           ];
-      least = λ other less separates.
-          let l = s.least other less separates in
-          let p = separates i j (omega (arith, witness.before, witness.behind)) witness.within witness.conflict (record { at = at; behind = witness.before; up_to = witness.behind; fence = fenced }) in
-          elim (cases_lt at p.at) [
-            | inl after ↦ absurd (witness.open_after p.at after p.up_to (less.fences p.at p.fence))
-            | inr up_to ↦
-                let c : fence_count (take l.end other) + 1 ≤ fence_count (take (at + 1) other) =
-                count_more other l.end p.at (at + 1) (omega (arith, l.up_to, witness.begun, p.behind)) (omega arith) p.fence in
-                record {
-                  end = at + 1;
-                  within = omega arith;
-                  up_to = omega arith;
-                  counted = omega (arith, l.counted, count_true h);
-                }
+      guards = λ m k below fails before f.
+          elim (cases_lt k at) [
+            | inl less ↦ pushed_before h true k (s.guards m k less fails before f)
+            | inr more ↦ pushed_last h k (omega (arith, s.count))
           ];
-      each = each_pushed C g h true at us (fence_use.Needed i j) s.count s.uses s.each (record {
-        before = witness.before;
-        behind = witness.behind;
-        within = witness.within;
-        conflict = witness.conflict;
-        given = fenced;
-        stays = pushed_last h at s.count;
-        alone_before = λ m after up_to f. s.opened m (omega (arith, witness.begun)) (pushed_old h true m (omega (arith, s.count)) f);
-        alone_after = witness.open_after;
-      });
+      least = λ other less separates keeps.
+          let l = s.least other less separates keeps in
+          let p = more_of other less separates keeps in
+          let c : fence_count (take l.end other) + 1 ≤ fence_count (take (at + 1) other) =
+          count_more other l.end p.place (at + 1) (p.behind l.end l.within l.up_to) (omega (arith, p.up_to)) p.fence in
+          record {
+            end = at + 1;
+            within = omega arith;
+            up_to = omega arith;
+            counted = omega (arith, l.counted, count_true h);
+          };
+      each = each_pushed C bs g h true at us u s.count s.uses s.each is;
     }
 
-pub reducing_next : (C : ℕ → ℕ → Type 0) (g : Group) (at epoch : ℕ) (us : List FenceUse) (h : Group) (u : FenceUse) → Reducing C g at epoch us h
-    → IsNextUse C g epoch at u → Reducing C g (at + 1) (epoch_kept u epoch at) (us ++ u ∷ []) (h ++ is_kept u ∷ [])
-reducing_next C g at epoch us h fence_use.NoFence s is =
-    dropped_next C g at epoch us h fence_use.NoFence s (is, not_last h at s.count) (λ a b within conflict before behind f. absurd (is f))
-reducing_next C g at epoch us h fence_use.Needless s (fenced, spare) =
-    dropped_next C g at epoch us h fence_use.Needless s (fenced, not_last h at s.count)
+needed_next : (C : ℕ → ℕ → Type 0) (bs : List Bool) (g : Group) (at epoch : ℕ) (us : List FenceUse) (h : Group) (i j : ℕ) → Reducing C bs g at epoch us h
+    → HasFence g at → IsWitness C g epoch at i j → Reducing C bs g (at + 1) at (us ++ fence_use.Needed i j ∷ []) (h ++ true ∷ [])
+needed_next C bs g at epoch us h i j s fenced witness =
+    kept_next C bs g at epoch us h (fence_use.Needed i j) s fenced
+    (record {
+      before = witness.before;
+      behind = witness.behind;
+      within = witness.within;
+      conflict = witness.conflict;
+      given = fenced;
+      stays = pushed_last h at s.count;
+      alone_before = λ m after up_to f. s.opened m (omega (arith, witness.begun)) (pushed_old h true m (omega (arith, s.count)) f);
+      alone_after = witness.open_after;
+    })
+    (λ other less separates keeps.
+    let p = separates i j (omega (arith, witness.before, witness.behind)) witness.within witness.conflict (record { at = at; behind = witness.before; up_to = witness.behind; fence = fenced }) in
+    elim (cases_lt at p.at) [
+      | inl after ↦ absurd (witness.open_after p.at after p.up_to (less.fences p.at p.fence))
+      | inr up_to ↦
+          record {
+            place = p.at;
+            behind = λ e within up_to. omega (arith, p.behind, witness.begun);
+            up_to = omega arith;
+            fence = p.fence;
+          }
+    ])
+
+guarding_next : (C : ℕ → ℕ → Type 0) (bs : List Bool) (g : Group) (at epoch : ℕ) (us : List FenceUse) (h : Group) (m : ℕ) → Reducing C bs g at epoch us h
+    → HasFence g at → IsSpare C g epoch at → IsFirstToFail bs m → m < at
+    → Reducing C bs g (at + 1) at (us ++ fence_use.Guarding m ∷ []) (h ++ true ∷ [])
+guarding_next C bs g at epoch us h m s fenced spare first before =
+    kept_next C bs g at epoch us h (fence_use.Guarding m) s fenced
+    (record {
+      before = before;
+      first = first;
+      given = fenced;
+      stays = pushed_last h at s.count;
+      unneeded = λ i j ahead behind within conflict.
+          elim (cases_lt i epoch) [
+            | inr from ↦ inr (spare i j from ahead behind within conflict)
+            | inl early ↦
+                elim (cases_lt epoch at) [
+                  | inl less ↦
+                      inl (record {
+                        at = epoch;
+                        behind = early;
+                        up_to = omega arith;
+                        fence = pushed_before h true epoch (s.starts (omega arith));
+                      })
+                  | inr same ↦
+                      let w : epoch < length h = fence_within h epoch (s.starts (omega arith)) in
+                      absurd (omega (arith, s.count))
+                ]
+          ];
+    })
+    (λ other less separates keeps. record {
+      place = at;
+      behind = λ e within up_to. within;
+      up_to = omega arith;
+      fence = keeps m at first.fails before fenced;
+    })
+
+-- no member before `at` can fail, where the first that can does not stand before it
+none_fails : (bs : List Bool) (first : Option ℕ) (at : ℕ) → MatchOption first ((m : ℕ) → ¬ CanFail bs m) (IsFirstToFail bs)
+    → ((m : ℕ) → first ≡ Some m → at ≤ m) → (m : ℕ) → m < at → ¬ CanFail bs m
+none_fails bs None at is late m lt fails = is m fails
+none_fails bs (Some f) at is late m lt fails =
+    let le : at ≤ f = late f refl in
+    is.first m (omega (arith, le, lt)) fails
+
+first_fails : (bs : List Bool) (first : Option ℕ) (m : ℕ) → MatchOption first ((n : ℕ) → ¬ CanFail bs n) (IsFirstToFail bs) → first ≡ Some m → IsFirstToFail bs m
+first_fails bs None m is e = absurd cc
+first_fails bs (Some f) m is e = let same : f ≡ m = cc in subst (IsFirstToFail bs) same is
+
+pub reducing_next : (C : ℕ → ℕ → Type 0) (bs : List Bool) (g : Group) (at epoch : ℕ) (us : List FenceUse) (h : Group) (u : FenceUse) (first : Option ℕ)
+    → MatchOption first ((m : ℕ) → ¬ CanFail bs m) (IsFirstToFail bs) → Reducing C bs g at epoch us h → IsNextUse C first g epoch at u
+    → Reducing C bs g (at + 1) (epoch_kept u epoch at) (us ++ u ∷ []) (h ++ is_kept u ∷ [])
+reducing_next C bs g at epoch us h fence_use.NoFence first fails s is =
+    dropped_next C bs g at epoch us h fence_use.NoFence s (is, not_last h at s.count) (λ a b within conflict before behind f. absurd (is f))
+    (λ m before can f. is f)
+reducing_next C bs g at epoch us h fence_use.Needless first fails s (fenced, spare, late) =
+    dropped_next C bs g at epoch us h fence_use.Needless s (fenced, not_last h at s.count, none_fails bs first at fails late)
     (λ a b within conflict before behind f.
     elim (cases_lt a epoch) [
       | inl early ↦
@@ -187,10 +278,13 @@ reducing_next C g at epoch us h fence_use.Needless s (fenced, spare) =
           let p = spare a b from before behind within conflict in
           inr (record { place = p.at; from = omega (arith, p.behind); up_to = p.up_to; fence = p.fence })
     ])
-reducing_next C g at epoch us h (fence_use.Needed i j) s (fenced, witness) = kept_next C g at epoch us h i j s fenced witness
+    (λ m before can f. none_fails bs first at fails late m before can)
+reducing_next C bs g at epoch us h (fence_use.Guarding m) first fails s (fenced, spare, (is, before)) =
+    guarding_next C bs g at epoch us h m s fenced spare (first_fails bs first m fails is) before
+reducing_next C bs g at epoch us h (fence_use.Needed i j) first fails s (fenced, witness) = needed_next C bs g at epoch us h i j s fenced witness
 
-pub reducing_none : (C : ℕ → ℕ → Type 0) (g : Group) → Reducing C g 0 0 [] []
-reducing_none C g =
+pub reducing_none : (C : ℕ → ℕ → Type 0) (bs : List Bool) (g : Group) → Reducing C bs g 0 0 [] []
+reducing_none C bs g =
     record {
       count = refl;
       uses = refl;
@@ -199,12 +293,13 @@ reducing_none C g =
       opened = λ k after f. true≢false (sym f);
       given = λ k f. absurd (true≢false (sym f));
       separates = λ a b m within conflict after up_to below f. absurd (omega arith);
-      least = λ other less separates. record { end = 0; within = omega arith; up_to = omega arith; counted = omega arith };
+      guards = λ m k below fails before f. absurd (omega arith);
+      least = λ other less separates keeps. record { end = 0; within = omega arith; up_to = omega arith; counted = omega arith };
       each = λ k below. absurd (omega arith);
     }
 
-pub reducing_all : (C : ℕ → ℕ → Type 0) (g : Group) (at epoch : ℕ) (us : List FenceUse) (h : Group) → Reducing C g at epoch us h → length g ≡ at → IsReduced C g us h
-reducing_all C g at epoch us h s all =
+pub reducing_all : (C : ℕ → ℕ → Type 0) (bs : List Bool) (g : Group) (at epoch : ℕ) (us : List FenceUse) (h : Group) → Reducing C bs g at epoch us h → length g ≡ at → IsReduced C bs g us h
+reducing_all C bs g at epoch us h s all =
     record {
       less = record { same_length = omega (arith, s.count); fences = s.given };
       separates = λ a b ordered within conflict separated.
@@ -212,8 +307,11 @@ reducing_all C g at epoch us h s all =
             | inl there ↦ there
             | inr later ↦ let w : later.place < length g = fence_within g later.place later.fence in absurd (omega (arith, later.from))
           ];
-      least = λ other less separates.
-          let l = s.least other less separates in
+      guards = λ m k fails before f.
+          let w : k < length g = fence_within g k f in
+          s.guards m k (omega arith) fails before f;
+      least = λ other less separates keeps.
+          let l = s.least other less separates keeps in
           omega (arith, l.counted, count_all other l.end);
       count = omega (arith, s.uses);
       each = λ k below. s.each k (omega arith);

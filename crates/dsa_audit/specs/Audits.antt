@@ -1,7 +1,7 @@
 -- Missing and needless fences of a batch (all of this file is this project's choice; what a fence does is specification
 -- 341204, batch and fence). `C a b` says that the members a and b conflict; members are numbered from 0. A group `g`
 -- says before which members a fence stands.
-use Rattle.std.specs.Prelude.{ℕ, ◌≡◌, ◌<◌, ◌≤◌, true, false, List, length, get_or}
+use Rattle.std.specs.Prelude.{ℕ, ◌≡◌, ◌⊎◌, ◌-◌, ◌<◌, ◌≤◌, Bool, true, false, List, length, get_or}
 use Rattle.dsa_settings.specs.Plan.{Group, fence_count}
 use Rattle.dsa_audit.specs.declared.missing.FencePlace.{FencePlace}
 use Rattle.dsa_audit.specs.declared.missing.FencePlace.TheVariants as fence_place
@@ -65,6 +65,20 @@ pub record IsCorrected (C : ℕ → ℕ → Type 0) (g : Group) (places : List F
 
 -- ---- needless fences
 
+-- member k can fail: it may end with another status than 1, and the device then abandons the next fenced member and all
+-- behind that
+abbrev pub CanFail : List Bool → ℕ → Type 0
+CanFail fallible k = get_or fallible k false ≡ true
+
+-- h has each fence of g that stands behind a member that can fail
+abbrev pub KeepsGuards : List Bool → Group → Group → Type 0
+KeepsGuards fallible g h = (m k : ℕ) → CanFail fallible m → m < k → HasFence g k → HasFence h k
+
+-- m is the first member that can fail
+pub record IsFirstToFail (fallible : List Bool) (m : ℕ) : Type 0 where
+  pub fails : CanFail fallible m
+  pub first : (n : ℕ) → n < m → ¬ CanFail fallible n
+
 -- the fence before member k is needed: members i and j conflict, and it alone separates them, of the fences that stay
 -- (h), and behind it also of those given (g)
 pub record IsNeeded (C : ℕ → ℕ → Type 0) (g h : Group) (k i j : ℕ) : Type 0 where
@@ -77,17 +91,33 @@ pub record IsNeeded (C : ℕ → ℕ → Type 0) (g h : Group) (k i j : ℕ) : T
   pub alone_before : (m : ℕ) → i < m → m < k → ¬ HasFence h m
   pub alone_after : ShareEpoch g k j
 
--- what is said of member k holds: there is no fence in g or h, there is one in g alone, or it is needed
-abbrev pub UseHolds : (ℕ → ℕ → Type 0) → Group → Group → ℕ → FenceUse → Type 0
-UseHolds C g h k fence_use.NoFence = (¬ HasFence g k) × (¬ HasFence h k)
-UseHolds C g h k fence_use.Needless = HasFence g k × (¬ HasFence h k)
-UseHolds C g h k (fence_use.Needed i j) = IsNeeded C g h k i j
+-- the fence before member k guards: no conflict needs it, since each two members around it that conflict have another
+-- fence between, one that stays (h) before it or one that was given (g) behind it; but member m stands before it, the
+-- first that can fail
+pub record IsGuarding (C : ℕ → ℕ → Type 0) (fallible : List Bool) (g h : Group) (k m : ℕ) : Type 0 where
+  pub before : m < k
+  pub first : IsFirstToFail fallible m
+  pub given : HasFence g k
+  pub stays : HasFence h k
+  pub unneeded :
+      (i j : ℕ) → i < k → k ≤ j → j < length g → C i j → IsSeparated h i (k - 1) ⊎ IsSeparated g k j
 
--- h is g without the needless fences: it separates all conflicts that g separates; whatever does that with fences of g
--- alone has no fewer; and what is said of each member holds
-pub record IsReduced (C : ℕ → ℕ → Type 0) (g : Group) (uses : List FenceUse) (h : Group) : Type 0 where
+-- what is said of member k holds: there is no fence in g or h; there is one in g alone, and no member before it can
+-- fail; it guards; or it is needed
+abbrev pub UseHolds : (ℕ → ℕ → Type 0) → List Bool → Group → Group → ℕ → FenceUse → Type 0
+UseHolds C fallible g h k fence_use.NoFence = (¬ HasFence g k) × (¬ HasFence h k)
+UseHolds C fallible g h k fence_use.Needless =
+    HasFence g k × (¬ HasFence h k) × ((m : ℕ) → m < k → ¬ CanFail fallible m)
+UseHolds C fallible g h k (fence_use.Guarding m) = IsGuarding C fallible g h k m
+UseHolds C fallible g h k (fence_use.Needed i j) = IsNeeded C g h k i j
+
+-- h is g without the needless fences: it separates all conflicts that g separates, and has each fence behind a member
+-- that can fail; whatever does both with fences of g alone has no fewer; and what is said of each member holds
+pub record IsReduced (C : ℕ → ℕ → Type 0) (fallible : List Bool) (g : Group) (uses : List FenceUse) (h : Group) : Type 0 where
   pub less : HasFencesOf h g
   pub separates : SeparatesAsMuch C g h
-  pub least : (other : Group) → HasFencesOf other g → SeparatesAsMuch C g other → fence_count h ≤ fence_count other
+  pub guards : KeepsGuards fallible g h
+  pub least : (other : Group) → HasFencesOf other g → SeparatesAsMuch C g other → KeepsGuards fallible g other →
+      fence_count h ≤ fence_count other
   pub count : length uses ≡ length g
-  pub each : (k : ℕ) → k < length g → UseHolds C g h k (get_or uses k fence_use.NoFence)
+  pub each : (k : ℕ) → k < length g → UseHolds C fallible g h k (get_or uses k fence_use.NoFence)

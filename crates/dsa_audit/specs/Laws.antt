@@ -1,5 +1,5 @@
 -- What an audit of a batch promises.
-use Rattle.std.specs.Prelude.{ℕ, ◌≡◌, ◌+◌, ◌<◌, Bool, IsTrue, List, length, get_or}
+use Rattle.std.specs.Prelude.{ℕ, ◌≡◌, ◌↔◌, ◌+◌, ◌<◌, Bool, IsTrue, List, length, get_or}
 use Rattle.dsa_settings.specs.Plan.{Group}
 use Rattle.dsa_settings.specs.Legal.{SeparatesConflicts}
 use Rattle.dsa_audit.specs.declared.member.Member.{Member}
@@ -8,36 +8,50 @@ use Rattle.dsa_audit.specs.declared.missing.FencePlace.TheVariants.{NoFence, Mis
 use Rattle.dsa_audit.specs.declared.needless.FenceUse.{FenceUse}
 use Rattle.dsa_audit.specs.declared.audit.Audit.{Audit}
 use Rattle.dsa_audit.specs.Members.{KnownConflict, PossibleConflict}
-use Rattle.dsa_audit.specs.Audits.{HasFence, IsCorrected, IsReduced, ShareEpoch, Separates}
+use Rattle.dsa_audit.specs.Audits.{HasFence, IsSeparated, CanFail, IsCorrected, IsReduced, ShareEpoch, Separates}
 
 -- the missing fences by the conflicts that are known; of all fences then, the needless ones by the conflicts that are
--- not ruled out
-pub record IsAudit (members : List Member) (g : Group) (a : Audit) : Type 0 where
+-- not ruled out, and by the members that can fail
+pub record IsAudit (members : List Member) (fallible : List Bool) (g : Group) (a : Audit) : Type 0 where
   pub corrected : IsCorrected (KnownConflict members) g a.corrected.places.items a.corrected.fences.items
-  pub reduced : IsReduced (PossibleConflict members) a.corrected.fences.items a.reduced.uses.items a.reduced.fences.items
+  pub reduced :
+      IsReduced (PossibleConflict members) fallible a.corrected.fences.items a.reduced.uses.items a.reduced.fences.items
 
 -- T has all conflicts that are known, and none that is ruled out: it may be the true one
 pub record IsBetween (members : List Member) (T : ℕ → ℕ → Type 0) : Type 0 where
   pub known : (i j : ℕ) → KnownConflict members i j → T i j
   pub possible : (i j : ℕ) → T i j → PossibleConflict members i j
 
+-- where these members fail, member b starts: no fence stands behind one of them and at b at the latest (specification
+-- 341204, batch: the device abandons the next fenced member and all behind it)
+abbrev pub Starts : (ℕ → Bool) → Group → ℕ → Type 0
+Starts failed g b = (a : ℕ) → IsTrue (failed a) → ¬ IsSeparated g a b
+
+-- all of them can fail
+abbrev pub AllCanFail : List Bool → (ℕ → Bool) → Type 0
+AllCanFail fallible failed = (a : ℕ) → IsTrue (failed a) → CanFail fallible a
+
 -- of an audit that leads from the fences g to h and then to k, where T has the true conflicts
-pub record Holds (T : ℕ → ℕ → Type 0) (members : List Member) (g h k : Group) (places : List FencePlace) : Type 0 where
+pub record Holds (T : ℕ → ℕ → Type 0) (members : List Member) (fallible : List Bool) (g h k : Group) (places : List FencePlace) : Type 0 where
   -- each missing fence has a true conflict within an epoch
-  pub missing : (i m : ℕ) → m < length g → get_or places m NoFence ≡ Missing i → T i m × ShareEpoch g i m
+  pub missing : (i m : ℕ) → m < length g → get_or places m NoFence ≡ Missing i → (i < m) × T i m × ShareEpoch g i m
   -- where the corrected batch separates the true conflicts, so does the reduced one
   pub spared : Separates T h → Separates T k
   -- only fences that were there may go
   pub given : (m : ℕ) → HasFence h m → ¬ HasFence k m → HasFence g m
   -- the reduced batch separates all conflicts that are known
   pub legal : Separates (KnownConflict members) k
+  -- whichever members fail of those that can, in both batches the same ones start
+  pub starts : (failed : ℕ → Bool) (b : ℕ) → AllCanFail fallible failed → Starts failed h b ↔ Starts failed k b
 
 -- an audit holds whatever the true conflicts are, given as truth values
 abbrev pub AuditsHold : Type 0
 AuditsHold =
-    (truth : ℕ → ℕ → Bool) (members : List Member) (g h k : Group) (places : List FencePlace) (uses : List FenceUse) →
+    (truth : ℕ → ℕ → Bool) (members : List Member) (fallible : List Bool) (g h k : Group) (places : List FencePlace) →
+    (uses : List FenceUse) →
     IsBetween members (λ i j. IsTrue (truth i j)) → IsCorrected (KnownConflict members) g places h →
-    IsReduced (PossibleConflict members) h uses k → Holds (λ i j. IsTrue (truth i j)) members g h k places
+    IsReduced (PossibleConflict members) fallible h uses k →
+    Holds (λ i j. IsTrue (truth i j)) members fallible g h k places
 
 -- a group that begins with piece `start` of a list and separates its conflicts does so in the sense of legal plans
 abbrev pub SeparatedIsLegal : Type 0

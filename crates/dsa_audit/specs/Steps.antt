@@ -1,5 +1,5 @@
 -- One step of an audit, for private clauses. `epoch` is the member that the epoch of the fences so far begins with.
-use Rattle.std.specs.Prelude.{ℕ, ◌<◌, ◌≤◌, Bool, true, false, length}
+use Rattle.std.specs.Prelude.{ℕ, ◌≡◌, ◌<◌, ◌≤◌, Bool, true, false, Option, Some, length}
 use Rattle.dsa_settings.specs.Plan.{Group}
 use Rattle.dsa_audit.specs.declared.missing.FencePlace.{FencePlace}
 use Rattle.dsa_audit.specs.declared.missing.FencePlace.TheVariants as fence_place
@@ -7,7 +7,7 @@ use Rattle.dsa_audit.specs.declared.needless.FenceUse.{FenceUse}
 use Rattle.dsa_audit.specs.declared.needless.FenceUse.TheVariants as fence_use
 use Rattle.dsa_audit.specs.Audits.{HasFence, IsSeparated, ShareEpoch}
 
--- no member from `from` on and below `before` conflicts with `later`; member i is such a one
+-- no member from `from` on and below `before` conflicts with `later`; member i is the last such one
 abbrev pub NoneFrom : (ℕ → ℕ → Type 0) → ℕ → ℕ → ℕ → Type 0
 NoneFrom C from before later = (i : ℕ) → from ≤ i → i < before → ¬ C i later
 
@@ -15,6 +15,7 @@ pub record IsLastFrom (C : ℕ → ℕ → Type 0) (from before later i : ℕ) :
   pub begun : from ≤ i
   pub ends : i < before
   pub conflict : C i later
+  pub last : (k : ℕ) → i < k → k < before → ¬ C k later
 
 -- ---- missing fences
 
@@ -63,18 +64,30 @@ pub record IsWitness (C : ℕ → ℕ → Type 0) (g : Group) (epoch at i j : �
   pub conflict : C i j
   pub open_after : ShareEpoch g at j
 
+-- what a fence before `at` is for that no conflict needs, where `first` is the first member that can fail
+abbrev pub IsSpareUse : Option ℕ → ℕ → FenceUse → Type 0
+IsSpareUse first at fence_use.NoFence = ⊥
+IsSpareUse first at fence_use.Needless = (m : ℕ) → first ≡ Some m → at ≤ m
+IsSpareUse first at (fence_use.Guarding m) = (first ≡ Some m) × (m < at)
+IsSpareUse first at (fence_use.Needed i j) = ⊥
+
 -- what the fence before a member is for
-abbrev pub IsNextUse : (ℕ → ℕ → Type 0) → Group → ℕ → ℕ → FenceUse → Type 0
-IsNextUse C g epoch at fence_use.NoFence = ¬ HasFence g at
-IsNextUse C g epoch at fence_use.Needless = HasFence g at × IsSpare C g epoch at
-IsNextUse C g epoch at (fence_use.Needed i j) = HasFence g at × IsWitness C g epoch at i j
+abbrev pub IsNextUse : (ℕ → ℕ → Type 0) → Option ℕ → Group → ℕ → ℕ → FenceUse → Type 0
+IsNextUse C first g epoch at fence_use.NoFence = ¬ HasFence g at
+IsNextUse C first g epoch at fence_use.Needless =
+    HasFence g at × IsSpare C g epoch at × IsSpareUse first at fence_use.Needless
+IsNextUse C first g epoch at (fence_use.Guarding m) =
+    HasFence g at × IsSpare C g epoch at × IsSpareUse first at (fence_use.Guarding m)
+IsNextUse C first g epoch at (fence_use.Needed i j) = HasFence g at × IsWitness C g epoch at i j
 
 abbrev pub is_kept : FenceUse → Bool
 is_kept fence_use.NoFence = false
 is_kept fence_use.Needless = false
+is_kept (fence_use.Guarding m) = true
 is_kept (fence_use.Needed i j) = true
 
 abbrev pub epoch_kept : FenceUse → ℕ → ℕ → ℕ
 epoch_kept fence_use.NoFence epoch at = epoch
 epoch_kept fence_use.Needless epoch at = epoch
+epoch_kept (fence_use.Guarding m) epoch at = at
 epoch_kept (fence_use.Needed i j) epoch at = at

@@ -19,17 +19,24 @@ pub struct Audit {
 }
 
 /// The fences that are missing by what is known of the members; and of all fences then, those that are needless whatever
-/// the members do of which nothing is known.
-pub fn audit_fences(alloc: Global, fences: &[bool], members: &[Member]) -> Result<Audit, AllocError>
+/// the members do of which nothing is known, and whichever of those fail that can (`fallible`).
+pub fn audit_fences(
+    alloc: Global,
+    fences: &[bool],
+    members: &[Member],
+    fallible: &[bool],
+) -> Result<Audit, AllocError>
     requires { length fences.now ≡ length members.now }
-    ensures { IfOk result (λ a. IsAudit members.now fences.now a) }
+    ensures { IfOk result (λ a. IsAudit members.now fallible.now fences.now a) }
 {
     let corrected = add_missing(alloc, fences, &KnownConflicts { members })?;
-    let reduced = drop_needless(alloc, &corrected.fences, &PossibleConflicts { members })?;
+    let possible = PossibleConflicts { members };
+    let reduced = drop_needless(alloc, &corrected.fences, &possible, fallible)?;
     Ok(Audit { corrected, reduced })
 }
 
-/// Whatever the members do that are not looked at: what is missing is missing, and what may go may go.
+/// Whatever the members do that are not looked at, and whichever fail that can: what is missing is missing, and what may
+/// go may go.
 pub fn audits_hold()
     ensures { AuditsHold }
 {}

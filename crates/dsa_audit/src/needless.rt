@@ -1,8 +1,8 @@
 //! The fences that a batch does not need.
 
-ghost use Rattle.std.specs.Prelude.{◌≡◌, ◌<◌, ◌≤◌, length, IfOk, MatchOption};
-ghost use Rattle.dsa_audit.specs.Audits.{HasFence, IsReduced};
-ghost use Rattle.dsa_audit.specs.Steps.{IsNextUse, NoneAcross, IsAcross, IsUnfencedUpTo, is_kept, epoch_kept};
+ghost use Rattle.std.specs.Prelude.{◌≡◌, ◌<◌, ◌≤◌, ℕ, length, IfOk, MatchOption};
+ghost use Rattle.dsa_audit.specs.Audits.{HasFence, CanFail, IsFirstToFail, IsReduced};
+ghost use Rattle.dsa_audit.specs.Steps.{IsNextUse, IsSpareUse, NoneAcross, IsAcross, IsUnfencedUpTo, is_kept, epoch_kept};
 
 use crate::relation::{Relation, last_conflict};
 use std::alloc::{AllocError, Global};
@@ -14,6 +14,8 @@ pub enum FenceUse {
     NoFence,
     /// It is needed: of all fences that stay it alone separates these two members, which conflict.
     Needed(usize, usize),
+    /// No conflict needs it, but this earlier member can fail, the first that can: where it does, the fence stops the rest.
+    Guarding(usize),
     /// It may go.
     Needless,
 }
@@ -24,7 +26,7 @@ impl FenceUse {
         ensures { result ≡ is_kept self }
     {
         match self {
-            FenceUse::Needed(_, _) => true,
+            FenceUse::Needed(_, _) | FenceUse::Guarding(_) => true,
             FenceUse::NoFence | FenceUse::Needless => false,
         }
     }
@@ -76,37 +78,77 @@ fn across<R: Relation>(relation: &R, epoch: usize, at: usize, end: usize) -> Opt
     None
 }
 
-/// What the fence before the member is for, where the last fence that stays is at `epoch`.
-fn use_of<R: Relation>(fences: &[bool], relation: &R, epoch: usize, at: usize) -> FenceUse
+/// The first member that can fail.
+fn first_to_fail(fallible: &[bool]) -> Option<usize>
+    ensures { MatchOption result ((m : ℕ) → ¬ CanFail fallible.now m)
+        (IsFirstToFail fallible.now) }
+{
+    for m in 0..fallible.len() {
+        if fallible[m] {
+            return Some(m);
+        }
+    }
+    None
+}
+
+/// What a fence before the member is for that no conflict needs.
+fn spare_use(first: Option<usize>, at: usize) -> FenceUse
+    ensures { IsSpareUse first at result }
+{
+    match first {
+        Some(m) => {
+            if m < at {
+                FenceUse::Guarding(m)
+            } else {
+                FenceUse::Needless
+            }
+        }
+        None => FenceUse::Needless,
+    }
+}
+
+/// What the fence before the member is for, where the last fence that stays is at `epoch`, and `first` is the first member
+/// that can fail.
+fn use_of<R: Relation>(
+    fences: &[bool],
+    relation: &R,
+    first: Option<usize>,
+    epoch: usize,
+    at: usize,
+) -> FenceUse
     requires known { length fences.now ≡ R.count relation.now }
     requires within { at < length fences.now }
-    ensures { IsNextUse (R.conflict relation.now) fences.now epoch at result }
+    ensures { IsNextUse (R.conflict relation.now) first fences.now epoch at result }
 {
     if !fences[at] {
         return FenceUse::NoFence;
     }
     match across(relation, epoch, at, next_fence(fences, at)) {
         Some((earlier, later)) => FenceUse::Needed(earlier, later),
-        None => FenceUse::Needless,
+        None => spare_use(first, at),
     }
 }
 
-/// The fewest fences of a batch that separate all conflicts that its fences separate, each with a conflict that needs it;
-/// the others may go, all at once.
+/// The fewest fences of a batch that separate all conflicts that its fences separate and stop as much where a member fails
+/// that can (`fallible`), each with a conflict that needs it or the first such member before it; the others may go, all at
+/// once.
 pub fn drop_needless<R: Relation>(
     alloc: Global,
     fences: &[bool],
     relation: &R,
+    fallible: &[bool],
 ) -> Result<Reduced, AllocError>
     requires known { length fences.now ≡ R.count relation.now }
     ensures { IfOk result
-        (λ t. IsReduced (R.conflict relation.now) fences.now t.uses.items t.fences.items) }
+        (λ t. IsReduced (R.conflict relation.now) fallible.now fences.now t.uses.items
+        t.fences.items) }
 {
     let mut uses = Vec::new(alloc);
     let mut kept = Vec::new(alloc);
     let mut epoch = 0;
+    let first = first_to_fail(fallible);
     for at in 0..fences.len() {
-        let fence = use_of(fences, relation, epoch, at);
+        let fence = use_of(fences, relation, first, epoch, at);
         uses.push(fence)?;
         kept.push(fence.is_kept())?;
         epoch = fence.epoch(epoch, at);

@@ -10,15 +10,15 @@ use Rattle.dsa_audit.specs.declared.missing.FencePlace.{FencePlace}
 use Rattle.dsa_audit.specs.declared.missing.FencePlace.TheVariants as fence_place
 use Rattle.dsa_audit.specs.declared.needless.FenceUse.{FenceUse}
 use Rattle.dsa_audit.specs.declared.needless.FenceUse.TheVariants as fence_use
-use Rattle.dsa_audit.specs.Members.{KnownConflict}
-use Rattle.dsa_audit.specs.Audits.{PlaceHolds}
+use Rattle.dsa_audit.specs.Members.{KnownConflict, PossibleConflict}
+use Rattle.dsa_audit.specs.Audits.{PlaceHolds, UseHolds}
 use Rattle.dsa_recording.specs.declared.stream.Submission.{Submission}
 use Rattle.dsa_recording.specs.declared.submission.Audited.{Audited}
 use Rattle.dsa_recording.specs.declared.findings.Finding.{Finding}
 use Rattle.dsa_recording.specs.declared.report.Report.{Report}
 use Rattle.dsa_recording.specs.Streams.{end_of, ReadsUpTo}
 use Rattle.dsa_recording.specs.Submissions.{IsWithin, IsAudited, AreAudited, members_in}
-use Rattle.dsa_recording.specs.Findings.{unseen_kind, missing_kind, needless_kind, finding_of, member_findings, findings_upto, submission_findings, recording_findings}
+use Rattle.dsa_recording.specs.Findings.{unseen_kind, missing_kind, use_kind, finding_of, member_findings, findings_upto, submission_findings, recording_findings}
 use Rattle.dsa_recording.specs.Details.{IsOf, HasEntry, IsIn, IsPlaced}
 use Rattle.dsa_recording.specs.Reports.{IsReport}
 use Rattle.dsa_recording.proofs.Within.{each_within, has_all}
@@ -48,10 +48,11 @@ found_missing number k ms g h fence_place.NoFence lt holds = tt
 found_missing number k ms g h fence_place.Given lt holds = tt
 found_missing number k ms g h (fence_place.Missing i) lt holds = (record { number_is = refl; member_is = lt; kind = (holds.before, lt, holds.conflict) }, tt)
 
-found_needless : (number k : ℕ) (ms : List Member) (u : FenceUse) → k < length ms → AllByRecursion (IsAt number ms) (finding_of number k (needless_kind u))
-found_needless number k ms fence_use.NoFence lt = tt
-found_needless number k ms fence_use.Needless lt = (record { number_is = refl; member_is = lt; kind = tt }, tt)
-found_needless number k ms (fence_use.Needed i j) lt = tt
+found_use : (number k : ℕ) (ms : List Member) (bs g h : List _) (u : FenceUse) → k < length ms → UseHolds (PossibleConflict ms) bs g h k u → AllByRecursion (IsAt number ms) (finding_of number k (use_kind u))
+found_use number k ms bs g h fence_use.NoFence lt holds = tt
+found_use number k ms bs g h (fence_use.Guarding m) lt holds = (record { number_is = refl; member_is = lt; kind = holds.before }, tt)
+found_use number k ms bs g h fence_use.Needless lt holds = (record { number_is = refl; member_is = lt; kind = tt }, tt)
+found_use number k ms bs g h (fence_use.Needed i j) lt holds = tt
 
 found_upto : (es : List (List ℕ)) (s : Submission) (number : ℕ) (a : Audited) (k : ℕ) → IsAudited es s a → k ≤ length a.members.items
     → AllByRecursion (IsAt number a.members.items) (findings_upto number a k)
@@ -66,11 +67,13 @@ found_upto es s number a (suc k) is le =
     let places : length a.audit.corrected.places.items ≡ length a.fences.items = is.audit.corrected.count in
     let within : k < length a.fences.items = omega (arith, lt, has.places, places) in
     let holds = is.audit.corrected.each k within in
+    let more : length a.audit.corrected.fences.items ≡ length a.fences.items = is.audit.corrected.more.same_length in
+    let used = is.audit.reduced.each k (omega (arith, within, more)) in
     let here : AllByRecursion (IsAt number ms) (member_findings number k m p u) =
-    all_append (IsAt number ms) (finding_of number k (unseen_kind m) ++ finding_of number k (missing_kind p)) (finding_of number k (needless_kind u))
+    all_append (IsAt number ms) (finding_of number k (unseen_kind m) ++ finding_of number k (missing_kind p)) (finding_of number k (use_kind u))
     (all_append (IsAt number ms) (finding_of number k (unseen_kind m)) (finding_of number k (missing_kind p))
     (found_unseen number k ms m lt) (found_missing number k ms a.fences.items a.audit.corrected.fences.items p lt holds))
-    (found_needless number k ms u lt) in
+    (found_use number k ms a.fallible.items a.audit.corrected.fences.items a.audit.reduced.fences.items u lt used) in
     all_append (IsAt number ms) (findings_upto number a k) (member_findings number k m p u)
     (found_upto es s number a k is (omega (arith, le))) here
 
@@ -129,22 +132,24 @@ found_from es number (s ∷ ss) [] within all = absurd all
 
 -- ---- in a report
 
-entry_within : (es : List (List ℕ)) (s : Submission) (a : Audited) (k : ℕ) → IsWithin es s → IsAudited es s a → k < length a.members.items → s.first + k < length es
+entry_within : (es : List (List ℕ)) (s : Submission) (a : Audited) (k : ℕ) → IsWithin es s → IsAudited es s a → k < length a.members.items → (k < s.size) × (s.first + k < length es)
 entry_within es s a k within is lt =
     let rest : length (drop s.first es) ≡ length es - s.first = length-drop s.first es in
     let size : length (members_in es s) ≡ min (end_of s - s.first) (length (drop s.first es)) = length-take (end_of s - s.first) (drop s.first es) in
     let ends : end_of s ≤ length es = within.members in
-    omega (arith, is.members.count, rest, size, lt, ends)
+    let count : length a.members.items ≡ length (members_in es s) = is.members.count in
+    (omega (arith, count, size, lt), omega (arith, count, rest, size, lt, ends))
 
 from_report : (es : List (List ℕ)) (r : Report) (f : Finding) → IsFrom es 0 r.submissions.items r.audits.items f → IsPlaced es r f
 from_report es r f there =
     let number : f.submission ≡ there.at = there.number_is ∙ (omega arith) in
+    let inside = entry_within es there.submission there.audited f.member there.is_within there.is_audited there.is_at.member_is in
     let s_is : slice_get r.submissions.items f.submission ≡ Some there.submission = ap (slice_get r.submissions.items) number ∙ there.submission_is in
     let a_is : slice_get r.audits.items f.submission ≡ Some there.audited = ap (slice_get r.audits.items) number ∙ there.audited_is in (
       there.submission,
       there.audited.members.items,
       record { submission = s_is; audited = there.audited; audited_is = a_is; members = refl },
-      record { within = entry_within es there.submission there.audited f.member there.is_within there.is_audited there.is_at.member_is; kind = there.is_at.kind },
+      record { member = inside.0; within = inside.1; kind = there.is_at.kind },
     )
 
 pub report_placed : (bytes : List ℕ) (r : Report) → IsReport bytes r → AllByRecursion (IsPlaced (entries bytes) r) r.findings.items

@@ -3,7 +3,7 @@ use Rattle.std.specs.Prelude.{ℕ, ◌≡◌, ◌⊎◌, Bool, true, false, not,
 use Rattle.std.specs.List.{AllByRecursion}
 use Rattle.dsa_recording.specs.declared.findings.Finding.{Finding}
 use Rattle.dsa_recording.specs.declared.findings.FindingKind.{FindingKind}
-use Rattle.dsa_recording.specs.declared.findings.FindingKind.TheVariants.{NotSeen, MissingFence, NeedlessFence}
+use Rattle.dsa_recording.specs.declared.findings.FindingKind.TheVariants.{NotSeen, MissingFence, GuardingFence, NeedlessFence}
 use Rattle.dsa_recording.specs.declared.report.Report.{Report}
 use Rattle.dsa_recording.specs.declared.stream.Submission.{Submission}
 use Rattle.dsa_recording.specs.Streams.{ReadsStream}
@@ -14,6 +14,7 @@ use Rattle.dsa_recording.specs.declared.words.Denied.{Denied}
 abbrev pub is_harmless : Denied → FindingKind → Bool
 is_harmless denied (NotSeen why) = not denied.unseen
 is_harmless denied (MissingFence earlier) = false
+is_harmless denied (GuardingFence earlier) = true
 is_harmless denied NeedlessFence = not denied.needless
 
 abbrev pub AreHarmless : Denied → List Finding → Type 0

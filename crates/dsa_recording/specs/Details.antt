@@ -9,33 +9,43 @@ use Rattle.dsa_recording.specs.declared.stream.Submission.{Submission}
 use Rattle.dsa_recording.specs.declared.submission.Audited.{Audited}
 use Rattle.dsa_recording.specs.declared.findings.Finding.{Finding}
 use Rattle.dsa_recording.specs.declared.findings.FindingKind.{FindingKind}
-use Rattle.dsa_recording.specs.declared.findings.FindingKind.TheVariants.{NotSeen, MissingFence, NeedlessFence}
+use Rattle.dsa_recording.specs.declared.findings.FindingKind.TheVariants.{NotSeen, MissingFence, GuardingFence, NeedlessFence}
 use Rattle.dsa_recording.specs.declared.detail.Cause.{Cause}
 use Rattle.dsa_recording.specs.declared.detail.Cause.TheVariants as cause
 use Rattle.dsa_recording.specs.declared.detail.Detail.{Detail}
 use Rattle.dsa_recording.specs.declared.report.Report.{Report}
 
 -- what is found of member k can be said of these members: where a fence is missing, the earlier member is known to
--- conflict with it
+-- conflict with it; where one guards, the other member is an earlier one
 abbrev pub IsOf : List Member → ℕ → FindingKind → Type 0
 IsOf ms k (NotSeen why) = Unit
 IsOf ms k (MissingFence earlier) = (earlier < k) × (k < length ms) × KnownConflict ms earlier k
+IsOf ms k (GuardingFence earlier) = earlier < k
 IsOf ms k NeedlessFence = Unit
 
 -- what is found, and of a missing fence the hazard between the two members
 abbrev pub IsCause : List Member → ℕ → FindingKind → Cause → Type 0
 IsCause ms k (NotSeen why) (cause.NotSeen other) = other ≡ why
 IsCause ms k (MissingFence earlier) (cause.MissingFence other h) = (other ≡ earlier) × IsHazardBetween ms earlier k h
+IsCause ms k (GuardingFence earlier) (cause.GuardingFence other) = other ≡ earlier
 IsCause ms k NeedlessFence cause.NeedlessFence = Unit
 IsCause ms k (NotSeen why) (cause.MissingFence other h) = ⊥
+IsCause ms k (NotSeen why) (cause.GuardingFence other) = ⊥
 IsCause ms k (NotSeen why) cause.NeedlessFence = ⊥
 IsCause ms k (MissingFence earlier) (cause.NotSeen why) = ⊥
+IsCause ms k (MissingFence earlier) (cause.GuardingFence other) = ⊥
 IsCause ms k (MissingFence earlier) cause.NeedlessFence = ⊥
+IsCause ms k (GuardingFence earlier) (cause.NotSeen why) = ⊥
+IsCause ms k (GuardingFence earlier) (cause.MissingFence other h) = ⊥
+IsCause ms k (GuardingFence earlier) cause.NeedlessFence = ⊥
 IsCause ms k NeedlessFence (cause.NotSeen why) = ⊥
 IsCause ms k NeedlessFence (cause.MissingFence other h) = ⊥
+IsCause ms k NeedlessFence (cause.GuardingFence other) = ⊥
 
--- of a finding in a submission of these members: its member is an entry, and what is found can be said of it
+-- of a finding in a submission of these members: its member is one of the submission, and an entry, and what is found can
+-- be said of it
 pub record HasEntry (es : List (List ℕ)) (s : Submission) (ms : List Member) (f : Finding) : Type 0 where
+  pub member : f.member < s.size
   pub within : s.first + f.member < length es
   pub kind : IsOf ms f.member f.kind
 

@@ -8,11 +8,11 @@ use Rattle.dsa_audit.specs.declared.missing.FencePlace.TheVariants as fence_plac
 use Rattle.dsa_audit.specs.declared.needless.FenceUse.{FenceUse}
 use Rattle.dsa_audit.specs.declared.needless.FenceUse.TheVariants as fence_use
 use Rattle.dsa_recording.specs.declared.findings.FindingKind.{FindingKind}
-use Rattle.dsa_recording.specs.declared.findings.FindingKind.TheVariants.{NotSeen, MissingFence, NeedlessFence}
+use Rattle.dsa_recording.specs.declared.findings.FindingKind.TheVariants.{NotSeen, MissingFence, GuardingFence, NeedlessFence}
 use Rattle.dsa_recording.specs.declared.findings.Finding.{Finding}
 use Rattle.dsa_recording.specs.declared.submission.Audited.{Audited}
 
--- a member is not looked at; a fence is missing before it; its fence is needless; or none of these
+-- a member is not looked at; a fence is missing before it; its fence is needless, or guards; or none of these
 abbrev pub unseen_kind : Member → Option FindingKind
 unseen_kind (member.Known touched) = None
 unseen_kind (member.Unknown why) = Some (NotSeen why)
@@ -22,10 +22,11 @@ missing_kind fence_place.NoFence = None
 missing_kind fence_place.Given = None
 missing_kind (fence_place.Missing earlier) = Some (MissingFence earlier)
 
-abbrev pub needless_kind : FenceUse → Option FindingKind
-needless_kind fence_use.NoFence = None
-needless_kind fence_use.Needless = Some NeedlessFence
-needless_kind (fence_use.Needed earlier later) = None
+abbrev pub use_kind : FenceUse → Option FindingKind
+use_kind fence_use.NoFence = None
+use_kind fence_use.Needless = Some NeedlessFence
+use_kind (fence_use.Guarding earlier) = Some (GuardingFence earlier)
+use_kind (fence_use.Needed earlier later) = None
 
 -- a finding of member k of the submission of that number, if there is one
 abbrev pub finding_of : ℕ → ℕ → Option FindingKind → List Finding
@@ -35,7 +36,7 @@ finding_of number k (Some kind) = record { submission = number; member = k; kind
 -- all findings of a member, in this order
 abbrev pub member_findings : ℕ → ℕ → Member → FencePlace → FenceUse → List Finding
 member_findings number k m place fence =
-    finding_of number k (unseen_kind m) ++ finding_of number k (missing_kind place) ++ finding_of number k (needless_kind fence)
+    finding_of number k (unseen_kind m) ++ finding_of number k (missing_kind place) ++ finding_of number k (use_kind fence)
 
 -- those of the first members of a submission, in their order
 abbrev pub findings_upto : ℕ → Audited → ℕ → List Finding

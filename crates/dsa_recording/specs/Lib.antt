@@ -1,5 +1,6 @@
 pub mod Streams
 pub mod Entries
+pub mod Failures
 pub mod Submissions
 pub mod Findings
 pub mod Reports

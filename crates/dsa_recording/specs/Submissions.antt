@@ -9,6 +9,7 @@ use Rattle.dsa_recording.specs.declared.stream.Submission.{Submission}
 use Rattle.dsa_recording.specs.declared.submission.Audited.{Audited}
 use Rattle.dsa_recording.specs.Streams.{end_of}
 use Rattle.dsa_recording.specs.Entries.{IsMember}
+use Rattle.dsa_recording.specs.Failures.{AreFallible}
 
 -- the flag 0x0001 is set (specification 341204, flags)
 abbrev pub is_fenced : List ℕ → Bool
@@ -32,11 +33,12 @@ pub record AreMembers (head : List ℕ) (es : List (List ℕ)) (ms : List Member
   pub count : length ms ≡ length es
   pub each : (k : ℕ) → k < length es → IsMember head (get_or es k []) (get_or ms k (Unknown Operation))
 
--- the fences of the submission's entries, what is known of them, and an audit of these
+-- the fences of the submission's entries, what is known of them, which can fail, and an audit of these
 pub record IsAudited (es : List (List ℕ)) (s : Submission) (a : Audited) : Type 0 where
   pub fences : a.fences.items ≡ map is_fenced (members_in es s)
   pub members : AreMembers (slice_index_or es (head_at s) []) (members_in es s) a.members.items
-  pub audit : IsAudit a.members.items a.fences.items a.audit
+  pub fallible : AreFallible a.members.items (members_in es s) a.fallible.items
+  pub audit : IsAudit a.members.items a.fallible.items a.fences.items a.audit
 
 -- each submission is audited, in order
 abbrev pub AreAudited : List (List ℕ) → List Submission → List Audited → Type 0

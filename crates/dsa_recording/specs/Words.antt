@@ -6,7 +6,7 @@ use Rattle.dsa_ranges.specs.declared.hazards.HazardKind.{HazardKind}
 use Rattle.dsa_ranges.specs.declared.hazards.HazardKind.TheVariants.{ReadAfterWrite, WriteAfterRead, WriteAfterWrite}
 use Rattle.dsa_recording.specs.declared.detail.Detail.{Detail}
 use Rattle.dsa_recording.specs.declared.detail.Cause.{Cause}
-use Rattle.dsa_recording.specs.declared.detail.Cause.TheVariants.{NotSeen, MissingFence, NeedlessFence}
+use Rattle.dsa_recording.specs.declared.detail.Cause.TheVariants.{NotSeen, MissingFence, GuardingFence, NeedlessFence}
 use Rattle.dsa_lines.specs.Numbers.{hex}
 use Rattle.dsa_recording.specs.declared.words.Severity.{Severity}
 use Rattle.dsa_recording.specs.declared.words.Severity.TheVariants.{Error, Warning, Note}
@@ -29,6 +29,7 @@ place_words d = entry_words d.entry d.submission (member_words d.is_batch d.memb
 abbrev pub severity_of : Denied → Cause → Severity
 severity_of denied (NotSeen why) = if denied.unseen then Error else Warning
 severity_of denied (MissingFence earlier hazard) = Error
+severity_of denied (GuardingFence earlier) = Note
 severity_of denied NeedlessFence = if denied.needless then Error else Note
 
 abbrev pub severity_words : Severity → List ℕ
@@ -57,10 +58,14 @@ abbrev pub needless_words : Bool → List ℕ
 needless_words true = codes "needless fence"
 needless_words false = codes "needless fence, once the missing fences of its batch are set"
 
+abbrev pub guarding_words : ℕ → List ℕ
+guarding_words earlier = codes "guarding fence: member " ++ (decimal earlier ++ codes " can fail")
+
 -- `complete`: no fence of its submission is missing
 abbrev pub cause_words : Bool → ℕ → Cause → List ℕ
 cause_words complete code (NotSeen why) = unseen_words why code
 cause_words complete code (MissingFence earlier hazard) = hazard_words hazard.kind earlier hazard.address
+cause_words complete code (GuardingFence earlier) = guarding_words earlier
 cause_words complete code NeedlessFence = needless_words complete
 
 -- ---- the line of a finding

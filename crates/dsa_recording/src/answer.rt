@@ -56,6 +56,7 @@ fn is_harmless(denied: Denied, kind: FindingKind) -> bool
     match kind {
         FindingKind::NotSeen(_) => !denied.unseen,
         FindingKind::MissingFence(_) => false,
+        FindingKind::GuardingFence(_) => true,
         FindingKind::NeedlessFence => !denied.needless,
     }
 }

@@ -19,6 +19,8 @@ pub enum Cause {
     NotSeen(Unseen),
     /// A fence is missing before it: it conflicts with this earlier member, as the hazard says.
     MissingFence(usize, Hazard),
+    /// No conflict needs the fence before it, but this earlier member can fail.
+    GuardingFence(usize),
     /// The fence before it may go, once the missing ones of its batch are set.
     NeedlessFence,
 }
@@ -56,6 +58,12 @@ fn cause_of(members: &[Member], member: usize, kind: FindingKind) -> Option<Caus
                 None => None,
             }
         }
+        FindingKind::GuardingFence(earlier) => {
+            if earlier >= member {
+                return None;
+            }
+            Some(Cause::GuardingFence(earlier))
+        }
         FindingKind::NeedlessFence => Some(Cause::NeedlessFence),
     }
 }
@@ -73,7 +81,7 @@ fn described(
     let Some(entry) = submission.first.checked_add(finding.member) else {
         return None;
     };
-    if entry >= all.len() {
+    if finding.member >= submission.size || entry >= all.len() {
         return None;
     }
     let code = u32_at(&all[entry], 4) >> 24;

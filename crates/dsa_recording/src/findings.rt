@@ -1,7 +1,7 @@
 //! What an audit of a recording finds.
 
 ghost use Rattle.std.specs.Prelude.{◌≡◌, ◌++◌, All, IfOk, OnOk};
-ghost use Rattle.dsa_recording.specs.Findings.{unseen_kind, missing_kind, needless_kind, finding_of, member_findings, submission_findings, recording_findings, HasAll};
+ghost use Rattle.dsa_recording.specs.Findings.{unseen_kind, missing_kind, use_kind, finding_of, member_findings, submission_findings, recording_findings, HasAll};
 
 use crate::submission::Audited;
 use dsa_audit::{FencePlace, FenceUse, Member, Unseen};
@@ -14,6 +14,8 @@ pub enum FindingKind {
     NotSeen(Unseen),
     /// A fence is missing before it: it conflicts with this earlier member.
     MissingFence(usize),
+    /// No conflict needs the fence before it, but this earlier member can fail.
+    GuardingFence(usize),
     /// The fence before it may go, once the missing ones of its batch are set.
     NeedlessFence,
 }
@@ -49,12 +51,13 @@ fn missing_kind(place: FencePlace) -> Option<FindingKind>
     }
 }
 
-/// Whether a fence is needless.
-fn needless_kind(fence: FenceUse) -> Option<FindingKind>
-    ensures { result ≡ needless_kind fence }
+/// Whether a fence is needless, or guards.
+fn use_kind(fence: FenceUse) -> Option<FindingKind>
+    ensures { result ≡ use_kind fence }
 {
     match fence {
         FenceUse::NoFence | FenceUse::Needed(_, _) => None,
+        FenceUse::Guarding(earlier) => Some(FindingKind::GuardingFence(earlier)),
         FenceUse::Needless => Some(FindingKind::NeedlessFence),
     }
 }
@@ -94,7 +97,7 @@ fn push_member(
 {
     push_finding(findings, number, member, unseen_kind(known))?;
     push_finding(findings, number, member, missing_kind(place))?;
-    push_finding(findings, number, member, needless_kind(fence))
+    push_finding(findings, number, member, use_kind(fence))
 }
 
 /// Adds all findings of a submission.
@@ -120,7 +123,8 @@ fn push_submission(
     Ok(())
 }
 
-/// All that is found in submissions, in order: members that are not looked at, missing fences and needless ones.
+/// All that is found in submissions, in order: members that are not looked at, missing fences, and fences that are needless
+/// or guard.
 pub fn findings_of(alloc: Global, audits: &[Audited]) -> Result<Vec<Finding>, AllocError>
     requires { All HasAll audits.now }
     ensures { IfOk result (λ findings. findings.items ≡ recording_findings 0 audits.now) }

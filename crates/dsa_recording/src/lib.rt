@@ -4,6 +4,7 @@
 
 mod answer;
 mod detail;
+mod failure;
 mod findings;
 mod forms;
 mod laws;
@@ -18,6 +19,7 @@ mod words;
 
 pub use answer::{AuditAnswer, AuditOptions, audit};
 pub use detail::{Cause, Detail, detail_of, has_all_fences};
+pub use failure::can_fail;
 pub use findings::{Finding, FindingKind, findings_of};
 pub use forms::{Form, Part, bytes_of_text, first_part, form_of, is_passed, is_text, next_part};
 pub use laws::{findings_are_placed, listed_are_known};

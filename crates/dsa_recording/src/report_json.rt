@@ -55,6 +55,10 @@ fn cause_json(alloc: Global, detail: &Detail, complete: bool) -> Result<Value, A
             json!(in alloc; {"kind": "unseen", "why": why, "operation": operation})
         }
         Cause::MissingFence(earlier, hazard) => hazard_json(alloc, earlier, hazard),
+        Cause::GuardingFence(earlier) => {
+            let earlier = earlier as u64;
+            json!(in alloc; {"kind": "guarding", "earlier": earlier})
+        }
         Cause::NeedlessFence => {
             let later = !complete;
             json!(in alloc; {"kind": "needless", "once_corrected": later})
@@ -91,7 +95,7 @@ fn totals_json(alloc: Global, totals: &Totals) -> Result<Value, AllocError> {
     let (batches, lone) = (totals.batches as u64, totals.lone as u64);
     let (descriptors, unseen) = (totals.descriptors as u64, totals.unseen as u64);
     let (fences, missing) = (totals.fences as u64, totals.missing as u64);
-    let needless = totals.needless as u64;
+    let (needless, guarding) = (totals.needless as u64, totals.guarding as u64);
     json!(in alloc; {
         "batches": batches,
         "lone": lone,
@@ -99,7 +103,8 @@ fn totals_json(alloc: Global, totals: &Totals) -> Result<Value, AllocError> {
         "unseen": unseen,
         "fences": fences,
         "missing": missing,
-        "needless": needless
+        "needless": needless,
+        "guarding": guarding
     })
 }
 

@@ -3,6 +3,7 @@
 ghost use Rattle.std.specs.Prelude.{◌≡◌, All, map, IfOk};
 ghost use Rattle.dsa_recording.specs.Submissions.{is_fenced, IsWithin, AreMembers, IsAudited, AreAudited};
 
+use crate::failure::fallible_of;
 use crate::member::member_of;
 use crate::stream::Submission;
 use dsa_audit::{Audit, Member, audit_fences};
@@ -16,6 +17,8 @@ pub struct Audited {
     pub fences: Vec<bool>,
     /// What is known of each member.
     pub members: Vec<Member>,
+    /// Whether each member can fail.
+    pub fallible: Vec<bool>,
     /// The missing and the needless fences.
     pub audit: Audit,
 }
@@ -70,10 +73,12 @@ pub fn audit_submission(
     let entries = &all[submission.first..submission.first + submission.size];
     let fences = fences_of(alloc, entries)?;
     let members = members_of(alloc, &all[at], entries)?;
-    let audit = audit_fences(alloc, &fences, &members)?;
+    let fallible = fallible_of(alloc, &members, entries)?;
+    let audit = audit_fences(alloc, &fences, &members, &fallible)?;
     Ok(Audited {
         fences,
         members,
+        fallible,
         audit,
     })
 }

@@ -26,6 +26,8 @@ pub struct Totals {
     pub missing: usize,
     /// How many are needless.
     pub needless: usize,
+    /// How many guard: no conflict needs them, but an earlier member can fail.
+    pub guarding: usize,
 }
 
 /// How many submissions are batches.
@@ -52,24 +54,26 @@ fn sums_of(audits: &[Audited]) -> (usize, usize) {
     (descriptors, fences)
 }
 
-/// How many members are not looked at, how many fences are missing, and how many needless.
-fn counts_of(findings: &[Finding]) -> (usize, usize, usize) {
-    let (mut unseen, mut missing, mut needless): (usize, usize, usize) = (0, 0, 0);
+/// How many members are not looked at, and how many fences are missing, needless, or guard.
+fn counts_of(findings: &[Finding]) -> (usize, usize, usize, usize) {
+    let (mut unseen, mut missing): (usize, usize) = (0, 0);
+    let (mut needless, mut guarding): (usize, usize) = (0, 0);
     for finding in findings {
         match finding.kind {
             FindingKind::NotSeen(_) => unseen = unseen.saturating_add(1),
             FindingKind::MissingFence(_) => missing = missing.saturating_add(1),
+            FindingKind::GuardingFence(_) => guarding = guarding.saturating_add(1),
             FindingKind::NeedlessFence => needless = needless.saturating_add(1),
         }
     }
-    (unseen, missing, needless)
+    (unseen, missing, needless, guarding)
 }
 
 /// The numbers of a report.
 pub fn totals_of(report: &Report) -> Totals {
     let batches = batches_in(&report.submissions);
     let (descriptors, fences) = sums_of(&report.audits);
-    let (unseen, missing, needless) = counts_of(&report.findings);
+    let (unseen, missing, needless, guarding) = counts_of(&report.findings);
     Totals {
         batches,
         lone: report.submissions.len().saturating_sub(batches),
@@ -78,6 +82,7 @@ pub fn totals_of(report: &Report) -> Totals {
         fences,
         missing,
         needless,
+        guarding,
     }
 }
 
@@ -89,7 +94,8 @@ fn counted(alloc: Global, number: usize, one: &str, more: &str) -> Result<String
 
 /// The two lines of the numbers.
 pub fn totals_text(alloc: Global, totals: &Totals) -> Result<String, AllocError> {
-    let (unseen, missing, needless) = (totals.unseen, totals.missing, totals.needless);
+    let (unseen, missing) = (totals.unseen, totals.missing);
+    let (needless, guarding) = (totals.needless, totals.guarding);
     let mut text = counted(alloc, totals.descriptors, "descriptor", "descriptors")?;
     text.push_str(" in ")?;
     text.push_str(&counted(alloc, totals.batches, "batch", "batches")?)?;
@@ -97,6 +103,8 @@ pub fn totals_text(alloc: Global, totals: &Totals) -> Result<String, AllocError>
     text.push_str(&counted(alloc, totals.lone, "lone submission", "lone submissions")?)?;
     text.push_str(&format!(in alloc; ", {unseen} not looked at\n")?)?;
     text.push_str(&counted(alloc, totals.fences, "fence", "fences")?)?;
-    text.push_str(&format!(in alloc; ", {missing} missing, {needless} needless\n")?)?;
+    text.push_str(&format!(in alloc;
+        ", {missing} missing, {needless} needless, {guarding} guarding\n"
+    )?)?;
     Ok(text)
 }

@@ -2,7 +2,7 @@
 
 ghost use Rattle.std.specs.Prelude.{◌≡◌, ◌++◌, true, IfOk, OnOk, codes, string_bytes};
 ghost use Rattle.dsa_recording.specs.declared.detail.Detail.{Detail};
-ghost use Rattle.dsa_recording.specs.Words.{entry_words, member_words, place_words, severity_of, severity_words, unseen_words, hazard_words, needless_words, cause_words, finding_words};
+ghost use Rattle.dsa_recording.specs.Words.{entry_words, member_words, place_words, severity_of, severity_words, unseen_words, hazard_words, guarding_words, needless_words, cause_words, finding_words};
 
 use crate::detail::{Cause, Detail};
 use dsa_audit::Unseen;
@@ -42,6 +42,7 @@ pub fn severity_of(denied: Denied, cause: Cause) -> Severity
             }
         }
         Cause::MissingFence(_, _) => Severity::Error,
+        Cause::GuardingFence(_) => Severity::Note,
         Cause::NeedlessFence => {
             if denied.needless {
                 Severity::Error
@@ -153,6 +154,13 @@ fn needless_text(alloc: Global, complete: bool) -> Result<String, AllocError>
     }
 }
 
+/// That a fence guards, and which member can fail.
+fn guarding_text(alloc: Global, earlier: usize) -> Result<String, AllocError>
+    ensures { IfOk result (λ s. string_bytes s ≡ guarding_words earlier) }
+{
+    format!(in alloc; "guarding fence: member {earlier} can fail")
+}
+
 /// What was found, and why; `complete`: no fence of its submission is missing.
 fn cause_text(alloc: Global, detail: &Detail, complete: bool) -> Result<String, AllocError>
     ensures { IfOk result (λ s. string_bytes s ≡
@@ -161,6 +169,7 @@ fn cause_text(alloc: Global, detail: &Detail, complete: bool) -> Result<String, 
     match detail.cause {
         Cause::NotSeen(why) => unseen_text(alloc, why, detail.code),
         Cause::MissingFence(earlier, hazard) => hazard_text(alloc, earlier, hazard),
+        Cause::GuardingFence(earlier) => guarding_text(alloc, earlier),
         Cause::NeedlessFence => needless_text(alloc, complete),
     }
 }

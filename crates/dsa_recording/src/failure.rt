@@ -1,0 +1,49 @@
+//! Which members of a batch can fail.
+
+ghost use Rattle.std.specs.Prelude.{◌≡◌, length, IfOk};
+ghost use Rattle.dsa_descriptor.specs.Places.{flags_at, op_at};
+ghost use Rattle.dsa_recording.specs.Failures.{can_op_fail, can_fail, AreFallible};
+
+use dsa_audit::Member;
+use dsa_descriptor::{Op, op_at, u32_at};
+use std::alloc::{AllocError, Global};
+
+/// Whether the operation of an entry can fail, if it has one that is listed.
+fn can_op_fail(entry: &[u8; 64]) -> bool
+    ensures { result ≡ can_op_fail (op_at entry.now) (flags_at entry.now) }
+{
+    let is_checked = u32_at(entry, 4) % (1 << 24) & 0x80 == 0x80;
+    match op_at(entry) {
+        None => false,
+        Some(Op::Move { .. } | Op::Fill { .. } | Op::Dualcast { .. }) => false,
+        Some(Op::Compare { .. } | Op::ComparePattern { .. }) => is_checked,
+        Some(Op::ApplyDelta { .. }) => true,
+    }
+}
+
+/// Whether a member can fail, so that the next fence stops the rest of its batch: a compare that is checked, a delta, or one
+/// that is not looked at.
+pub fn can_fail(member: &Member, entry: &[u8; 64]) -> bool
+    ensures { result ≡ can_fail member.now entry.now }
+{
+    match member {
+        Member::Known(_) => can_op_fail(entry),
+        Member::Unknown(_) => true,
+    }
+}
+
+/// Of each member, whose entry is that of `entries`, whether it can fail.
+pub(crate) fn fallible_of(
+    alloc: Global,
+    members: &[Member],
+    entries: &[[u8; 64]],
+) -> Result<Vec<bool>, AllocError>
+    requires { length members.now ≡ length entries.now }
+    ensures { IfOk result (λ fallible. AreFallible members.now entries.now fallible.items) }
+{
+    let mut fallible = Vec::new(alloc);
+    for k in 0..entries.len() {
+        fallible.push(can_fail(&members[k], &entries[k]))?;
+    }
+    Ok(fallible)
+}

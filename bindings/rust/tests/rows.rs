@@ -263,6 +263,20 @@ fn certificates_by_size() {
     assert_eq!(checked(&short, &certificate), Err(refused(83, 0, 0, 0)));
 }
 
+// A fault of the plan or of a piece stands within the one that `check` answers.
+#[test]
+fn causes_within_are_answered() {
+    let planned = plan_list(&SETTINGS, &two_moves()).unwrap();
+    let checked = |place: usize, byte| {
+        let mut staging = planned.staging.clone();
+        staging[place] = byte;
+        check(&SETTINGS, &planned.portal, &staging, &planned.certificate)
+    };
+    // the second piece without its fence, and with a byte that is reserved
+    assert_eq!(checked(64 + 4, 0x0c), Err(refused(60, 43, 0, 1)));
+    assert_eq!(checked(64 + 63, 1), Err(refused(47, 4, 1, 0)));
+}
+
 // The price of a batch is the one of its size: 5, 16 and 30 for two, three and four pieces, which lie apart.
 #[test]
 fn plans_are_judged_by_size() {

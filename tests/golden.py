@@ -10,8 +10,9 @@
 
 `<x` is digits of the input: the blanks between them go, `*56` is 56 zero bytes, and no newline stands behind. `<b 0d0a`
 is bytes of the input, in hexadecimal. A line that ends in a backslash has no newline behind it either. `$` has the
-arguments as a shell would read them, and within quotes `\\xff` is a byte; `</`, `<&-`, `>&-` and `>/dev/full` at its
-end make input or output faulty. Each command reads the input above it; an input behind a command begins anew."""
+arguments as a shell would read them, and within quotes `\\xff` is a byte; `</`, `<&-`, `>&-`, `>/dev/full`, `2>&-` and
+`2>/dev/full` at its end make input or output faulty. Each command reads the input above it; an input behind a command
+begins anew."""
 
 import re
 import shlex
@@ -19,7 +20,7 @@ import subprocess
 from dataclasses import dataclass
 from pathlib import Path
 
-FAULTY = ("</", "<&-", ">&-", ">/dev/full")
+FAULTY = ("</", "<&-", ">&-", ">/dev/full", "2>&-", "2>/dev/full")
 
 
 @dataclass

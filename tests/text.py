@@ -122,6 +122,9 @@ def refusals():
         ("explain --svg --lone 0", many, "1025 groups, a picture has 1024 at most", "91 Picture"),
     ]:
         refused(command, text, begin, name)
+    # the most groups that a picture has
+    picture = written("explain --svg --lone 0", "move 0 -> 4096, 64 bytes, record 8192\n" * 1024)
+    common.expect(picture.count(": lone submission, cost 0<") == 1024 and picture.endswith("</svg>\n"), picture[:200])
 
 
 def arguments():

@@ -1,7 +1,8 @@
 """Runs the program on jobs, and the program for texts on examples, while refuse.so refuses one allocation, or one and all
 after it, for every one that a run asks for, or one start of a thread. Each has to answer as with ample memory, or
 `refused 73 Memory`; no thread may be left at its end, and nothing is read once its input has ended or an answer has
-begun. A word takes the runs that have it in their names."""
+begun. Where the start of an engine is refused, the others leave the rest of the run undone. A word takes the runs that
+have it in their names."""
 
 import os
 import subprocess
@@ -9,7 +10,7 @@ from dataclasses import dataclass, field
 from glob import glob
 from itertools import count as numbers
 
-from common import ROOT, expect, having, program, refuse_so, run_test, side_by_side
+from common import ROOT, digits, expect, having, job, move, object_of, program, refuse_so, run_test, settings, side_by_side
 
 ALL = 1 << 60
 REFUSED = {"dsa": ("refused 73 Memory\n", 1), "dsa_text": ("error: there was not enough memory [73 Memory]\n", 1)}
@@ -58,6 +59,8 @@ class Run:
     others: tuple = ()
     status: int | None = None
     faults: list = field(default_factory=list)
+    # how many microseconds of a processor the threads of the last run took
+    worked: int = 0
 
     def once(self, **refusals):
         """What is printed and the status, and how many allocations and starts of threads were asked for. A program that
@@ -78,10 +81,10 @@ class Run:
                 line = report.read().split()
         # dsa_text refuses on standard error
         is_refused = self.words and ran.returncode in (1, 2) and not ran.stdout
-        if (ran.stderr and not is_refused) or ran.returncode < 0 or len(line) != 4:
+        if (ran.stderr and not is_refused) or ran.returncode < 0 or len(line) != 5:
             said = f"ends with {ran.returncode} and writes {ran.stderr[:200]} to standard error"
             return (said, ran.returncode), (0, 0)
-        asked, starts, late, alive = map(int, line)
+        asked, starts, late, alive, self.worked = map(int, line)
         if late:
             return (f"reads on when all is read or written, {late} times", ran.returncode), (0, 0)
         if alive:
@@ -132,6 +135,32 @@ class Run:
         return self
 
 
+class HaltedRun(Run):
+    """A run of many pieces, of which the start of an engine is refused. The engines that were started begin only then, and
+    find a room in which nothing is to be done."""
+
+    def all(self):
+        (_, status), (_, starts) = self.once()
+        whole = self.worked
+        if (status, starts) != (0, 4):
+            self.faults.append(f"{self.name}, with ample memory: status {status}, {starts} threads")
+        for number in (2, 3, 4):
+            answer, _ = self.once(thread=number, hold=1)
+            self.expect(f"start {number} of a thread", answer, [self.refusal()])
+            if 10 * self.worked > whole:
+                self.faults.append(f"{self.name}, start {number} of a thread: the others work on for {self.worked} of {whole} microseconds")
+        return self
+
+
+def run_of_many():
+    """A job to run 20,000 moves of 8 bytes by four engines."""
+    count = 20_000
+    pieces = [move(8 * k, 8 * (count + k), 8, 16 * count + 32 * k) for k in range(count)]
+    image = object_of({"base": 0, "bytes": f'"{bytes(48 * count).hex()}"'})
+    rules = settings(greatest_batch=1_024, staging=0x4000_0000)
+    return job("run", rules, list=f'"{digits(pieces)}"', image=image, engines=4).encode()
+
+
 def runs(of_jobs, of_texts):
     """All runs: the program on each job, and the program for texts."""
     for job in JOBS:
@@ -143,13 +172,14 @@ def runs(of_jobs, of_texts):
     for words, said in AUDITS:
         # status 1 would say that a fence is missing; the program knows no command before it has read its arguments
         yield Run(f"dsa_text {' '.join(words)}", of_texts, RECORDING, said, words, NO_MEMORY, status=1)
+    yield HaltedRun("run of many pieces", of_jobs, run_of_many(), "")
 
 
 def main(words):
     global SHARED
     made = {run.name: run for run in runs(*map(program, ("dsa", "dsa_text")))}
     with refuse_so() as SHARED:
-        for run in side_by_side(Run.all, [made[name] for name in having(made, words)]):
+        for run in side_by_side(lambda run: run.all(), [made[name] for name in having(made, words)]):
             expect(not run.faults, "\n".join(run.faults))
 
 

@@ -30,7 +30,7 @@ def once(shared, tried, text, settings):
             counts = report.read().split()
     is_told = ran.returncode == 2 and ran.stderr in REASONS
     said = ran.stdout if is_told else ran.stdout + ran.stderr
-    return said, ran.returncode, int(counts[2]) if len(counts) == 4 else "unknown"
+    return said, ran.returncode, int(counts[2]) if len(counts) == 5 else "unknown"
 
 
 def turns(text, most):

@@ -4,10 +4,11 @@
  *
  *   HOSTILE_FIRST, HOSTILE_LAST     the first and the last allocation that is refused
  *   HOSTILE_THREAD                  the start of a thread that is refused
+ *   HOSTILE_HOLD                    if it is not 0, threads that are started before that one begin a while after the refusal
  *   HOSTILE_REPORT                  the file that gets a line at the end: how many allocations were asked for, how many
  *                                   starts of threads, how many late reads (those of standard input behind its end,
- *                                   behind a read that failed, or once anything was written), and how many threads were
- *                                   started and have not ended
+ *                                   behind a read that failed, or once anything was written), how many threads were
+ *                                   started and have not ended, and how many microseconds of a processor all took together
  *   HOSTILE_READ_MOST               the most bytes that a read gives
  *   HOSTILE_READ_FAULT              the read that fails; the next would go on
  *   HOSTILE_WRITE_MOST              the most bytes that a write takes
@@ -23,6 +24,7 @@
 #include <stdio.h>
 #include <stdlib.h>
 #include <sys/syscall.h>
+#include <time.h>
 #include <unistd.h>
 
 typedef void *(*thread_body)(void *);
@@ -39,9 +41,9 @@ struct thread {
 };
 
 static atomic_bool counting;
-static atomic_ulong allocations, starts;
+static atomic_ulong allocations, starts, worked;
 static atomic_long alive;
-static unsigned long first_refused, last_refused, refused_start, report_to;
+static unsigned long first_refused, last_refused, refused_start, holds, report_to;
 static unsigned long read_most, read_fault, write_most, write_fault, fault_error;
 static unsigned long turns, taken, late;
 static bool is_read;
@@ -58,8 +60,8 @@ static void wait_for_threads(void) {
 }
 
 static void report(void) {
-    char line[80];
-    int length = snprintf(line, sizeof line, "%lu %lu %lu %ld\n", allocations, starts, late, alive);
+    char line[120];
+    int length = snprintf(line, sizeof line, "%lu %lu %lu %ld %lu\n", allocations, starts, late, alive, worked);
     if (report_to && syscall(SYS_write, (int)report_to, line, (size_t)length) != length)
         abort();
     report_to = 0;
@@ -69,6 +71,7 @@ __attribute__((constructor)) static void begin(void) {
     first_refused = number("HOSTILE_FIRST");
     last_refused = number("HOSTILE_LAST");
     refused_start = number("HOSTILE_THREAD");
+    holds = number("HOSTILE_HOLD");
     report_to = number("HOSTILE_REPORT");
     read_most = number("HOSTILE_READ_MOST");
     read_fault = number("HOSTILE_READ_FAULT");
@@ -106,10 +109,27 @@ void *calloc(size_t count, size_t size) { return refuses() ? NULL : __libc_callo
 
 void *realloc(void *old, size_t size) { return refuses() ? NULL : __libc_realloc(old, size); }
 
+/* Until the start was refused, and the caller has had a tenth of a second to do something about it. */
+static void wait_for_refusal(void) {
+    while (starts < refused_start)
+        usleep(1000);
+    usleep(100000);
+}
+
+static unsigned long own_time(void) {
+    struct timespec time;
+    clock_gettime(CLOCK_THREAD_CPUTIME_ID, &time);
+    return (unsigned long)time.tv_sec * 1000000 + (unsigned long)time.tv_nsec / 1000;
+}
+
 static void *run_thread(void *given) {
     struct thread thread = *(struct thread *)given;
     __libc_free(given);
+    if (holds)
+        wait_for_refusal();
+    unsigned long begin = own_time();
     void *answer = thread.body(thread.argument);
+    worked += own_time() - begin;
     --alive;
     return answer;
 }

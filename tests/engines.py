@@ -1,7 +1,7 @@
 """Tries engines that no clause can refuse, since no proof tells of time: engines that are one thread, engines that
-keep each other from their lines, engines that ask the gate late, and a run that always says that work was out of
-date. Each is a patch of dsa_engines in tests/engines, whose first line names the test of dsa_call_tests that has to
-fail. The words are parts of names of patches."""
+keep each other from their lines, engines that ask the gate late or finish a piece although it refused, and a run that
+always says that work was out of date. Each is a patch of dsa_engines in tests/engines, whose first line names the test
+of dsa_call_tests that has to fail. The words are parts of names of patches."""
 
 import re
 import shutil

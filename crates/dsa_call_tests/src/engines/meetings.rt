@@ -1,12 +1,13 @@
 use super::{batch, descriptor, image_of, run_plan};
 use dsa_core::{Event, Kind};
 use dsa_descriptor::Descriptor;
-use dsa_engines::{Gate, GateShut};
+use dsa_engines::{Gate, GateShut, RoomFault};
 use std::alloc::Global;
+use std::hint::spin_loop;
 use std::process::Abort;
 use std::rt::Clock;
 use std::sync::Wait;
-use std::sync::atomic::{AtomicU32, Ordering};
+use std::sync::atomic::{AtomicBool, AtomicU32, Ordering};
 use std::test::Fail;
 use std::thread;
 use std::thread::Threads;
@@ -90,4 +91,73 @@ fn three_engines_are_at_work_at_once(rt: HostRuntime) -> Result<(), Fail> {
 #[test]
 fn takes_wake_engines_behind_a_fence(rt: HostRuntime) -> Result<(), Fail> {
     three_meet(&rt, rt.alloc(), &[false, true, false, false], 1)
+}
+
+/// Refuses the finish of the first piece once the second was finished, whose engine asks for its next piece just then, after
+/// so many pauses. Notes whether the third piece, which is fenced, is taken all the same.
+#[derive(Drop)]
+struct RefusesFinish {
+    pauses: u32,
+    waits: AtomicBool,
+    refused: AtomicBool,
+    goes_on: AtomicBool,
+}
+
+/// Waits for a flag, without sleep.
+fn spin_for(flag: &AtomicBool) {
+    for _ in 0..4_000_000_000u32 {
+        if flag.load(Ordering::SeqCst) {
+            return;
+        }
+        spin_loop();
+    }
+}
+
+impl Gate for RefusesFinish {
+    fn before(&self, event: &Event) -> Result<(), GateShut> {
+        if event.kind != Kind::Finish || event.piece != 0 {
+            return Ok(());
+        }
+        spin_for(&self.waits);
+        self.refused.store(true, Ordering::SeqCst);
+        Err(GateShut)
+    }
+
+    fn after(&self, event: &Event) -> Result<(), GateShut> {
+        if event.kind == Kind::Finish && event.piece == 1 {
+            self.waits.store(true, Ordering::SeqCst);
+            spin_for(&self.refused);
+            for _ in 0..self.pauses {
+                spin_loop();
+            }
+        }
+        if event.piece == 2 {
+            self.goes_on.store(true, Ordering::SeqCst);
+        }
+        Ok(())
+    }
+}
+
+/// Where a finish that was refused were done all the same, an engine could take what stands behind the fence before the
+/// room is halted. That is a matter of less than a microsecond, so it is tried often, with the other engine a little
+/// later each time.
+#[test]
+fn a_refused_finish_is_not_done(rt: HostRuntime) -> Result<(), Fail> {
+    let alloc = rt.alloc();
+    let fences = [false, false, true];
+    let moves = moves_apart(alloc, &fences)?;
+    let image = image_of(vec![in alloc; 1u8; 1024]?)?;
+    let plan = batch(alloc, &fences)?;
+    for turn in 0..600u32 {
+        let gate = RefusesFinish {
+            pauses: turn % 60,
+            waits: AtomicBool::new(false),
+            refused: AtomicBool::new(false),
+            goes_on: AtomicBool::new(false),
+        };
+        let ended = run_plan(&rt, alloc, &image, &plan, &moves, 2, &gate)?;
+        assert!(rt; matches!(ended, Err(RoomFault::GateShut)));
+        assert!(rt; !gate.goes_on.load(Ordering::SeqCst));
+    }
+    Ok(())
 }

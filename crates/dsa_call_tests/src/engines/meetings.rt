@@ -148,7 +148,7 @@ fn a_refused_finish_is_not_done(rt: HostRuntime) -> Result<(), Fail> {
     let moves = moves_apart(alloc, &fences)?;
     let image = image_of(vec![in alloc; 1u8; 1024]?)?;
     let plan = batch(alloc, &fences)?;
-    for turn in 0..600u32 {
+    for turn in 0..240u32 {
         let gate = RefusesFinish {
             pauses: turn % 60,
             waits: AtomicBool::new(false),

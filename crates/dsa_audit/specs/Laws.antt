@@ -41,7 +41,7 @@ pub record Holds (T : ℕ → ℕ → Type 0) (members : List Member) (fallible 
   pub given : (m : ℕ) → HasFence h m → ¬ HasFence k m → HasFence g m
   -- the reduced batch separates all conflicts that are known
   pub legal : Separates (KnownConflict members) k
-  -- whichever members fail of those that can, in both batches the same ones start
+  -- whichever members fail of those that can, the same ones start in the corrected and in the reduced batch
   pub starts : (failed : ℕ → Bool) (b : ℕ) → AllCanFail fallible failed → Starts failed h b ↔ Starts failed k b
 
 -- an audit holds whatever the true conflicts are, given as truth values

@@ -14,7 +14,7 @@ pub enum FenceUse {
     NoFence,
     /// It is needed: of all fences that stay it alone separates these two members, which conflict.
     Needed(usize, usize),
-    /// No conflict needs it, but this earlier member can fail, the first that can: where it does, the fence stops the rest.
+    /// No conflict needs it by itself, but this earlier member can fail, the first that can: the fence may then stop the rest.
     Guarding(usize),
     /// It may go.
     Needless,
@@ -129,9 +129,8 @@ fn use_of<R: Relation>(
     }
 }
 
-/// The fewest fences of a batch that separate all conflicts that its fences separate and stop as much where a member fails
-/// that can (`fallible`), each with a conflict that needs it or the first such member before it; the others may go, all at
-/// once.
+/// The fewest fences of a batch that separate all conflicts that its fences separate, with all those behind a member that
+/// can fail (`fallible`), each with a conflict that needs it or the first such member; the others may go, all at once.
 pub fn drop_needless<R: Relation>(
     alloc: Global,
     fences: &[bool],

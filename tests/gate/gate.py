@@ -23,10 +23,10 @@ import toolchain
 
 HERE = os.path.dirname(os.path.realpath(__file__))
 ROOT = toolchain.ROOT
-# The most jobs of one proof. Each job reads the libraries anew: two of them cost the dearest proof twice the processor time
-# of one. So proofs get more only where nothing else fills the processors.
+# The most jobs of one proof: four where nothing else fills the processors, as in a first run, and two in a whole gate, which
+# took four minutes more with one and no less of the processors.
 MOST_JOBS_OF_PROOFS_ALONE = 4
-MOST_JOBS = 1
+MOST_JOBS = 2
 # A task whose way to the end is at least this part of the longest one counts as on it.
 NEAR_LONGEST = 0.9
 # The seconds after which a task is ended.

@@ -23,9 +23,9 @@ import toolchain
 
 HERE = os.path.dirname(os.path.realpath(__file__))
 ROOT = toolchain.ROOT
-# The most jobs of one proof: four where nothing else fills the processors, as in a first run, and two in a whole gate, which
-# took four minutes more with one and no less of the processors.
-MOST_JOBS_OF_PROOFS_ALONE = 4
+# The most jobs of one proof: four where little else fills the processors, as in a first run and at the end of a gate, and two
+# elsewhere, which took four minutes less than one and no more of the processors.
+MOST_JOBS_WHERE_IDLE = 4
 MOST_JOBS = 2
 # A task whose way to the end is at least this part of the longest one counts as on it.
 NEAR_LONGEST = 0.9
@@ -33,6 +33,8 @@ NEAR_LONGEST = 0.9
 LIMIT = 7200
 # The seconds that it takes to read all libraries, compile and link a program or an archive.
 LINKING = 100
+# Proofs that take several times what their lines tell, by measurement: their bodies call much of clap and of JSON's crates.
+TIMES_LONGER = {"dsa_text": 2.4, "dsa_report": 1.6}
 COUNTS = re.compile(r"^(?:[\w./-]+: )?(\d+) passed[,;] (\d+) failed", re.M)
 KINDS = ("proofs", "edits", "tests", "scripts")
 # What the scripts need built; those that are not named need the two programs.
@@ -130,7 +132,12 @@ def skip(left, done):
         task.failed, task.said = 1, f"not run, since the {broken.label()} failed"
 
 
-def start_ready(left, running, done, lanes, most_jobs, start):
+def most_jobs(task, others, lanes):
+    """Returns the most jobs of a proof on the longest way: more where all else ends before it, shared among the processors."""
+    return MOST_JOBS_WHERE_IDLE if sum(it.weight for it in others) < task.behind * lanes else MOST_JOBS
+
+
+def start_ready(left, running, done, lanes, start):
     """Starts tasks while a processor is idle, first those with the most behind them."""
     ready = [it for it in left if all(below in done for below in it.waits)]
     for at, task in enumerate(ready):
@@ -139,12 +146,13 @@ def start_ready(left, running, done, lanes, most_jobs, start):
             break
         most_behind = max(it.behind for it in [*left, *running.values()])
         is_longest = task.behind >= NEAR_LONGEST * most_behind
-        task.jobs, task.can_wait = jobs_of(task, len(ready) - at - 1, idle, is_longest, most_jobs), not is_longest
+        most = most_jobs(task, [it for it in [*left, *running.values()] if it is not task], lanes)
+        task.jobs, task.can_wait = jobs_of(task, len(ready) - at - 1, idle, is_longest, most), not is_longest
         left.remove(task)
         running[start(task)] = task
 
 
-def in_lanes(tasks, logs, lanes, most_jobs):
+def in_lanes(tasks, logs, lanes):
     """Runs the tasks, each when those that it waits for have passed."""
     add_up_what_waits(tasks)
     left, running, done, printing = sorted(tasks, key=lambda it: -it.behind), {}, set(), threading.Lock()
@@ -159,7 +167,7 @@ def in_lanes(tasks, logs, lanes, most_jobs):
     with ThreadPoolExecutor(lanes) as pool:
         while left or running:
             skip(left, done)
-            start_ready(left, running, done, lanes, most_jobs, lambda task: pool.submit(work, task))
+            start_ready(left, running, done, lanes, lambda task: pool.submit(work, task))
             if running:
                 for future in wait(running, return_when=FIRST_COMPLETED).done:
                     done.add(running.pop(future))
@@ -175,7 +183,10 @@ def proofs_of(crates):
     tasks = {}
     for name, crate in crates.items():
         waits = [tasks[it.name] for it in crate.below()]
-        weight = 15 + 5 * len(crate.below()) + crate.count(rb"\n") / 8 + (0 if crate.makes_rlib() else LINKING)
+        # Tests run unproved, so a crate of tests alone has little to prove.
+        lines = 0 if crate.has_tests() else crate.count(rb"\n")
+        weight = 15 + 5 * len(crate.below()) + lines / 8 + (0 if crate.makes_rlib() else LINKING)
+        weight *= TIMES_LONGER.get(name, 1)
         tasks[name] = Task("proofs", name, python("prove.py", name), weight, waits)
     return tasks
 
@@ -306,8 +317,7 @@ def main():
         clear(crates)
     tasks = tasks_of(crates, given)
     print(f"logs: {logs}", flush=True)
-    most_jobs = MOST_JOBS_OF_PROOFS_ALONE if given.proofs else MOST_JOBS
-    in_lanes(tasks, logs, toolchain.rt.processors(), most_jobs)
+    in_lanes(tasks, logs, toolchain.rt.processors())
     return report(tasks, time.monotonic() - start)
 
 

@@ -1,7 +1,7 @@
 """Tries engines that no clause can refuse, since no proof tells of time: engines that are one thread, engines that
 keep each other from their lines, engines that ask the gate late or finish a piece although it refused, and a run that
 always says that work was out of date. Each is a patch of dsa_engines in tests/engines, whose first line names the test
-of dsa_call_tests that has to fail. The words are parts of names of patches."""
+of dsa_tests that has to fail. The words are parts of names of patches."""
 
 import re
 import shutil
@@ -12,7 +12,7 @@ from pathlib import Path
 
 from common import copy_crates, crates, expect, having, patched, run_test
 
-TESTS = "crates/dsa_call_tests/src"
+TESTS = "crates/dsa_tests/src"
 # The crate of the tests, and what they stand on beside the wrong engines.
 TRIED = "wrong_engines"
 BELOW = ["dsa_core", "dsa_descriptor", "dsa_image", "dsa_plan"]

@@ -7,7 +7,7 @@ use Rattle.dsa_descriptor.specs.Descriptors.{fields}
 use Rattle.dsa_ranges.specs.Ranges.{ConflictAt}
 use Rattle.dsa_plan.specs.Settings.{Limits}
 use Rattle.dsa_plan.specs.Plan.{Plan}
-use Rattle.dsa_legal.proofs.Judged.{legal_no_fault, one_fault}
+use Rattle.dsa_settings.proofs.Judged.{legal_no_fault, one_fault}
 use Rattle.dsa_calls.specs.declared.fault.PlanFault.{PlanFault}
 use Rattle.dsa_calls.specs.declared.fault.PlanFault.TheVariants.{OverTransfer, Legal}
 use Rattle.dsa_calls.specs.Lists.{IsListOf, OrMemory}

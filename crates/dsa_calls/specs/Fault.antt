@@ -5,7 +5,7 @@ use Rattle.dsa_descriptor.specs.declared.indices.Indices.{Indices}
 use Rattle.dsa_descriptor.specs.declared.indices.Indices.TheVariants.{Empty, One}
 use Rattle.dsa_descriptor.specs.Causes.{index_list, list_is_memory, list_number, list_name, list_indices}
 use Rattle.dsa_emission.specs.declared.emission_fault.EmissionFault.{EmissionFault}
-use Rattle.dsa_legal.specs.Causes.{legal_number, legal_name, legal_indices}
+use Rattle.dsa_settings.specs.Causes.{legal_number, legal_name, legal_indices}
 use Rattle.dsa_emission.specs.Causes.{entry_number, entry_name, emission_is_memory, emission_number, emission_name, emission_indices, emission_entry}
 use Rattle.dsa_splitter.specs.declared.fault.SplitFault.{SplitFault}
 use Rattle.dsa_splitter.specs.Causes.{split_is_memory, split_number, split_name, split_indices}

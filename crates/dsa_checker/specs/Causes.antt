@@ -3,7 +3,7 @@
 use Rattle.std.specs.Prelude.{ℕ, List, codes, Option, Some, None}
 use Rattle.dsa_descriptor.specs.declared.indices.Indices.{Indices}
 use Rattle.dsa_descriptor.specs.declared.indices.Indices.TheVariants.{Empty, One, Two}
-use Rattle.dsa_legal.specs.declared.legal.LegalFault.{LegalFault}
+use Rattle.dsa_settings.specs.declared.legal.LegalFault.{LegalFault}
 use Rattle.dsa_checker.specs.declared.fault.CheckFault.{CheckFault}
 use Rattle.dsa_checker.specs.declared.fault.CheckFault.TheVariants.{Plan, Version, Lengths, Pair, Price, Total}
 

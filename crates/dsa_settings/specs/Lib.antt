@@ -4,3 +4,6 @@ pub mod Kept
 pub mod Legal
 pub mod Shapes
 pub mod Epochs
+pub mod LegalFaults
+pub mod Sweeps
+pub mod Causes

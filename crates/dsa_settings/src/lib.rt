@@ -1,11 +1,19 @@
-//! Settings of a planner, and plans: how a list of pieces is submitted in groups.
+//! Settings of a planner, and plans: how a list of pieces is submitted in groups, which plans are legal for it, and why one
+//! is not.
 #![tactic(auto)]
 
+mod conflicts;
+mod laws;
+mod legal;
 mod numbers;
 mod plan;
 mod same;
 mod settings;
+mod sweep;
 
+pub use conflicts::Conflicts;
+pub use laws::legal_epochs_part;
+pub use legal::{LegalFault, is_legal};
 pub use numbers::epoch_numbers;
 pub use plan::{Group, Plan};
 pub use same::{copy_plan, same_plan};

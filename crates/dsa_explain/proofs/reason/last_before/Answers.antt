@@ -4,8 +4,8 @@ use Rattle.std.proofs.lemmas.Bool.{cases_lt}
 use Rattle.std.proofs.lemmas.Option.{slice_get-get_or}
 use Rattle.dsa_descriptor.specs.Descriptors.{fields}
 use Rattle.dsa_ranges.specs.Ranges.{ConflictAt}
-use Rattle.dsa_legal.proofs.Judged.{not_fenced}
-use Rattle.dsa_legal.proofs.Pieces.{conflict_seen}
+use Rattle.dsa_settings.proofs.Judged.{not_fenced}
+use Rattle.dsa_settings.proofs.Pieces.{conflict_seen}
 use Rattle.dsa_explain.proofs.Reached.{apart_more, hazard_seen, none_past_fence, open_more}
 use Rattle.dsa_explain.proofs.reason.last_before.Goals as goal
 

@@ -1,4 +1,0 @@
-use Rattle.dsa_layer_tests.proofs.image.run.Goals as goal
-
-pub execute-requires : goal.execute-requires
-execute-requires c = c.holds_ranges.ensures.0 c.if-not-holds_ranges.false

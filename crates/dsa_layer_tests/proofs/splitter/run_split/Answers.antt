@@ -1,6 +1,0 @@
-use Rattle.std.proofs.Common.{ap}
-use Rattle.std.specs.Result.{is_ok}
-use Rattle.dsa_layer_tests.proofs.splitter.run_split.Goals as goal
-
-pub execute_list-requires : goal.execute_list-requires
-execute_list-requires c = c.holds_all.ensures.ok.0 (ap is_ok c.in-Ok.is)

@@ -1,3 +1,0 @@
-pub mod Judged
-pub mod Pieces
-pub mod Swept

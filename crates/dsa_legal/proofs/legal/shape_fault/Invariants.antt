@@ -1,6 +1,0 @@
-use Rattle.dsa_legal.specs.LegalFaults.{HasShapesBefore}
-use Rattle.dsa_legal.proofs.legal.shape_fault.Given as goal
-
--- the groups so far have their shapes
-abbrev pub invariant-loop-number : goal.invariant-loop-number
-invariant-loop-number l = HasShapesBefore l.settings.greatest_batch l.groups l.number

@@ -1,3 +1,0 @@
-pub mod LegalFaults
-pub mod Sweeps
-pub mod Causes

@@ -1,0 +1,38 @@
+//! Tests of all crates, a module for each, and of engines as threads. They stand here and not in those crates, since a
+//! crate with tests is proved twice.
+#![tactic(auto)]
+
+#[cfg(test)]
+mod calls;
+#[cfg(test)]
+mod cert;
+#[cfg(test)]
+mod conflicts;
+#[cfg(test)]
+mod descriptor;
+#[cfg(test)]
+mod engines;
+#[cfg(test)]
+mod explain;
+#[cfg(test)]
+mod given;
+#[cfg(test)]
+mod hazards;
+#[cfg(test)]
+mod image;
+#[cfg(test)]
+mod lines;
+#[cfg(test)]
+mod listing;
+#[cfg(test)]
+mod plan;
+#[cfg(test)]
+mod prepared;
+#[cfg(test)]
+mod ranges;
+#[cfg(test)]
+mod report;
+#[cfg(test)]
+mod rooms;
+#[cfg(test)]
+mod splitter;

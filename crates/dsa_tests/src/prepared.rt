@@ -1,0 +1,403 @@
+use crate::given::operation;
+use dsa_calls::{PlanFault, plan_list};
+use dsa_descriptor::{ListFault, Span};
+use dsa_plan::Settings;
+use dsa_prepared::{FillFault, PrepareFault, Prepared, prepare};
+use std::alloc::{AllocError, Global};
+use std::test::Fail;
+
+/// Where the buffers of a list stand: three of data, and one of completion records.
+type Bases = [u32; 4];
+
+/// Where they stand when the list is prepared, and where they are put.
+const OLD: Bases = [0x1_0000, 0x2_0000, 0x3_0000, 0x4_0000];
+
+const NEW: Bases = [0x90_0008, 0x70_0123, 0x60_0123, 0x50_0020];
+
+const STAGING: u64 = 0x100_0000;
+
+const NEW_STAGING: u64 = 0x200_0000;
+
+/// What submits the list at `NEW`, from `emission` of tests/model.py: the first six words of each entry of the portal, and
+/// of each in the staging area, where 64 bytes for the records of two batches follow. The other words are 0.
+const PORTAL: [[u64; 6]; 3] = [
+    [0x100_000c_0000_0000, 0x200_0200, 0x200_0000, 0, 4, 0],
+    [0x100_000c_0000_0000, 0x200_0220, 0x200_0100, 0, 4, 0],
+    [
+        0x800_000c_0000_0000,
+        0x50_0160,
+        0x70_0123,
+        0x90_0010,
+        64,
+        20,
+    ],
+];
+
+const BATCHED: [[u64; 6]; 8] = [
+    [
+        0x300_000c_0000_0000,
+        0x50_0020,
+        0x90_0008,
+        0x70_0123,
+        4096,
+        0,
+    ],
+    [
+        0x300_000c_0000_0000,
+        0x50_0040,
+        0x90_1008,
+        0x70_1123,
+        4096,
+        0,
+    ],
+    [
+        0x300_000c_0000_0000,
+        0x50_0060,
+        0x90_2008,
+        0x70_2123,
+        1808,
+        0,
+    ],
+    [
+        0x400_000d_0000_0000,
+        0x50_00a0,
+        0x102_0304_0506_0708,
+        0x90_0008,
+        100,
+        0,
+    ],
+    [0x500_000c_0000_0000, 0x50_00c0, 0x90_0008, 0x70_0123, 64, 1],
+    [0x600_000c_0000_0000, 0x50_00e0, 0x70_0123, 7, 64, 0],
+    [
+        0x900_000c_0000_0000,
+        0x50_0100,
+        0x90_0008,
+        0x70_4123,
+        4096,
+        0x60_0123,
+    ],
+    [
+        0x900_000c_0000_0000,
+        0x50_0120,
+        0x90_1008,
+        0x70_5123,
+        904,
+        0x60_1123,
+    ],
+];
+
+fn settings(staging: u64) -> Result<Settings, Fail> {
+    Ok(Settings::new(4, 4096, 100, 100, 10, staging)?)
+}
+
+/// The bases as numbers of 64 bits.
+fn wide(bases: &Bases) -> [u64; 4] {
+    let [one, two, three, records] = *bases;
+    [one.into(), two.into(), three.into(), records.into()]
+}
+
+/// Buffers of these lengths at the old bases.
+fn regions() -> [Span; 4] {
+    let [one, two, three, records] = wide(&OLD);
+    [
+        Span {
+            first: one,
+            len: 0x4000,
+        },
+        Span {
+            first: two,
+            len: 0x6000,
+        },
+        Span {
+            first: three,
+            len: 0x3000,
+        },
+        Span {
+            first: records,
+            len: 0x400,
+        },
+    ]
+}
+
+/// An operation: its code, what stands at 16 and 24, its size, the offset of its record, and what stands at 40.
+type Row = (u8, u64, u64, u32, u32, u64);
+
+/// The bytes of the operation.
+fn row_bytes(records: u64, row: Row) -> [u8; 64] {
+    let (code, first, second, size, record, own) = row;
+    let record_at = records.wrapping_add(u64::from(record));
+    let mut bytes = operation(code, first, second, size, record_at);
+    bytes[40..48].copy_from_slice(&own.to_le_bytes());
+    bytes
+}
+
+/// One of each operation, two of them split into pieces.
+fn one_of_each(alloc: Global, bases: &Bases) -> Result<Vec<u8>, AllocError> {
+    let [one, two, three, records] = wide(bases);
+    let mut list = Vec::new(alloc);
+    for row in [
+        (3, one, two, 10_000, 0, 0),
+        (4, 0x102_0304_0506_0708, one, 100, 128, 0),
+        (5, one, two, 64, 160, 1),
+        (6, two, 7, 64, 192, 0),
+        (9, one, two.wrapping_add(0x4000), 5000, 224, three),
+        (8, two, one.wrapping_add(8), 64, 320, 20),
+    ] {
+        list.extend_from_slice(&row_bytes(records, row))?;
+    }
+    Ok(list)
+}
+
+/// The bytes of the entries.
+fn entry_bytes(alloc: Global, entries: &[[u64; 6]]) -> Result<Vec<u8>, AllocError> {
+    let mut bytes = Vec::new(alloc);
+    for entry in entries {
+        for word in entry {
+            bytes.extend_from_slice(&word.to_le_bytes())?;
+        }
+        bytes.extend_from_slice(&[0; 16])?;
+    }
+    Ok(bytes)
+}
+
+/// So many bytes of 9.
+fn nines(alloc: Global, count: usize) -> Result<Vec<u8>, AllocError> {
+    let mut bytes = Vec::new(alloc);
+    bytes.resize(count, 9)?;
+    Ok(bytes)
+}
+
+#[test]
+fn a_filled_submission_has_the_bytes_of_the_model(rt: HostRuntime) -> Result<(), Fail> {
+    let alloc = rt.alloc();
+    let list = one_of_each(alloc, &OLD)?;
+    let prepared = prepare(alloc, &list, &settings(STAGING)?, &regions())?;
+    assert!(rt; (prepared.portal_len(), prepared.staging_len()) == (192, 576));
+    let (mut portal, mut area) = (nines(alloc, 200)?, nines(alloc, 580)?);
+    prepared.fill(&wide(&NEW), NEW_STAGING, &mut portal, &mut area)?;
+    let mut expected = entry_bytes(alloc, &PORTAL)?;
+    expected.extend_from_slice(&[9; 8])?;
+    assert!(rt; portal == expected);
+    let mut expected = entry_bytes(alloc, &BATCHED)?;
+    expected.extend_from_slice(&[0; 64])?;
+    expected.extend_from_slice(&[9; 4])?;
+    assert!(rt; area == expected);
+    Ok(())
+}
+
+/// What filling answers for these bases, and whether it has left buffers of these lengths as they were.
+fn refusal(
+    alloc: Global,
+    prepared: &Prepared,
+    bases: &[u64],
+    staging: u64,
+    lens: (usize, usize),
+) -> Result<(Result<(), FillFault>, bool), AllocError> {
+    let (mut portal, mut area) = (nines(alloc, lens.0)?, nines(alloc, lens.1)?);
+    let answer = prepared.fill(bases, staging, &mut portal, &mut area);
+    let left = portal == nines(alloc, lens.0)? && area == nines(alloc, lens.1)?;
+    Ok((answer, left))
+}
+
+#[test]
+fn bases_are_refused_in_order_and_nothing_is_written(rt: HostRuntime) -> Result<(), Fail> {
+    let alloc = rt.alloc();
+    let list = one_of_each(alloc, &OLD)?;
+    let prepared = prepare(alloc, &list, &settings(STAGING)?, &regions())?;
+    let [one, two, three, records] = wide(&NEW);
+    let wrap = 0xffff_ffff_ffff_f123;
+    for (bases, staging, fault) in [
+        ([wrap, wrap, three, records], 1, FillFault::RegionWrap(0)),
+        ([one, wrap, three, records], 1, FillFault::RegionWrap(1)),
+        (
+            [0x90_0009, two, 0x60_0124, 0x50_0021],
+            1,
+            FillFault::Misaligned(0),
+        ),
+        (
+            [one, two, 0x60_0124, 0x50_0028],
+            1,
+            FillFault::Misaligned(3),
+        ),
+        (
+            [one, one, 0x60_0908, records],
+            1,
+            FillFault::DualcastBits(1, 2),
+        ),
+        (
+            [one, 0x90_3123, three, 0x90_0020],
+            1,
+            FillFault::RegionsMeet(1, 0),
+        ),
+        (
+            [one, two, three, 0x70_6100],
+            0x70_0123,
+            FillFault::RegionsMeet(3, 1),
+        ),
+        (
+            [one, two, three, 0x70_6140],
+            0x60_0001,
+            FillFault::StagingMeets(2),
+        ),
+        ([one, two, three, records], 0x200_0001, FillFault::Staging),
+        (
+            [one, two, three, records],
+            0x8000_0000_0000_0040,
+            FillFault::Staging,
+        ),
+    ] {
+        let found = refusal(alloc, &prepared, &bases, staging, (192, 576))?;
+        assert!(rt; found == (Err(fault), true));
+    }
+    let short = refusal(alloc, &prepared, &[wrap, two, three], 1, (0, 0))?;
+    assert!(rt; short == (Err(FillFault::Bases), true));
+    for lens in [(191, 576), (192, 575)] {
+        let found = refusal(alloc, &prepared, &[wrap, two, three, 1], 1, lens)?;
+        assert!(rt; found == (Err(FillFault::Room), true));
+    }
+    Ok(())
+}
+
+/// What preparing the list on these regions is refused for.
+fn prepare_fault(
+    alloc: Global,
+    list: &[u8],
+    regions: &[Span],
+) -> Result<Option<PrepareFault>, Fail> {
+    match prepare(alloc, list, &settings(STAGING)?, regions) {
+        Ok(_) => Ok(None),
+        Err(fault) => Ok(Some(fault)),
+    }
+}
+
+#[test]
+fn lists_and_regions_are_refused_in_order(rt: HostRuntime) -> Result<(), Fail> {
+    let alloc = rt.alloc();
+    let list = one_of_each(alloc, &OLD)?;
+    let [one, two, three, records] = regions();
+    let wrap = Span {
+        first: u64::MAX,
+        len: 2,
+    };
+    let long = Span {
+        first: one.first,
+        len: 0x1_0001,
+    };
+    let short = Span {
+        first: two.first,
+        len: 0x5387,
+    };
+    let row = Span {
+        first: records.first,
+        len: 0x13f,
+    };
+    let refused = PrepareFault::Plan(PlanFault::List(ListFault::Length));
+    assert!(rt; prepare_fault(alloc, &[0], &[wrap, one])? == Some(refused));
+    for (regions, fault) in [
+        ([one, wrap, two, records], PrepareFault::RegionWrap(1)),
+        ([one, three, two, wrap], PrepareFault::RegionOrder(2)),
+        ([long, two, three, records], PrepareFault::RegionOrder(1)),
+        ([one, short, three, records], PrepareFault::Outside(4)),
+        ([one, two, three, row], PrepareFault::Outside(5)),
+    ] {
+        assert!(rt; prepare_fault(alloc, &list, &regions)? == Some(fault));
+    }
+    Ok(())
+}
+
+/// The next of a sequence of numbers (xorshift).
+fn next(state: u64) -> u64 {
+    let a = state ^ state.wrapping_shl(13);
+    let b = a ^ a.wrapping_shr(7);
+    b ^ b.wrapping_shl(17)
+}
+
+/// An operation made from the bits of a number, whose data and whose record, at this offset, lie in the buffers.
+fn some_row(bits: u64, data: &[u64; 3], record: u32) -> Row {
+    let place = (bits >> 8) % 0x1000;
+    let other = (bits >> 20) % 0x1000;
+    let size = 1 + ((bits >> 32) % 5000) as u32;
+    let [one, two, three] = *data;
+    let (src, dst) = match (bits >> 48) % 4 {
+        0 => (one.wrapping_add(place), two.wrapping_add(other)),
+        1 => (two.wrapping_add(place), two.wrapping_add(other)),
+        2 => (two.wrapping_add(place), one.wrapping_add(other)),
+        _ => (three.wrapping_add(place), one.wrapping_add(other)),
+    };
+    match bits % 6 {
+        0 => (3, src, dst, size, record, 0),
+        1 => (4, bits, dst, size, record, 0),
+        2 => (5, src, dst, size, record, 1),
+        3 => (6, src, bits, size, record, 0),
+        4 => {
+            let low = two.wrapping_add(place);
+            (
+                9,
+                one.wrapping_add(other),
+                low,
+                size,
+                record,
+                three.wrapping_add(place),
+            )
+        }
+        _ => (
+            8,
+            two.wrapping_add(place),
+            one.wrapping_add(other / 8 * 8),
+            64,
+            record,
+            20,
+        ),
+    }
+}
+
+/// A list of 1 to 12 operations made from the bits of a number.
+fn some_list(alloc: Global, seed: u64, bases: &Bases) -> Result<Vec<u8>, AllocError> {
+    let [one, two, three, records] = wide(bases);
+    let mut list = Vec::new(alloc);
+    let mut bits = seed;
+    for k in 0..1 + (seed % 12) as u32 {
+        bits = next(bits);
+        let row = some_row(bits, &[one, two, three], 64 * k);
+        list.extend_from_slice(&row_bytes(records, row))?;
+    }
+    Ok(list)
+}
+
+/// Bases made from the bits of a number, apart, in one of four orders, the data with equal low bits.
+fn some_bases(bits: u64) -> Bases {
+    let low = 8 * ((bits % 0x200) as u32);
+    let records = 32 * (((bits >> 9) % 0x80) as u32);
+    let turn = ((bits >> 20) % 4) as u32;
+    let slot = |k: u32| 0x80_0000 + 0x1_0000 * ((turn + k) % 4);
+    [
+        slot(0) + low,
+        slot(1) + low,
+        slot(2) + low,
+        slot(3) + records,
+    ]
+}
+
+/// Prepared on the old bases and filled for others, the list has the bytes that planning it there answers.
+fn fills_as_planned(alloc: Global, seed: u64) -> Result<bool, Fail> {
+    let bases = some_bases(next(next(seed)));
+    let list = some_list(alloc, seed, &OLD)?;
+    let prepared = prepare(alloc, &list, &settings(STAGING)?, &regions())?;
+    let there = some_list(alloc, seed, &bases)?;
+    let planned = plan_list(alloc, &there, &settings(NEW_STAGING)?)?;
+    let mut portal = nines(alloc, prepared.portal_len())?;
+    let mut area = nines(alloc, prepared.staging_len())?;
+    prepared.fill(&wide(&bases), NEW_STAGING, &mut portal, &mut area)?;
+    Ok(portal == planned.emission.portal && area == planned.emission.staging)
+}
+
+#[test]
+fn generated_lists_are_filled_as_planned(rt: HostRuntime) -> Result<(), Fail> {
+    let alloc = rt.alloc();
+    let mut seed = 0x9e37_79b9_7f4a_7c15;
+    for _ in 0..400 {
+        seed = next(seed);
+        assert!(rt; fills_as_planned(alloc, seed)?);
+    }
+    Ok(())
+}

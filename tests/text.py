@@ -261,7 +261,8 @@ def shown(moves, plan, reasons):
         count = sum(fences)
         cost = 14 + 3 * count if len(fences) > 1 else 10
         kind = f"batch of {len(fences)}, {count} fence{'s' * (count != 1)}, {count + 1} epoch{'s' * (count != 0)}"
-        rows.append(f"group {number}: {kind if len(fences) > 1 else 'lone submission'}, cost {cost}")
+        full = " (full)" if len(fences) == 4 else ""
+        rows.append(f"group {number}: {kind if len(fences) > 1 else 'lone submission'}, cost {cost}{full}")
         for fenced in fences:
             if fenced:
                 rows.append(f"  -- fence, cost 3: {reasons[piece]}")
@@ -278,7 +279,8 @@ def shown(moves, plan, reasons):
 
 def fences():
     """The reason for each fence: of all pairs that need it the one with the least later piece, and for it the greatest
-    earlier one; the first kind of hazard that they have; or that no conflict needs it alone."""
+    earlier one; the first kind of hazard that they have, and how many more pairs there are; or that no conflict needs it
+    alone."""
     idle, read, last = "no conflict needs it alone", "read after write", (0x2000, 0x6000)
     apart, chain = [(0x1000, 0x2000), (0x3000, 0x4000), (0x2000, 0x5000)], [(0x1000 * k, 0x1000 * (k + 1)) for k in range(1, 5)]
     for moves, plan, reasons in [
@@ -289,7 +291,7 @@ def fences():
         (apart, [[False, True, False]], {1: f"2 after 0, {read} at 0x2000"}),
         (apart, [[False, False, True]], {2: f"2 after 0, {read} at 0x2000"}),
         (apart, [[False, True, True]], {1: idle, 2: idle}),
-        ([(0x1000, 0x2000), (0x3000, 0x4000), (0x4000, 0x5000), last], [[False, False, True, False]], {2: f"2 after 1, {read} at 0x4000"}),
+        ([(0x1000, 0x2000), (0x3000, 0x4000), (0x4000, 0x5000), last], [[False, False, True, False]], {2: f"2 after 1, {read} at 0x4000, and 1 more"}),
         (chain, [[False, True], [False, True]], {1: f"1 after 0, {read} at 0x2000", 3: f"3 after 2, {read} at 0x4000"}),
     ]:
         expect("explain", explained(moves, plan), shown(moves, plan, reasons))

@@ -7,8 +7,7 @@ use Rattle.dsa_descriptor.specs.Fields.{Fields}
 use Rattle.dsa_plan.specs.Plan.{Group, Plan}
 use Rattle.dsa_plan.specs.Legal.{IsFenced}
 use Rattle.dsa_explain.specs.declared.fences.Fence.{Fence}
-use Rattle.dsa_explain.specs.Reasons.{IsReasonFor}
-use Rattle.dsa_explain.specs.Fences.{AddsExplained, IsExplained, fence_places, fenced_in, fenced_pieces}
+use Rattle.dsa_explain.specs.Fences.{AddsExplained, HasReasons, IsExplained, fence_places, fenced_in, fenced_pieces}
 
 -- ---- the loop over a group
 
@@ -43,8 +42,8 @@ is_fenced start i g within fenced =
     let e : (start + i) - start ≡ i = omega arith in (omega arith, rw e (slice_get-get_or g i false within ∙ ap Some fenced))
 
 pub explained_pushed : (fs : List Fields) (start : ℕ) (g : Group) (before fences : List Fence) (fence : Fence) → IsFenced start g fence.piece
-    → IsReasonFor fs start g fence.piece fence.reason → AddsExplained fs start g before fences → AddsExplained fs start g before (fences ++ fence ∷ [])
-explained_pushed fs start g before fences fence fenced reason adds plan number there begins all =
+    → HasReasons fs start g fence → AddsExplained fs start g before fences → AddsExplained fs start g before (fences ++ fence ∷ [])
+explained_pushed fs start g before fences fence fenced reasons adds plan number there begins all =
     All-append (IsExplained fs plan) fences (fence ∷ []) (adds plan number there begins all)
     (All-cons (IsExplained fs plan) fence []
     (record {
@@ -52,7 +51,7 @@ explained_pushed fs start g before fences fence fenced reason adds plan number t
       group = g;
       is_group = there;
       fenced = subst (λ (s : ℕ). IsFenced s g fence.piece) begins fenced;
-      reason = subst (λ (s : ℕ). IsReasonFor fs s g fence.piece fence.reason) begins reason;
+      reasons = subst (λ (s : ℕ). HasReasons fs s g fence) begins reasons;
     })
     (All-nil (IsExplained fs plan)))
 

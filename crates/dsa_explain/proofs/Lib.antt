@@ -1,4 +1,5 @@
 pub mod Reached
+pub mod Listed
 pub mod Needed
 pub mod Singles
 pub mod Laid

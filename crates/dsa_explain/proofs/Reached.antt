@@ -1,4 +1,4 @@
--- What the search for a fence's reason finds.
+-- What the search for a fence's reasons asks of two pieces.
 use Rattle.std.proofs.Common.{◌≡◌, ℕ, ◌+◌, ◌-◌, ◌<◌, ◌≤◌, inl, inr, List, length, get_or, subst, arith}
 use Rattle.std.specs.Prelude.{map}
 use Rattle.std.proofs.lemmas.Bool.{cases_eq, cases_lt}
@@ -14,8 +14,7 @@ use Rattle.dsa_ranges.specs.Hazards.{IsHazard}
 use Rattle.dsa_ranges.proofs.Places.{fields_at}
 use Rattle.dsa_plan.specs.Plan.{Group}
 use Rattle.dsa_plan.specs.Legal.{IsFenced}
-use Rattle.dsa_explain.specs.declared.reason.Reason.{Reason}
-use Rattle.dsa_explain.specs.Reasons.{NeedsFence, IsHazardOf, IsReason, IsReached, FindsNone, FindsEarlier, IsOpen}
+use Rattle.dsa_explain.specs.Reasons.{NeedsFence, IsHazardOf, IsReached}
 
 -- what was found of the spans of the descriptors at two places
 pub hazard_seen : (ds : List Descriptor) (i j : ℕ) (d e : Descriptor) (r w r' w' : List Span) (h : Hazard) → i < length ds → j < length ds
@@ -47,18 +46,6 @@ hazard_conflicts fs a b h is = (
 
 -- ---- the inner loop, which has come from `at` down to i
 
-pub none_past_fence : (P : ℕ → Type 0) (start : ℕ) (group : Group) (at j : ℕ) → j < at → IsFenced start group j → (P j → ⊥)
-    → ((x : ℕ) → j < x → x < at → P x → ⊥) → (x : ℕ) → IsReached start group at x → P x → ⊥
-none_past_fence P start group at j lt fenced here later x reached p =
-    elim (cases_lt x j) [
-      | inl below ↦ reached.open_between j below lt fenced
-      | inr above ↦
-          elim (cases_eq x j) [
-            | inl same ↦ here (subst P same p)
-            | inr other ↦ later x (omega arith) reached.before p
-          ]
-    ]
-
 pub open_more : (start : ℕ) (group : Group) (i at : ℕ) → 0 < i → (IsFenced start group (i - 1) → ⊥)
     → ((k : ℕ) → i ≤ k → k < at → IsFenced start group k → ⊥) → (k : ℕ) → i - 1 ≤ k → k < at → IsFenced start group k → ⊥
 open_more start group i at lt here later k le below fenced =
@@ -67,18 +54,10 @@ open_more start group i at lt here later k le below fenced =
       | inr other ↦ later k (omega arith) below fenced
     ]
 
-pub apart_more : (P : ℕ → Type 0) (i at : ℕ) → 0 < i → (P (i - 1) → ⊥) → ((x : ℕ) → i ≤ x → x < at → P x → ⊥)
-    → (x : ℕ) → i - 1 ≤ x → x < at → P x → ⊥
-apart_more P i at lt here later x le below p =
-    elim (cases_eq x (i - 1)) [
-      | inl same ↦ here (subst P same p)
-      | inr other ↦ later x (omega arith) below p
-    ]
-
 -- ---- the outer loop
 
 -- a piece before a fence that it needs stands in the open before it
-needs_reached : (C : ℕ → ℕ → Type 0) (start : ℕ) (group : Group) (at a b : ℕ) → NeedsFence C start group at a b → IsReached start group at a
+pub needs_reached : (C : ℕ → ℕ → Type 0) (start : ℕ) (group : Group) (at a b : ℕ) → NeedsFence C start group at a b → IsReached start group at a
 needs_reached C start group at a b needs =
     record {
       begun = needs.conflicts.starts;
@@ -86,48 +65,3 @@ needs_reached C start group at a b needs =
       open_between = λ other after before fenced.
           let same : other ≡ at = needs.alone other after (omega (arith, needs.behind)) fenced in omega arith;
     }
-
-pub reason_found : (fs : List Fields) (start : ℕ) (group : Group) (at end : ℕ) (r : Reason) → IsFenced start group at → at ≤ r.later → r.later < end
-    → end ≤ start + length group → IsOpen start group at end → ((b : ℕ) → at ≤ b → b < r.later → FindsNone fs start group at b)
-    → FindsEarlier fs start group at r.later r.earlier r.hazard → IsReason fs start group at r
-reason_found fs start group at end r fenced from before within open_here none found =
-    let reached = found.reached in
-    record {
-      needs = record {
-        conflicts = record {
-          starts = reached.begun;
-          ordered = omega (arith, reached.before);
-          ends = omega arith;
-          conflict = hazard_conflicts fs r.earlier r.later r.hazard found.hazard;
-        };
-        before = reached.before;
-        behind = from;
-        alone = λ other after up_to other_fenced.
-            elim (cases_lt other at) [
-              | inl below ↦ absurd (reached.open_between other after below other_fenced)
-              | inr above ↦
-                  elim (cases_eq other at) [
-                    | inl same ↦ same
-                    | inr more ↦ absurd (open_here other (omega arith) (omega arith) other_fenced)
-                  ]
-            ];
-      };
-      least = λ a b needs.
-          elim (cases_lt b r.later) [
-            | inl below ↦ absurd (none b needs.behind below a (needs_reached (ConflictAt fs) start group at a b needs) needs.conflicts.conflict)
-            | inr above ↦ above
-          ];
-      greatest = λ a needs. found.last a (needs_reached (ConflictAt fs) start group at a r.later needs) needs.conflicts.conflict;
-      hazard = found.hazard;
-    }
-
-pub no_reason : (fs : List Fields) (start : ℕ) (group : Group) (at end : ℕ) → at < end → (end < start + length group → IsFenced start group end)
-    → ((b : ℕ) → at ≤ b → b < end → FindsNone fs start group at b) → (a b : ℕ) → NeedsFence (ConflictAt fs) start group at a b → ⊥
-no_reason fs start group at end lt closed none a b needs =
-    elim (cases_lt b end) [
-      | inl below ↦ none b needs.behind below a (needs_reached (ConflictAt fs) start group at a b needs) needs.conflicts.conflict
-      | inr above ↦
-          let inside : end < start + length group = omega (arith, needs.conflicts.ends) in
-          let same : end ≡ at = needs.alone end (omega (arith, needs.before)) above (closed inside) in
-          omega arith
-    ]

@@ -1,9 +1,10 @@
 -- The fences of a plan, and what each is for.
-use Rattle.std.specs.Prelude.{◌≡◌, ℕ, suc, ◌+◌, All, List, [], ◌∷◌, ◌++◌, length, map, slice_get, Some, if◌then◌else◌}
+use Rattle.std.specs.Prelude.{◌≡◌, ℕ, suc, ◌+◌, ◌-◌, All, List, [], ◌∷◌, ◌++◌, length, map, slice_get, Some, if◌then◌else◌}
 use Rattle.dsa_descriptor.specs.Fields.{Fields}
 use Rattle.dsa_plan.specs.Plan.{Group, Plan, start_of}
 use Rattle.dsa_plan.specs.Legal.{IsFenced}
-use Rattle.dsa_explain.specs.Reasons.{IsReasonFor}
+use Rattle.dsa_explain.specs.declared.reason.Reason.{Reason}
+use Rattle.dsa_explain.specs.Reasons.{AreReasonsFor}
 use Rattle.dsa_explain.specs.declared.fences.Fence.{Fence}
 
 -- the fenced pieces of a group that begins with this piece, in order
@@ -18,19 +19,26 @@ fenced_pieces piece [] = []
 fenced_pieces piece (group ∷ plan) =
     fenced_in piece group ++ fenced_pieces (piece + length group) plan
 
--- the fence stands in some group of the plan, and its reason is what needs it there
+-- the fence has the first of all reasons for it, and says how many more there are
+pub record HasReasons (pieces : List Fields) (start : ℕ) (group : Group) (fence : Fence) : Type 0 where
+  pub reasons : List Reason
+  pub are : AreReasonsFor pieces start group fence.piece reasons
+  pub first : fence.reason ≡ slice_get reasons 0
+  pub more : fence.more ≡ length reasons - 1
+
+-- the fence stands in some group of the plan, and its reasons are what needs it there
 pub record IsExplained (pieces : List Fields) (plan : Plan) (fence : Fence) : Type 0 where
   pub number : ℕ
   pub group : Group
   pub is_group : slice_get plan number ≡ Some group
   pub fenced : IsFenced (start_of plan number) group fence.piece
-  pub reason : IsReasonFor pieces (start_of plan number) group fence.piece fence.reason
+  pub reasons : HasReasons pieces (start_of plan number) group fence
 
 -- the pieces that fences stand before
 abbrev pub fence_places : List Fence → List ℕ
 fence_places fences = map (λ fence. fence.piece) fences
 
--- one fence before each fenced piece of the plan, in order, and each with its reason
+-- one fence before each fenced piece of the plan, in order, and each with its reasons
 pub record AreFencesOf (pieces : List Fields) (plan : Plan) (fences : List Fence) : Type 0 where
   pub places : fence_places fences ≡ fenced_pieces 0 plan
   pub reasons : All (IsExplained pieces plan) fences

@@ -1,5 +1,5 @@
 -- Why a piece is fenced. `C a b` says that the pieces a and b conflict.
-use Rattle.std.specs.Prelude.{ℕ, ◌≡◌, ◌+◌, ◌<◌, ◌≤◌, List, length, slice_get, Option, Some, None}
+use Rattle.std.specs.Prelude.{ℕ, ◌≡◌, ◌+◌, ◌<◌, ◌≤◌, ◌⊎◌, List, All, AllPairs, Any, length, slice_get, Some}
 use Rattle.dsa_descriptor.specs.Fields.{Fields}
 use Rattle.dsa_ranges.specs.Ranges.{read_spans, written_spans, ConflictAt}
 use Rattle.dsa_plan.specs.Plan.{Group}
@@ -24,19 +24,23 @@ pub record IsHazardOf (pieces : List Fields) (a b : ℕ) (h : Hazard) : Type 0 w
   pub later_is : slice_get pieces b ≡ Some later
   pub hazard : IsHazard (read_spans earlier) (written_spans earlier) (read_spans later) (written_spans later) h.address h.kind
 
--- the two pieces need the fence at piece k: of all that do, with the least later piece, and for it
--- the greatest earlier one; and the hazard is theirs
+-- two pieces that need the fence at piece k, and where they conflict
 pub record IsReason (pieces : List Fields) (start : ℕ) (group : Group) (k : ℕ) (r : Reason) : Type 0 where
   pub needs : NeedsFence (ConflictAt pieces) start group k r.earlier r.later
-  pub least : (a b : ℕ) → NeedsFence (ConflictAt pieces) start group k a b → r.later ≤ b
-  pub greatest : (a : ℕ) → NeedsFence (ConflictAt pieces) start group k a r.later → a ≤ r.earlier
   pub hazard : IsHazardOf pieces r.earlier r.later r.hazard
 
--- the reason for the fence at piece k, or that no two pieces need it
-abbrev pub IsReasonFor : List Fields → ℕ → Group → ℕ → Option Reason → Type 0
-IsReasonFor pieces start group k None =
-    (a b : ℕ) → ¬ NeedsFence (ConflictAt pieces) start group k a b
-IsReasonFor pieces start group k (Some r) = IsReason pieces start group k r
+-- of two reasons that of the least later piece comes first, and for the same later piece that of the greatest earlier one
+abbrev pub ComesBefore : Reason → Reason → Type 0
+ComesBefore r s = (r.later < s.later) ⊎ ((r.later ≡ s.later) × (s.earlier < r.earlier))
+
+abbrev pub IsOfPair : ℕ → ℕ → Reason → Type 0
+IsOfPair a b r = (r.earlier ≡ a) × (r.later ≡ b)
+
+-- one for each two pieces that need the fence at piece k, in that order
+pub record AreReasonsFor (pieces : List Fields) (start : ℕ) (group : Group) (k : ℕ) (rs : List Reason) : Type 0 where
+  pub each : All (IsReason pieces start group k) rs
+  pub all : (a b : ℕ) → NeedsFence (ConflictAt pieces) start group k a b → Any (IsOfPair a b) rs
+  pub order : AllPairs ComesBefore rs
 
 -- ---- for private clauses
 
@@ -46,16 +50,22 @@ pub record IsReached (start : ℕ) (group : Group) (k x : ℕ) : Type 0 where
   pub before : x < k
   pub open_between : (other : ℕ) → x < other → other < k → ¬ IsFenced start group other
 
-abbrev pub FindsNone : List Fields → ℕ → Group → ℕ → ℕ → Type 0
-FindsNone pieces start group k later = (x : ℕ) → IsReached start group k x → ¬ ConflictAt pieces x later
-
--- the piece stands so and conflicts with the later one, the hazard is theirs, and it is the last
--- that does
-pub record FindsEarlier (pieces : List Fields) (start : ℕ) (group : Group) (k later x : ℕ) (h : Hazard) : Type 0 where
-  pub reached : IsReached start group k x
-  pub hazard : IsHazardOf pieces x later h
-  pub last : (y : ℕ) → IsReached start group k y → ConflictAt pieces y later → y ≤ x
-
 -- no piece after k and before `end` is fenced
 abbrev pub IsOpen : ℕ → Group → ℕ → ℕ → Type 0
 IsOpen start group k end = (other : ℕ) → k < other → other < end → ¬ IsFenced start group other
+
+-- the later piece is before `later`, or it is that piece and the earlier one is i or behind it
+abbrev pub IsSoFar : ℕ → ℕ → ℕ → ℕ → Type 0
+IsSoFar later i a b = (b < later) ⊎ ((b ≡ later) × (i ≤ a))
+
+pub record IsFoundSoFar (pieces : List Fields) (start : ℕ) (group : Group) (k later i : ℕ) (r : Reason) : Type 0 where
+  pub reached : IsReached start group k r.earlier
+  pub behind : k ≤ r.later
+  pub so_far : IsSoFar later i r.earlier r.later
+  pub hazard : IsHazardOf pieces r.earlier r.later r.hazard
+
+-- one for each two conflicting pieces so far, the earlier of which stands so, in the order of reasons
+pub record HasReasonsSoFar (pieces : List Fields) (start : ℕ) (group : Group) (k later i : ℕ) (rs : List Reason) : Type 0 where
+  pub each : All (IsFoundSoFar pieces start group k later i) rs
+  pub all : (a b : ℕ) → IsReached start group k a → k ≤ b → IsSoFar later i a b → ConflictAt pieces a b → Any (IsOfPair a b) rs
+  pub order : AllPairs ComesBefore rs

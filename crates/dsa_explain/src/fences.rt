@@ -3,10 +3,11 @@
 ghost use Rattle.std.specs.Prelude.{◌≡◌, ◌+◌, ◌≤◌, ◌++◌, IfOk, OnOk, length, map};
 ghost use Rattle.dsa_descriptor.specs.Descriptors.{fields};
 ghost use Rattle.dsa_descriptor.specs.Pieces.{most_pieces};
+ghost use Rattle.dsa_plan.specs.Legal.{IsFenced};
 ghost use Rattle.dsa_plan.specs.Plan.{piece_count};
-ghost use Rattle.dsa_explain.specs.Fences.{AddsExplained, AreFencesOf, fence_places, fenced_in};
+ghost use Rattle.dsa_explain.specs.Fences.{AddsExplained, AreFencesOf, HasReasons, fence_places, fenced_in};
 
-use crate::reason::{Reason, reason_of};
+use crate::reason::{Reason, reasons_of};
 use dsa_descriptor::Descriptor;
 use dsa_plan::{Group, Plan};
 use std::alloc::{AllocError, Global};
@@ -16,12 +17,37 @@ use std::alloc::{AllocError, Global};
 pub struct Fence {
     /// The piece that it stands before.
     pub piece: usize,
-    /// The conflict that it alone separates; none where no conflict needs it alone.
+    /// The first conflict that it alone separates; none where no conflict needs it alone.
     pub reason: Option<Reason>,
+    /// How many more conflicts it alone separates.
+    pub more: usize,
+}
+
+/// The fence at a piece of a group that begins with piece `start`.
+fn fence_of(
+    alloc: Global,
+    flags: &[bool],
+    pieces: &[Descriptor],
+    start: usize,
+    piece: usize,
+) -> Result<Fence, AllocError>
+    requires known { start + length flags.now ≤ length pieces.now }
+    requires few { length pieces.now ≤ most_pieces }
+    requires fenced { IsFenced start flags.now piece }
+    ensures piece { IfOk result (λ fence. fence.piece ≡ piece) }
+    ensures reasons { IfOk result (HasReasons (map fields pieces.now) start flags.now) }
+{
+    let reasons = reasons_of(alloc, flags, pieces, start, piece)?;
+    Ok(Fence {
+        piece,
+        reason: reasons.first().copied(),
+        more: reasons.len().saturating_sub(1),
+    })
 }
 
 /// Writes the fences of a group at the end.
 fn push_fences(
+    alloc: Global,
     fences: &mut Vec<Fence>,
     group: &Group,
     pieces: &[Descriptor],
@@ -37,10 +63,7 @@ fn push_fences(
     let flags = group.fences();
     for (column, fenced) in flags.iter().enumerate() {
         if *fenced {
-            fences.push(Fence {
-                piece: start + column,
-                reason: reason_of(flags, pieces, start, start + column),
-            })?;
+            fences.push(fence_of(alloc, flags, pieces, start, start + column)?)?;
         }
     }
     Ok(())
@@ -60,7 +83,7 @@ pub fn fences_of(
     let mut fences = Vec::new(alloc);
     let mut start: usize = 0;
     for group in plan.groups() {
-        push_fences(&mut fences, group, pieces, start)?;
+        push_fences(alloc, &mut fences, group, pieces, start)?;
         start += group.len();
     }
     Ok(fences)

@@ -19,5 +19,5 @@ pub use laws::{
     cells_are_pieces_and_fences, each_fence_once, group_costs_add_up, least_plans_save,
 };
 pub use picture::{MOST_ROWS, draw};
-pub use reason::{Reason, reason_of};
+pub use reason::Reason;
 pub use words::{Origin, explanation_text, kind_text};

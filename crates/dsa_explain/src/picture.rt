@@ -78,6 +78,7 @@ fn push_bar(
     alloc: Global,
     svg: &mut String,
     fence: Option<&Fence>,
+    pieces: &[Descriptor],
     cell: &Cell,
 ) -> Result<(), AllocError> {
     let Some(fence) = fence else {
@@ -87,7 +88,7 @@ fn push_bar(
         column_left(cell.column).saturating_sub(7),
         row_top(cell.row),
     );
-    let words = fence_text(alloc, fence)?;
+    let words = fence_text(alloc, fence, pieces)?;
     let front = format!(in alloc; "<g><title>fence: {words}</title>")?;
     let back = format!(in alloc; "<rect x=\"{x}\" y=\"{y}\" width=\"4\" height=\"40\"/></g>\n")?;
     svg.push_str(&front)?;
@@ -138,7 +139,8 @@ pub fn draw(
             push_row(alloc, &mut svg, explanation, cell.row)?;
         }
         if cell.fenced {
-            push_bar(alloc, &mut svg, explanation.fences.get(next_fence), cell)?;
+            let fence = explanation.fences.get(next_fence);
+            push_bar(alloc, &mut svg, fence, pieces, cell)?;
             next_fence = next_fence.saturating_add(1);
         }
         if let Some(d) = pieces.get(index) {

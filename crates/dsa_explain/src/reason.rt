@@ -1,15 +1,16 @@
-//! Which conflict a fence separates.
+//! Which conflicts a fence separates.
 
-ghost use Rattle.std.specs.Prelude.{◌≡◌, ℕ, ◌+◌, ◌^◌, ◌<◌, ◌≤◌, map, length, MatchOption};
+ghost use Rattle.std.specs.Prelude.{◌≡◌, suc, ◌+◌, ◌^◌, ◌<◌, ◌≤◌, map, length, IfOk, OnOk};
 ghost use Rattle.dsa_descriptor.specs.Descriptors.{fields};
 ghost use Rattle.dsa_descriptor.specs.Pieces.{most_pieces};
 ghost use Rattle.dsa_plan.specs.Legal.{IsFenced};
-ghost use Rattle.dsa_explain.specs.Reasons.{FindsEarlier, FindsNone, IsOpen, IsReasonFor};
+ghost use Rattle.dsa_explain.specs.Reasons.{AreReasonsFor, HasReasonsSoFar, IsOpen};
 
 use dsa_descriptor::Descriptor;
 use dsa_ranges::{Hazard, find_hazard, touched};
+use std::alloc::{AllocError, Global};
 
-/// The conflict that a fence separates. Pieces are numbered from 0.
+/// A conflict that a fence separates. Pieces are numbered from 0.
 #[derive(Clone, Copy, Debug, PartialEq, Eq)]
 pub struct Reason {
     /// The piece before the fence.
@@ -18,38 +19,6 @@ pub struct Reason {
     pub later: usize,
     /// Where the two conflict, and why the later waits.
     pub hazard: Hazard,
-}
-
-/// In a group that begins with piece `start`, of the pieces before the fence at `at` and from the fence before it on,
-/// the last that conflicts with the piece `later`.
-fn last_before(
-    fences: &[bool],
-    pieces: &[Descriptor],
-    start: usize,
-    at: usize,
-    later: usize,
-) -> Option<(usize, Hazard)>
-    requires begun { start ≤ at }
-    requires behind { at ≤ later }
-    requires within { later < start + length fences.now }
-    requires known { start + length fences.now ≤ length pieces.now }
-    requires few { length pieces.now ≤ most_pieces }
-    ensures { MatchOption result
-        (FindsNone (map fields pieces.now) start fences.now at later)
-        (λ found. FindsEarlier (map fields pieces.now) start fences.now at later found.0 found.1) }
-{
-    let waiting = touched(&pieces[later]);
-    let mut i = at;
-    while i > start {
-        i -= 1;
-        if let Some(hazard) = find_hazard(&touched(&pieces[i]), &waiting) {
-            return Some((i, hazard));
-        }
-        if fences[i - start] {
-            return None;
-        }
-    }
-    None
 }
 
 /// In a group that begins with piece `start`, the first fenced piece behind `at`, or the group's end.
@@ -70,23 +39,66 @@ fn next_fence(fences: &[bool], start: usize, at: usize) -> usize
     start + fences.len()
 }
 
-/// In a group that begins with piece `start`, the conflict that the fence at piece `at` alone separates: with the least
-/// later piece, and for it the greatest earlier one. None where no conflict needs the fence alone.
-pub fn reason_of(fences: &[bool], pieces: &[Descriptor], start: usize, at: usize) -> Option<Reason>
+/// Adds a reason for each piece between the fence before `at` and this one that conflicts with the piece `later`, from the
+/// last one down.
+fn push_conflicts(
+    reasons: &mut Vec<Reason>,
+    fences: &[bool],
+    pieces: &[Descriptor],
+    start: usize,
+    at: usize,
+    later: usize,
+) -> Result<(), AllocError>
+    requires begun { start ≤ at }
+    requires behind { at ≤ later }
+    requires within { later < start + length fences.now }
+    requires known { start + length fences.now ≤ length pieces.now }
+    requires few { length pieces.now ≤ most_pieces }
+    requires so_far { HasReasonsSoFar (map fields pieces.now)
+        start fences.now at later at reasons.old.items }
+    ensures { OnOk result (HasReasonsSoFar (map fields pieces.now)
+        start fences.now at (suc later) at reasons.new.items) }
+{
+    let waiting = touched(&pieces[later]);
+    let mut i = at;
+    while i > start {
+        i -= 1;
+        if let Some(hazard) = find_hazard(&touched(&pieces[i]), &waiting) {
+            reasons.push(Reason {
+                earlier: i,
+                later,
+                hazard,
+            })?;
+        }
+        if fences[i - start] {
+            return Ok(());
+        }
+    }
+    Ok(())
+}
+
+/// In a group that begins with piece `start`, all conflicts that the fence at piece `at` alone separates, one for each two
+/// pieces: by the later piece, and for the same later piece from the greatest earlier one down.
+///
+/// # Errors
+/// [`AllocError`] at the first growth that is refused.
+pub(crate) fn reasons_of(
+    alloc: Global,
+    fences: &[bool],
+    pieces: &[Descriptor],
+    start: usize,
+    at: usize,
+) -> Result<Vec<Reason>, AllocError>
     requires known { start + length fences.now ≤ length pieces.now }
     requires few { length pieces.now ≤ most_pieces }
     requires fenced { IsFenced start fences.now at }
-    ensures { IsReasonFor (map fields pieces.now) start fences.now at result }
+    ensures { IfOk result (λ reasons.
+        AreReasonsFor (map fields pieces.now) start fences.now at reasons.items) }
 {
+    let mut reasons = Vec::new(alloc);
     let end = next_fence(fences, start, at);
     for later in at..end {
-        if let Some((earlier, hazard)) = last_before(fences, pieces, start, at, later) {
-            return Some(Reason {
-                earlier,
-                later,
-                hazard,
-            });
-        }
+        push_conflicts(&mut reasons, fences, pieces, start, at, later)?;
     }
-    None
+    Ok(reasons)
 }

@@ -2,11 +2,15 @@
 
 use crate::explanation::Explanation;
 use crate::fences::Fence;
+use crate::reason::Reason;
 use dsa_descriptor::Descriptor;
 use dsa_lines::op_text;
 use dsa_plan::{Costs, GroupCost, Settings};
 use dsa_ranges::HazardKind;
 use std::alloc::{AllocError, Global};
+
+/// The bytes of a completion record.
+const RECORD: u64 = 32;
 
 /// Of which operation a piece is, where that was split.
 #[derive(Clone, Copy, Debug, PartialEq, Eq)]
@@ -44,15 +48,38 @@ pub fn group_text(alloc: Global, number: usize, group: &GroupCost) -> Result<Str
     Ok(text)
 }
 
-/// The line of a fence: the two pieces of the conflict that it separates, the address and the kind of hazard.
-pub fn fence_text(alloc: Global, fence: &Fence) -> Result<String, AllocError> {
+/// Of two pieces that conflict at an address, the one whose completion record has it.
+fn record_with(pieces: &[Descriptor], reason: &Reason) -> Option<usize> {
+    let has_it = |piece: &usize| {
+        pieces
+            .get(*piece)
+            .is_some_and(|d| reason.hazard.address.wrapping_sub(d.record_at) < RECORD)
+    };
+    [reason.earlier, reason.later].into_iter().find(has_it)
+}
+
+/// The line of a fence: the two pieces of the first conflict that it alone separates, the kind of hazard, the address and
+/// whose record that is in, and how many more conflicts there are.
+pub fn fence_text(
+    alloc: Global,
+    fence: &Fence,
+    pieces: &[Descriptor],
+) -> Result<String, AllocError> {
     let Some(reason) = fence.reason else {
         return String::from_str(alloc, "no conflict needs it alone");
     };
     let (earlier, later) = (reason.earlier, reason.later);
     let kind = kind_text(reason.hazard.kind);
     let address = reason.hazard.address;
-    format!(in alloc; "{later} after {earlier}, {kind} at 0x{address:x}")
+    let mut text = format!(in alloc; "{later} after {earlier}, {kind} at 0x{address:x}")?;
+    if let Some(piece) = record_with(pieces, &reason) {
+        text.push_str(&format!(in alloc; " (record of {piece})")?)?;
+    }
+    if fence.more > 0 {
+        let more = fence.more;
+        text.push_str(&format!(in alloc; ", and {more} more")?)?;
+    }
+    Ok(text)
 }
 
 /// The line of a piece: what it does, and of a split operation which of its pieces it is.
@@ -95,17 +122,22 @@ fn push_line(text: &mut String, before: &str, line: &str) -> Result<(), AllocErr
     text.push_str("\n")
 }
 
-/// Writes the line of the group that begins with a piece.
+/// Writes the line of the group that begins with a piece, and whether no more pieces fit into it.
 fn push_group(
     alloc: Global,
     text: &mut String,
     explanation: &Explanation,
     row: usize,
+    greatest_batch: u64,
 ) -> Result<(), AllocError> {
     let Some(group) = explanation.costs.groups.get(row) else {
         return Ok(());
     };
-    push_line(text, "", &group_text(alloc, row, group)?)
+    let mut line = group_text(alloc, row, group)?;
+    if group.size as u64 == greatest_batch {
+        line.push_str(" (full)")?;
+    }
+    push_line(text, "", &line)
 }
 
 /// Writes the line of a fence.
@@ -113,12 +145,13 @@ fn push_fence(
     alloc: Global,
     text: &mut String,
     fence: Option<&Fence>,
+    pieces: &[Descriptor],
     price: u64,
 ) -> Result<(), AllocError> {
     let Some(fence) = fence else {
         return Ok(());
     };
-    let words = fence_text(alloc, fence)?;
+    let words = fence_text(alloc, fence, pieces)?;
     let line = format!(in alloc; "-- fence, cost {price}: {words}")?;
     push_line(text, "  ", &line)
 }
@@ -135,13 +168,15 @@ pub fn explanation_text(
     let mut next_fence: usize = 0;
     for (index, cell) in explanation.cells.iter().enumerate() {
         if cell.column == 0 {
-            push_group(alloc, &mut text, explanation, cell.row)?;
+            let greatest_batch = settings.greatest_batch();
+            push_group(alloc, &mut text, explanation, cell.row, greatest_batch)?;
         }
         if cell.fenced {
             push_fence(
                 alloc,
                 &mut text,
                 explanation.fences.get(next_fence),
+                pieces,
                 settings.fence(),
             )?;
             next_fence = next_fence.saturating_add(1);

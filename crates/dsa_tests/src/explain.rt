@@ -66,6 +66,7 @@ fn needed(piece: usize, earlier: usize, later: usize, address: u64, kind: Hazard
             later,
             hazard,
         }),
+        more: 0,
     }
 }
 
@@ -73,6 +74,7 @@ fn idle(piece: usize) -> Fence {
     Fence {
         piece,
         reason: None,
+        more: 0,
     }
 }
 
@@ -108,7 +110,7 @@ fn fences_that_no_conflict_needs(rt: HostRuntime) -> Result<(), Fail> {
     Ok(())
 }
 
-/// The third move reads what the second writes, and the last what the first writes.
+/// The third move reads what the second writes, and the last what the first writes: the fence separates both.
 #[test]
 fn the_first_conflict_behind_a_fence(rt: HostRuntime) -> Result<(), Fail> {
     let list = [
@@ -117,7 +119,8 @@ fn the_first_conflict_behind_a_fence(rt: HostRuntime) -> Result<(), Fail> {
         (0x4000, 0x5000),
         (0x2000, 0x6000),
     ];
-    let fences = [needed(2, 1, 2, 0x4000, HazardKind::ReadAfterWrite)];
+    let first = needed(2, 1, 2, 0x4000, HazardKind::ReadAfterWrite);
+    let fences = [Fence { more: 1, ..first }];
     assert!(rt; has_fences(rt.alloc(), &list, &[&[false, false, true, false]], &fences)?);
     Ok(())
 }

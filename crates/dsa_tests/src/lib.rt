@@ -1,5 +1,5 @@
-//! Tests of all crates, a module for each, and of engines as threads. They stand here and not in those crates, since a
-//! crate with tests is proved twice.
+//! Tests of calls that no job of the program reaches, and of engines as threads, a module for each matter. They stand here
+//! and not beside the code, since a crate with tests is proved twice.
 #![tactic(auto)]
 
 #[cfg(test)]

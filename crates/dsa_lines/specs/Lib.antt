@@ -7,3 +7,4 @@ pub mod Views
 pub mod Answers
 pub mod Texts
 pub mod Assembled
+pub mod Portals

@@ -9,3 +9,5 @@ pub mod AnswerLemmas
 pub mod OneText
 pub mod EmittedLemmas
 pub mod PortalLemmas
+pub mod StagingLemmas
+pub mod StagingFaults

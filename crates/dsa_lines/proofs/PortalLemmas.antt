@@ -85,12 +85,12 @@ batch_is c l r lt = rw (spaced_decimal c lt, append-nil) (sym (regroup (codes "b
 op_begins : (op : Op) (size : ℕ) (more : List Word) →
     (get_or (text_of (op_words op size ++ more)) 0 0 ≡ 98 → ⊥) × (get_or (text_of (op_words op size ++ more)) 0 35 ≡ 35 → ⊥)
     × (get_or (text_of (op_words op size ++ more)) 3 0 ≡ 99 → ⊥)
-op_begins (Move src dst) size more = (λ e. (let no : 109 ≡ 98 = e in absurd (omega arith)), λ e. (let no : 109 ≡ 35 = e in absurd (omega arith)), λ e. (let no : 101 ≡ 99 = e in absurd (omega arith)))
-op_begins (Fill pattern dst) size more = (λ e. (let no : 102 ≡ 98 = e in absurd (omega arith)), λ e. (let no : 102 ≡ 35 = e in absurd (omega arith)), λ e. (let no : 108 ≡ 99 = e in absurd (omega arith)))
-op_begins (Compare src src2 expected) size more = (λ e. (let no : 99 ≡ 98 = e in absurd (omega arith)), λ e. (let no : 99 ≡ 35 = e in absurd (omega arith)), λ e. (let no : 112 ≡ 99 = e in absurd (omega arith)))
-op_begins (ComparePattern src pattern expected) size more = (λ e. (let no : 99 ≡ 98 = e in absurd (omega arith)), λ e. (let no : 99 ≡ 35 = e in absurd (omega arith)), λ e. (let no : 112 ≡ 99 = e in absurd (omega arith)))
-op_begins (ApplyDelta delta dst record_size) size more = (λ e. (let no : 100 ≡ 98 = e in absurd (omega arith)), λ e. (let no : 100 ≡ 35 = e in absurd (omega arith)), λ e. (let no : 116 ≡ 99 = e in absurd (omega arith)))
-op_begins (Dualcast src dst dst2) size more = (λ e. (let no : 100 ≡ 98 = e in absurd (omega arith)), λ e. (let no : 100 ≡ 35 = e in absurd (omega arith)), λ e. (let no : 108 ≡ 99 = e in absurd (omega arith)))
+op_begins (Move src dst) size more = (λ e. (let no : ◌≡◌ {A = ℕ} 109 98 = e in absurd (omega arith)), λ e. (let no : ◌≡◌ {A = ℕ} 109 35 = e in absurd (omega arith)), λ e. (let no : ◌≡◌ {A = ℕ} 101 99 = e in absurd (omega arith)))
+op_begins (Fill pattern dst) size more = (λ e. (let no : ◌≡◌ {A = ℕ} 102 98 = e in absurd (omega arith)), λ e. (let no : ◌≡◌ {A = ℕ} 102 35 = e in absurd (omega arith)), λ e. (let no : ◌≡◌ {A = ℕ} 108 99 = e in absurd (omega arith)))
+op_begins (Compare src src2 expected) size more = (λ e. (let no : ◌≡◌ {A = ℕ} 99 98 = e in absurd (omega arith)), λ e. (let no : ◌≡◌ {A = ℕ} 99 35 = e in absurd (omega arith)), λ e. (let no : ◌≡◌ {A = ℕ} 112 99 = e in absurd (omega arith)))
+op_begins (ComparePattern src pattern expected) size more = (λ e. (let no : ◌≡◌ {A = ℕ} 99 98 = e in absurd (omega arith)), λ e. (let no : ◌≡◌ {A = ℕ} 99 35 = e in absurd (omega arith)), λ e. (let no : ◌≡◌ {A = ℕ} 112 99 = e in absurd (omega arith)))
+op_begins (ApplyDelta delta dst record_size) size more = (λ e. (let no : ◌≡◌ {A = ℕ} 100 98 = e in absurd (omega arith)), λ e. (let no : ◌≡◌ {A = ℕ} 100 35 = e in absurd (omega arith)), λ e. (let no : ◌≡◌ {A = ℕ} 116 99 = e in absurd (omega arith)))
+op_begins (Dualcast src dst dst2) size more = (λ e. (let no : ◌≡◌ {A = ℕ} 100 98 = e in absurd (omega arith)), λ e. (let no : ◌≡◌ {A = ℕ} 100 35 = e in absurd (omega arith)), λ e. (let no : ◌≡◌ {A = ℕ} 108 99 = e in absurd (omega arith)))
 
 pub line_begins : (f : Fields) →
     (get_or (line_text f) 0 0 ≡ 98 → ⊥) × (get_or (line_text f) 0 35 ≡ 35 → ⊥) × (get_or (line_text f) 3 0 ≡ 99 → ⊥)

@@ -8,3 +8,4 @@ pub mod Answers
 pub mod Texts
 pub mod Assembled
 pub mod Portals
+pub mod Stagings

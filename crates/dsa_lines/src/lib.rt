@@ -1,5 +1,5 @@
 //! Descriptors as lines of text: each line is read to its descriptor, and each descriptor has one canonical line; whole
-//! texts: a list of descriptors as lines, and back; and the text of a portal.
+//! texts: a list of descriptors as lines, and back; and the texts of a portal and a staging area.
 #![tactic(auto)]
 
 mod assembling;
@@ -14,6 +14,8 @@ mod options;
 mod portal;
 mod portal_laws;
 mod reading;
+mod staging;
+mod staging_laws;
 mod words;
 mod writing;
 
@@ -27,4 +29,6 @@ pub use laws::{
 pub use portal::disassemble_portal;
 pub use portal_laws::{one_portal_shown, one_portal_text};
 pub use reading::{line_bytes, parse_line};
+pub use staging::disassemble_staging;
+pub use staging_laws::{one_staging_shown, one_staging_text};
 pub use writing::{line_of, op_text};

@@ -7,3 +7,7 @@ pub mod LineLemmas
 pub mod TextLemmas
 pub mod AnswerLemmas
 pub mod OneText
+pub mod EmittedLemmas
+pub mod PortalLemmas
+pub mod StagingLemmas
+pub mod StagingFaults

@@ -7,3 +7,5 @@ pub mod Views
 pub mod Answers
 pub mod Texts
 pub mod Assembled
+pub mod Portals
+pub mod Stagings

@@ -1,7 +1,11 @@
-//! Why a line spells no descriptor, and a text no list.
+//! Why a line spells no descriptor, and a text no list; why bytes are no portal and no staging area.
+
+ghost use Rattle.std.specs.Prelude.{◌≡◌};
+ghost use Rattle.dsa_lines.specs.declared.fault.EmittedFault.TheVariants.{Memory};
 
 use crate::words::skip_blanks;
 use dsa_descriptor::{FieldFault, ListFault};
+use dsa_emission::EmissionFault;
 use std::alloc::AllocError;
 
 /// What the grammar has at a place of a line.
@@ -98,6 +102,25 @@ pub enum TextFault {
 impl From<AllocError> for TextFault {
     fn from(_: AllocError) -> TextFault {
         TextFault::Memory
+    }
+}
+
+/// Why bytes are no portal, or no staging area. Entries and batches are numbered from 0.
+#[derive(Clone, Copy, Debug, PartialEq, Eq)]
+pub enum EmittedFault {
+    /// The entry of this number is no listed descriptor.
+    Field(usize, FieldFault),
+    /// The length of a portal, or what stands behind the pieces of a staging area.
+    Emission(EmissionFault),
+    /// A growth of memory was refused.
+    Memory,
+}
+
+impl From<AllocError> for EmittedFault {
+    ghost from_gives = { λ _ fault. fault ≡ Memory };
+
+    fn from(_error: AllocError) -> EmittedFault {
+        EmittedFault::Memory
     }
 }
 

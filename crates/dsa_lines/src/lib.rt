@@ -1,5 +1,5 @@
-//! Descriptors as lines of text: each line is read to its descriptor, and each descriptor has one canonical line; and
-//! whole texts: a list of descriptors as lines, and back.
+//! Descriptors as lines of text: each line is read to its descriptor, and each descriptor has one canonical line; whole
+//! texts: a list of descriptors as lines, and back; and the texts of a portal and a staging area.
 #![tactic(auto)]
 
 mod assembling;
@@ -11,16 +11,24 @@ mod lines;
 mod numbers;
 mod operations;
 mod options;
+mod portal;
+mod portal_laws;
 mod reading;
+mod staging;
+mod staging_laws;
 mod words;
 mod writing;
 
 pub use assembling::assemble;
 pub use disassembling::disassemble;
-pub use fault::{Expected, LineFault, TextFault};
+pub use fault::{EmittedFault, Expected, LineFault, TextFault};
 pub use laws::{
     canonical_line_spells, canonical_text_spells, one_line_no_newline, one_line_one_descriptor,
     one_text_one_list, spells_one, text_spells_one,
 };
+pub use portal::disassemble_portal;
+pub use portal_laws::{one_portal_shown, one_portal_text};
 pub use reading::{line_bytes, parse_line};
+pub use staging::disassemble_staging;
+pub use staging_laws::{one_staging_shown, one_staging_text};
 pub use writing::{line_of, op_text};

@@ -192,7 +192,11 @@ pub fn op_text(alloc: Global, op: &Op, size: u32) -> Result<String, AllocError>
 }
 
 /// Writes the address of the record.
-fn push_record(alloc: Global, line: &mut String, record_at: u64) -> Result<(), AllocError>
+pub(crate) fn push_record(
+    alloc: Global,
+    line: &mut String,
+    record_at: u64,
+) -> Result<(), AllocError>
     ensures { OnOk result (string_bytes line.new ≡ string_bytes line.old ++
         (codes ", record " ++ hex record_at)) }
 {

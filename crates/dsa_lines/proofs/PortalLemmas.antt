@@ -1,0 +1,232 @@
+-- What a portal submits, and its text.
+use Rattle.std.proofs.Common.{◌≡◌, ◌≢◌, ℕ, zero, suc, ◌/◌, ◌^◌, ◌<◌, true, false, List, [], ◌∷◌, ◌++◌, length, get_or, refl, sym, ap, subst, ◌∙◌, append_assoc, length-append, ⊎_elim, arith}
+use Rattle.std.specs.Prelude.{◌⊎◌, Result, Ok, Err, IfOk, IfErr, MatchResult, codes, decimal, not, ◌==◌, ◌&&◌}
+use Rattle.std.specs.List.{AllZip}
+use Rattle.std.proofs.lemmas.Bool.{cases_order, eqb-true}
+use Rattle.std.proofs.lemmas.List.{append-nil}
+use Rattle.std.proofs.lemmas.Option.{same_Some}
+use Rattle.dsa_descriptor.specs.declared.descriptor.Descriptor.{Descriptor}
+use Rattle.dsa_descriptor.specs.declared.fault.FieldFault.{FieldFault}
+use Rattle.dsa_descriptor.specs.declared.op.Op.{Op}
+use Rattle.dsa_descriptor.specs.declared.op.Op.TheVariants.{Move, Fill, Compare, ComparePattern, ApplyDelta, Dualcast}
+use Rattle.dsa_descriptor.specs.Descriptors.{fields}
+use Rattle.dsa_descriptor.specs.Fields.{Fields}
+use Rattle.dsa_descriptor.specs.Faults.{IsFirstFault}
+use Rattle.dsa_descriptor.specs.Lists.{entries, entry}
+use Rattle.dsa_descriptor.specs.Spelling.{spelling}
+use Rattle.dsa_descriptor.proofs.Entries.{length-chunks}
+use Rattle.dsa_descriptor.proofs.Rules.{first_is_one}
+use Rattle.dsa_descriptor.proofs.Same.{one_spelling, same_descriptor, fault_only}
+use Rattle.dsa_emission.specs.EmissionFaults.{is_batch_entry}
+use Rattle.dsa_emission.proofs.Told.{code_told}
+use Rattle.dsa_lines.specs.declared.fault.EmittedFault.{EmittedFault}
+use Rattle.dsa_lines.specs.declared.fault.EmittedFault.TheVariants.{Field, Emission, Memory}
+use Rattle.dsa_lines.specs.Words.{Word, words_of}
+use Rattle.dsa_lines.specs.Numbers.{hex, number_of}
+use Rattle.dsa_lines.specs.Text.{op_words, text_of, line_text}
+use Rattle.dsa_lines.specs.Grammar.{fields_of}
+use Rattle.dsa_lines.specs.Portals.{Submission, Submits, IsPortal, batch_words, submission_text, portal_text, IsFirstPortalFault}
+use Rattle.dsa_lines.specs.Portals.Submission.{Batch, Lone}
+use Rattle.dsa_lines.proofs.WordLemmas.{AreWords, text_words, both}
+use Rattle.dsa_lines.proofs.NumberLemmas.{hex_word, decimal_word, hex_again, decimal_again, spaced_decimal}
+use Rattle.dsa_lines.proofs.LineLemmas.{is_line, words_line, canonical_is_line}
+use Rattle.dsa_lines.proofs.RoundTrip.{line_spells}
+use Rattle.dsa_lines.proofs.EmittedLemmas.{only_memory, fault_or_memory}
+
+-- ---- what an entry submits
+
+-- the bytes of a descriptor are those of no batch
+pub no_batch : (bytes : List ℕ) (d : Descriptor) → bytes ≡ spelling (fields d) → is_batch_entry bytes ≡ true → ⊥
+no_batch bytes d e is = code_told (fields d) d.listed (ap (λ (b : List ℕ). get_or b 7 0) (sym e) ∙ eqb-true _ _ is)
+
+one_submission : (bytes : List ℕ) (s t : Submission) → Submits bytes s → Submits bytes t → s ≡ t
+one_submission bytes (Batch c l r) (Batch c' l' r') p q =
+    let a : c ≡ c' = sym p.count_there ∙ q.count_there in
+    let b : l ≡ l' = sym p.list_there ∙ q.list_there in
+    let d : r ≡ r' = sym p.record_there ∙ q.record_there in
+    λ i. Batch (a i) (b i) (d i)
+one_submission bytes (Batch c l r) (Lone d) p q = absurd (no_batch bytes d q p.code)
+one_submission bytes (Lone d) (Batch c l r) p q = absurd (no_batch bytes d p q.code)
+one_submission bytes (Lone d) (Lone e) p q = ap Lone (one_spelling d e (sym p ∙ q))
+
+one_each : (es : List (List ℕ)) (ss ts : List Submission) → AllZip Submits es ss → AllZip Submits es ts → ss ≡ ts
+one_each [] [] [] p q = refl
+one_each [] [] (t ∷ ts) p q = absurd q
+one_each [] (s ∷ ss) ts p q = absurd p
+one_each (e ∷ es) [] ts p q = absurd p
+one_each (e ∷ es) (s ∷ ss) [] p q = absurd q
+one_each (e ∷ es) (s ∷ ss) (t ∷ ts) p q =
+    let here : s ≡ t = one_submission e s t p.0 q.0 in
+    let rest : ss ≡ ts = one_each es ss ts p.1 q.1 in
+    λ i. here i ∷ rest i
+
+pub one_portal : (bytes : List ℕ) (ss ts : List Submission) → IsPortal bytes ss → IsPortal bytes ts → ss ≡ ts
+one_portal bytes ss ts p q = one_each (entries bytes) ss ts p.each q.each
+
+-- ---- lines
+
+batch_words_are : (c l r : ℕ) → c < 2 ^ 64 → l < 2 ^ 64 → r < 2 ^ 64 → AreWords (batch_words c l r)
+batch_words_are c l r a b d = (refl, (refl, (decimal_word c a, (refl, (hex_word l b, (refl, (refl, (hex_word r d, tt))))))))
+
+batch_read : (c l r : ℕ) → c < 2 ^ 64 → l < 2 ^ 64 → r < 2 ^ 64 → words_of (text_of (batch_words c l r)) ≡ batch_words c l r
+batch_read c l r a b d =
+    let are = batch_words_are c l r a b d in
+    text_words 98 (codes "atch") (codes "of" ∷ decimal c ∷ codes "at" ∷ hex l ∷ codes "," ∷ codes "record" ∷ hex r ∷ []) refl are.1
+
+-- the line of a batch, as the code makes it
+regroup : (a c b h r : List ℕ) → (a ++ (c ++ (b ++ h))) ++ r ≡ a ++ (c ++ (b ++ (h ++ r)))
+regroup a c b h r = simp append_assoc
+
+pub batch_is : (c l r : ℕ) → c < 2 ^ 64
+    → text_of (batch_words c l r) ≡ (codes "batch of " ++ (decimal c ++ (codes " at " ++ hex l))) ++ (codes ", record " ++ hex r)
+batch_is c l r lt = rw (spaced_decimal c lt, append-nil) (sym (regroup (codes "batch of ") (decimal c) (codes " at ") (hex l) (codes ", record " ++ hex r)))
+
+-- bytes that no canonical line has: `b` or `#` first, or `c` fourth
+op_begins : (op : Op) (size : ℕ) (more : List Word) →
+    (get_or (text_of (op_words op size ++ more)) 0 0 ≡ 98 → ⊥) × (get_or (text_of (op_words op size ++ more)) 0 35 ≡ 35 → ⊥)
+    × (get_or (text_of (op_words op size ++ more)) 3 0 ≡ 99 → ⊥)
+op_begins (Move src dst) size more = (λ e. (let no : ◌≡◌ {A = ℕ} 109 98 = e in absurd (omega arith)), λ e. (let no : ◌≡◌ {A = ℕ} 109 35 = e in absurd (omega arith)), λ e. (let no : ◌≡◌ {A = ℕ} 101 99 = e in absurd (omega arith)))
+op_begins (Fill pattern dst) size more = (λ e. (let no : ◌≡◌ {A = ℕ} 102 98 = e in absurd (omega arith)), λ e. (let no : ◌≡◌ {A = ℕ} 102 35 = e in absurd (omega arith)), λ e. (let no : ◌≡◌ {A = ℕ} 108 99 = e in absurd (omega arith)))
+op_begins (Compare src src2 expected) size more = (λ e. (let no : ◌≡◌ {A = ℕ} 99 98 = e in absurd (omega arith)), λ e. (let no : ◌≡◌ {A = ℕ} 99 35 = e in absurd (omega arith)), λ e. (let no : ◌≡◌ {A = ℕ} 112 99 = e in absurd (omega arith)))
+op_begins (ComparePattern src pattern expected) size more = (λ e. (let no : ◌≡◌ {A = ℕ} 99 98 = e in absurd (omega arith)), λ e. (let no : ◌≡◌ {A = ℕ} 99 35 = e in absurd (omega arith)), λ e. (let no : ◌≡◌ {A = ℕ} 112 99 = e in absurd (omega arith)))
+op_begins (ApplyDelta delta dst record_size) size more = (λ e. (let no : ◌≡◌ {A = ℕ} 100 98 = e in absurd (omega arith)), λ e. (let no : ◌≡◌ {A = ℕ} 100 35 = e in absurd (omega arith)), λ e. (let no : ◌≡◌ {A = ℕ} 116 99 = e in absurd (omega arith)))
+op_begins (Dualcast src dst dst2) size more = (λ e. (let no : ◌≡◌ {A = ℕ} 100 98 = e in absurd (omega arith)), λ e. (let no : ◌≡◌ {A = ℕ} 100 35 = e in absurd (omega arith)), λ e. (let no : ◌≡◌ {A = ℕ} 108 99 = e in absurd (omega arith)))
+
+pub line_begins : (f : Fields) →
+    (get_or (line_text f) 0 0 ≡ 98 → ⊥) × (get_or (line_text f) 0 35 ≡ 35 → ⊥) × (get_or (line_text f) 3 0 ≡ 99 → ⊥)
+unfolding line_text
+line_begins f = op_begins f.op f.size _
+
+pub same_line : (d e : Descriptor) → line_text (fields d) ≡ line_text (fields e) → d ≡ e
+same_line d e same =
+    same_descriptor d e (same_Some (fields d) (fields e)
+    (sym (line_spells (fields d) d.listed) ∙ ap (λ (t : List ℕ). fields_of (words_of t)) same ∙ line_spells (fields e) e.listed))
+
+submission_line : (bytes : List ℕ) (s : Submission) → Submits bytes s → is_line (submission_text s) ≡ true
+submission_line bytes (Batch c l r) p =
+    words_line (batch_words c l r) (batch_words_are c l r (omega (arith, p.count_fits)) p.list_fits p.record_fits)
+submission_line bytes (Lone d) p = canonical_is_line (fields d) d.listed
+
+batch_begins : (c l r : ℕ) (t : List ℕ) → text_of (batch_words c l r) ≡ t → get_or t 0 0 ≡ 98
+batch_begins c l r t e = ap (λ (b : List ℕ). get_or b 0 0) (sym e)
+
+same_submission : (bytes other : List ℕ) (s t : Submission) → Submits bytes s → Submits other t → submission_text s ≡ submission_text t → s ≡ t
+same_submission bytes other (Batch c l r) (Batch c' l' r') p q e =
+    let c_fits : c < 2 ^ 64 = omega (arith, p.count_fits) in
+    let c_fits' : c' < 2 ^ 64 = omega (arith, q.count_fits) in
+    let words : batch_words c l r ≡ batch_words c' l' r' =
+    sym (batch_read c l r c_fits p.list_fits p.record_fits) ∙ ap words_of e ∙ batch_read c' l' r' c_fits' q.list_fits q.record_fits in
+    let a : c ≡ c' = same_Some c c' (sym (decimal_again c c_fits) ∙ ap (λ (ws : List Word). number_of (get_or ws 2 [])) words ∙ decimal_again c' c_fits') in
+    let b : l ≡ l' = same_Some l l' (sym (hex_again l p.list_fits) ∙ ap (λ (ws : List Word). number_of (get_or ws 4 [])) words ∙ hex_again l' q.list_fits) in
+    let d : r ≡ r' = same_Some r r' (sym (hex_again r p.record_fits) ∙ ap (λ (ws : List Word). number_of (get_or ws 7 [])) words ∙ hex_again r' q.record_fits) in
+    λ i. Batch (a i) (b i) (d i)
+same_submission bytes other (Batch c l r) (Lone d) p q e = absurd ((line_begins (fields d)).0 (batch_begins c l r (line_text (fields d)) e))
+same_submission bytes other (Lone d) (Batch c l r) p q e = absurd ((line_begins (fields d)).0 (batch_begins c l r (line_text (fields d)) (sym e)))
+same_submission bytes other (Lone d) (Lone f) p q e = ap Lone (same_line d f e)
+
+-- ---- texts
+
+-- the first line of a text, and what stands behind it
+pub first_line : (a b x y : List ℕ) → is_line a ≡ true → is_line b ≡ true → (a ++ 10 ∷ []) ++ x ≡ (b ++ 10 ∷ []) ++ y → (a ≡ b) × (x ≡ y)
+first_line [] [] x y p q e = (refl, cc)
+first_line [] (d ∷ ds) x y p q e =
+    let is : 10 ≡ d = cc in
+    let no : (not (d == 10) && is_line ds) ≡ true = q in
+    absurd (newline d ds (sym is) no)
+  where
+    newline : (d : ℕ) (ds : List ℕ) → d ≡ 10 → (not (d == 10) && is_line ds) ≡ true → ⊥
+    newline d ds k h = let no : false ≡ true = rw k at h in cc
+first_line (c ∷ cs) [] x y p q e =
+    let is : c ≡ 10 = cc in
+    absurd (newline c cs is p)
+  where
+    newline : (d : ℕ) (ds : List ℕ) → d ≡ 10 → (not (d == 10) && is_line ds) ≡ true → ⊥
+    newline d ds k h = let no : false ≡ true = rw k at h in cc
+first_line (c ∷ cs) (d ∷ ds) x y p q e =
+    let same : c ≡ d = cc in
+    let tails : (cs ++ 10 ∷ []) ++ x ≡ (ds ++ 10 ∷ []) ++ y = cc in
+    let rest = first_line cs ds x y (both (not (c == 10)) (is_line cs) p).1 (both (not (d == 10)) (is_line ds) q).1 tails in
+    let lines : cs ≡ ds = rest.0 in
+    (λ i. same i ∷ lines i, rest.1)
+
+one_text_each : (es fs : List (List ℕ)) (ss ts : List Submission) → AllZip Submits es ss → AllZip Submits fs ts → portal_text ss ≡ portal_text ts → ss ≡ ts
+unfolding portal_text
+one_text_each es fs [] [] p q e = refl
+one_text_each es fs [] (t ∷ ts) p q e = absurd (omega (arith, ap length e, length-append (submission_text t ++ 10 ∷ []) (portal_text ts), length-append (submission_text t) (10 ∷ [])))
+one_text_each es fs (s ∷ ss) [] p q e = absurd (omega (arith, ap length e, length-append (submission_text s ++ 10 ∷ []) (portal_text ss), length-append (submission_text s) (10 ∷ [])))
+one_text_each [] fs (s ∷ ss) (t ∷ ts) p q e = absurd p
+one_text_each (b ∷ es) [] (s ∷ ss) (t ∷ ts) p q e = absurd q
+one_text_each (b ∷ es) (d ∷ fs) (s ∷ ss) (t ∷ ts) p q e =
+    let parts = first_line (submission_text s) (submission_text t) (portal_text ss) (portal_text ts) (submission_line b s p.0) (submission_line d t q.0) e in
+    let here : s ≡ t = same_submission b d s t p.0 q.0 parts.0 in
+    let rest : ss ≡ ts = one_text_each es fs ss ts p.1 q.1 parts.1 in
+    λ i. here i ∷ rest i
+
+pub one_text : (bytes other : List ℕ) (ss ts : List Submission) → IsPortal bytes ss → IsPortal other ts → portal_text ss ≡ portal_text ts → ss ≡ ts
+one_text bytes other ss ts p q e = one_text_each (entries bytes) (entries other) ss ts p.each q.each e
+
+-- ---- for the loop
+
+pub each_more : (es : List (List ℕ)) (ss : List Submission) (e : List ℕ) (s : Submission) → AllZip Submits es ss → Submits e s → AllZip Submits (es ++ e ∷ []) (ss ++ s ∷ [])
+each_more [] [] e s p q = (q, tt)
+each_more [] (t ∷ ss) e s p q = absurd p
+each_more (f ∷ es) [] e s p q = absurd p
+each_more (f ∷ es) (t ∷ ss) e s p q = (p.0, each_more es ss e s p.1 q)
+
+pub each_at : (es : List (List ℕ)) (ss : List Submission) (i : ℕ) → AllZip Submits es ss → i < length es → (s : Submission) × Submits (get_or es i []) s
+each_at [] ss i p lt = absurd (omega arith)
+each_at (e ∷ es) [] i p lt = absurd p
+each_at (e ∷ es) (s ∷ ss) zero p lt = (s, p.0)
+each_at (e ∷ es) (s ∷ ss) (suc i) p lt = each_at es ss i p.1 (omega arith)
+
+pub no_portal_text : portal_text [] ≡ []
+unfolding portal_text
+no_portal_text = refl
+
+pub portal_text_more : (ss : List Submission) (s : Submission) → portal_text (ss ++ s ∷ []) ≡ portal_text ss ++ (submission_text s ++ 10 ∷ [])
+unfolding portal_text
+portal_text_more [] s = append-nil (submission_text s ++ 10 ∷ [])
+portal_text_more (t ∷ ss) s = ap (λ (x : List ℕ). (submission_text t ++ 10 ∷ []) ++ x) (portal_text_more ss s) ∙ sym (append_assoc (submission_text t ++ 10 ∷ []) (portal_text ss) (submission_text s ++ 10 ∷ []))
+
+-- ---- faults
+
+-- an entry that submits something has no fault
+submits_or_fault : (bytes : List ℕ) (s : Submission) (fault : FieldFault) → Submits bytes s → is_batch_entry bytes ≡ false → IsFirstFault bytes fault → ⊥
+submits_or_fault bytes (Batch c l r) fault p none first = let no : true ≡ false = sym p.code ∙ none in cc
+submits_or_fault bytes (Lone d) fault p none first = fault_only bytes fault d first p
+
+portal_or_fault : (bytes : List ℕ) (ss : List Submission) (fault : EmittedFault) → IsPortal bytes ss → fault ≢ Memory → IsFirstPortalFault bytes fault → ⊥
+portal_or_fault bytes ss (Field i fault) p other first =
+    let lt : i < length (entries bytes) = omega (arith, first.inside, length-chunks (length bytes / 64) bytes) in
+    let here = each_at (entries bytes) ss i p.each lt in
+    submits_or_fault (entry bytes i) here.0 fault here.1 first.no_batch first.fault_is
+portal_or_fault bytes ss (Emission fault) p other first = first.1 p.whole
+portal_or_fault bytes ss Memory p other first = other refl
+
+one_fault : (bytes : List ℕ) (f g : EmittedFault) → f ≢ Memory → g ≢ Memory → IsFirstPortalFault bytes f → IsFirstPortalFault bytes g → f ≡ g
+one_fault bytes Memory g nf ng p q = absurd (nf refl)
+one_fault bytes (Field i f) Memory nf ng p q = absurd (ng refl)
+one_fault bytes (Emission f) Memory nf ng p q = absurd (ng refl)
+one_fault bytes (Emission f) (Emission g) nf ng p q = ap Emission (p.0 ∙ sym q.0)
+one_fault bytes (Emission f) (Field j g) nf ng p q = absurd (p.1 q.whole)
+one_fault bytes (Field i f) (Emission g) nf ng p q = absurd (q.1 p.whole)
+one_fault bytes (Field i f) (Field j g) nf ng p q =
+    ⊎_elim (λ (e : i ≡ j). let r : IsFirstFault (entry bytes i) g = subst (λ (k : ℕ). IsFirstFault (entry bytes k) g) (sym e) q.fault_is in
+    let same : f ≡ g = first_is_one (entry bytes i) f g p.fault_is r in λ k. Field (e k) (same k))
+    (⊎_elim (λ (lt : i < j). let here = q.before i lt in absurd (submits_or_fault (entry bytes i) here.0 f here.1 p.no_batch p.fault_is))
+    (λ (gt : j < i). let here = p.before j gt in absurd (submits_or_fault (entry bytes j) here.0 g here.1 q.no_batch q.fault_is)))
+    (cases_order i j)
+
+-- what follows of what was answered
+module _ (A : Type 0) (shown : A → List ℕ) (bytes : List ℕ) where
+  abbrev pub Answered : Result A EmittedFault → Type 0
+  Answered r = IfOk r (λ text. (ss : List Submission) × IsPortal bytes ss × (shown text ≡ portal_text ss)) × IfErr r (IsFirstPortalFault bytes)
+
+  pub only_text : (r : Result A EmittedFault) → Answered r → (ss : List Submission) → IsPortal bytes ss → MatchResult r (λ text. shown text ≡ portal_text ss) (λ fault. fault ≡ Memory)
+  only_text (Ok text) h ss p = h.0.2 ∙ ap portal_text (one_portal bytes h.0.0 ss h.0.1 p)
+  only_text (Err fault) h ss p = only_memory (IsFirstPortalFault bytes) fault (λ f other first. portal_or_fault bytes ss f p other first) h.1
+
+  pub refused_text : (r : Result A EmittedFault) → Answered r → (fault : EmittedFault) → fault ≢ Memory → IsFirstPortalFault bytes fault
+      → MatchResult r (λ _. ⊥) (λ other. (other ≡ fault) ⊎ (other ≡ Memory))
+  refused_text (Ok text) h fault other first = portal_or_fault bytes h.0.0 fault h.0.1 other first
+  refused_text (Err told) h fault other first = fault_or_memory (IsFirstPortalFault bytes) told fault (one_fault bytes) other h.1 first

@@ -1,0 +1,15 @@
+//! Laws of the texts of portals. Each function is a law: its body is empty, and its clause is what the proof shows.
+
+ghost use Rattle.dsa_lines.specs.Portals.{OnePortalShown, OnePortalText};
+
+/// What a portal submits is determined, so it has one text.
+#[tactic(auto, using(crate::proofs::PortalLemmas::one_portal))]
+pub fn one_portal_shown()
+    ensures { OnePortalShown }
+{}
+
+/// Portals of one text submit the same: batches of the same sizes and addresses, and the same descriptors.
+#[tactic(auto, using(crate::proofs::PortalLemmas::one_text))]
+pub fn one_portal_text()
+    ensures { OnePortalText }
+{}

@@ -261,8 +261,7 @@ def shown(moves, plan, reasons):
         count = sum(fences)
         cost = 14 + 3 * count if len(fences) > 1 else 10
         kind = f"batch of {len(fences)}, {count} fence{'s' * (count != 1)}, {count + 1} epoch{'s' * (count != 0)}"
-        full = " (full)" if len(fences) == 4 else ""
-        rows.append(f"group {number}: {kind if len(fences) > 1 else 'lone submission'}, cost {cost}{full}")
+        rows.append(f"group {number}: {kind if len(fences) > 1 else 'lone submission'}, cost {cost}")
         for fenced in fences:
             if fenced:
                 rows.append(f"  -- fence, cost 3: {reasons[piece]}")

@@ -6,3 +6,4 @@ pub mod Laid
 pub mod Fenced
 pub mod CostSums
 pub mod FencedOnce
+pub mod Lines

@@ -1,6 +1,6 @@
 -- What listing all reasons for a fence has found.
-use Rattle.std.proofs.Common.{◌≡◌, ℕ, suc, ◌+◌, ◌-◌, ◌<◌, ◌≤◌, ◌++◌, ◌⊎◌, inl, inr, List, [], ◌∷◌, length, get_or, subst, sym, arith}
-use Rattle.std.specs.Prelude.{All, AllPairs, Any}
+use Rattle.std.proofs.Common.{◌≡◌, ℕ, suc, ◌+◌, ◌-◌, ◌<◌, ◌≤◌, ◌++◌, ◌⊎◌, inl, inr, List, [], ◌∷◌, length, get_or, subst, arith}
+use Rattle.std.specs.Prelude.{Any}
 use Rattle.std.proofs.lemmas.Bool.{cases_eq, cases_lt}
 use Rattle.std.proofs.lemmas.List.Elements.{All-push, All-weaker, All-nil}
 use Rattle.std.proofs.lemmas.List.Quantifiers.{Any-push, all_pairs_push}
@@ -10,7 +10,7 @@ use Rattle.dsa_ranges.specs.Ranges.{ConflictAt}
 use Rattle.dsa_plan.specs.Plan.{Group}
 use Rattle.dsa_plan.specs.Legal.{IsFenced}
 use Rattle.dsa_explain.specs.declared.reason.Reason.{Reason}
-use Rattle.dsa_explain.specs.Reasons.{NeedsFence, IsHazardOf, IsReached, IsOpen, IsReason, ComesBefore, IsOfPair, AreReasonsFor, IsSoFar, IsFoundSoFar, HasReasonsSoFar}
+use Rattle.dsa_explain.specs.Reasons.{IsHazardOf, IsReached, IsOpen, IsReason, ComesBefore, IsOfPair, AreReasonsFor, IsSoFar, IsFoundSoFar, HasReasonsSoFar}
 use Rattle.dsa_explain.proofs.Reached.{hazard_conflicts, needs_reached}
 
 any_kept : {X : Type 0} (P : X → Type 0) (xs : List X) (y : X) → Any P xs → Any P (xs ++ y ∷ [])
@@ -81,7 +81,7 @@ one_more fs start group at later i rs new lt behind e l reached hazard h =
     record {
       each = All-push (IsFoundSoFar fs start group at later (i - 1)) rs new
           (All-weaker (IsFoundSoFar fs start group at later i) (IsFoundSoFar fs start group at later (i - 1)) (λ r f. found_lower fs start group at later i (i - 1) r (omega arith) f) rs h.each)
-          record { reached = reached; behind = omega (arith, behind, l); so_far = inr (l, omega (arith, e)); hazard = hazard; };
+          record { reached = reached; behind = omega (arith, behind, l); so_far = inr (l, omega (arith, e)); hazard = hazard };
       all = λ a b there from so_far meets.
           elim (one_lower later i a b lt so_far) [
             | inl before ↦ any_kept (IsOfPair a b) rs new (h.all a b there from before meets)
@@ -110,9 +110,9 @@ row_done fs start group at later i rs above h =
       all = λ a b reached behind so_far meets.
           elim so_far [
             | inl below ↦ elim (cases_lt b later) [
-                | inl before ↦ h.all a b reached behind (inl before) meets
-                | inr from ↦ h.all a b reached behind (inr (omega (arith, below, from), above a reached)) meets
-              ]
+              | inl before ↦ h.all a b reached behind (inl before) meets
+              | inr from ↦ h.all a b reached behind (inr (omega (arith, below, from), above a reached)) meets
+            ]
             | inr here ↦ absurd (omega (arith, here.1, reached.before))
           ];
       order = h.order;

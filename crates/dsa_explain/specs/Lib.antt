@@ -1,5 +1,6 @@
 pub mod Reasons
 pub mod Fences
 pub mod Cells
+pub mod Words
 pub mod Explained
 pub mod Laws

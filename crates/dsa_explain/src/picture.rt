@@ -1,5 +1,8 @@
 //! A plan as a picture: a row for each group, a box for each piece, a bar for each fence.
 
+ghost use Rattle.std.specs.Prelude.{IfOk, string_bytes};
+ghost use Rattle.dsa_explain.specs.Words.{IsPicture};
+
 use crate::cells::Cell;
 use crate::explanation::Explanation;
 use crate::fences::Fence;
@@ -48,7 +51,7 @@ fn push_head(
         .unwrap_or(0);
     let (width, height) = (column_left(widest), row_top(rows).saturating_add(10));
     let size = format!(in alloc; "width=\"{width}\" height=\"{height}\"")?;
-    svg.push_str("<svg xmlns=\"http://www.w3.org/2000/svg\" role=\"img\" ")?;
+    svg.push_str("xmlns=\"http://www.w3.org/2000/svg\" role=\"img\" ")?;
     svg.push_str(&size)?;
     svg.push_str(" font-family=\"monospace\" font-size=\"11\">\n<title>")?;
     svg.push_str(&cost_text(alloc, &explanation.costs, pieces)?)?;
@@ -78,7 +81,6 @@ fn push_bar(
     alloc: Global,
     svg: &mut String,
     fence: Option<&Fence>,
-    pieces: &[Descriptor],
     cell: &Cell,
 ) -> Result<(), AllocError> {
     let Some(fence) = fence else {
@@ -88,7 +90,7 @@ fn push_bar(
         column_left(cell.column).saturating_sub(7),
         row_top(cell.row),
     );
-    let words = fence_text(alloc, fence, pieces)?;
+    let words = fence_text(alloc, fence)?;
     let front = format!(in alloc; "<g><title>fence: {words}</title>")?;
     let back = format!(in alloc; "<rect x=\"{x}\" y=\"{y}\" width=\"4\" height=\"40\"/></g>\n")?;
     svg.push_str(&front)?;
@@ -123,9 +125,8 @@ fn push_box(
     svg.push_str(&below)
 }
 
-/// The picture of a plan as SVG, in black and white and without scripts; a browser shows the words of each row, box and
-/// bar under the pointer.
-pub fn draw(
+/// What stands in a picture behind its first word.
+fn picture_body(
     alloc: Global,
     explanation: &Explanation,
     pieces: &[Descriptor],
@@ -139,8 +140,7 @@ pub fn draw(
             push_row(alloc, &mut svg, explanation, cell.row)?;
         }
         if cell.fenced {
-            let fence = explanation.fences.get(next_fence);
-            push_bar(alloc, &mut svg, fence, pieces, cell)?;
+            push_bar(alloc, &mut svg, explanation.fences.get(next_fence), cell)?;
             next_fence = next_fence.saturating_add(1);
         }
         if let Some(d) = pieces.get(index) {
@@ -148,5 +148,20 @@ pub fn draw(
         }
     }
     svg.push_str("</svg>\n")?;
+    Ok(svg)
+}
+
+/// The picture of a plan as SVG, in black and white and without scripts; a browser shows the words of each row, box and
+/// bar under the pointer.
+pub fn draw(
+    alloc: Global,
+    explanation: &Explanation,
+    pieces: &[Descriptor],
+    origins: &[Origin],
+) -> Result<String, AllocError>
+    ensures { IfOk result (λ s. IsPicture (string_bytes s)) }
+{
+    let mut svg = String::from_str(alloc, "<svg ")?;
+    svg.push_str(&picture_body(alloc, explanation, pieces, origins)?)?;
     Ok(svg)
 }

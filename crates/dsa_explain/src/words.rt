@@ -1,5 +1,9 @@
 //! The words of an explanation.
 
+ghost use Rattle.std.specs.Prelude.{◌≡◌, ◌++◌, IfOk, OnOk, Some, codes, decimal, slice_get, string_bytes};
+ghost use Rattle.dsa_explain.specs.Words.{batch_words, cell_lines, cost_words, explanation_words, fence_line, fence_words, fences_left, fences_words, group_line, group_words, kind_words, line_of_fence, lone_words, more_words, origin_words, piece_line, piece_words, pieces_words, plural, reason_words, saved_words};
+
+use crate::cells::Cell;
 use crate::explanation::Explanation;
 use crate::fences::Fence;
 use crate::reason::Reason;
@@ -8,9 +12,6 @@ use dsa_lines::op_text;
 use dsa_plan::{Costs, GroupCost, Settings};
 use dsa_ranges::HazardKind;
 use std::alloc::{AllocError, Global};
-
-/// The bytes of a completion record.
-const RECORD: u64 = 32;
 
 /// Of which operation a piece is, where that was split.
 #[derive(Clone, Copy, Debug, PartialEq, Eq)]
@@ -24,7 +25,9 @@ pub struct Origin {
 }
 
 /// The name of a kind of hazard.
-pub fn kind_text(kind: HazardKind) -> &'static str {
+pub fn kind_text(kind: HazardKind) -> &'static str
+    ensures { result.now ≡ kind_words kind }
+{
     match kind {
         HazardKind::ReadAfterWrite => "read after write",
         HazardKind::WriteAfterRead => "write after read",
@@ -32,128 +35,334 @@ pub fn kind_text(kind: HazardKind) -> &'static str {
     }
 }
 
-/// The line of a group: its size, its fences and the epochs that they part it into, and its cost.
-pub fn group_text(alloc: Global, number: usize, group: &GroupCost) -> Result<String, AllocError> {
-    let (size, fences, cost) = (group.size, group.fences, group.cost);
-    if size == 1 {
-        return format!(in alloc; "group {number}: lone submission, cost {cost}");
-    }
-    let epochs = fences.saturating_add(1);
-    let ends = if fences == 1 { "" } else { "s" };
-    let many = if epochs == 1 { "" } else { "s" };
-    let front = format!(in alloc; "group {number}: batch of {size}, {fences} fence{ends}, ")?;
-    let back = format!(in alloc; "{epochs} epoch{many}, cost {cost}")?;
-    let mut text = front;
-    text.push_str(&back)?;
+/// An s, but behind a single one.
+fn plural(count: u128) -> &'static str
+    ensures { result.now ≡ plural count }
+{
+    if count == 1 { "" } else { "s" }
+}
+
+/// How many fences a batch has, the epochs that these part it into, and its cost.
+#[tactic(auto, unfolding(crate::specs::Words::fences_words))]
+fn fences_text(alloc: Global, fences: usize, cost: u64) -> Result<String, AllocError>
+    ensures { IfOk result (λ s. string_bytes s ≡ fences_words fences cost) }
+{
+    let epochs = fences as u128 + 1;
+    let (ends, many) = (plural(fences as u128), plural(epochs));
+    format!(in alloc; "{fences} fence{ends}, {epochs} epoch{many}, cost {cost}")
+}
+
+/// The words of a lone submission.
+fn lone_text(alloc: Global, number: usize, cost: u64) -> Result<String, AllocError>
+    ensures { IfOk result (λ s. string_bytes s ≡ lone_words number cost) }
+{
+    format!(in alloc; "group {number}: lone submission, cost {cost}")
+}
+
+/// The words of a batch up to its fences.
+fn batch_front(alloc: Global, number: usize, size: usize) -> Result<String, AllocError>
+    ensures { IfOk result (λ s. string_bytes s ≡ codes "group " ++
+        (decimal number ++ (codes ": batch of " ++ (decimal size ++ codes ", ")))) }
+{
+    format!(in alloc; "group {number}: batch of {size}, ")
+}
+
+/// The words of a batch: its size, its fences and the epochs that they part it into, and its cost.
+fn batch_text(alloc: Global, number: usize, group: &GroupCost) -> Result<String, AllocError>
+    ensures { IfOk result (λ s. string_bytes s ≡ batch_words number group.now) }
+{
+    let mut text = batch_front(alloc, number, group.size)?;
+    let fences = fences_text(alloc, group.fences, group.cost)?;
+    text.push_str(&fences)?;
     Ok(text)
 }
 
-/// Of two pieces that conflict at an address, the one whose completion record has it.
-fn record_with(pieces: &[Descriptor], reason: &Reason) -> Option<usize> {
-    let has_it = |piece: &usize| {
-        pieces
-            .get(*piece)
-            .is_some_and(|d| reason.hazard.address.wrapping_sub(d.record_at) < RECORD)
-    };
-    [reason.earlier, reason.later].into_iter().find(has_it)
+/// The words of a group.
+pub fn group_text(alloc: Global, number: usize, group: &GroupCost) -> Result<String, AllocError>
+    ensures { IfOk result (λ s. string_bytes s ≡ group_words number group.now) }
+{
+    if group.size == 1 {
+        lone_text(alloc, number, group.cost)
+    } else {
+        batch_text(alloc, number, group)
+    }
 }
 
-/// The line of a fence: the two pieces of the first conflict that it alone separates, the kind of hazard, the address and
-/// whose record that is in, and how many more conflicts there are.
-pub fn fence_text(
-    alloc: Global,
-    fence: &Fence,
-    pieces: &[Descriptor],
-) -> Result<String, AllocError> {
-    let Some(reason) = fence.reason else {
-        return String::from_str(alloc, "no conflict needs it alone");
-    };
+/// The words of the conflict that a fence separates: its two pieces, the address and the kind of hazard.
+fn conflict_text(alloc: Global, reason: Reason) -> Result<String, AllocError>
+    ensures { IfOk result (λ s. string_bytes s ≡ reason_words (Some reason)) }
+{
     let (earlier, later) = (reason.earlier, reason.later);
-    let kind = kind_text(reason.hazard.kind);
-    let address = reason.hazard.address;
-    let mut text = format!(in alloc; "{later} after {earlier}, {kind} at 0x{address:x}")?;
-    if let Some(piece) = record_with(pieces, &reason) {
-        text.push_str(&format!(in alloc; " (record of {piece})")?)?;
+    let (kind, address) = (kind_text(reason.hazard.kind), reason.hazard.address);
+    format!(in alloc; "{later} after {earlier}, {kind} at 0x{address:x}")
+}
+
+/// The words of the first conflict that a fence alone separates, if there is one.
+fn reason_text(alloc: Global, reason: Option<Reason>) -> Result<String, AllocError>
+    ensures { IfOk result (λ s. string_bytes s ≡ reason_words reason) }
+{
+    match reason {
+        Some(reason) => conflict_text(alloc, reason),
+        None => String::from_str(alloc, "no conflict needs it alone"),
     }
-    if fence.more > 0 {
-        let more = fence.more;
-        text.push_str(&format!(in alloc; ", and {more} more")?)?;
+}
+
+/// Writes how many more conflicts a fence separates, where there are any.
+fn push_more(alloc: Global, text: &mut String, more: usize) -> Result<(), AllocError>
+    ensures { OnOk result (string_bytes text.new ≡ string_bytes text.old ++ more_words more) }
+{
+    if more == 0 {
+        return Ok(());
     }
+    let words = format!(in alloc; ", and {more} more")?;
+    text.push_str(&words)
+}
+
+/// The words of a fence: the first conflict that it alone separates, and how many more there are.
+pub fn fence_text(alloc: Global, fence: &Fence) -> Result<String, AllocError>
+    ensures { IfOk result (λ s. string_bytes s ≡ fence_words fence.now) }
+{
+    let mut text = reason_text(alloc, fence.reason)?;
+    push_more(alloc, &mut text, fence.more)?;
     Ok(text)
 }
 
-/// The line of a piece: what it does, and of a split operation which of its pieces it is.
+/// Writes which of its operation's pieces a piece is, where that was split.
+fn push_origin(alloc: Global, text: &mut String, origin: Option<Origin>) -> Result<(), AllocError>
+    ensures { OnOk result (string_bytes text.new ≡ string_bytes text.old ++ origin_words origin) }
+{
+    let Some(origin) = origin else {
+        return Ok(());
+    };
+    if origin.pieces <= 1 {
+        return Ok(());
+    }
+    let (operation, piece, pieces) = (origin.operation, origin.piece, origin.pieces);
+    let part = format!(in alloc; " (operation {operation}, piece {piece} of {pieces})")?;
+    text.push_str(&part)
+}
+
+/// The words of a piece: what it does, and of a split operation which of its pieces it is.
 pub fn piece_text(
     alloc: Global,
     d: &Descriptor,
     origin: Option<Origin>,
-) -> Result<String, AllocError> {
+) -> Result<String, AllocError>
+    ensures { IfOk result (λ s. string_bytes s ≡ piece_words d.now origin) }
+{
     let mut text = op_text(alloc, &d.op, d.size)?;
-    if let Some(origin) = origin {
-        if origin.pieces > 1 {
-            let (operation, piece, pieces) = (origin.operation, origin.piece, origin.pieces);
-            let part = format!(in alloc; " (operation {operation}, piece {piece} of {pieces})")?;
-            text.push_str(&part)?;
-        }
-    }
+    push_origin(alloc, &mut text, origin)?;
     Ok(text)
 }
 
-/// The line of the costs: those of the plan, of as many lone submissions, and what is saved.
-pub fn cost_text(alloc: Global, costs: &Costs, pieces: usize) -> Result<String, AllocError> {
-    let (cost, lone) = (costs.cost, costs.lone);
-    let ends = if pieces == 1 { "" } else { "s" };
-    let front = format!(in alloc; "cost {cost}; {pieces} lone submission{ends} cost {lone}, ")?;
-    let mut text = front;
+/// What a plan saves, or how much less lone submissions cost.
+fn saved_text(alloc: Global, cost: u64, lone: u64) -> Result<String, AllocError>
+    ensures { IfOk result (λ s. string_bytes s ≡ saved_words cost lone) }
+{
     if cost <= lone {
         let saved = lone - cost;
-        text.push_str(&format!(in alloc; "saved {saved}")?)?;
-    } else {
-        let lost = cost - lone;
-        text.push_str(&format!(in alloc; "{lost} less")?)?;
+        return format!(in alloc; "saved {saved}");
     }
+    let lost = cost - lone;
+    format!(in alloc; "{lost} less")
+}
+
+/// The words of the plan's cost.
+fn cost_front(alloc: Global, cost: u64) -> Result<String, AllocError>
+    ensures { IfOk result (λ s. string_bytes s ≡ codes "cost " ++ (decimal cost ++ codes "; ")) }
+{
+    format!(in alloc; "cost {cost}; ")
+}
+
+/// How many lone submissions there would be.
+#[tactic(auto, unfolding(crate::specs::Words::pieces_words))]
+fn pieces_text(alloc: Global, pieces: usize) -> Result<String, AllocError>
+    ensures { IfOk result (λ s. string_bytes s ≡ pieces_words pieces) }
+{
+    let ends = plural(pieces as u128);
+    format!(in alloc; "{pieces} lone submission{ends}")
+}
+
+/// Writes how many lone submissions there would be.
+fn push_pieces(alloc: Global, text: &mut String, pieces: usize) -> Result<(), AllocError>
+    ensures { OnOk result (string_bytes text.new ≡ string_bytes text.old ++ pieces_words pieces) }
+{
+    let words = pieces_text(alloc, pieces)?;
+    text.push_str(&words)
+}
+
+/// Writes what the lone submissions would cost.
+fn push_lone(alloc: Global, text: &mut String, lone: u64) -> Result<(), AllocError>
+    ensures { OnOk result (string_bytes text.new ≡ string_bytes text.old ++
+        (codes " cost " ++ (decimal lone ++ codes ", "))) }
+{
+    let words = format!(in alloc; " cost {lone}, ")?;
+    text.push_str(&words)
+}
+
+/// The words of the costs: those of the plan, of as many lone submissions, and what is saved.
+pub fn cost_text(alloc: Global, costs: &Costs, pieces: usize) -> Result<String, AllocError>
+    ensures { IfOk result (λ s. string_bytes s ≡ cost_words costs.now pieces) }
+{
+    let mut text = cost_front(alloc, costs.cost)?;
+    push_pieces(alloc, &mut text, pieces)?;
+    push_lone(alloc, &mut text, costs.lone)?;
+    let saved = saved_text(alloc, costs.cost, costs.lone)?;
+    text.push_str(&saved)?;
     Ok(text)
 }
 
-/// Writes a line with spaces before it.
-fn push_line(text: &mut String, before: &str, line: &str) -> Result<(), AllocError> {
-    text.push_str(before)?;
+/// Writes a line.
+fn push_line(text: &mut String, line: &str) -> Result<(), AllocError>
+    ensures { OnOk result (string_bytes text.new ≡ string_bytes text.old ++
+        (line.now ++ codes "\n")) }
+{
     text.push_str(line)?;
     text.push_str("\n")
 }
 
-/// Writes the line of the group that begins with a piece, and whether no more pieces fit into it.
+/// Writes the line of a group.
+fn push_group_line(
+    alloc: Global,
+    text: &mut String,
+    number: usize,
+    group: &GroupCost,
+) -> Result<(), AllocError>
+    ensures { OnOk result (string_bytes text.new ≡ string_bytes text.old ++
+        (group_words number group.now ++ codes "\n")) }
+{
+    let words = group_text(alloc, number, group)?;
+    push_line(text, &words)
+}
+
+/// Writes the line of the group that begins with a piece.
 fn push_group(
     alloc: Global,
     text: &mut String,
-    explanation: &Explanation,
-    row: usize,
-    greatest_batch: u64,
-) -> Result<(), AllocError> {
-    let Some(group) = explanation.costs.groups.get(row) else {
+    groups: &[GroupCost],
+    cell: &Cell,
+) -> Result<(), AllocError>
+    ensures { OnOk result (string_bytes text.new ≡ string_bytes text.old ++
+        group_line groups.now cell.now) }
+{
+    if cell.column != 0 {
         return Ok(());
-    };
-    let mut line = group_text(alloc, row, group)?;
-    if group.size as u64 == greatest_batch {
-        line.push_str(" (full)")?;
     }
-    push_line(text, "", &line)
+    match groups.get(cell.row) {
+        Some(group) => push_group_line(alloc, text, cell.row, group),
+        None => Ok(()),
+    }
+}
+
+/// The line of a fence up to its conflict.
+fn fence_front(alloc: Global, price: u64) -> Result<String, AllocError>
+    ensures { IfOk result (λ s. string_bytes s ≡ codes "  -- fence, cost " ++
+        (decimal price ++ codes ": ")) }
+{
+    format!(in alloc; "  -- fence, cost {price}: ")
 }
 
 /// Writes the line of a fence.
-fn push_fence(
+fn push_fence_line(
     alloc: Global,
     text: &mut String,
-    fence: Option<&Fence>,
-    pieces: &[Descriptor],
+    fence: &Fence,
     price: u64,
-) -> Result<(), AllocError> {
-    let Some(fence) = fence else {
-        return Ok(());
+) -> Result<(), AllocError>
+    ensures { OnOk result (string_bytes text.new ≡ string_bytes text.old ++
+        line_of_fence price (Some fence.now)) }
+{
+    let front = fence_front(alloc, price)?;
+    let words = fence_text(alloc, fence)?;
+    text.push_str(&front)?;
+    push_line(text, &words)
+}
+
+/// Writes the line of the first of these fences before a fenced piece, and answers those behind it.
+fn push_fence<'a>(
+    alloc: Global,
+    text: &mut String,
+    fences: &'a [Fence],
+    cell: &Cell,
+    price: u64,
+) -> Result<&'a [Fence], AllocError>
+    ensures line { OnOk result (string_bytes text.new ≡ string_bytes text.old ++
+        fence_line price fences.now cell.now) }
+    ensures left { IfOk result (λ left. left.now ≡ fences_left fences.now cell.now) }
+{
+    if !cell.fenced {
+        return Ok(fences);
+    }
+    let [fence, left @ ..] = fences else {
+        return Ok(fences);
     };
-    let words = fence_text(alloc, fence, pieces)?;
-    let line = format!(in alloc; "-- fence, cost {price}: {words}")?;
-    push_line(text, "  ", &line)
+    push_fence_line(alloc, text, fence, price)?;
+    Ok(left)
+}
+
+/// The line of a piece up to its operation.
+fn piece_front(alloc: Global, index: usize) -> Result<String, AllocError>
+    ensures { IfOk result (λ s. string_bytes s ≡ codes "  " ++ (decimal index ++ codes ": ")) }
+{
+    format!(in alloc; "  {index}: ")
+}
+
+/// Writes the line of a piece.
+fn push_piece_line(
+    alloc: Global,
+    text: &mut String,
+    index: usize,
+    d: &Descriptor,
+    origin: Option<Origin>,
+) -> Result<(), AllocError>
+    ensures { OnOk result (string_bytes text.new ≡ string_bytes text.old ++
+        piece_line index (Some d.now) origin) }
+{
+    let front = piece_front(alloc, index)?;
+    let words = piece_text(alloc, d, origin)?;
+    text.push_str(&front)?;
+    push_line(text, &words)
+}
+
+/// Writes the line of the piece of this index.
+fn push_piece(
+    alloc: Global,
+    text: &mut String,
+    pieces: &[Descriptor],
+    origins: &[Origin],
+    index: usize,
+) -> Result<(), AllocError>
+    ensures { OnOk result (string_bytes text.new ≡ string_bytes text.old ++
+        piece_line index (slice_get pieces.now index) (slice_get origins.now index)) }
+{
+    let origin = origins.get(index).copied();
+    match pieces.get(index) {
+        Some(d) => push_piece_line(alloc, text, index, d, origin),
+        None => Ok(()),
+    }
+}
+
+/// Writes the lines of the pieces, of their groups and of their fences.
+fn push_cells(
+    alloc: Global,
+    text: &mut String,
+    groups: &[GroupCost],
+    fences: &[Fence],
+    cells: &[Cell],
+    pieces: &[Descriptor],
+    origins: &[Origin],
+    price: u64,
+) -> Result<(), AllocError>
+    ensures { OnOk result (string_bytes text.new ≡ string_bytes text.old ++
+        cell_lines price groups.now pieces.now origins.now 0 fences.now cells.now) }
+{
+    let mut left = fences;
+    for (index, cell) in cells.iter().enumerate() {
+        push_group(alloc, text, groups, cell)?;
+        left = push_fence(alloc, text, left, cell, price)?;
+        push_piece(alloc, text, pieces, origins, index)?;
+    }
+    Ok(())
 }
 
 /// The explanation of a plan in words: a line for each group, fence and piece, and one for the costs.
@@ -163,34 +372,22 @@ pub fn explanation_text(
     pieces: &[Descriptor],
     origins: &[Origin],
     settings: &Settings,
-) -> Result<String, AllocError> {
+) -> Result<String, AllocError>
+    ensures { IfOk result (λ s. string_bytes s ≡
+        explanation_words settings.now.fence explanation.now pieces.now origins.now) }
+{
     let mut text = String::new(alloc);
-    let mut next_fence: usize = 0;
-    for (index, cell) in explanation.cells.iter().enumerate() {
-        if cell.column == 0 {
-            let greatest_batch = settings.greatest_batch();
-            push_group(alloc, &mut text, explanation, cell.row, greatest_batch)?;
-        }
-        if cell.fenced {
-            push_fence(
-                alloc,
-                &mut text,
-                explanation.fences.get(next_fence),
-                pieces,
-                settings.fence(),
-            )?;
-            next_fence = next_fence.saturating_add(1);
-        }
-        if let Some(d) = pieces.get(index) {
-            let words = piece_text(alloc, d, origins.get(index).copied())?;
-            let line = format!(in alloc; "{index}: {words}")?;
-            push_line(&mut text, "  ", &line)?;
-        }
-    }
-    push_line(
+    push_cells(
+        alloc,
         &mut text,
-        "",
-        &cost_text(alloc, &explanation.costs, pieces.len())?,
+        &explanation.costs.groups,
+        &explanation.fences,
+        &explanation.cells,
+        pieces,
+        origins,
+        settings.fence(),
     )?;
+    let costs = cost_text(alloc, &explanation.costs, pieces.len())?;
+    push_line(&mut text, &costs)?;
     Ok(text)
 }

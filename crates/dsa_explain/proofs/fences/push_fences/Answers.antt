@@ -1,4 +1,4 @@
-use Rattle.std.proofs.Common.{◌≡◌, ◌+◌, ◌<◌, ◌++◌, get_or, length, refl, subst, true, false}
+use Rattle.std.proofs.Common.{◌≡◌, ◌<◌, ◌++◌, get_or, length, subst, true, false}
 use Rattle.std.specs.Prelude.{map}
 use Rattle.dsa_descriptor.specs.Descriptors.{fields}
 use Rattle.dsa_plan.specs.Plan.{Group}

@@ -1,4 +1,4 @@
-use Rattle.std.proofs.Common.{ℕ, ◌-◌, ◌<◌, ◌∙◌, false, Some, inl, inr, length, ap, refl, arith}
+use Rattle.std.proofs.Common.{◌-◌, ◌<◌, ◌∙◌, false, Some, inl, inr, length, ap, refl, arith}
 use Rattle.std.specs.Prelude.{map}
 use Rattle.std.proofs.lemmas.Bool.{cases_lt}
 use Rattle.std.proofs.lemmas.Option.{slice_get-get_or}
@@ -30,27 +30,27 @@ returns-then-fences-i c =
       | in-Some+in_ok-push w ↦
           let new : Reason = record { earlier = c.loop-i.i - 1; later = c.args.later; hazard = w.in-Some.hazard } in
           rw (w.reasons-is, w.in_ok-push.ensures.items)
-              (one_more fs c.args.start c.args.fences.now c.args.at c.args.later c.loop-i.i c.loop-i.reasons.items new (omega (arith, c.loop-i-test.true)) c.requires.behind refl refl
-              record {
-                begun = omega (arith, c.loop-i-test.true);
-                before = omega (arith, h.before, c.loop-i-test.true);
-                open_between = λ other after before. h.open_here other (omega arith) before;
-              }
-              (hazard_seen c.args.pieces.now (c.loop-i.i - 1) c.args.later c.index-pieces-i.result c.index-pieces-later.result c.touched.result.reads.items c.touched.result.writes.items
-              c.touched-waiting.result.reads.items c.touched-waiting.result.writes.items w.in-Some.hazard first second c.index-pieces-i.is c.index-pieces-later.is
-              c.touched.ensures.reads c.touched.ensures.writes c.touched-waiting.ensures.reads c.touched-waiting.ensures.writes w.in-Some.ensures)
-              h.found)
+          (one_more fs c.args.start c.args.fences.now c.args.at c.args.later c.loop-i.i c.loop-i.reasons.items new (omega (arith, c.loop-i-test.true)) c.requires.behind refl refl
+          record {
+            begun = omega (arith, c.loop-i-test.true);
+            before = omega (arith, h.before, c.loop-i-test.true);
+            open_between = λ other after before. h.open_here other (omega arith) before;
+          }
+          (hazard_seen c.args.pieces.now (c.loop-i.i - 1) c.args.later c.index-pieces-i.result c.index-pieces-later.result c.touched.result.reads.items c.touched.result.writes.items
+          c.touched-waiting.result.reads.items c.touched-waiting.result.writes.items w.in-Some.hazard first second c.index-pieces-i.is c.index-pieces-later.is
+          c.touched.ensures.reads c.touched.ensures.writes c.touched-waiting.ensures.reads c.touched-waiting.ensures.writes w.in-Some.ensures)
+          h.found)
       | in_default w ↦
           rw w.reasons-is
-              (none_more fs c.args.start c.args.fences.now c.args.at c.args.later c.loop-i.i c.loop-i.reasons.items (omega (arith, c.loop-i-test.true))
-              (λ e. w.in_default.ensures (seen.1 e)) h.found)
+          (none_more fs c.args.start c.args.fences.now c.args.at c.args.later c.loop-i.i c.loop-i.reasons.items (omega (arith, c.loop-i-test.true))
+          (λ e. w.in_default.ensures (seen.1 e)) h.found)
     ] in
     row_done fs c.args.start c.args.fences.now c.args.at c.args.later (c.loop-i.i - 1) c.match-find_hazard.reasons.items
     (λ x reached.
-        elim (cases_lt x (c.loop-i.i - 1)) [
-          | inl below ↦ absurd (reached.open_between (c.loop-i.i - 1) below (omega (arith, h.before, c.loop-i-test.true)) fenced)
-          | inr above ↦ above
-        ])
+    elim (cases_lt x (c.loop-i.i - 1)) [
+      | inl below ↦ absurd (reached.open_between (c.loop-i.i - 1) below (omega (arith, h.before, c.loop-i-test.true)) fenced)
+      | inr above ↦ above
+    ])
     now
 
 pub loop-i-preserved : goal.loop-i-preserved
@@ -73,19 +73,19 @@ loop-i-preserved c =
             | in-Some+in_ok-push w ↦
                 let new : Reason = record { earlier = c.loop-i.i - 1; later = c.args.later; hazard = w.in-Some.hazard } in
                 rw (w.reasons-is, w.in_ok-push.ensures.items)
-                    (one_more fs c.args.start c.args.fences.now c.args.at c.args.later c.loop-i.i c.loop-i.reasons.items new (omega (arith, c.loop-i-test.true)) c.requires.behind refl refl
-                    record {
-                      begun = omega (arith, c.loop-i-test.true);
-                      before = omega (arith, h.before, c.loop-i-test.true);
-                      open_between = λ other after before. h.open_here other (omega arith) before;
-                    }
-                    (hazard_seen c.args.pieces.now (c.loop-i.i - 1) c.args.later c.index-pieces-i.result c.index-pieces-later.result c.touched.result.reads.items c.touched.result.writes.items
-                    c.touched-waiting.result.reads.items c.touched-waiting.result.writes.items w.in-Some.hazard first second c.index-pieces-i.is c.index-pieces-later.is
-                    c.touched.ensures.reads c.touched.ensures.writes c.touched-waiting.ensures.reads c.touched-waiting.ensures.writes w.in-Some.ensures)
-                    h.found)
+                (one_more fs c.args.start c.args.fences.now c.args.at c.args.later c.loop-i.i c.loop-i.reasons.items new (omega (arith, c.loop-i-test.true)) c.requires.behind refl refl
+                record {
+                  begun = omega (arith, c.loop-i-test.true);
+                  before = omega (arith, h.before, c.loop-i-test.true);
+                  open_between = λ other after before. h.open_here other (omega arith) before;
+                }
+                (hazard_seen c.args.pieces.now (c.loop-i.i - 1) c.args.later c.index-pieces-i.result c.index-pieces-later.result c.touched.result.reads.items c.touched.result.writes.items
+                c.touched-waiting.result.reads.items c.touched-waiting.result.writes.items w.in-Some.hazard first second c.index-pieces-i.is c.index-pieces-later.is
+                c.touched.ensures.reads c.touched.ensures.writes c.touched-waiting.ensures.reads c.touched-waiting.ensures.writes w.in-Some.ensures)
+                h.found)
             | in_default w ↦
                 rw w.reasons-is
-                    (none_more fs c.args.start c.args.fences.now c.args.at c.args.later c.loop-i.i c.loop-i.reasons.items (omega (arith, c.loop-i-test.true))
-                    (λ e. w.in_default.ensures (seen.1 e)) h.found)
+                (none_more fs c.args.start c.args.fences.now c.args.at c.args.later c.loop-i.i c.loop-i.reasons.items (omega (arith, c.loop-i-test.true))
+                (λ e. w.in_default.ensures (seen.1 e)) h.found)
           ];
     }

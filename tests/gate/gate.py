@@ -23,8 +23,8 @@ import toolchain
 
 HERE = os.path.dirname(os.path.realpath(__file__))
 ROOT = toolchain.ROOT
-# The most jobs of one proof: four where little else fills the processors, as in a first run and at the end of a gate, and two
-# elsewhere, which took four minutes less than one and no more of the processors.
+# The most jobs of one proof: four where little else fills the processors, as in a first run and for the last proof of a gate,
+# and two elsewhere. In a whole gate one took four minutes more by the clock; four took a tenth more of the processors.
 MOST_JOBS_WHERE_IDLE = 4
 MOST_JOBS = 2
 # A task whose way to the end is at least this part of the longest one counts as on it.
@@ -132,12 +132,12 @@ def skip(left, done):
         task.failed, task.said = 1, f"not run, since the {broken.label()} failed"
 
 
-def most_jobs(task, others, lanes):
-    """Returns the most jobs of a proof on the longest way: more where all else ends before it, shared among the processors."""
-    return MOST_JOBS_WHERE_IDLE if sum(it.weight for it in others) < task.behind * lanes else MOST_JOBS
+def most_jobs(task, is_alone):
+    """Returns the most jobs of a proof on the longest way: more where proofs are all there is, or no proof waits for it."""
+    return MOST_JOBS_WHERE_IDLE if is_alone or task.behind < 2 * task.weight else MOST_JOBS
 
 
-def start_ready(left, running, done, lanes, start):
+def start_ready(left, running, done, lanes, is_alone, start):
     """Starts tasks while a processor is idle, first those with the most behind them."""
     ready = [it for it in left if all(below in done for below in it.waits)]
     for at, task in enumerate(ready):
@@ -146,7 +146,7 @@ def start_ready(left, running, done, lanes, start):
             break
         most_behind = max(it.behind for it in [*left, *running.values()])
         is_longest = task.behind >= NEAR_LONGEST * most_behind
-        most = most_jobs(task, [it for it in [*left, *running.values()] if it is not task], lanes)
+        most = most_jobs(task, is_alone)
         task.jobs, task.can_wait = jobs_of(task, len(ready) - at - 1, idle, is_longest, most), not is_longest
         left.remove(task)
         running[start(task)] = task
@@ -156,6 +156,7 @@ def in_lanes(tasks, logs, lanes):
     """Runs the tasks, each when those that it waits for have passed."""
     add_up_what_waits(tasks)
     left, running, done, printing = sorted(tasks, key=lambda it: -it.behind), {}, set(), threading.Lock()
+    is_alone = all(it.kind == "proofs" for it in tasks)
 
     def work(task):
         task.run(f"{logs}/{task.kind}-{task.name}.log")
@@ -167,7 +168,7 @@ def in_lanes(tasks, logs, lanes):
     with ThreadPoolExecutor(lanes) as pool:
         while left or running:
             skip(left, done)
-            start_ready(left, running, done, lanes, lambda task: pool.submit(work, task))
+            start_ready(left, running, done, lanes, is_alone, lambda task: pool.submit(work, task))
             if running:
                 for future in wait(running, return_when=FIRST_COMPLETED).done:
                     done.add(running.pop(future))

@@ -11,3 +11,4 @@ pub mod EmittedLemmas
 pub mod PortalLemmas
 pub mod StagingLemmas
 pub mod StagingFaults
+pub mod EmittedTexts

@@ -9,3 +9,4 @@ pub mod Texts
 pub mod Assembled
 pub mod Portals
 pub mod Stagings
+pub mod EmittedTexts

@@ -4,6 +4,7 @@
 
 mod assembling;
 mod disassembling;
+mod emitted_laws;
 mod fault;
 mod laws;
 mod line;
@@ -21,6 +22,7 @@ mod writing;
 
 pub use assembling::assemble;
 pub use disassembling::disassemble;
+pub use emitted_laws::emissions_have_texts;
 pub use fault::{EmittedFault, Expected, LineFault, TextFault};
 pub use laws::{
     canonical_line_spells, canonical_text_spells, one_line_no_newline, one_line_one_descriptor,

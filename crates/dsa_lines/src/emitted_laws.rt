@@ -1,0 +1,9 @@
+//! A law of the texts of what the planner submits: its body is empty, and its clause is what the proof shows.
+
+ghost use Rattle.dsa_lines.specs.EmittedTexts.{EmissionsHaveTexts};
+
+/// The bytes that submit a plan are a portal and a staging area, so both have a text.
+#[tactic(auto, using(crate::proofs::EmittedTexts::emissions_have_texts))]
+pub fn emissions_have_texts()
+    ensures { EmissionsHaveTexts }
+{}

@@ -13,7 +13,9 @@ MOST = 65_536
 MOST_MEMBERS = 1_024
 KIB, MIB = 2**10, 2**20
 AREA = model.Settings(MOST_MEMBERS, 65_536, 10, 14, 3, 0x4000_0000)
-RULES = settings(greatest_batch=AREA.greatest_batch, greatest_transfer=AREA.greatest_transfer, staging=AREA.staging)
+LIMITS = {"greatest_batch": AREA.greatest_batch, "greatest_transfer": AREA.greatest_transfer, "staging": AREA.staging}
+RULES = settings(**LIMITS)
+BY_SIZE = settings(**LIMITS, version=2, batch=[14] * (MOST_MEMBERS - 1))
 
 
 def full_batches(count):
@@ -50,12 +52,13 @@ def left(groups, pieces, memory):
     return raw({"batch_records": [it.hex() for it in records], "finished": finished, "image": memory.hex()})
 
 
-def in_turn(count, engines):
-    """A complete run of pieces of one line that all may go at once: the engines take so many, do their lines, and finish them."""
+def in_turn(count, engines, lines=1):
+    """A complete run of pieces of so many lines that all may go at once: the engines take so many, do their lines, and finish
+    them."""
     trace = []
     for first in range(0, count, engines):
         now = range(first, min(first + engines, count))
-        trace += [[k % engines, kind, k] for kind in ("take", "line", "finish") for k in now]
+        trace += [[k % engines, kind, k] for kind in ("take", *["line"] * lines, "finish") for k in now]
     return trace
 
 
@@ -64,31 +67,34 @@ def noise(count):
 
 
 def planned():
-    """The most pieces, in the largest batches: their plan with its bytes, its check, and what it costs by judging it."""
+    """The most pieces, in the largest batches: their plan with its bytes, its check, and what it costs by judging it; with one
+    price of batches, and with a table that has this price for each size."""
     pieces, groups, costs = apart(MOST, 8), full_batches(MOST), least_costs(MOST)
     portal, staging = (it.hex() for it in model.emission(groups, pieces, AREA))
-    certificate = {"pairs": [None] * MOST, "prices": costs, "version": 1}
     emitted = {"portal": f'"{portal}"', "staging": f'"{staging}"'}
-    line = {"certificate": certificate, "cost": costs[-1], "plan": groups, "portal": portal, "staging": staging}
-    expect_line([DSA], plan(pieces, RULES), raw(line))
-    expect_line([DSA], job("check", RULES, **emitted, certificate=certificate), raw({"cost": costs[-1]}))
-    expect_line([DSA], judge(pieces, groups, RULES), raw({"cost": costs[-1]}))
+    for version, rules in ((1, RULES), (2, BY_SIZE)):
+        certificate = {"pairs": [None] * MOST, "prices": costs, "version": version}
+        line = {"certificate": certificate, "cost": costs[-1], "plan": groups, "portal": portal, "staging": staging}
+        expect_line([DSA], plan(pieces, rules), raw(line))
+        expect_line([DSA], job("check", rules, **emitted, certificate=certificate), raw({"cost": costs[-1]}))
+        expect_line([DSA], judge(pieces, groups, rules), raw({"cost": costs[-1]}))
 
 
 def long_runs():
-    """The most pieces, done by threads and by a trace that names each event."""
+    """The most pieces, done by threads, by one, and by a trace that names each event."""
     pieces, groups = apart(MOST, 8), full_batches(MOST)
     # a move reads 8 bytes and writes 8, and each has a record of 32
     memory = noise(MOST * (8 + 8)) + bytes(MOST * 32)
     # two batches are never on their way at once, and a batch goes in 16 rounds of 64 engines
     trace = [[e, kind, k + MOST_MEMBERS * batch] for batch in range(MOST // MOST_MEMBERS) for e, kind, k in in_turn(MOST_MEMBERS, 64)]
     line = left(groups, pieces, memory)
-    expect_line([DSA], run(pieces, memory, 64), line)
+    for engines in (1, 64):
+        expect_line([DSA], run(pieces, memory, engines), line)
     expect_line([DSA], replay(pieces, memory, 64, trace), line)
 
 
 def images():
-    """Images of 64 KiB, 1 MiB and 16 MiB under 300 pieces, run by as many engines as may be, by some fewer, and by a trace."""
+    """Images of 64 KiB, 1 MiB and 16 MiB under 301 pieces, run by as many engines as may be, by some fewer, and by a trace."""
     count = 300
     for size in (64 * KIB, MIB, 16 * MIB):
         pieces = apart(count, size // 1_024)
@@ -99,16 +105,30 @@ def images():
         line = left(groups, pieces, memory)
         for engines in (5, 33, 63, 64):
             expect_line([DSA], run(pieces, memory, engines), line)
+        # a line is 4,096 bytes
+        lines = max(size // 1_024 // 4_096, 1)
+        expect_line([DSA], replay(pieces, memory, 33, in_turn(count + 1, 33, lines)), line)
     small = apart(count, 64)
     memory = noise(64 * KIB)
     for engines in (5, 33, 63, 64):
         expect_line([DSA], replay(small, memory, engines, in_turn(count, engines)), left([[False] * count], small, memory))
 
 
+def engines():
+    """Each number of engines that may be, of which each takes a piece in the trace."""
+    count = 70
+    pieces = apart(count, 64)
+    memory = noise(count * (64 + 64)) + bytes(count * 32)
+    line = left([[False] * count], pieces, memory)
+    for engines in range(1, 65):
+        expect_line([DSA], run(pieces, memory, engines), line)
+        expect_line([DSA], replay(pieces, memory, engines, in_turn(count, engines)), line)
+
+
 def main(words):
     global DSA
     DSA = program("dsa")
-    for part in named([planned, long_runs, images], words):
+    for part in named([planned, long_runs, images, engines], words):
         part()
 
 

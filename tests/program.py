@@ -33,6 +33,8 @@ def by_hand(dsa):
     expect_line([dsa], "[\n", "refused 80 Json")
     told([dsa, "-"], 2, b"", b"dsa: it takes a job from standard input alone; --help says more\n")
     told([dsa, "--version"], 0, b"dsa 1.0.0\n", b"")
+    for word in ("--help", "--version"):
+        told(["sh", "-c", 'exec "$0" "$1" > /dev/full', dsa, word], 2, b"", b"dsa: the answer can't be written\n")
     told(["sh", "-c", 'exec "$0" <&-', dsa], 2, b"", b"dsa: the input can't be read to its end\n")
     told(["sh", "-c", 'exec "$0" < examples/judge.job > /dev/full', dsa], 2, b"", b"dsa: the answer can't be written\n")
     helped = subprocess.run([dsa, "--help"], stdin=subprocess.DEVNULL, capture_output=True)

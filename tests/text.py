@@ -8,6 +8,7 @@ and pictures. The words are names of parts."""
 import json
 import re
 import subprocess
+import tempfile
 from pathlib import Path
 
 import common
@@ -327,6 +328,80 @@ def large():
            "cost 10; 1 lone submission cost 10, saved 0")
 
 
+def split():
+    """Six hundred pieces of three hundred moves: of which move each is, and which piece of it."""
+    count = 300
+    moves = [(0x10_0000 + 0x1000 * k, 0x1000_0000 + 0x1000 * k) for k in range(count)]
+    text = "".join(f"move {src} -> {dst}, 64 bytes, record {0x2000_0000 + 64 * k}\n" for k, (src, dst) in enumerate(moves))
+    rows = [f"group 0: batch of {2 * count}, 0 fences, 1 epoch, cost 14"]
+    for k, (src, dst) in enumerate(moves):
+        for piece in (0, 1):
+            begin = f"  {2 * k + piece}: move 0x{src + 32 * piece:x} -> 0x{dst + 32 * piece:x}, 32 bytes"
+            rows.append(f"{begin} (operation {k}, piece {piece + 1} of 2)")
+    rows.append(f"cost 14; {2 * count} lone submissions cost {20 * count}, saved {20 * count - 14}")
+    expect("explain --greatest-transfer 32 --greatest-batch 1024", text, "\n".join(rows))
+
+
+def picture():
+    """Where rows, boxes and bars stand in a picture of twelve groups of twelve pieces, of which some are fenced."""
+    moves = [(0x10_0000 + 0x1000 * k, 0x1000_0000 + 0x1000 * k) for k in range(144)]
+    groups = [[column > 0 and (row + column) % 5 == 0 for column in range(12)] for row in range(12)]
+    rules = common.settings(greatest_batch=12, staging=0x2000_0000)
+    drawn = written("explain --svg", common.judge(pieces_of(moves), groups, rules))
+    places = [(90 + 70 * column, 10 + 50 * row, column, row) for row in range(12) for column in range(12)]
+    boxes = re.findall(r'<rect x="(\d+)" y="(\d+)" width="60" height="40"[^>]*/><text x="(\d+)" y="(\d+)">(\d+)</text>', drawn)
+    wanted = [(x, y, x + 4, y + 16, k) for k, (x, y, _, _) in enumerate(places)]
+    common.expect([tuple(map(int, box)) for box in boxes] == wanted, f"boxes stand at {boxes}")
+    bars = re.findall(r'<rect x="(\d+)" y="(\d+)" width="4" height="40"/>', drawn)
+    wanted = [(x - 7, y) for x, y, column, row in places if groups[row][column]]
+    common.expect([tuple(map(int, bar)) for bar in bars] == wanted, f"bars stand at {bars}")
+    names = re.findall(r'<text x="8" y="(\d+)">group (\d+)</text>', drawn)
+    common.expect(names == [(f"{34 + 50 * row}", f"{row}") for row in range(12)], f"rows are named {names}")
+    common.expect(' width="930" height="620" ' in drawn, drawn[:200])
+
+
+def named_files():
+    """Each command reads the file that it names, and not standard input; and a text that is too long is refused."""
+    store, job = (Path(f"examples/text/store.{end}") for end in ("txt", "job"))
+    listed = json.loads(job.read_text())["list"]
+    with tempfile.NamedTemporaryFile("w", suffix=".hex") as file:
+        file.write(listed + "\n")
+        file.flush()
+        for words, wanted in [
+            (["assemble", str(store)], listed + "\n"),
+            (["disassemble", file.name], store.with_suffix(".lines").read_text()),
+            (["explain", str(job)], store.with_suffix(".explain").read_text()),
+            (["explain", "--svg", str(job)], store.with_suffix(".svg").read_text()),
+        ]:
+            for given in (b"", b"move 1 -> 2, 3 bytes, record 32\n"):
+                ran = subprocess.run([TEXT, *words], input=given, capture_output=True)
+                got = (ran.returncode, ran.stdout.decode(), ran.stderr)
+                common.expect(got == (0, wanted, b""), f"{words}: {got}"[:600])
+    for command in ("assemble", "disassemble", "explain"):
+        refused(command, " " * ((1 << 26) + 1), "the text has more than 67,108,864 bytes", "86 JobTooLong")
+
+
+def members():
+    """Which member of the settings of a job is at fault."""
+    plan = json.loads(Path("examples/plan.job").read_text())
+    names = ("version", "greatest_batch", "greatest_transfer", "lone", "batch", "fence", "staging")
+    for name in names:
+        less = {known: value for known, value in plan["settings"].items() if known != name}
+        refused("explain", json.dumps(plan | {"settings": less}), f"`settings` lacks the member `{name}`", "81 Member")
+    more = json.dumps(plan | {"settings": plan["settings"] | {"other": 1}})
+    refused("explain", more, "`settings` has no member `other`", "81 Member")
+    for name, value, limits in [
+        ("greatest_batch", 1, "number from 2 to 1024"),
+        ("greatest_transfer", 12, "multiple of 8 from 8 to 2147483648 (2048M)"),
+        ("lone", 1_000_000_001, "number from 0 to 1000000000"),
+        ("batch", 1_000_000_001, "number from 0 to 1000000000"),
+        ("fence", 1_000_000_001, "number from 0 to 1000000000"),
+        ("staging", 32, "multiple of 64 from 0 to 0x8000000000000000"),
+    ]:
+        wrong = json.dumps(plan | {"settings": plan["settings"] | {name: value}})
+        refused("explain", wrong, f"`settings`: `{name}` is no {limits}", "83 Settings")
+
+
 def files():
     """The golden files of tests/text."""
     paths = sorted(Path("tests/text").glob("*.golden"))
@@ -336,7 +411,8 @@ def files():
         common.expect(not fault, fault)
 
 
-PARTS = [examples, lists, refusals, arguments, lines, grammar, texts, fences, sentences, large, files]
+PARTS = [examples, lists, refusals, arguments, lines, grammar, texts, fences, sentences, large, split, picture]
+PARTS += [named_files, members, files]
 
 
 def main(words):

@@ -1,16 +1,18 @@
 //! An allocator that refuses each allocation of a call in turn: the answer is `Memory`, the buffers are as before, and
-//! every block has come back.
+//! every byte has come back.
 
 use std::alloc::{GlobalAlloc, Layout, System};
 use std::cell::Cell;
 use std::ptr;
 
-use dsa_planner::{judge, plan_into, BatchPrice, Cause, Refusal, Settings, BEGINS, FENCED};
+use dsa_planner::{
+    judge, plan_into, plan_list, BatchPrice, Cause, Refusal, Settings, BEGINS, FENCED,
+};
 
 struct Refusing;
 
 thread_local! {
-    // How many allocations until one is refused, 0 for none, and how many blocks are out; of the thread that tests.
+    // How many allocations until one is refused, 0 for none, and how many bytes are out; of the thread that tests.
     static COUNTDOWN: Cell<u32> = const { Cell::new(0) };
     static LIVE: Cell<i64> = const { Cell::new(0) };
 }
@@ -21,8 +23,9 @@ fn is_refused() -> bool {
     left == 1
 }
 
-fn add(change: i64) {
-    LIVE.with(|live| live.set(live.get() + change));
+// Some bytes go out, and some come back.
+fn count(out: usize, back: usize) {
+    LIVE.with(|live| live.set(live.get() + out as i64 - back as i64));
 }
 
 // SAFETY: each call is passed on to the system's allocator, or refused.
@@ -31,12 +34,12 @@ unsafe impl GlobalAlloc for Refusing {
         if is_refused() {
             return ptr::null_mut();
         }
-        add(1);
+        count(layout.size(), 0);
         System.alloc(layout)
     }
 
     unsafe fn dealloc(&self, at: *mut u8, layout: Layout) {
-        add(-1);
+        count(0, layout.size());
         System.dealloc(at, layout)
     }
 
@@ -44,6 +47,7 @@ unsafe impl GlobalAlloc for Refusing {
         if is_refused() {
             return ptr::null_mut();
         }
+        count(size, layout.size());
         System.realloc(at, layout, size)
     }
 }
@@ -60,15 +64,19 @@ const SETTINGS: Settings = Settings {
     staging: 0x10000,
 };
 
+fn put_move(bytes: &mut [u8], src: u64, dst: u64, size: u8, record: u64) {
+    (bytes[4], bytes[7], bytes[32]) = (0x0c, 0x03, size);
+    bytes[8..16].copy_from_slice(&record.to_le_bytes());
+    bytes[16..24].copy_from_slice(&src.to_le_bytes());
+    bytes[24..32].copy_from_slice(&dst.to_le_bytes());
+}
+
 // 24 moves of 64 bytes, each of which reads what the one before writes.
 fn chain() -> [u8; 64 * 24] {
     let mut list = [0; 64 * 24];
     for (k, bytes) in list.chunks_exact_mut(64).enumerate() {
         let at = 0x100_0000 + 0x1000 * k as u64;
-        (bytes[4], bytes[7], bytes[32]) = (0x0c, 0x03, 64);
-        bytes[8..16].copy_from_slice(&(0x8000 + 32 * k as u64).to_le_bytes());
-        bytes[16..24].copy_from_slice(&at.to_le_bytes());
-        bytes[24..32].copy_from_slice(&(at + 0x1000).to_le_bytes());
+        put_move(bytes, at, at + 0x1000, 64, 0x8000 + 32 * k as u64);
     }
     list
 }
@@ -106,4 +114,23 @@ fn refused_allocations_are_answered() {
     marks.iter_mut().step_by(4).for_each(|mark| *mark = BEGINS);
     let judged = refuse_in_turn(|| judge(&SETTINGS, &list, &marks));
     assert!(planned > 0 && judged > 0);
+}
+
+// The most pieces, whose lists have mebibytes each.
+#[test]
+fn large_blocks_come_back() {
+    let settings = Settings {
+        greatest_batch: 1_024,
+        staging: 0x4000_0000,
+        ..SETTINGS
+    };
+    let mut list = vec![0; 64 * 65_536];
+    for (k, bytes) in list.chunks_exact_mut(64).enumerate() {
+        let k = k as u64;
+        put_move(bytes, 8 * k, 0x10_0000 + 8 * k, 8, 0x20_0000 + 32 * k);
+    }
+    let before = LIVE.with(Cell::get);
+    let cost = plan_list(&settings, &list).map(|planned| planned.cost);
+    assert_eq!(cost, Ok(64 * 14));
+    assert_eq!(LIVE.with(Cell::get), before);
 }

@@ -148,6 +148,10 @@ fn plans_are_judged() {
         judge(&SETTINGS, &list, &[BEGINS]),
         Err(refused(40, 0, 0, 0))
     );
+    assert_eq!(
+        judge(&SETTINGS, &list, &[BEGINS, FENCED, BEGINS]),
+        Err(refused(40, 0, 0, 0))
+    );
     let fenced = [BEGINS + FENCED, FENCED];
     assert_eq!(judge(&SETTINGS, &list, &fenced), Err(refused(42, 0, 0, 0)));
 }

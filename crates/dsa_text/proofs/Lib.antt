@@ -1,1 +1,4 @@
 pub mod PlannedNeeded
+pub mod Refused
+pub mod Answered
+pub mod Spelled

@@ -1,1 +1,10 @@
+pub mod Refusals
+pub mod Origins
+pub mod Shown
+pub mod Explained
+pub mod Jobs
+pub mod Numbers
+pub mod SettingsWords
+pub mod Options
+pub mod Inputs
 pub mod Laws

@@ -1,5 +1,8 @@
 //! What a command answers.
 
+ghost use Rattle.std.specs.Prelude.{◌≡◌, IfOk};
+ghost use Rattle.dsa_text.specs.Refusals.{IsRefusal, RefusesText, explain_cause};
+
 use crate::messages::{grammar_message, line_message, message_of, message_with};
 use dsa_calls::PlanFault;
 use dsa_explain::ExplainFault;
@@ -18,17 +21,25 @@ pub struct Answer {
 
 impl Answer {
     /// An answer.
-    pub(crate) fn done(text: String) -> Answer {
+    pub(crate) fn done(text: String) -> Answer
+        ensures text { result.text ≡ text }
+        ensures status { result.status ≡ 0 }
+    {
         Answer { text, status: 0 }
     }
 
     /// A refusal, which is one line.
-    pub fn refused(text: String) -> Answer {
+    pub fn refused(text: String) -> Answer
+        ensures text { result.text ≡ text }
+        ensures status { result.status ≡ 1 }
+    {
         Answer { text, status: 1 }
     }
 
     /// The refusal of a job or a list.
-    pub fn fault(alloc: Global, fault: PlanFault) -> Result<Answer, AllocError> {
+    pub fn fault(alloc: Global, fault: PlanFault) -> Result<Answer, AllocError>
+        ensures { IfOk result (IsRefusal fault) }
+    {
         Ok(Answer::refused(message_of(alloc, fault)?))
     }
 
@@ -37,7 +48,9 @@ impl Answer {
         alloc: Global,
         fault: PlanFault,
         words: &str,
-    ) -> Result<Answer, AllocError> {
+    ) -> Result<Answer, AllocError>
+        ensures { IfOk result (IsRefusal fault) }
+    {
         Ok(Answer::refused(message_with(alloc, fault, words)?))
     }
 
@@ -46,19 +59,24 @@ impl Answer {
         alloc: Global,
         text: &[u8],
         fault: TextFault,
-    ) -> Result<Answer, AllocError> {
-        let message = match fault {
-            TextFault::Grammar(line, column, expected) => {
-                grammar_message(alloc, text, line, column, expected)?
+    ) -> Result<Answer, AllocError>
+        ensures { IfOk result (RefusesText fault) }
+    {
+        match fault {
+            TextFault::Grammar(line, column, expected) => Ok(Answer::refused(grammar_message(
+                alloc, text, line, column, expected,
+            )?)),
+            TextFault::List(line, fault) => {
+                Ok(Answer::refused(line_message(alloc, text, line, fault)?))
             }
-            TextFault::List(line, fault) => line_message(alloc, text, line, fault)?,
-            TextFault::Memory => message_of(alloc, PlanFault::Memory)?,
-        };
-        Ok(Answer::refused(message))
+            TextFault::Memory => Answer::fault(alloc, PlanFault::Memory),
+        }
     }
 
     /// The refusal of a plan that is to be explained.
-    pub(crate) fn explain_fault(alloc: Global, fault: ExplainFault) -> Result<Answer, AllocError> {
+    pub(crate) fn explain_fault(alloc: Global, fault: ExplainFault) -> Result<Answer, AllocError>
+        ensures { IfOk result (IsRefusal (explain_cause fault)) }
+    {
         match fault {
             ExplainFault::TooManyPieces => {
                 Answer::fault(alloc, PlanFault::Split(SplitFault::TooManyPieces))

@@ -1,5 +1,8 @@
 //! Where a job is refused: the line and column of a text that is no JSON, or the member at fault.
 
+ghost use Rattle.std.specs.Prelude.{IfOk};
+ghost use Rattle.dsa_text.specs.Refusals.{IsRefusal};
+
 use crate::answer::Answer;
 use crate::settings::Setting;
 use dsa_calls::PlanFault;
@@ -149,25 +152,27 @@ fn value_fault(alloc: Global, job: &Value, fault: PlanFault) -> Found {
     }
 }
 
-/// The refusal of a text that spells no job.
-pub(crate) fn job_fault(
-    alloc: Global,
-    text: &[u8],
-    fault: PlanFault,
-) -> Result<Answer, AllocError> {
-    let words = match Value::from_slice(alloc, text) {
-        Ok(job) => value_fault(alloc, &job, fault)?,
-        Err(error) if error.is_memory() => return Err(AllocError),
+/// What is wrong with a text that spells no job.
+fn text_fault(alloc: Global, text: &[u8], fault: PlanFault) -> Found {
+    match Value::from_slice(alloc, text) {
+        Ok(job) => value_fault(alloc, &job, fault),
+        Err(error) if error.is_memory() => Err(AllocError),
         Err(error) if error.is_eof() => {
             let line = error.line();
-            Some(format!(in alloc; "line {line}: the text ends before its JSON does")?)
+            Ok(Some(format!(in alloc; "line {line}: the text ends before its JSON does")?))
         }
         Err(error) => {
             let (line, column) = (error.line(), error.column());
-            Some(format!(in alloc; "line {line}, column {column}: the text is no JSON")?)
+            Ok(Some(format!(in alloc; "line {line}, column {column}: the text is no JSON")?))
         }
-    };
-    match words {
+    }
+}
+
+/// The refusal of a text that spells no job.
+pub(crate) fn job_fault(alloc: Global, text: &[u8], fault: PlanFault) -> Result<Answer, AllocError>
+    ensures { IfOk result (IsRefusal fault) }
+{
+    match text_fault(alloc, text, fault)? {
         Some(words) => Answer::fault_with(alloc, fault, &words),
         None => Answer::fault(alloc, fault),
     }

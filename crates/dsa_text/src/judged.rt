@@ -1,11 +1,14 @@
-//! What a plan of one's own lacks, and how much more it costs than the least.
+//! What a plan of one's own lacks.
+
+ghost use Rattle.std.specs.Prelude.{IfOk, string_bytes};
+ghost use Rattle.dsa_text.specs.Refusals.{NamesCause};
 
 use crate::messages::message_of;
 use dsa_audit::{FencePlace, KnownConflicts, Member, add_missing, hazard_between};
-use dsa_calls::{PlanFault, plan_list};
+use dsa_calls::PlanFault;
 use dsa_descriptor::Descriptor;
 use dsa_explain::kind_text;
-use dsa_plan::{Group, Plan, Settings};
+use dsa_plan::{Group, Plan};
 use dsa_ranges::touched;
 use std::alloc::{AllocError, Global};
 
@@ -60,14 +63,9 @@ fn push_missing(
     Ok(())
 }
 
-/// The message of a plan that lacks fences: the refusal, and a line for each of the fewest fences that mend the plan.
-pub(crate) fn missing_message(
-    alloc: Global,
-    fault: PlanFault,
-    plan: &Plan,
-    pieces: &[Descriptor],
-) -> Result<String, AllocError> {
-    let mut text = message_of(alloc, fault)?;
+/// A line for each fence that a plan lacks.
+fn missing_lines(alloc: Global, plan: &Plan, pieces: &[Descriptor]) -> Result<String, AllocError> {
+    let mut text = String::new(alloc);
     let mut rest = pieces;
     for group in plan.groups() {
         let start = pieces.len().saturating_sub(rest.len());
@@ -78,24 +76,16 @@ pub(crate) fn missing_message(
     Ok(text)
 }
 
-/// Writes what the least plan costs, and how much more this one does.
-pub(crate) fn push_least(
+/// The message of a plan that lacks fences: the refusal, and a line for each of the fewest fences that mend the plan.
+pub(crate) fn missing_message(
     alloc: Global,
-    text: &mut String,
-    list: &[u8],
-    settings: &Settings,
-    cost: u64,
-) -> Result<(), PlanFault> {
-    let least = match plan_list(alloc, list, settings) {
-        Ok(planned) => planned.cost,
-        Err(PlanFault::Memory) => return Err(PlanFault::Memory),
-        // the planner needs a staging area of its own, which these settings may not have
-        Err(_) => return Ok(()),
-    };
-    text.push_str(&format!(in alloc; "least {least}: ")?)?;
-    match cost.saturating_sub(least) {
-        0 => text.push_str("no plan costs less\n")?,
-        more => text.push_str(&format!(in alloc; "this plan costs {more} more\n")?)?,
-    }
-    Ok(())
+    fault: PlanFault,
+    plan: &Plan,
+    pieces: &[Descriptor],
+) -> Result<String, AllocError>
+    ensures { IfOk result (λ s. NamesCause fault (string_bytes s)) }
+{
+    let mut text = message_of(alloc, fault)?;
+    text.push_str(&missing_lines(alloc, plan, pieces)?)?;
+    Ok(text)
 }

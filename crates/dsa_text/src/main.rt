@@ -7,29 +7,33 @@ mod bytes;
 mod diagnosis;
 mod disassembling;
 mod explaining;
+mod inputs;
+mod jobs;
 mod judged;
+mod judging;
 pub mod laws;
 mod messages;
 mod numbers;
+mod options;
+mod origins;
 mod sentences;
 mod settings;
+mod shown;
 mod words;
 
 use crate::answer::Answer;
 use crate::assembling::{assemble_job, assemble_list};
-use crate::diagnosis::job_fault;
 use crate::disassembling::{disassemble_list, disassemble_portal, disassemble_staging};
-use crate::explaining::{explain_checked, explain_judged, explain_list, explain_text};
+use crate::inputs::{explain, refused_settings};
 use crate::messages::message_of;
 use crate::numbers::number_of;
-use crate::settings::{Setting, SettingsWords, settings_fault, settings_of};
+use crate::options::{settings_words, word};
+use crate::settings::{Setting, settings_of};
 use clap::error::ErrorKind;
-use clap::parser::ValueSource;
 use clap::{Arg, ArgAction, ArgMatches, Command};
 use dsa_calls::PlanFault;
-use dsa_plan::Settings;
 use dsa_recording::{AuditOptions, Denied, audit};
-use dsa_report::{Job, Stop, read_job, read_text, write_line};
+use dsa_report::{Stop, read_text, write_line};
 use std::alloc::{AllocError, Global};
 use std::fs::File;
 use std::io;
@@ -195,48 +199,6 @@ fn commands<'a>(alloc: Global) -> Result<Command<'a>, AllocError> {
         .subcommands(subcommands)
 }
 
-/// Whether an option was given.
-fn is_given(matches: &ArgMatches<'_>, name: &str) -> bool {
-    matches.value_source(name) == Some(ValueSource::CommandLine)
-}
-
-/// Whether some option of the settings was given.
-fn are_settings_given(matches: &ArgMatches<'_>) -> bool {
-    for setting in Setting::ALL {
-        if is_given(matches, setting.option()) {
-            return true;
-        }
-    }
-    is_given(matches, "batches")
-}
-
-/// The value of an option.
-fn word<'a>(matches: &ArgMatches<'a>, name: &str) -> &'a str {
-    match matches.get_str(name) {
-        Some(word) => word,
-        None => "",
-    }
-}
-
-/// The settings as the options spell them.
-fn settings_words<'a>(matches: &ArgMatches<'a>) -> SettingsWords<'a> {
-    SettingsWords {
-        greatest_batch: word(matches, "greatest-batch"),
-        greatest_transfer: word(matches, "greatest-transfer"),
-        lone: word(matches, "lone"),
-        batch: word(matches, "batch"),
-        batches: matches.get_str("batches"),
-        fence: word(matches, "fence"),
-        staging: word(matches, "staging"),
-    }
-}
-
-/// The refusal of settings that the words spell.
-fn refused_settings(alloc: Global, words: &SettingsWords<'_>) -> Result<Answer, AllocError> {
-    let message = settings_fault(alloc, words)?;
-    Answer::fault_with(alloc, PlanFault::Settings, &message)
-}
-
 /// What `assemble` answers.
 fn assemble(alloc: Global, matches: &ArgMatches<'_>, text: &[u8]) -> Result<Answer, AllocError> {
     let words = settings_words(matches);
@@ -264,53 +226,6 @@ fn disassemble(alloc: Global, matches: &ArgMatches<'_>, text: &[u8]) -> Result<A
         disassemble_staging(alloc, text, at)
     } else {
         disassemble_list(alloc, text)
-    }
-}
-
-/// What `explain` answers of a job: one to plan, to judge or to check.
-fn explain_job(alloc: Global, job: &Job, drawn: bool) -> Result<Answer, AllocError> {
-    match job {
-        Job::Plan(job) => explain_list(alloc, &job.list, &job.settings, drawn),
-        Job::Judge(job) => explain_judged(alloc, &job.list, &job.plan, &job.settings, drawn),
-        Job::Check(job) => explain_checked(
-            alloc,
-            &job.portal,
-            &job.staging,
-            &job.certificate,
-            &job.settings,
-            drawn,
-        ),
-        Job::Replay(_) | Job::Run(_) => {
-            let message =
-                "a job to replay or to run is not explained, but one to plan, judge or check";
-            Answer::fault_with(alloc, PlanFault::Do, message)
-        }
-    }
-}
-
-/// What `explain` answers of the text of a job.
-fn explain_job_text(alloc: Global, text: &[u8], drawn: bool) -> Result<Answer, AllocError> {
-    match read_job(alloc, text) {
-        Ok(job) => explain_job(alloc, &job, drawn),
-        Err(fault) => job_fault(alloc, text, fault),
-    }
-}
-
-/// What `explain` answers, of a job, which begins with a brace and has settings of its own, or of a text.
-fn explain(alloc: Global, matches: &ArgMatches<'_>, text: &[u8]) -> Result<Answer, AllocError> {
-    let drawn = matches.get_flag("svg");
-    if text.trim_ascii().first().copied() == Some(b'{') {
-        if are_settings_given(matches) {
-            let line =
-                "error: a job has settings of its own, so no option gives any [92 Options]\n";
-            return Ok(Answer::refused(String::from_str(alloc, line)?));
-        }
-        return explain_job_text(alloc, text, drawn);
-    }
-    let words = settings_words(matches);
-    match settings_of(alloc, &words)? {
-        Some(settings) => explain_text(alloc, text, &settings, drawn),
-        None => refused_settings(alloc, &words),
     }
 }
 

@@ -1,8 +1,12 @@
 //! What a refusal tells a person: the place, the cause, and what was expected; its number and name stand at the end.
 
+ghost use Rattle.std.specs.Prelude.{◌≡◌, ◌++◌, IfOk, OnOk, codes, string_bytes};
+ghost use Rattle.dsa_calls.specs.Fault.{indices_text, inner_text, list_cause, named_text, place_text};
+ghost use Rattle.dsa_text.specs.Refusals.{NamesCause, NamesGrammar, cause_words};
+
 use crate::sentences::sentence_of;
 use crate::words::{column_at_fault, hint_of, push_found, word_at};
-use dsa_calls::{InnerFault, PlanFault, refusal_line};
+use dsa_calls::{InnerFault, PlanFault};
 use dsa_descriptor::{Indices, ListFault};
 use dsa_lines::Expected;
 use std::alloc::{AllocError, Global};
@@ -54,20 +58,71 @@ fn push_inner(alloc: Global, text: &mut String, inner: InnerFault) -> Result<(),
     push_sentence(alloc, text, u64::from(inner.number()), inner.indices())
 }
 
+/// Writes a space and a number.
+fn push_place(alloc: Global, text: &mut String, place: u64) -> Result<(), AllocError>
+    ensures { OnOk result (string_bytes text.new ≡ string_bytes text.old ++ place_text place) }
+{
+    text.push_str(&format!(in alloc; " {place}")?)
+}
+
+/// Writes the indices, a space before each.
+fn push_indices(alloc: Global, text: &mut String, indices: Indices) -> Result<(), AllocError>
+    ensures { OnOk result (string_bytes text.new ≡ string_bytes text.old ++ indices_text indices) }
+{
+    match indices {
+        Indices::Empty => Ok(()),
+        Indices::One(index) => push_place(alloc, text, index),
+        Indices::Two(first, second) => {
+            push_place(alloc, text, first)?;
+            push_place(alloc, text, second)
+        }
+    }
+}
+
+/// Writes a number and a name, a space before each.
+fn push_named(alloc: Global, text: &mut String, number: u64, name: &str) -> Result<(), AllocError>
+    ensures { OnOk result (string_bytes text.new ≡ string_bytes text.old ++
+        named_text number name.now) }
+{
+    push_place(alloc, text, number)?;
+    text.push_str(" ")?;
+    text.push_str(name)
+}
+
+/// Writes the number, the name and the indices of the cause within.
+fn push_inner_name(
+    alloc: Global,
+    text: &mut String,
+    inner: Option<InnerFault>,
+) -> Result<(), AllocError>
+    ensures { OnOk result (string_bytes text.new ≡ string_bytes text.old ++ inner_text inner) }
+{
+    let Some(inner) = inner else {
+        return Ok(());
+    };
+    push_named(alloc, text, u64::from(inner.number()), inner.name())?;
+    push_indices(alloc, text, inner.indices())
+}
+
 /// Writes the number, the name and the indices, as the program `dsa` does.
-fn push_name(text: &mut String, fault: PlanFault) -> Result<(), AllocError> {
-    let line = refusal_line(fault);
-    let name = line.as_str().trim_end();
-    text.push_str(" [")?;
-    text.push_str(name.strip_prefix("refused ").unwrap_or(name))?;
+fn push_name(alloc: Global, text: &mut String, fault: PlanFault) -> Result<(), AllocError>
+    ensures { OnOk result (string_bytes text.new ≡ string_bytes text.old ++
+        (codes " [" ++ (cause_words fault ++ codes "]\n"))) }
+{
+    let (number, name) = (fault.number(), fault.name());
+    text.push_str(&format!(in alloc; " [{number} {name}")?)?;
+    push_indices(alloc, text, fault.indices())?;
+    push_inner_name(alloc, text, fault.inner())?;
     text.push_str("]\n")
 }
 
 /// The message of a refusal.
-pub(crate) fn message_of(alloc: Global, fault: PlanFault) -> Result<String, AllocError> {
+pub(crate) fn message_of(alloc: Global, fault: PlanFault) -> Result<String, AllocError>
+    ensures { IfOk result (λ s. NamesCause fault (string_bytes s)) }
+{
     let mut text = String::from_str(alloc, "error: ")?;
     push_cause(alloc, &mut text, fault)?;
-    push_name(&mut text, fault)?;
+    push_name(alloc, &mut text, fault)?;
     Ok(text)
 }
 
@@ -76,11 +131,30 @@ pub(crate) fn message_with(
     alloc: Global,
     fault: PlanFault,
     words: &str,
-) -> Result<String, AllocError> {
+) -> Result<String, AllocError>
+    ensures { IfOk result (λ s. NamesCause fault (string_bytes s)) }
+{
     let mut text = String::from_str(alloc, "error: ")?;
     text.push_str(words)?;
-    push_name(&mut text, fault)?;
+    push_name(alloc, &mut text, fault)?;
     Ok(text)
+}
+
+/// Writes the place of an operation's fault in its line, the cause, and what stands there.
+fn push_line_cause(
+    alloc: Global,
+    text: &mut String,
+    given: &[u8],
+    line: usize,
+    fault: ListFault,
+) -> Result<(), AllocError> {
+    let Some(column) = column_at_fault(given, line, fault) else {
+        return push_cause(alloc, text, PlanFault::from(fault));
+    };
+    text.push_str(&format!(in alloc; "column {column}, ")?)?;
+    push_cause(alloc, text, PlanFault::from(fault))?;
+    text.push_str(", found ")?;
+    push_found(alloc, text, word_at(given, line, column))
 }
 
 /// The message of an operation of a text that can't be listed.
@@ -89,19 +163,31 @@ pub(crate) fn line_message(
     given: &[u8],
     line: usize,
     fault: ListFault,
-) -> Result<String, AllocError> {
+) -> Result<String, AllocError>
+    ensures { IfOk result (λ s. NamesCause (list_cause fault) (string_bytes s)) }
+{
     let mut text = format!(in alloc; "error: line {line}, ")?;
-    let Some(column) = column_at_fault(given, line, fault) else {
-        push_cause(alloc, &mut text, PlanFault::from(fault))?;
-        push_name(&mut text, PlanFault::from(fault))?;
-        return Ok(text);
-    };
-    text.push_str(&format!(in alloc; "column {column}, ")?)?;
-    push_cause(alloc, &mut text, PlanFault::from(fault))?;
-    text.push_str(", found ")?;
-    push_found(alloc, &mut text, word_at(given, line, column))?;
-    push_name(&mut text, PlanFault::from(fault))?;
+    push_line_cause(alloc, &mut text, given, line, fault)?;
+    push_name(alloc, &mut text, PlanFault::from(fault))?;
     Ok(text)
+}
+
+/// Writes what was expected at a place, what stands there, and what helps.
+fn push_expected(
+    alloc: Global,
+    text: &mut String,
+    word: &[u8],
+    expected: Expected,
+) -> Result<(), AllocError> {
+    let wanted = expected.text();
+    text.push_str(&format!(in alloc; "expected {wanted}, found ")?)?;
+    push_found(alloc, text, word)?;
+    if let Some(hint) = hint_of(word, expected) {
+        text.push_str(" (")?;
+        text.push_str(hint)?;
+        text.push_str(")")?;
+    }
+    Ok(())
 }
 
 /// The message of a line that leaves the grammar: what was expected at the place, what stands there, and what helps.
@@ -111,17 +197,11 @@ pub(crate) fn grammar_message(
     line: usize,
     column: usize,
     expected: Expected,
-) -> Result<String, AllocError> {
+) -> Result<String, AllocError>
+    ensures { IfOk result (λ s. NamesGrammar (string_bytes s)) }
+{
     let mut text = format!(in alloc; "error: line {line}, column {column}: ")?;
-    let wanted = expected.text();
-    text.push_str(&format!(in alloc; "expected {wanted}, found ")?)?;
-    let word = word_at(given, line, column);
-    push_found(alloc, &mut text, word)?;
-    if let Some(hint) = hint_of(word, expected) {
-        text.push_str(" (")?;
-        text.push_str(hint)?;
-        text.push_str(")")?;
-    }
+    push_expected(alloc, &mut text, word_at(given, line, column), expected)?;
     text.push_str(" [90 Line]\n")?;
     Ok(text)
 }

@@ -1,5 +1,10 @@
 //! Settings, from arguments and as the member of a job.
 
+ghost use Rattle.std.specs.Prelude.{◌≡◌, IfOk, MatchOption, None, Some, option_map};
+ghost use Rattle.dsa_text.specs.declared.settings.SettingsNumbers.{SettingsNumbers};
+ghost use Rattle.dsa_text.specs.Numbers.{numbers_of};
+ghost use Rattle.dsa_text.specs.SettingsWords.{AreNumbers, GivesSettings};
+
 use crate::numbers::{number_of, numbers_of, size_of};
 use dsa_plan::Settings;
 use std::alloc::{AllocError, Global};
@@ -155,44 +160,87 @@ pub(crate) fn settings_fault(
     table_fault(alloc, words, words.batches.unwrap_or(""))
 }
 
+/// The numbers that the words of settings spell, but for the prices of batches.
+#[derive(Clone, Copy, Debug)]
+struct SettingsNumbers {
+    greatest_batch: u64,
+    greatest_transfer: u64,
+    lone: u64,
+    fence: u64,
+    staging: u64,
+}
+
+/// The numbers that the words spell, if each spells one.
+fn numbers_of_settings(words: &SettingsWords<'_>) -> Option<SettingsNumbers>
+    ensures { MatchOption result ((n : SettingsNumbers) → ¬ AreNumbers words.now n)
+        (AreNumbers words.now) }
+{
+    Some(SettingsNumbers {
+        greatest_batch: number_of(words.greatest_batch)?,
+        greatest_transfer: size_of(words.greatest_transfer)?,
+        lone: number_of(words.lone)?,
+        fence: number_of(words.fence)?,
+        staging: number_of(words.staging)?,
+    })
+}
+
 /// The settings with one price for all batches.
-fn with_price(words: &SettingsWords<'_>) -> Option<Settings> {
-    Settings::new(
-        number_of(words.greatest_batch)?,
-        size_of(words.greatest_transfer)?,
-        number_of(words.lone)?,
-        number_of(words.batch)?,
-        number_of(words.fence)?,
-        number_of(words.staging)?,
-    )
-    .ok()
+fn with_price(words: &SettingsWords<'_>) -> Option<Settings>
+    requires { words.now.batches ≡ None }
+    ensures { GivesSettings words.now result }
+{
+    let Some(n) = numbers_of_settings(words) else {
+        return None;
+    };
+    let Some(price) = number_of(words.batch) else {
+        return None;
+    };
+    match Settings::new(
+        n.greatest_batch,
+        n.greatest_transfer,
+        n.lone,
+        price,
+        n.fence,
+        n.staging,
+    ) {
+        Ok(settings) => Some(settings),
+        Err(_) => None,
+    }
 }
 
 /// The settings with a price of each size of batches.
-fn with_table(words: &SettingsWords<'_>, table: &[u64]) -> Option<Settings> {
-    Settings::with_table(
-        number_of(words.greatest_batch)?,
-        size_of(words.greatest_transfer)?,
-        number_of(words.lone)?,
+fn with_table(words: &SettingsWords<'_>, batches: &str, table: &[u64]) -> Option<Settings>
+    requires given { option_map (λ word. word.now) words.now.batches ≡ Some batches.now }
+    requires spelled { numbers_of batches.now ≡ Some table.now }
+    ensures { GivesSettings words.now result }
+{
+    let Some(n) = numbers_of_settings(words) else {
+        return None;
+    };
+    match Settings::with_table(
+        n.greatest_batch,
+        n.greatest_transfer,
+        n.lone,
         table,
-        number_of(words.fence)?,
-        number_of(words.staging)?,
-    )
-    .ok()
+        n.fence,
+        n.staging,
+    ) {
+        Ok(settings) => Some(settings),
+        Err(_) => None,
+    }
 }
 
 /// The settings that the words spell, if each is a number within its limits.
-pub fn settings_of(
-    alloc: Global,
-    words: &SettingsWords<'_>,
-) -> Result<Option<Settings>, AllocError> {
+pub fn settings_of(alloc: Global, words: &SettingsWords<'_>) -> Result<Option<Settings>, AllocError>
+    ensures { IfOk result (GivesSettings words.now) }
+{
     let Some(batches) = words.batches else {
         return Ok(with_price(words));
     };
     let Some(table) = numbers_of(alloc, batches)? else {
         return Ok(None);
     };
-    Ok(with_table(words, &table))
+    Ok(with_table(words, batches, &table))
 }
 
 /// Writes the prices of batches as a job has them.

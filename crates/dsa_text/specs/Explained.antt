@@ -1,0 +1,89 @@
+-- What explaining a text, a list, a plan of one's own or the bytes of an emission answers (this project's choice).
+use Rattle.std.specs.Prelude.{◌≡◌, ◌⊎◌, ◌-◌, ◌==◌, ℕ, Bool, true, false, List, [], ◌++◌, codes, decimal, map, string_bytes, Ok, Err, if◌then◌else◌}
+use Rattle.dsa_descriptor.specs.declared.descriptor.Descriptor.{Descriptor}
+use Rattle.dsa_descriptor.specs.Descriptors.{fields}
+use Rattle.dsa_plan.specs.Plan.{Plan}
+use Rattle.dsa_plan.specs.Settings.{Limits}
+use Rattle.dsa_plan.specs.EmissionFaults.{IsEmission}
+use Rattle.dsa_cert.specs.Document.{Contents}
+use Rattle.dsa_lines.specs.declared.fault.TextFault.{TextFault}
+use Rattle.dsa_lines.specs.Texts.{lines_of}
+use Rattle.dsa_lines.specs.Assembled.{Assembles, IsListing}
+use Rattle.dsa_calls.specs.declared.fault.PlanFault.{PlanFault}
+use Rattle.dsa_calls.specs.declared.fault.PlanFault.TheVariants.{Memory}
+use Rattle.dsa_calls.specs.Checked.{Checks, IsShownLeast}
+use Rattle.dsa_calls.specs.Judge.{Judges, JudgesPieces}
+use Rattle.dsa_calls.specs.Lists.{IsListOf}
+use Rattle.dsa_calls.specs.Planned.{Submission, Plans, IsSubmissionOf}
+use Rattle.dsa_explain.specs.declared.explanation.ExplainFault.{ExplainFault}
+use Rattle.dsa_explain.specs.Explained.{Explains}
+use Rattle.dsa_text.specs.declared.answer.Answer.{Answer}
+use Rattle.dsa_text.specs.Refusals.{IsRefusal, RefusesText, explain_cause}
+use Rattle.dsa_text.specs.Origins.{origins_from}
+use Rattle.dsa_text.specs.Shown.{AnswersPlan, TellsPlan}
+
+-- an allocation failed, or this is a cause
+abbrev pub MemoryOr : (PlanFault → Type 0) → PlanFault → Type 0
+MemoryOr Cause fault = (fault ≡ Memory) ⊎ Cause fault
+
+-- ---- the plan of least cost
+
+-- refused where `plan_list` refuses the list, for its cause; else the plan that it answers, and which
+-- piece is of which operation
+pub data ExplainsList (list : List ℕ) (s : Limits) (drawn : Bool) (a : Answer) : Type 0 where
+  is_refused_list : (fault : PlanFault) → MemoryOr (λ f. Plans list s (Err f)) fault → IsRefusal fault a → ExplainsList list s drawn a
+  is_planned : (ds : List Descriptor) (p : Submission) → IsListOf list ds → IsSubmissionOf s (map fields ds) p
+      → AnswersPlan s p.plan p.pieces (origins_from s.greatest_transfer 0 (map fields ds)) drawn a → ExplainsList list s drawn a
+
+-- refused where the text spells no list; else that of the list that it spells
+pub data ExplainsText (text : List ℕ) (s : Limits) (drawn : Bool) (a : Answer) : Type 0 where
+  is_refused_text : (fault : TextFault) → Assembles (λ bytes. bytes) (lines_of text) (Err fault) → RefusesText fault a → ExplainsText text s drawn a
+  is_assembled : (list : List ℕ) → IsListing (lines_of text) list → ExplainsList list s drawn a → ExplainsText text s drawn a
+
+-- ---- the plan that bytes submit
+
+-- refused where `check` refuses the bytes or the certificate, for its cause; else the plan that the
+-- bytes submit, which the certificate shows to be of least cost
+pub data ExplainsChecked (portal staging : List ℕ) (s : Limits) (c : Contents) (drawn : Bool) (a : Answer) : Type 0 where
+  is_refused_check : (fault : PlanFault) → MemoryOr (λ f. Checks portal staging s c (Err f)) fault → IsRefusal fault a → ExplainsChecked portal staging s c drawn a
+  is_checked : (cost : ℕ) (plan : Plan) (ds : List Descriptor) → IsEmission s portal staging plan ds → IsShownLeast s (map fields ds) plan c cost
+      → AnswersPlan s plan ds [] drawn a → ExplainsChecked portal staging s c drawn a
+
+-- ---- a plan of one's own
+
+-- what the plan costs above the least
+abbrev pub more_words : ℕ → List ℕ
+more_words more =
+    if more == 0 then codes "no plan costs less\n" else codes "this plan costs " ++ (decimal more ++ codes " more\n")
+
+abbrev pub least_words : ℕ → ℕ → List ℕ
+least_words cost least = codes "least " ++ (decimal least ++ (codes ": " ++ more_words (cost - least)))
+
+-- the line names the cost of the plan that `plan_list` answers, if there is one: a planner needs a
+-- staging area of its own
+abbrev pub NamesLeast : List ℕ → Limits → ℕ → List ℕ → Type 0
+NamesLeast list s cost line =
+    ((p : Submission) × Plans list s (Ok p) × (line ≡ least_words cost p.cost))
+    ⊎ ((fault : PlanFault) × Plans list s (Err fault) × (line ≡ []))
+
+-- the plan in words, and behind them the least cost
+pub record TellsJudged (list : List ℕ) (s : Limits) (plan : Plan) (pieces : List Descriptor) (cost : ℕ) (text : List ℕ) : Type 0 where
+  pub words : List ℕ
+  pub line : List ℕ
+  pub tells : TellsPlan s plan pieces [] words
+  pub least : NamesLeast list s cost line
+  pub text_is : text ≡ words ++ line
+
+-- a judged plan as a picture, or in words with the least cost; or refused for the cause that `explain`
+-- finds, which can only be an allocation failure
+pub data AnswersJudged (list : List ℕ) (s : Limits) (plan : Plan) (pieces : List Descriptor) (cost : ℕ) (drawn : Bool) (a : Answer) : Type 0 where
+  is_drawn : drawn ≡ true → AnswersPlan s plan pieces [] true a → AnswersJudged list s plan pieces cost drawn a
+  is_told : drawn ≡ false → a.status ≡ 0 → TellsJudged list s plan pieces cost (string_bytes a.text) → AnswersJudged list s plan pieces cost drawn a
+  is_untold : drawn ≡ false → (fault : ExplainFault) → Explains s pieces plan (Err fault) → IsRefusal (explain_cause fault) a → AnswersJudged list s plan pieces cost drawn a
+
+-- refused where `judge` refuses the list or the plan, for its cause; else the plan with the cost that
+-- `judge` answers
+pub data ExplainsJudged (list : List ℕ) (plan : Plan) (s : Limits) (drawn : Bool) (a : Answer) : Type 0 where
+  is_refused_judge : (fault : PlanFault) → MemoryOr (λ f. Judges list plan s (Err f)) fault → IsRefusal fault a → ExplainsJudged list plan s drawn a
+  is_judged : (cost : ℕ) (ds : List Descriptor) → IsListOf list ds → JudgesPieces (map fields ds) plan s (Ok cost)
+      → AnswersJudged list s plan ds cost drawn a → ExplainsJudged list plan s drawn a

@@ -1,0 +1,44 @@
+-- Options, as the parser of the arguments found them (this project's choice).
+use Rattle.std.specs.Prelude.{◌≡◌, ◌⊎◌, ℕ, Bool, true, false, List, [], codes, Some, None, option_map, option_and_then, unwrap_or}
+use Rattle.clap.specs.Words.{first_value, found_of, matched_of, one_text}
+use Rattle.clap.specs.declared.parser.matches.ArgMatches.{ArgMatches}
+use Rattle.clap.specs.declared.parser.matches.ValueSource.TheVariants.{CommandLine}
+use Rattle.dsa_text.specs.declared.settings.SettingsWords.{SettingsWords}
+
+-- the option was given among the arguments, and is not there by default
+abbrev pub IsGiven : ArgMatches → List ℕ → Type 0
+IsGiven m name = option_and_then (λ a. a.source) (matched_of (found_of m) name) ≡ Some CommandLine
+
+-- an option of sizes or of the staging area was given
+abbrev pub AreSizesGiven : ArgMatches → Type 0
+AreSizesGiven m =
+    (IsGiven m (codes "greatest-batch") ⊎ IsGiven m (codes "greatest-transfer")) ⊎ IsGiven m (codes "staging")
+
+-- an option of prices was given
+abbrev pub ArePricesGiven : ArgMatches → Type 0
+ArePricesGiven m =
+    (IsGiven m (codes "lone") ⊎ IsGiven m (codes "fence")) ⊎ (IsGiven m (codes "batch") ⊎ IsGiven m (codes "batches"))
+
+-- some option of settings was given
+abbrev pub AreSettingsGiven : ArgMatches → Type 0
+AreSettingsGiven m = AreSizesGiven m ⊎ ArePricesGiven m
+
+-- the value of an option, empty where it has none
+abbrev pub word_of : ArgMatches → List ℕ → List ℕ
+word_of m name = unwrap_or (first_value (found_of m) name) []
+
+-- each word is the value of the option of its name
+pub record AreWords (m : ArgMatches) (w : SettingsWords) : Type 0 where
+  pub greatest_batch : w.greatest_batch.now ≡ word_of m (codes "greatest-batch")
+  pub greatest_transfer : w.greatest_transfer.now ≡ word_of m (codes "greatest-transfer")
+  pub lone : w.lone.now ≡ word_of m (codes "lone")
+  pub batch : w.batch.now ≡ word_of m (codes "batch")
+  pub batches : option_map (λ word. word.now) w.batches ≡ first_value (found_of m) (codes "batches")
+  pub fence : w.fence.now ≡ word_of m (codes "fence")
+  pub staging : w.staging.now ≡ word_of m (codes "staging")
+
+-- whether a flag was set, where the parser says so
+pub record IsFlag (m : ArgMatches) (name : List ℕ) (flag : Bool) : Type 0 where
+  pub set : one_text (found_of m) name ≡ Some (codes "true") → flag ≡ true
+  pub clear : one_text (found_of m) name ≡ Some (codes "false") → flag ≡ false
+  pub absent : one_text (found_of m) name ≡ None → flag ≡ false

@@ -1,0 +1,55 @@
+//! `explain` of a job.
+
+ghost use Rattle.std.specs.Prelude.{IfOk};
+ghost use Rattle.dsa_calls.specs.declared.fault.PlanFault.TheVariants.{Do};
+ghost use Rattle.dsa_text.specs.Jobs.{ExplainsJob, ExplainsJobText};
+ghost use Rattle.dsa_text.specs.Refusals.{IsRefusal};
+
+use crate::answer::Answer;
+use crate::diagnosis::job_fault;
+use crate::explaining::{explain_checked, explain_list};
+use crate::judging::explain_judged;
+use dsa_calls::PlanFault;
+use dsa_report::{Job, read_job};
+use std::alloc::{AllocError, Global};
+
+/// The refusal of a job to replay or to run.
+fn not_explained(alloc: Global) -> Result<Answer, AllocError>
+    ensures { IfOk result (IsRefusal Do) }
+{
+    let message = "a job to replay or to run is not explained, but one to plan, judge or check";
+    Answer::fault_with(alloc, PlanFault::Do, message)
+}
+
+/// What `explain` answers of a job: one to plan, to judge or to check.
+fn explain_job(alloc: Global, job: &Job, drawn: bool) -> Result<Answer, AllocError>
+    ensures { IfOk result (ExplainsJob job.now drawn) }
+{
+    match job {
+        Job::Plan(job) => explain_list(alloc, &job.list, &job.settings, drawn),
+        Job::Judge(job) => explain_judged(alloc, &job.list, &job.plan, &job.settings, drawn),
+        Job::Check(job) => explain_checked(
+            alloc,
+            &job.portal,
+            &job.staging,
+            &job.certificate,
+            &job.settings,
+            drawn,
+        ),
+        Job::Replay(_) | Job::Run(_) => not_explained(alloc),
+    }
+}
+
+/// What `explain` answers of the text of a job.
+pub(crate) fn explain_job_text(
+    alloc: Global,
+    text: &[u8],
+    drawn: bool,
+) -> Result<Answer, AllocError>
+    ensures { IfOk result (ExplainsJobText text.now drawn) }
+{
+    match read_job(alloc, text) {
+        Ok(job) => explain_job(alloc, &job, drawn),
+        Err(fault) => job_fault(alloc, text, fault),
+    }
+}

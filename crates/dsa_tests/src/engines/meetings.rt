@@ -87,9 +87,9 @@ fn three_engines_are_at_work_at_once(rt: HostRuntime) -> Result<(), Fail> {
     three_meet(&rt, rt.alloc(), &[false; 8], 0)
 }
 
-/// The engine that finishes the first piece wakes another one, and that one the third.
+/// The engine that finishes the first piece wakes the others.
 #[test]
-fn takes_wake_engines_behind_a_fence(rt: HostRuntime) -> Result<(), Fail> {
+fn a_finish_wakes_all_engines(rt: HostRuntime) -> Result<(), Fail> {
     three_meet(&rt, rt.alloc(), &[false, true, false, false], 1)
 }
 

@@ -307,8 +307,8 @@ def fences():
 
 
 def large():
-    """Texts and lists of more than 1 MiB: 20,480 moves that lie apart, which are twenty whole batches of 1,024."""
-    count = 20 * 1024
+    """Texts and lists of more than 1 MiB: 65,536 moves that lie apart, which are 64 whole batches of 1,024."""
+    count = 64 * 1024
     moves = [(0x1_0000_0000 + 0x1000 * k, 0x2_0000_0000 + 0x1000 * k, 0x3_0000_0000 + 32 * k) for k in range(count)]
     lines = [f"move 0x{src:x} -> 0x{dst:x}, 64 bytes" for src, dst, _ in moves]
     text = "".join(f"{line}, record 0x{at:x}\n" for line, (_, _, at) in zip(lines, moves))
@@ -318,7 +318,7 @@ def large():
         if k % 1024 == 0:
             rows.append(f"group {k // 1024}: batch of 1024, 0 fences, 1 epoch, cost 14")
         rows.append(f"  {k}: {line}")
-    rows.append(f"cost 280; {count} lone submissions cost 204800, saved 204520")
+    rows.append(f"cost 896; {count} lone submissions cost 655360, saved 654464")
     expect("explain --greatest-batch 1024", text, "\n".join(rows))
     expect("explain", common.plan(listed, common.settings(greatest_batch=1024)), "\n".join(rows))
     expect("assemble", text, listed)
@@ -382,8 +382,17 @@ def named_files():
 
 
 def members():
-    """Which member of the settings of a job is at fault."""
-    plan = json.loads(Path("examples/plan.job").read_text())
+    """Which member of a job, or of its settings, is at fault."""
+    plan, judge = (json.loads(Path(f"examples/{name}.job").read_text()) for name in ("plan", "judge"))
+    for job, name, value, kind in [
+        (plan, "list", 1, "text"),
+        (plan, "settings", [], "an object"),
+        (judge, "plan", {}, "an array of groups"),
+    ]:
+        refused("explain", json.dumps(job | {name: value}), f"`{name}` is not {kind}", "81 Member")
+        less = {known: value for known, value in job.items() if known != name}
+        refused("explain", json.dumps(less), f"a job to {job['do']} lacks the member `{name}`", "81 Member")
+    refused("explain", json.dumps(plan | {"other": 1}), "a job to plan has no member `other`", "81 Member")
     names = ("version", "greatest_batch", "greatest_transfer", "lone", "batch", "fence", "staging")
     for name in names:
         less = {known: value for known, value in plan["settings"].items() if known != name}

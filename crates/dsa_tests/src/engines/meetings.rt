@@ -13,8 +13,8 @@ use std::thread;
 use std::thread::Threads;
 use std::time::Duration;
 
-/// Lets no piece from `first` on be finished until so many of these were taken. A piece before them takes a while, so
-/// that the other engines sleep when it is finished.
+/// Lets no piece from `first` on be finished until so many of these were taken. A piece before them takes a while, the
+/// first the longest, so that the other engines sleep when it is finished.
 #[derive(Drop)]
 struct Meeting<'a, R: Clock> {
     rt: &'a R,
@@ -29,7 +29,8 @@ impl<'a, R: Clock> Gate for Meeting<'a, R> {
             return Ok(());
         }
         if event.piece < self.first {
-            thread::sleep(self.rt, Duration::from_millis(100));
+            let millis = if event.piece == 0 { 100 } else { 1 };
+            thread::sleep(self.rt, Duration::from_millis(millis));
             return Ok(());
         }
         for _ in 0..10_000 {
@@ -61,12 +62,13 @@ fn moves_apart(alloc: Global, fences: &[bool]) -> Result<Vec<Descriptor>, Fail> 
     Ok(moves)
 }
 
-/// Three engines do the pieces of this batch, of which three from `first` on have to be in work at once.
-fn three_meet<R: Threads + Wait + Clock + Abort + Sync>(
+/// Engines do the pieces of this batch, of which as many from `first` on have to be in work at once.
+fn meet<R: Threads + Wait + Clock + Abort + Sync>(
     rt: &R,
     alloc: Global,
     fences: &[bool],
     first: u32,
+    engines: u8,
 ) -> Result<(), Fail> {
     let moves = moves_apart(alloc, fences)?;
     let image = image_of(vec![in alloc; 1u8; 1024]?)?;
@@ -74,23 +76,34 @@ fn three_meet<R: Threads + Wait + Clock + Abort + Sync>(
     let gate = Meeting {
         rt,
         first,
-        wanted: 3,
+        wanted: u32::from(engines),
         taken: AtomicU32::new(0),
     };
-    let outcome = run_plan(rt, alloc, &image, &plan, &moves, 3, &gate)??;
+    let outcome = run_plan(rt, alloc, &image, &plan, &moves, engines, &gate)??;
     assert_eq!(rt; outcome.finished as usize, fences.len());
     Ok(())
 }
 
 #[test]
 fn three_engines_are_at_work_at_once(rt: HostRuntime) -> Result<(), Fail> {
-    three_meet(&rt, rt.alloc(), &[false; 8], 0)
+    meet(&rt, rt.alloc(), &[false; 8], 0, 3)
 }
 
-/// The engine that finishes the first piece wakes the others.
+/// The engine that finishes the first piece wakes the three others.
 #[test]
 fn a_finish_wakes_all_engines(rt: HostRuntime) -> Result<(), Fail> {
-    three_meet(&rt, rt.alloc(), &[false, true, false, false], 1)
+    meet(&rt, rt.alloc(), &[false, true, false, false, false], 1, 4)
+}
+
+/// Two of three engines find nothing to take behind each of 200 fences, and take a piece behind the last one.
+#[test]
+fn engines_are_woken_in_vain(rt: HostRuntime) -> Result<(), Fail> {
+    let alloc = rt.alloc();
+    let mut fences = vec![in alloc; true; 203]?;
+    for (place, fence) in fences.iter_mut().enumerate() {
+        *fence = place > 0 && place <= 200;
+    }
+    meet(&rt, alloc, &fences, 200, 3)
 }
 
 /// Refuses the finish of the first piece once the second was finished, whose engine asks for its next piece just then, after

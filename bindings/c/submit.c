@@ -13,6 +13,9 @@
  *
  *     submit /dev/dsa/wq0.0 dedicated|shared
  */
+#ifndef _GNU_SOURCE
+#define _GNU_SOURCE /* mmap's flags, where the compiler keeps to a standard */
+#endif
 #include <fcntl.h>
 #include <immintrin.h>
 #include <inttypes.h>

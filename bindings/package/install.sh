@@ -9,8 +9,10 @@ fail() { echo "install.sh: $*" >&2; exit 1; }
 
 remove=no
 [ "${1-}" != --remove ] || { remove=yes; shift; }
-[ $# -eq 1 ] && [ -n "$1" ] || { sed -n '4,5s/^# *//p' "$0" >&2; exit 2; }
+usage() { sed -n '4,5s/^# *//p' "$0" >&2; exit 2; }
+[ $# -eq 1 ] && [ -n "$1" ] || usage
 case $1 in
+    -*) usage ;;
     /*) prefix=${1%/} ;;
     *) prefix=$PWD/${1%/} ;;
 esac
@@ -21,6 +23,7 @@ take_away() {
     [ -f "$prefix/$list" ] || fail "$prefix has no $list: nothing is installed there"
     sed -n 's/^file //p' "$prefix/$list" | while IFS= read -r path; do rm -f "$prefix/$path"; done
     folders=$(sed -n 's/^folder //p' "$prefix/$list" | LC_ALL=C sort -r)
+    above=$(sed -n 's/^above //p' "$prefix/$list")
     rm -f "$prefix/$list"
     rm -rf "$prefix/share/dsa-planner/python/__pycache__"
     printf '%s\n' "$folders" | while IFS= read -r path; do
@@ -30,6 +33,9 @@ take_away() {
             *) rmdir "$prefix/$path" 2>/dev/null || true ;;
         esac
     done
+    printf '%s\n' "$above" | while IFS= read -r path; do
+        [ -z "$path" ] || rmdir "$path" 2>/dev/null || true
+    done
 }
 
 # Copies the package, and notes in the list what was not there before.
@@ -37,6 +43,11 @@ put_there() {
     noted=$(mktemp)
     trap 'rm -f "$noted"' EXIT
     [ -d "$prefix" ] || echo "folder ." > "$noted"
+    parent=$(dirname "$prefix")
+    while [ ! -d "$parent" ]; do
+        echo "above $parent" >> "$noted"
+        parent=$(dirname "$parent")
+    done
     mkdir -p "$prefix" 2>/dev/null && [ -w "$prefix" ] || fail "cannot write to $prefix"
     cd "$here"
     find bin include lib share -type d | sort | while IFS= read -r path; do

@@ -243,11 +243,15 @@ def manuals(to, numbers):
 
 
 def examples(to):
-    """Examples of the calls, of jobs and of operations as text, and rows for tests of a caller's own, with three readers."""
+    """Examples of the calls, of jobs, of operations as text and of recordings, and rows for tests of a caller's own, with three readers."""
     for name in ("two_moves.c", "own_memory.c", "submit.c"):
         shutil.copy(ROOT / "bindings/c" / name, to)
-    for path in [*(ROOT / "examples").glob("*.job"), *(ROOT / "examples/text").glob("*.txt")]:
+    for path in (ROOT / "examples").glob("*.job"):
         shutil.copy(path, to)
+    for folder, names in (("text", "*.txt"), ("audit", "*.xxd")):
+        (to / folder).mkdir()
+        for path in (ROOT / "examples" / folder).glob(names):
+            shutil.copy(path, to / folder)
     for path in (ROOT / "tests/package").glob("rows.*"):
         shutil.copy(path, to)
     write(to / "rows.txt", rows.rows(ROOT / "tests/jobs"))

@@ -102,7 +102,7 @@ def dsa(head):
     """dsa(1)."""
     about = """
 `dsa` reads one job, a JSON object, on standard input and writes one line on standard output: the answer, or a refusal
-with the number and the name of its first cause. All addresses are the device's; nothing here touches a device.
+with the number and the name of its first cause (`dsa_text explain` of the same job says the place too). All addresses are the device's; nothing here touches a device.
 """
     return PAGE.format(title="DSA", section=1, **head) + sections(
         NAME=plain("dsa - plan, check, judge, replay and run lists of DSA descriptors") + "\n",

@@ -89,8 +89,14 @@ def _open() -> ctypes.CDLL:
             fault = fault or error
             continue
         _need_version(library, place)
-        _declare(library)
+        try:
+            _declare(library)
+        except AttributeError as error:
+            raise ImportError(f"dsa_planner: {place} lacks a call of dsa-planner ({error})") from None
         return library
+    named = os.environ.get("DSA_PLANNER_LIBRARY")
+    if named:
+        raise ImportError(f"dsa_planner: cannot load {named}, which DSA_PLANNER_LIBRARY names ({fault}).")
     what_to_do = "Install the package dsa-planner, or set DSA_PLANNER_LIBRARY to the file."
     raise ImportError(f"dsa_planner: cannot load {_SONAME} ({fault}). {what_to_do}")
 

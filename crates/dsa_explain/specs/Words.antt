@@ -50,7 +50,7 @@ reason_words None = codes "no conflict needs it alone"
 reason_words (Some r) =
     decimal r.later ++ (codes " after " ++ (decimal r.earlier ++ (codes ", " ++ (kind_words r.hazard.kind ++ (codes " at " ++ hex r.hazard.address)))))
 
--- how many more conflicts a fence separates, where there are any
+-- how many more conflicts a fence alone separates, where there are any
 abbrev pub more_words : ℕ → List ℕ
 more_words more = if more == 0 then [] else codes ", and " ++ (decimal more ++ codes " more")
 

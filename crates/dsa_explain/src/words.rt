@@ -107,7 +107,7 @@ fn reason_text(alloc: Global, reason: Option<Reason>) -> Result<String, AllocErr
     }
 }
 
-/// Writes how many more conflicts a fence separates, where there are any.
+/// Writes how many more conflicts a fence alone separates, where there are any.
 fn push_more(alloc: Global, text: &mut String, more: usize) -> Result<(), AllocError>
     ensures { OnOk result (string_bytes text.new ≡ string_bytes text.old ++ more_words more) }
 {

@@ -41,9 +41,9 @@ def replay(pieces, memory, engines, trace):
     return run(pieces, memory, engines, do="replay", trace=trace)
 
 
-def run(pieces, memory, engines, do="run", **more):
+def run(pieces, memory, engines, do="run", rules=RULES, **more):
     image = object_of({"base": 0, "bytes": f'"{memory.hex()}"'})
-    return job(do, RULES, list=f'"{digits(pieces)}"', image=image, engines=engines, **more)
+    return job(do, rules, list=f'"{digits(pieces)}"', image=image, engines=engines, **more)
 
 
 def left(groups, pieces, memory):
@@ -114,6 +114,23 @@ def images():
         expect_line([DSA], replay(small, memory, engines, in_turn(count, engines)), left([[False] * count], small, memory))
 
 
+def events():
+    """A run of 2,099,200 events: 1,024 fills of the same 8 MiB, one after another, each with another pattern and the same record;
+    by threads and by a trace."""
+    count, lines = 1_024, 2_048
+    size = 4_096 * lines
+    fills = [Op(FILL, size, size, 0x0101_0101_0101_0101 * (k % 256), 0) for k in range(count)]
+    memory = bytes(size + 32)
+    # a piece by itself costs nothing, so there is no batch
+    rules = settings(**{**LIMITS, "greatest_transfer": size, "lone": 0})
+    # the last pattern, and the record of a success
+    done = b"\xff" * size + b"\x01" + bytes(31)
+    line = raw({"batch_records": [], "finished": count, "image": done.hex()})
+    trace = ",".join(f'[0,"take",{k}],' + f'[0,"line",{k}],' * lines + f'[0,"finish",{k}]' for k in range(count))
+    expect_line([DSA], run(fills, memory, 2, rules=rules), line)
+    expect_line([DSA], run(fills, memory, 1, do="replay", rules=rules, trace=f"[{trace}]"), line)
+
+
 def engines():
     """Each number of engines that may be, of which each takes a piece in the trace."""
     count = 70
@@ -128,7 +145,7 @@ def engines():
 def main(words):
     global DSA
     DSA = program("dsa")
-    for part in named([planned, long_runs, images, engines], words):
+    for part in named([planned, long_runs, images, events, engines], words):
         part()
 
 

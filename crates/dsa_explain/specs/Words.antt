@@ -44,7 +44,7 @@ abbrev pub group_words : ℕ → GroupCost → List ℕ
 group_words number group =
     if group.size == 1 then lone_words number group.cost else batch_words number group
 
--- the conflict that a fence separates: its two pieces, its kind and its address
+-- the conflict that a fence separates: its two pieces, its kind and an address of it
 abbrev pub reason_words : Option Reason → List ℕ
 reason_words None = codes "no conflict needs it alone"
 reason_words (Some r) =
@@ -130,6 +130,6 @@ explanation_words price e pieces origins =
 
 -- ---- pictures
 
--- an image in SVG
+-- the text begins as an image in SVG does
 abbrev pub IsPicture : List ℕ → Type 0
 IsPicture text = (rest : List ℕ) × (text ≡ codes "<svg " ++ rest)

@@ -9,7 +9,7 @@ pub fn least_plans_save<C: Conflicts>()
     ensures { LeastPlansSave C.conflict }
 {}
 
-/// A picture has a box for each piece and a bar for each fence.
+/// There is a cell for each piece, and a fenced one for each fence.
 pub fn cells_are_pieces_and_fences()
     ensures { CellsArePiecesAndFences }
 {}

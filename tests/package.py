@@ -383,7 +383,7 @@ def python():
         "old": f"has version 0.9, and this module needs {needed}",
         "next": f"has version 2.0, and this module needs {needed}",
         "text": "Install the package dsa-planner",
-        "missing": "Install the package dsa-planner",
+        "missing": "which DSA_PLANNER_LIBRARY names",
     }
     for name, words in said_of.items():
         library = {"PYTHONPATH": module, "DSA_PLANNER_LIBRARY": f"{FOLDER}/{name}.so"}

@@ -95,10 +95,9 @@ def _open() -> ctypes.CDLL:
             raise ImportError(f"dsa_planner: {place} lacks a call of dsa-planner ({error})") from None
         return library
     named = os.environ.get("DSA_PLANNER_LIBRARY")
-    if named:
-        raise ImportError(f"dsa_planner: cannot load {named}, which DSA_PLANNER_LIBRARY names ({fault}).")
+    wanted = f"{named}, which DSA_PLANNER_LIBRARY names" if named else _SONAME
     what_to_do = "Install the package dsa-planner, or set DSA_PLANNER_LIBRARY to the file."
-    raise ImportError(f"dsa_planner: cannot load {_SONAME} ({fault}). {what_to_do}")
+    raise ImportError(f"dsa_planner: cannot load {wanted} ({fault}). {what_to_do}")
 
 
 def _need_version(library: ctypes.CDLL, place: str) -> None:

@@ -45,7 +45,7 @@ not_both : (s : Limits) (fs : List Fields) (plan : Plan) (c : Contents) (cost : 
 not_both s fs plan c cost f h first = yes_has_no_fault (ConflictAt fs) s.greatest_batch (tariff_of s) (version_of s) (length fs) plan c cost (held_of s fs plan c cost h) f first
 
 -- a plan of pieces and a certificate have one outcome
-one_plan_checked : (s : Limits) (fs : List Fields) (plan : Plan) (c : Contents) (o p : Result ℕ PlanFault) → ChecksPlan s fs plan c o → ChecksPlan s fs plan c p → o ≡ p
+pub one_plan_checked : (s : Limits) (fs : List Fields) (plan : Plan) (c : Contents) (o p : Result ℕ PlanFault) → ChecksPlan s fs plan c o → ChecksPlan s fs plan c p → o ≡ p
 one_plan_checked s fs plan c (Ok cost) (Ok cost') h k = ap Ok (h.is_cost ∙ sym k.is_cost)
 one_plan_checked s fs plan c (Ok cost) (Err cause) h (f, is, first) = absurd (not_both s fs plan c cost f h first)
 one_plan_checked s fs plan c (Err cause) (Ok cost) (f, is, first) k = absurd (not_both s fs plan c cost f k first)
@@ -77,6 +77,14 @@ plan_checked portal staging s c plan ds o emission checks = go o (inr (plan, ds,
     go : (p : Result ℕ PlanFault) → Checks portal staging s c p → OrMemory (λ cost. cost) (Checks portal staging s c) p
     go (Ok cost) h = h
     go (Err fault) h = inr h
+
+-- what checking says of bytes that submit a plan it says of the plan
+pub said_of_plan : (portal staging : List ℕ) (s : Limits) (c : Contents) (plan : Plan) (ds : List Descriptor) (o : Result ℕ PlanFault) → IsEmission s portal staging plan ds
+    → Checks portal staging s c o → ChecksPlan s (map fields ds) plan c o
+said_of_plan portal staging s c plan ds o emission (inl (fault, other, first, is)) = absurd (none_to_tell s portal staging plan ds fault emission other first)
+said_of_plan portal staging s c plan ds o emission (inr (plan', ds', emission', checks)) =
+    let same = same_emission s portal staging plan plan' ds ds' emission emission' in
+    subst (λ (xs : List Descriptor). ChecksPlan s (map fields xs) plan c o) (sym same.1) (subst (λ (x : Plan). ChecksPlan s (map fields ds') x c o) (sym same.0) checks)
 
 -- where an answer is told, the plan of the bytes is least
 pub shown_least : (portal staging : List ℕ) (s : Limits) (c : Contents) (r : Result ℕ PlanFault) → OrMemory (λ cost. cost) (Checks portal staging s c) r

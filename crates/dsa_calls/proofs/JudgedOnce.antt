@@ -52,7 +52,7 @@ one_cause fs plan s cause other (inr (inr (fault, is, few, fit, first))) (inr (i
     is ∙ ap Legal (one_fault (ConflictAt fs) s.greatest_batch (length fs) plan fault fault' first first') ∙ sym is'
 
 -- pieces have one outcome
-one_judged_pieces : (fs : List Fields) (plan : Plan) (s : Limits) (o p : Result ℕ PlanFault) → JudgesPieces fs plan s o → JudgesPieces fs plan s p → o ≡ p
+pub one_judged_pieces : (fs : List Fields) (plan : Plan) (s : Limits) (o p : Result ℕ PlanFault) → JudgesPieces fs plan s o → JudgesPieces fs plan s p → o ≡ p
 one_judged_pieces fs plan s (Ok cost) (Ok cost') h k = ap Ok (h.3 ∙ sym k.3)
 one_judged_pieces fs plan s (Ok cost) (Err cause) h k = absurd (judged_or_not fs plan s cost cause h k)
 one_judged_pieces fs plan s (Err cause) (Ok cost) h k = absurd (judged_or_not fs plan s cost cause k h)

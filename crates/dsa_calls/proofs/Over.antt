@@ -46,3 +46,9 @@ pub only_outcome : {X Y : Type 0} (shown : X → Y) (Outcome : Result Y PlanFaul
 only_outcome shown Outcome one (Ok x) h o says = one o (Ok (shown x)) says h
 only_outcome shown Outcome one (Err fault) (inl is) o says = inl is
 only_outcome shown Outcome one (Err fault) (inr h) o says = inr (one o (Err fault) says h)
+
+-- what a call says of bytes that spell descriptors it says of these
+pub said_of_list : {X : Type 0} (Says : List Fields → Result X PlanFault → Type 0) (bytes : List ℕ) (ds : List Descriptor) (o : Result X PlanFault) → IsListOf bytes ds → OverList Says bytes o
+    → Says (map fields ds) o
+said_of_list Says bytes ds o listed (inl (fault, other, first, is)) = absurd (no_list_fault bytes ds fault listed other first)
+said_of_list Says bytes ds o listed (inr (es, listed', says)) = subst (λ (xs : List Descriptor). Says (map fields xs) o) (one_list bytes ds es listed listed') says

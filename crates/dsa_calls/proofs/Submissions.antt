@@ -71,6 +71,14 @@ split_refused bytes s ds cause fault list is first = go (split_is_memory cause) 
     go true e same = inl same
     go false e same = inr (inr (ds, list, (cause, (λ f. let g = ap split_is_memory f in cc), first, same)))
 
+pub operations_refused : (s : Limits) (fs : List Fields) (cause : SplitFault) (fault : PlanFault) → fault ≡ split_cause cause → IsFirstSplitFault s.greatest_transfer s.staging fs cause
+    → OrMemory {X = Submission} {Y = Submission} (λ p. p) (PlansOperations s fs) (Err fault)
+operations_refused s fs cause fault is first = go (split_is_memory cause) refl is
+  where
+    go : (b : Bool) → split_is_memory cause ≡ b → fault ≡ (if b then Memory else Split cause) → OrMemory {X = Submission} {Y = Submission} (λ p. p) (PlansOperations s fs) (Err fault)
+    go true e same = inl same
+    go false e same = inr (cause, (λ f. let g = ap split_is_memory f in cc), first, same)
+
 -- ---- one outcome
 
 pub same_pieces : (ds es : List Descriptor) → map fields ds ≡ map fields es → ds ≡ es
@@ -91,7 +99,7 @@ one_submission s fs p q h k =
     (h.portal_is ∙ ap (λ (x : Plan). portal_bytes s x (map fields p.pieces)) same.2 ∙ ap (λ (x : List Descriptor). portal_bytes s q.plan (map fields x)) pieces ∙ sym k.portal_is)
     (h.staging_is ∙ ap (λ (x : Plan). staging_bytes x (map fields p.pieces)) same.2 ∙ ap (λ (x : List Descriptor). staging_bytes q.plan (map fields x)) pieces ∙ sym k.staging_is)
 
-one_operations : (s : Limits) (fs : List Fields) (o p : Result Submission PlanFault) → PlansOperations s fs o → PlansOperations s fs p → o ≡ p
+pub one_operations : (s : Limits) (fs : List Fields) (o p : Result Submission PlanFault) → PlansOperations s fs o → PlansOperations s fs p → o ≡ p
 one_operations s fs (Ok p) (Ok q) h k = ap Ok (one_submission s fs p q h k)
 one_operations s fs (Ok p) (Err fault) h (cause, other, first, is) = absurd (other (split_no_fault s.greatest_transfer s.staging fs cause h.split first))
 one_operations s fs (Err fault) (Ok q) (cause, other, first, is) k = absurd (other (split_no_fault s.greatest_transfer s.staging fs cause k.split first))
@@ -103,22 +111,23 @@ one_planned bytes s = one_over_list (λ fs o. PlansOperations s fs o) (λ fs o p
 
 -- ---- least, and shown to be
 
+-- what the pieces of operations are planned as is their submission
+pub submission_of_operations : (s : Limits) (fs : List Fields) (p : Submission) → IsSplit s.greatest_transfer s.staging fs → map fields p.pieces ≡ all_pieces fs s.greatest_transfer
+    → IsSubmissionOfPieces s p → IsSubmissionOf s fs p
+submission_of_operations s fs p split are sub = record {
+  split = split;
+  pieces_are = are;
+  chosen = sub.chosen;
+  version_is = sub.version_is;
+  cost_is = sub.cost_is;
+  portal_is = sub.portal_is;
+  staging_is = sub.staging_is;
+}
+
 -- what the pieces of a list are planned as is the submission of the list
 pub whole_submission : (bytes : List ℕ) (s : Limits) (p : Submission) → ArePiecesOf s bytes p.pieces → IsSubmissionOfPieces s p → Plans bytes s (Ok p)
 whole_submission bytes s p pieces sub =
-    inr (
-      pieces.operations,
-      pieces.listed,
-      record {
-        split = pieces.split;
-        pieces_are = pieces.pieces_are;
-        chosen = sub.chosen;
-        version_is = sub.version_is;
-        cost_is = sub.cost_is;
-        portal_is = sub.portal_is;
-        staging_is = sub.staging_is;
-      },
-    )
+    inr (pieces.operations, pieces.listed, submission_of_operations s (map fields pieces.operations) p pieces.split pieces.pieces_are sub)
 
 submission_shown : (s : Limits) (fs : List Fields) (p : Submission) → HaveOneOwner fs → IsSubmissionOf s fs p → IsLeastAndShown s p
 submission_shown s fs p owner sub =

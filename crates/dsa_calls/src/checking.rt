@@ -50,8 +50,12 @@ pub fn check_bytes(
     check_plan(&pieces, settings, &plan, certificate)
 }
 
-/// The cost of the plan of these pieces, where the certificate shows it.
-fn check_plan(
+/// The cost of the plan of these pieces, where it is legal and the certificate shows that none costs less, as
+/// [`check_bytes`] checks the plan that bytes submit: for who has read them already.
+///
+/// # Errors
+/// The first fault of the plan or the certificate, as [`check`] reports it.
+pub fn check_plan(
     pieces: &[Descriptor],
     settings: &Settings,
     plan: &Plan,

@@ -27,11 +27,16 @@ pub fn judge_bytes(
         Judges list.now plan.now settings.now outcome → IsOrMemory (λ cost. cost) outcome result }
 {
     let pieces = read_list(alloc, list)?;
-    judge(&pieces, plan, settings)
+    judge_pieces(&pieces, plan, settings)
 }
 
-/// The cost of the plan for the pieces, or the first cause to refuse it.
-fn judge(pieces: &[Descriptor], plan: &Plan, settings: &Settings) -> Result<u64, PlanFault>
+/// The cost of the plan for the pieces, or the first cause to refuse it, as [`judge_bytes`] judges those that bytes spell:
+/// for who has read a list already.
+pub fn judge_pieces(
+    pieces: &[Descriptor],
+    plan: &Plan,
+    settings: &Settings,
+) -> Result<u64, PlanFault>
     ensures { JudgesPieces (map fields pieces.now) plan.now settings.now result }
 {
     if pieces.len() > MOST_PIECES {

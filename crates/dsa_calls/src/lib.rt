@@ -11,15 +11,15 @@ mod planning;
 mod replaying;
 mod running;
 
-pub use checking::check_bytes;
+pub use checking::{check_bytes, check_plan};
 pub use dsa_descriptor::MOST_PIECES;
 pub use fault::{InnerFault, PlanFault};
-pub use judging::judge_bytes;
+pub use judging::{judge_bytes, judge_pieces};
 pub use laws::{
     one_checked, one_judged, one_planned, one_replayed, one_run, planned_is_least_and_shown,
     planned_runs_leave_whole, replays_follow_plans, runs_follow_plans,
 };
 pub use line::{LONGEST_LINE, refusal_line};
-pub use planning::{Planned, plan_list};
+pub use planning::{Planned, plan_list, plan_operations};
 pub use replaying::replay_bytes;
 pub use running::{run_bytes, run_gated};

@@ -3,6 +3,7 @@
 ghost use Rattle.std.specs.Prelude.{◌≡◌, length, map, IfOk, Ok, Result};
 ghost use Rattle.dsa_descriptor.specs.declared.descriptor.Descriptor.{Descriptor};
 ghost use Rattle.dsa_descriptor.specs.Descriptors.{fields};
+ghost use Rattle.dsa_descriptor.specs.Lists.{HaveOneOwner};
 ghost use Rattle.dsa_ranges.specs.Ranges.{ConflictAt};
 ghost use Rattle.dsa_plan.specs.Legal.{IsLeast};
 ghost use Rattle.dsa_plan.specs.Certificate.{IsGood};
@@ -10,7 +11,7 @@ ghost use Rattle.dsa_plan.specs.Settings.{tariff_of};
 ghost use Rattle.dsa_cert.specs.Certificates.{contents};
 ghost use Rattle.dsa_calls.specs.declared.fault.PlanFault.{PlanFault};
 ghost use Rattle.dsa_calls.specs.Lists.{OrMemory, IsOrMemory};
-ghost use Rattle.dsa_calls.specs.Planned.{CanBePlanned, IsSubmissionOfPieces, Plans, SplitsList, Submission, submission_of};
+ghost use Rattle.dsa_calls.specs.Planned.{CanBePlanned, IsSubmissionOfPieces, Plans, PlansOperations, SplitsList, Submission, submission_of};
 ghost use Rattle.dsa_calls.specs.Checked.{Checks};
 
 use crate::fault::PlanFault;
@@ -79,6 +80,25 @@ fn plan_pieces(
         cost,
         emission,
     })
+}
+
+/// Plans operations of one owner, as [`plan_list`] plans those that bytes spell: for who has read a list already.
+///
+/// # Errors
+/// The first fault of splitting the operations, as [`pieces`](dsa_splitter::pieces()) reports it; [`PlanFault::Memory`] at
+/// the first allocation that fails.
+pub fn plan_operations(
+    alloc: Global,
+    operations: &[Descriptor],
+    settings: &Settings,
+) -> Result<Planned, PlanFault>
+    requires { HaveOneOwner (map fields operations.now) }
+    ensures { OrMemory submission_of
+        (PlansOperations settings.now (map fields operations.now)) result }
+{
+    let pieces = pieces(alloc, operations, settings)?;
+    let submission = plan_pieces(alloc, pieces, settings)?;
+    Ok(submission)
 }
 
 /// Plans the operations that the bytes spell: splits them into pieces, finds the plan of least cost and its

@@ -1,6 +1,7 @@
 -- What explaining a text, a list, a plan of one's own or the bytes of an emission answers (this project's choice).
 use Rattle.std.specs.Prelude.{◌≡◌, ◌⊎◌, ◌-◌, ◌==◌, ℕ, Bool, true, false, List, [], ◌++◌, codes, decimal, map, string_bytes, Ok, Err, if◌then◌else◌}
 use Rattle.dsa_descriptor.specs.declared.descriptor.Descriptor.{Descriptor}
+use Rattle.dsa_descriptor.specs.Fields.{Fields}
 use Rattle.dsa_descriptor.specs.Descriptors.{fields}
 use Rattle.dsa_plan.specs.Plan.{Plan}
 use Rattle.dsa_plan.specs.Settings.{Limits}
@@ -14,7 +15,7 @@ use Rattle.dsa_calls.specs.declared.fault.PlanFault.TheVariants.{Memory}
 use Rattle.dsa_calls.specs.Checked.{Checks, IsShownLeast}
 use Rattle.dsa_calls.specs.Judge.{Judges, JudgesPieces}
 use Rattle.dsa_calls.specs.Lists.{IsListOf}
-use Rattle.dsa_calls.specs.Planned.{Submission, Plans, IsSubmissionOf}
+use Rattle.dsa_calls.specs.Planned.{Submission, Plans, PlansOperations, IsSubmissionOf}
 use Rattle.dsa_explain.specs.declared.explanation.ExplainFault.{ExplainFault}
 use Rattle.dsa_explain.specs.Explained.{Explains}
 use Rattle.dsa_text.specs.declared.answer.Answer.{Answer}
@@ -59,31 +60,31 @@ more_words more =
 abbrev pub least_words : ℕ → ℕ → List ℕ
 least_words cost least = codes "least " ++ (decimal least ++ (codes ": " ++ more_words (cost - least)))
 
--- the line names the cost of the plan that `plan_list` answers, if there is one: a planner needs a
--- staging area of its own
-abbrev pub NamesLeast : List ℕ → Limits → ℕ → List ℕ → Type 0
-NamesLeast list s cost line =
-    ((p : Submission) × Plans list s (Ok p) × (line ≡ least_words cost p.cost))
-    ⊎ ((fault : PlanFault) × Plans list s (Err fault) × (line ≡ []))
+-- the line names the cost of the least plan of the pieces, if there is one: a planner needs a staging
+-- area of its own
+abbrev pub NamesLeast : Limits → List Fields → ℕ → List ℕ → Type 0
+NamesLeast s fs cost line =
+    ((p : Submission) × PlansOperations s fs (Ok p) × (line ≡ least_words cost p.cost))
+    ⊎ ((fault : PlanFault) × PlansOperations s fs (Err fault) × (line ≡ []))
 
 -- the plan in words, and behind them the least cost
-pub record TellsJudged (list : List ℕ) (s : Limits) (plan : Plan) (pieces : List Descriptor) (cost : ℕ) (text : List ℕ) : Type 0 where
+pub record TellsJudged (s : Limits) (plan : Plan) (pieces : List Descriptor) (cost : ℕ) (text : List ℕ) : Type 0 where
   pub words : List ℕ
   pub line : List ℕ
   pub tells : TellsPlan s plan pieces [] words
-  pub least : NamesLeast list s cost line
+  pub least : NamesLeast s (map fields pieces) cost line
   pub text_is : text ≡ words ++ line
 
 -- a judged plan as a picture, or in words with the least cost; or refused for the cause that `explain`
 -- finds, which can only be an allocation failure
-pub data AnswersJudged (list : List ℕ) (s : Limits) (plan : Plan) (pieces : List Descriptor) (cost : ℕ) (drawn : Bool) (a : Answer) : Type 0 where
-  is_drawn : drawn ≡ true → AnswersPlan s plan pieces [] true a → AnswersJudged list s plan pieces cost drawn a
-  is_told : drawn ≡ false → a.status ≡ 0 → TellsJudged list s plan pieces cost (string_bytes a.text) → AnswersJudged list s plan pieces cost drawn a
-  is_untold : drawn ≡ false → (fault : ExplainFault) → Explains s pieces plan (Err fault) → IsRefusal (explain_cause fault) a → AnswersJudged list s plan pieces cost drawn a
+pub data AnswersJudged (s : Limits) (plan : Plan) (pieces : List Descriptor) (cost : ℕ) (drawn : Bool) (a : Answer) : Type 0 where
+  is_drawn : drawn ≡ true → AnswersPlan s plan pieces [] true a → AnswersJudged s plan pieces cost drawn a
+  is_told : drawn ≡ false → a.status ≡ 0 → TellsJudged s plan pieces cost (string_bytes a.text) → AnswersJudged s plan pieces cost drawn a
+  is_untold : drawn ≡ false → (fault : ExplainFault) → Explains s pieces plan (Err fault) → IsRefusal (explain_cause fault) a → AnswersJudged s plan pieces cost drawn a
 
 -- refused where `judge` refuses the list or the plan, for its cause; else the plan with the cost that
 -- `judge` answers
 pub data ExplainsJudged (list : List ℕ) (plan : Plan) (s : Limits) (drawn : Bool) (a : Answer) : Type 0 where
   is_refused_judge : (fault : PlanFault) → MemoryOr (λ f. Judges list plan s (Err f)) fault → IsRefusal fault a → ExplainsJudged list plan s drawn a
   is_judged : (cost : ℕ) (ds : List Descriptor) → IsListOf list ds → JudgesPieces (map fields ds) plan s (Ok cost)
-      → AnswersJudged list s plan ds cost drawn a → ExplainsJudged list plan s drawn a
+      → AnswersJudged s plan ds cost drawn a → ExplainsJudged list plan s drawn a

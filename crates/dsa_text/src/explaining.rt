@@ -1,14 +1,14 @@
 //! `explain`: what the plan of a text or a job does, in words or as a picture.
 
-ghost use Rattle.std.specs.Prelude.{◌⊎◌, IfOk, List, [], Err, map};
-ghost use Rattle.dsa_descriptor.specs.declared.descriptor.Descriptor.{Descriptor};
+ghost use Rattle.std.specs.Prelude.{◌⊎◌, ◌≤◌, IfOk, List, Err, length, map, ℕ};
 ghost use Rattle.dsa_descriptor.specs.Descriptors.{fields};
+ghost use Rattle.dsa_descriptor.specs.Lists.{HaveOneOwner};
+ghost use Rattle.dsa_descriptor.specs.Pieces.{most_pieces};
 ghost use Rattle.dsa_plan.specs.EmissionFaults.{IsEmission};
-ghost use Rattle.dsa_plan.specs.Plan.{Plan};
 ghost use Rattle.dsa_cert.specs.Certificates.{contents};
 ghost use Rattle.dsa_calls.specs.declared.fault.PlanFault.{PlanFault};
 ghost use Rattle.dsa_calls.specs.declared.fault.PlanFault.TheVariants.{Memory};
-ghost use Rattle.dsa_calls.specs.Checked.{Checks};
+ghost use Rattle.dsa_calls.specs.Checked.{Checks, ChecksPlan};
 ghost use Rattle.dsa_calls.specs.Lists.{IsListOf};
 ghost use Rattle.dsa_text.specs.Explained.{ExplainsChecked, ExplainsList, ExplainsText};
 ghost use Rattle.dsa_text.specs.Origins.{origins_from};
@@ -18,31 +18,25 @@ ghost use Rattle.dsa_text.specs.Shown.{AnswersPlan};
 use crate::answer::Answer;
 use crate::origins::origins_of;
 use crate::shown::answer_plan;
-use dsa_calls::{PlanFault, Planned, check_bytes, plan_list};
+use dsa_calls::{PlanFault, Planned, check_plan, plan_operations};
 use dsa_cert::Certificate;
-use dsa_descriptor::read_list;
+use dsa_descriptor::{Descriptor, read_list};
 use dsa_lines::assemble;
-use dsa_plan::{Settings, read_emission};
+use dsa_plan::{Plan, Settings, read_emission};
 use std::alloc::{AllocError, Global};
 
-/// The answer of a planned list.
+/// The answer of planned operations.
 fn answer_planned(
     alloc: Global,
-    list: &[u8],
+    operations: &[Descriptor],
     planned: &Planned,
     settings: &Settings,
     drawn: bool,
 ) -> Result<Answer, AllocError>
-    ensures { (ds : List Descriptor) → IsListOf list.now ds → IfOk result
-        (λ a. IsRefusal Memory a ⊎ AnswersPlan settings.now planned.now.plan
-        planned.now.pieces.items
-        (origins_from settings.now.greatest_transfer 0 (map fields ds)) drawn a) }
+    ensures { IfOk result (AnswersPlan settings.now planned.now.plan planned.now.pieces.items
+        (origins_from settings.now.greatest_transfer 0 (map fields operations.now)) drawn) }
 {
-    let operations = match read_list(alloc, list) {
-        Ok(operations) => operations,
-        Err(fault) => return Answer::fault(alloc, PlanFault::from(fault)),
-    };
-    let origins = origins_of(alloc, &operations, settings)?;
+    let origins = origins_of(alloc, operations, settings)?;
     answer_plan(
         alloc,
         &planned.plan,
@@ -51,6 +45,23 @@ fn answer_planned(
         settings,
         drawn,
     )
+}
+
+/// What the plan of least cost of these operations does and why.
+fn explain_operations(
+    alloc: Global,
+    operations: &[Descriptor],
+    settings: &Settings,
+    drawn: bool,
+) -> Result<Answer, AllocError>
+    requires { HaveOneOwner (map fields operations.now) }
+    ensures { (list : List ℕ) → IsListOf list operations.now →
+        IfOk result (ExplainsList list settings.now drawn) }
+{
+    match plan_operations(alloc, operations, settings) {
+        Ok(planned) => answer_planned(alloc, operations, &planned, settings, drawn),
+        Err(fault) => Answer::fault(alloc, fault),
+    }
 }
 
 /// What the plan of least cost of a list does and why, in words, or as a picture where it is to be drawn.
@@ -62,9 +73,9 @@ pub fn explain_list(
 ) -> Result<Answer, AllocError>
     ensures { IfOk result (ExplainsList list.now settings.now drawn) }
 {
-    match plan_list(alloc, list, settings) {
-        Ok(planned) => answer_planned(alloc, list, &planned, settings, drawn),
-        Err(fault) => Answer::fault(alloc, fault),
+    match read_list(alloc, list) {
+        Ok(operations) => explain_operations(alloc, &operations, settings, drawn),
+        Err(fault) => Answer::fault(alloc, PlanFault::from(fault)),
     }
 }
 
@@ -83,21 +94,27 @@ pub fn explain_text(
     }
 }
 
-/// The answer of the plan that a portal and a staging area submit.
-fn answer_emission(
+/// What the plan of these pieces does and why, if the certificate shows that none costs less.
+fn explain_emission(
     alloc: Global,
-    portal: &[u8],
-    staging: &[u8],
+    plan: &Plan,
+    pieces: &[Descriptor],
+    certificate: &Certificate,
     settings: &Settings,
     drawn: bool,
 ) -> Result<Answer, AllocError>
-    ensures { (plan : Plan) (ds : List Descriptor) →
-        IsEmission settings.now portal.now staging.now plan ds → IfOk result
-        (λ a. IsRefusal Memory a ⊎ AnswersPlan settings.now plan ds [] drawn a) }
+    requires { length pieces.now ≤ most_pieces }
+    ensures answer { (portal staging : List ℕ) →
+        IsEmission settings.now portal staging plan.now pieces.now → IfOk result
+        (ExplainsChecked portal staging settings.now (contents certificate.now) drawn) }
+    ensures refused { (fault : PlanFault) →
+        ChecksPlan settings.now
+        (map fields pieces.now) plan.now (contents certificate.now) (Err fault) →
+        IfOk result (IsRefusal fault) }
 {
-    match read_emission(alloc, portal, staging, settings) {
-        Ok((plan, pieces)) => answer_plan(alloc, &plan, &pieces, [].as_slice(), settings, drawn),
-        Err(fault) => Answer::fault(alloc, PlanFault::from(fault)),
+    match check_plan(pieces, settings, plan, certificate) {
+        Ok(_) => answer_plan(alloc, plan, pieces, [].as_slice(), settings, drawn),
+        Err(fault) => Answer::fault(alloc, fault),
     }
 }
 
@@ -117,8 +134,10 @@ pub fn explain_checked(
         Checks portal.now staging.now settings.now (contents certificate.now) (Err fault) →
         IfOk result (λ a. IsRefusal Memory a ⊎ IsRefusal fault a) }
 {
-    match check_bytes(alloc, portal, staging, settings, certificate) {
-        Ok(_) => answer_emission(alloc, portal, staging, settings, drawn),
-        Err(fault) => Answer::fault(alloc, fault),
+    match read_emission(alloc, portal, staging, settings) {
+        Ok((plan, pieces)) => {
+            explain_emission(alloc, &plan, &pieces, certificate, settings, drawn)
+        }
+        Err(fault) => Answer::fault(alloc, PlanFault::from(fault)),
     }
 }

@@ -14,12 +14,12 @@ returns-in_err-pieces-clause-only c =
 pub returns-clause-answer : goal.returns-clause-answer
 returns-clause-answer c =
     let found = c.in_ok-pieces.ensures.found in
-    list_judged c.args.list.now c.args.plan.now c.args.settings.now c.in_ok-pieces.pieces.items c.deref.result.now c.judge.result
-    (record { spelled = found.0; owner = found.1 }) c.deref.ensures.value c.judge.ensures
+    list_judged c.args.list.now c.args.plan.now c.args.settings.now c.in_ok-pieces.pieces.items c.deref.result.now c.judge_pieces.result
+    (record { spelled = found.0; owner = found.1 }) c.deref.ensures.value c.judge_pieces.ensures
 
 pub returns-clause-only : goal.returns-clause-only
 returns-clause-only c =
     let found = c.in_ok-pieces.ensures.found in
-    only_outcome (λ cost. cost) (Judges c.args.list.now c.args.plan.now c.args.settings.now) (one_judged c.args.list.now c.args.plan.now c.args.settings.now) c.judge.result
-    (list_judged c.args.list.now c.args.plan.now c.args.settings.now c.in_ok-pieces.pieces.items c.deref.result.now c.judge.result
-    (record { spelled = found.0; owner = found.1 }) c.deref.ensures.value c.judge.ensures)
+    only_outcome (λ cost. cost) (Judges c.args.list.now c.args.plan.now c.args.settings.now) (one_judged c.args.list.now c.args.plan.now c.args.settings.now) c.judge_pieces.result
+    (list_judged c.args.list.now c.args.plan.now c.args.settings.now c.in_ok-pieces.pieces.items c.deref.result.now c.judge_pieces.result
+    (record { spelled = found.0; owner = found.1 }) c.deref.ensures.value c.judge_pieces.ensures)

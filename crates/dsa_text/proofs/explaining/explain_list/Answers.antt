@@ -1,12 +1,24 @@
+use Rattle.std.proofs.Common.{List, map, sym, subst}
 use Rattle.std.proofs.lemmas.Result.{IfOk-weaker}
-use Rattle.dsa_calls.specs.Planned.{submission_of}
+use Rattle.dsa_descriptor.specs.declared.descriptor.Descriptor.{Descriptor}
+use Rattle.dsa_descriptor.specs.Descriptors.{fields}
+use Rattle.dsa_descriptor.specs.Lists.{HaveOneOwner}
+use Rattle.dsa_calls.specs.Lists.{IsListOf}
+use Rattle.dsa_calls.specs.Planned.{PlansOperations, Submission}
+use Rattle.dsa_calls.proofs.Over.{list_refused}
 use Rattle.dsa_text.specs.Explained.{is_refused_list}
-use Rattle.dsa_text.proofs.Answered.{list_planned}
 use Rattle.dsa_text.proofs.explaining.explain_list.Goals as goal
+
+pub explain_operations-requires : goal.explain_operations-requires
+explain_operations-requires c = subst (λ (ds : List Descriptor). HaveOneOwner (map fields ds)) (sym c.deref.ensures.value) c.in-Ok.ensures.found.1
 
 pub returns-in-Ok : goal.returns-in-Ok
 returns-in-Ok c =
-    list_planned c.args.list.now c.args.settings.now c.args.drawn (submission_of c.in-Ok.planned) c.answer_planned.result c.in-Ok.ensures.answer c.answer_planned.ensures
+    let found = c.in-Ok.ensures.found in
+    let listed = subst (λ (ds : List Descriptor). IsListOf c.args.list.now ds) (sym c.deref.ensures.value) (record { spelled = found.0; owner = found.1 }) in
+    c.explain_operations.ensures c.args.list.now listed
 
 pub returns-in-Err : goal.returns-in-Err
-returns-in-Err c = IfOk-weaker c.fault.result _ _ (λ a h. is_refused_list c.in-Err.fault c.in-Err.ensures.answer h) c.fault.ensures
+returns-in-Err c =
+    let told = list_refused {X = Submission} {Y = Submission} (λ p. p) (λ fs o. PlansOperations c.args.settings.now fs o) c.args.list.now c.in-Err.fault c.from.result c.from.ensures c.in-Err.ensures.fault in
+    IfOk-weaker c.fault.result _ _ (λ a h. is_refused_list c.from.result told h) c.fault.ensures

@@ -14,5 +14,5 @@ returns-then-drawn c =
 pub returns-else-drawn : goal.returns-else-drawn
 returns-else-drawn c =
     IfOk-weaker c.judged_words.result _ _ (λ a h.
-    subst (λ (b : Bool). AnswersJudged c.args.list.now c.args.settings.now c.args.plan.now c.args.pieces.now c.args.cost b a) (sym c.if-drawn.false) h)
+    subst (λ (b : Bool). AnswersJudged c.args.settings.now c.args.plan.now c.args.pieces.now c.args.cost b a) (sym c.if-drawn.false) h)
     c.judged_words.ensures

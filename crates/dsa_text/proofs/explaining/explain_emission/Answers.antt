@@ -1,0 +1,28 @@
+use Rattle.std.proofs.Common.{inr, Err, Ok, map, refl}
+use Rattle.std.proofs.lemmas.Result.{IfOk-weaker}
+use Rattle.dsa_descriptor.specs.Descriptors.{fields}
+use Rattle.dsa_cert.specs.Certificates.{contents}
+use Rattle.dsa_calls.proofs.CheckedOnce.{one_plan_checked}
+use Rattle.dsa_text.specs.Explained.{is_refused_check, is_checked}
+use Rattle.dsa_text.proofs.Answered.{plan_answered, same_cause}
+use Rattle.dsa_text.proofs.explaining.explain_emission.Goals as goal
+
+pub returns-in-Ok-clause-answer : goal.returns-in-Ok-clause-answer
+returns-in-Ok-clause-answer c = λ portal staging emission.
+    IfOk-weaker c.answer_plan.result _ _ (λ a answered. is_checked c.in-Ok.field-0 c.args.plan.now c.args.pieces.now emission c.in-Ok.ensures answered)
+    (plan_answered c.answer_plan.result c.args.settings.now c.args.plan.now _ c.args.pieces.now _ _ c.args.drawn refl c.as_slice.ensures c.answer_plan.ensures)
+
+pub returns-in-Ok-clause-refused : goal.returns-in-Ok-clause-refused
+returns-in-Ok-clause-refused c = λ fault checks.
+    let same = one_plan_checked c.args.settings.now (map fields c.args.pieces.now) c.args.plan.now (contents c.args.certificate.now) (Ok c.in-Ok.field-0) (Err fault) c.in-Ok.ensures checks in
+    absurd cc
+
+pub returns-in-Err-clause-answer : goal.returns-in-Err-clause-answer
+returns-in-Err-clause-answer c = λ portal staging emission.
+    IfOk-weaker c.fault.result _ _ (λ a h. is_refused_check c.in-Err.fault (inr (inr (c.args.plan.now, c.args.pieces.now, emission, c.in-Err.ensures))) h) c.fault.ensures
+
+pub returns-in-Err-clause-refused : goal.returns-in-Err-clause-refused
+returns-in-Err-clause-refused c = λ fault checks.
+    same_cause c.fault.result c.in-Err.fault fault (Err c.in-Err.fault) (Err fault)
+    (one_plan_checked c.args.settings.now (map fields c.args.pieces.now) c.args.plan.now (contents c.args.certificate.now) (Err c.in-Err.fault) (Err fault) c.in-Err.ensures checks)
+    refl refl c.fault.ensures

@@ -110,8 +110,10 @@ def refusals():
         ("assemble", two, "line 2, column 8: expected ->, found '-'", "90 Line"),
         ("assemble", "\nmove 1 -> 2, 0 bytes, record 32\n", "line 2, operation 0: the transfer size is 0", "5 SizeZero 0"),
         ("explain --lone 1000000001", PAIR + "\n", "--lone: ", "83 Settings"),
-        ("disassemble", "xy", "bytes are no hexadecimal text", "84 Hex"),
-        ("disassemble", "000", "bytes are no hexadecimal text", "84 Hex"),
+        ("disassemble", "xy", "line 1, column 1: expected a hexadecimal digit", "84 Hex"),
+        ("disassemble", "00\n0 0\n0", "line 3, column 2: the text ends within a byte", "84 Hex"),
+        ("disassemble --portal", "00000000: 4x", "line 1, column 12: expected a hexadecimal digit", "84 Hex"),
+        ("disassemble --staging", "00000000  00 00\n*\n", "line 2, column 1: lines are left out here: use hexdump -v -C", "84 Hex"),
         ("explain", '{"do":"run"}', "", "81 Member"),
         ("explain", run, "a job to replay or to run is not explained", "82 Do"),
         ("explain --fence 3", plan, "a job has settings of its own", "92 Options"),
@@ -377,8 +379,39 @@ def named_files():
                 ran = subprocess.run([TEXT, *words], input=given, capture_output=True)
                 got = (ran.returncode, ran.stdout.decode(), ran.stderr)
                 common.expect(got == (0, wanted, b""), f"{words}: {got}"[:600])
+    for command in ("assemble", "disassemble", "explain", "audit"):
+        ran = subprocess.run([TEXT, command, "no/such.file"], capture_output=True, text=True)
+        got = (ran.returncode, ran.stdout, ran.stderr)
+        common.expect(got == (2, "", "error: no/such.file can't be opened: there is no such file\n"), f"{command}: {got}")
     for command in ("assemble", "disassemble", "explain"):
         refused(command, " " * ((1 << 26) + 1), "the text has more than 67,108,864 bytes", "86 JobTooLong")
+
+
+def forms_of_bytes():
+    """`disassemble` reads what xxd, xxd -p and hexdump write, and bytes as they stand."""
+    job = json.loads(Path("examples/plan.job").read_text())
+    answer = json.loads(Path("examples/plan.line").read_text())
+    for command, digits in [
+        (["disassemble"], job["list"]),
+        (["disassemble", "--portal"], answer["portal"]),
+        (["disassemble", "--staging"], answer["staging"]),
+    ]:
+        raw = bytes.fromhex(digits)
+        rows = [raw[at : at + 16] for at in range(0, len(raw), 16)]
+        pairs = [" ".join(row[at : at + 2].hex() for at in range(0, 16, 2)) for row in rows]
+        singles = ["  ".join((row[:8].hex(" "), row[8:].hex(" "))) for row in rows]
+        shown = ["".join(chr(byte) if 32 <= byte < 127 else "." for byte in row) for row in rows]
+        offsets = [f"{at * 16:08x}" for at in range(len(rows))]
+        lined = "\n".join(raw[at : at + 30].hex() for at in range(0, len(raw), 30)) + "\n"
+        xxd = "".join(f"{at}: {row}  {text}\n" for at, row, text in zip(offsets, pairs, shown))
+        hexdump = "".join(f"{at}  {row}  |{text}|\n" for at, row, text in zip(offsets, singles, shown))
+        hexdump += f"{len(raw):08x}\n"
+        wanted = subprocess.run([TEXT, *command], input=digits.encode(), capture_output=True)
+        common.expect(wanted.returncode == 0 and wanted.stdout, f"{command}: {wanted.stderr}")
+        for given in (raw, lined.encode(), xxd.encode(), hexdump.encode(), digits.upper().encode()):
+            ran = subprocess.run([TEXT, *command], input=given, capture_output=True)
+            got = (ran.returncode, ran.stdout, ran.stderr)
+            common.expect(got == (0, wanted.stdout, b""), f"{command}, {given[:40]}: {got}"[:600])
 
 
 def members():
@@ -421,7 +454,7 @@ def files():
 
 
 PARTS = [examples, lists, refusals, arguments, lines, grammar, texts, fences, sentences, large, split, picture]
-PARTS += [named_files, members, files]
+PARTS += [named_files, forms_of_bytes, members, files]
 
 
 def main(words):

@@ -1,8 +1,10 @@
 -- The forms of text that a recording comes in, and the bytes that each spells (this project's choice; the forms are what
 -- xxd, xxd -p and hexdump -C write).
-use Rattle.std.specs.Prelude.{ℕ, Bool, true, false, ◌≡◌, ◌||◌, ◌&&◌, ◌==◌, nat_lt, nat_le, Option, Some, None, List, [], ◌∷◌, ◌++◌, if◌then◌else◌}
+use Rattle.std.specs.Prelude.{ℕ, Bool, true, false, ◌≡◌, ◌⊎◌, ◌||◌, ◌&&◌, ◌==◌, nat_lt, nat_le, Option, Some, None, List, [], ◌∷◌, ◌++◌, Ok, Err, if◌then◌else◌}
 use Rattle.std.specs.List.{AllByRecursion}
 use Rattle.std.specs.Char.{digit_value}
+use Rattle.hex.specs.Hex.{decode_of}
+use Rattle.hex.specs.declared.error.FromHexError.{FromHexError}
 use Rattle.dsa_recording.specs.declared.forms.Form.{Form}
 use Rattle.dsa_recording.specs.declared.forms.Form.TheVariants.{Plain, Xxd, Hexdump}
 use Rattle.dsa_recording.specs.declared.forms.Part.{Part}
@@ -87,3 +89,16 @@ form_by c = if c == 58 then Some Xxd else if c == 124 || c == 42 then Some Hexdu
 unfoldable pub form_of : List ℕ → Option Form
 form_of [] = Some Plain
 form_of (c ∷ cs) = if is_spread c then form_of cs else form_by c
+
+-- ---- the bytes of a text
+
+-- the text spells these bytes, in its form
+abbrev pub SpellsBytes : List ℕ → List ℕ → Type 0
+SpellsBytes text bytes =
+    (form : Form) × (form_of text ≡ Some form) × (decode_of (digits_of form text) ≡ Ok bytes)
+
+-- it spells none: it has no form, or its digits are no bytes
+abbrev pub SpellsNone : List ℕ → Type 0
+SpellsNone text =
+    (form_of text ≡ None)
+    ⊎ ((form : Form) × (e : FromHexError) × (form_of text ≡ Some form) × (decode_of (digits_of form text) ≡ Err e))

@@ -6,15 +6,14 @@ ghost use Rattle.dsa_recording.specs.Answers.{is_harmless, AreHarmless, IsStatus
 
 use crate::detail::{detail_of, has_all_fences};
 use crate::findings::{Finding, FindingKind};
-use crate::forms::{Form, bytes_of_text, form_of, is_text};
-use crate::places::digit_text;
+use crate::forms::is_text;
+use crate::places::{BytesFault, bytes_of_input};
 use crate::report::{Report, audit_recording};
 use crate::report_json::report_json;
 use crate::stream::StreamFault;
 use crate::totals::{totals_of, totals_text};
 use crate::words::{Denied, finding_text};
 use dsa_descriptor::u32_at;
-use hex::FromHexError;
 use std::alloc::{AllocError, Global};
 
 /// How an audit is written, and what it denies.
@@ -171,13 +170,19 @@ pub fn audit(
     if !is_text(input) {
         return audit_bytes(alloc, input, options);
     }
-    let Some(form) = form_of(input) else {
-        return refusal(digit_text(alloc, Form::Plain, input)?);
-    };
-    match bytes_of_text(alloc, form, input) {
+    match bytes_of_input(alloc, input) {
         Ok(bytes) => audit_bytes(alloc, &bytes, options),
-        Err(FromHexError::OutOfMemory) => Err(AllocError),
-        Err(_) => refusal(digit_text(alloc, form, input)?),
+        Err(BytesFault::Memory) => Err(AllocError),
+        Err(
+            BytesFault::Digit {
+                line,
+                column,
+                fault,
+            },
+        ) => {
+            let reason = fault.words();
+            refusal(format!(in alloc; "line {line}, column {column}: error: {reason}\n")?)
+        }
     }
 }
 

@@ -1,19 +1,14 @@
 //! `disassemble`: the text of a list, a portal or a staging area.
 
 use crate::answer::Answer;
-use crate::bytes::bytes_from_input;
 use dsa_calls::PlanFault;
 use dsa_descriptor::ListFault;
 use dsa_lines::EmittedFault;
 use std::alloc::{AllocError, Global};
 
-/// The text of a list, in hexadecimal.
-pub fn disassemble_list(alloc: Global, hex: &[u8]) -> Result<Answer, AllocError> {
-    let bytes = match bytes_from_input(alloc, hex) {
-        Ok(bytes) => bytes,
-        Err(fault) => return Answer::fault(alloc, fault),
-    };
-    match dsa_lines::disassemble(alloc, &bytes) {
+/// The text of a list.
+pub fn disassemble_list(alloc: Global, list: &[u8]) -> Result<Answer, AllocError> {
+    match dsa_lines::disassemble(alloc, list) {
         Ok(text) => Ok(Answer::done(text)),
         Err(fault) => Answer::fault(alloc, PlanFault::from(fault)),
     }
@@ -36,22 +31,16 @@ fn answer_of(alloc: Global, text: Result<String, EmittedFault>) -> Result<Answer
     }
 }
 
-/// The text of a portal, in hexadecimal: a line for each entry.
-pub fn disassemble_portal(alloc: Global, hex: &[u8]) -> Result<Answer, AllocError> {
-    match bytes_from_input(alloc, hex) {
-        Ok(bytes) => answer_of(alloc, dsa_lines::disassemble_portal(alloc, &bytes)),
-        Err(fault) => Answer::fault(alloc, fault),
-    }
+/// The text of a portal: a line for each entry.
+pub fn disassemble_portal(alloc: Global, portal: &[u8]) -> Result<Answer, AllocError> {
+    answer_of(alloc, dsa_lines::disassemble_portal(alloc, portal))
 }
 
-/// The text of a staging area at an address, in hexadecimal: a line for each piece and each record. The address is a
-/// multiple of 64 and at most 2^63, as that of settings is.
-pub fn disassemble_staging(alloc: Global, hex: &[u8], at: u64) -> Result<Answer, AllocError> {
+/// The text of a staging area at an address: a line for each piece and each record. The address is a multiple of 64 and at
+/// most 2^63, as that of settings is.
+pub fn disassemble_staging(alloc: Global, staging: &[u8], at: u64) -> Result<Answer, AllocError> {
     if at % 64 != 0 || at > 1 << 63 {
         return Answer::fault(alloc, PlanFault::Settings);
     }
-    match bytes_from_input(alloc, hex) {
-        Ok(bytes) => answer_of(alloc, dsa_lines::disassemble_staging(alloc, &bytes, at)),
-        Err(fault) => Answer::fault(alloc, fault),
-    }
+    answer_of(alloc, dsa_lines::disassemble_staging(alloc, staging, at))
 }

@@ -23,6 +23,7 @@ mod words;
 
 use crate::answer::Answer;
 use crate::assembling::{assemble_job, assemble_list};
+use crate::bytes::bytes_or_refusal;
 use crate::disassembling::{disassemble_list, disassemble_portal, disassemble_staging};
 use crate::inputs::{explain, refused_settings};
 use crate::messages::message_of;
@@ -32,12 +33,17 @@ use crate::settings::{Setting, settings_of};
 use clap::error::ErrorKind;
 use clap::{Arg, ArgAction, ArgMatches, Command};
 use dsa_calls::PlanFault;
-use dsa_recording::{AuditOptions, Denied, audit};
+use dsa_recording::{AuditOptions, Denied, audit, is_text};
 use dsa_report::{Stop, read_text, write_line};
 use std::alloc::{AllocError, Global};
 use std::fs::File;
 use std::io;
 use std::process::ExitCode;
+
+/// What the help of `disassemble` says of its input.
+const BYTES: &str =
+    "Hexadecimal as xxd, xxd -p and hexdump -v -C write it, or the bytes as they stand.
+Example: dsa_text disassemble --staging --at 0x10000 staging.hex";
 
 /// The version of the program, which is that of bindings/c/dsa_planner.h.
 const VERSION: &str = "1.0.0";
@@ -145,8 +151,8 @@ fn disassemble_command<'a>(alloc: Global) -> Result<Command<'a>, AllocError> {
     options.push(flag(alloc, "staging", "read a staging area").conflicts_with("portal")?)?;
     options.push(at(alloc)?)?;
     Command::new(alloc, "disassemble")
-        .about("Reads a list in hexadecimal, and writes its lines")
-        .after_help("Example: dsa_text disassemble --staging --at 0x10000 staging.hex")
+        .about("Reads a list in hexadecimal or as bytes, and writes its lines")
+        .after_help(BYTES)
         .args(options)
 }
 
@@ -212,20 +218,40 @@ fn assemble(alloc: Global, matches: &ArgMatches<'_>, text: &[u8]) -> Result<Answ
     }
 }
 
-/// What `disassemble` answers.
-fn disassemble(alloc: Global, matches: &ArgMatches<'_>, text: &[u8]) -> Result<Answer, AllocError> {
+/// The lines of bytes.
+fn lines_of(
+    alloc: Global,
+    matches: &ArgMatches<'_>,
+    bytes: &[u8],
+    at: u64,
+) -> Result<Answer, AllocError> {
+    if matches.get_flag("portal") {
+        disassemble_portal(alloc, bytes)
+    } else if matches.get_flag("staging") {
+        disassemble_staging(alloc, bytes, at)
+    } else {
+        disassemble_list(alloc, bytes)
+    }
+}
+
+/// What `disassemble` answers. An input that is no text is its bytes as they stand.
+fn disassemble(
+    alloc: Global,
+    matches: &ArgMatches<'_>,
+    input: &[u8],
+) -> Result<Answer, AllocError> {
     let word = word(matches, "at");
     let Some(at) = number_of(word).filter(|at| Setting::Staging.allows(*at)) else {
         let limits = Setting::Staging.limits();
         let message = format!(in alloc; "--at: '{word}' is no {limits}")?;
         return Answer::fault_with(alloc, PlanFault::Settings, &message);
     };
-    if matches.get_flag("portal") {
-        disassemble_portal(alloc, text)
-    } else if matches.get_flag("staging") {
-        disassemble_staging(alloc, text, at)
-    } else {
-        disassemble_list(alloc, text)
+    if !is_text(input) {
+        return lines_of(alloc, matches, input, at);
+    }
+    match bytes_or_refusal(alloc, input)? {
+        Ok(bytes) => lines_of(alloc, matches, &bytes, at),
+        Err(refusal) => Ok(refusal),
     }
 }
 
@@ -315,24 +341,48 @@ fn failed(rt: &HostRuntime, message: &str) -> ExitCode {
     }
 }
 
-/// The text of the file, or of standard input where none is named.
-fn input(rt: &HostRuntime, file: Option<&str>) -> Result<Vec<u8>, Stop> {
-    let Some(path) = file else {
-        return read_text(rt.alloc(), &mut rt.reader());
-    };
-    match File::open(rt, path) {
-        Ok(mut opened) => read_text(rt.alloc(), &mut opened),
-        Err(error) if error.kind() == io::ErrorKind::OutOfMemory => {
-            Err(Stop::Refusal(PlanFault::Memory))
-        }
-        Err(_) => Err(Stop::Fault),
+/// Why there is no text.
+enum NoText {
+    /// It is too long, or memory ran out.
+    Refused(PlanFault),
+    /// This failed.
+    Failed(&'static str),
+}
+
+/// A text that was read, or why it was not.
+fn text_or_reason(read: Result<Vec<u8>, Stop>) -> Result<Vec<u8>, NoText> {
+    match read {
+        Ok(text) => Ok(text),
+        Err(Stop::Refusal(fault)) => Err(NoText::Refused(fault)),
+        Err(Stop::Fault) => Err(NoText::Failed("can't be read to its end")),
     }
 }
 
-/// Says that the input could not be read to its end, and ends.
-fn unread(rt: &HostRuntime, file: Option<&str>) -> Result<ExitCode, AllocError> {
+/// Why a file can't be opened.
+fn unopened(kind: io::ErrorKind) -> NoText {
+    match kind {
+        io::ErrorKind::OutOfMemory => NoText::Refused(PlanFault::Memory),
+        io::ErrorKind::NotFound => NoText::Failed("can't be opened: there is no such file"),
+        io::ErrorKind::PermissionDenied => NoText::Failed("can't be opened: permission denied"),
+        _ => NoText::Failed("can't be opened"),
+    }
+}
+
+/// The text of the file, or of standard input where none is named.
+fn input(rt: &HostRuntime, file: Option<&str>) -> Result<Vec<u8>, NoText> {
+    let Some(path) = file else {
+        return text_or_reason(read_text(rt.alloc(), &mut rt.reader()));
+    };
+    match File::open(rt, path) {
+        Ok(mut opened) => text_or_reason(read_text(rt.alloc(), &mut opened)),
+        Err(error) => Err(unopened(error.kind())),
+    }
+}
+
+/// Says why there is no text, and ends.
+fn unread(rt: &HostRuntime, file: Option<&str>, what: &str) -> Result<ExitCode, AllocError> {
     let name = file.unwrap_or("the input");
-    let message = format!(in rt.alloc(); "error: {name} can't be read to its end\n")?;
+    let message = format!(in rt.alloc(); "error: {name} {what}\n")?;
     Ok(failed(rt, &message))
 }
 
@@ -346,8 +396,8 @@ fn run_command(rt: &HostRuntime, matches: &ArgMatches<'_>) -> Result<ExitCode, A
             let answer = answer_command(rt.alloc(), matches, &text)?;
             Ok(ended(rt, &answer))
         }
-        Err(Stop::Refusal(fault)) => Ok(ended(rt, &Answer::fault(rt.alloc(), fault)?)),
-        Err(Stop::Fault) => unread(rt, file),
+        Err(NoText::Refused(fault)) => Ok(ended(rt, &Answer::fault(rt.alloc(), fault)?)),
+        Err(NoText::Failed(what)) => unread(rt, file, what),
     }
 }
 
@@ -371,8 +421,8 @@ fn audited(rt: &HostRuntime, matches: &ArgMatches<'_>) -> Result<ExitCode, Alloc
                 Ok(written(rt, &answer.text, answer.status))
             }
         }
-        Err(Stop::Refusal(fault)) => Ok(failed(rt, &message_of(rt.alloc(), fault)?)),
-        Err(Stop::Fault) => unread(rt, file),
+        Err(NoText::Refused(fault)) => Ok(failed(rt, &message_of(rt.alloc(), fault)?)),
+        Err(NoText::Failed(what)) => unread(rt, file, what),
     }
 }
 

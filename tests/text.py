@@ -345,21 +345,50 @@ def split():
 
 
 def picture():
-    """Where rows, boxes and bars stand in a picture of twelve groups of twelve pieces, of which some are fenced."""
-    moves = [(0x10_0000 + 0x1000 * k, 0x1000_0000 + 0x1000 * k) for k in range(144)]
-    groups = [[column > 0 and (row + column) % 5 == 0 for column in range(12)] for row in range(12)]
-    rules = common.settings(greatest_batch=12, staging=0x2000_0000)
+    """Where rows, boxes and bars stand in a picture of three groups of 40, 12 and 1 pieces, of which some are fenced."""
+    sizes, lines_at = (40, 12, 1), ((10, 78, 146), (220,), (274,))
+    moves = [(0x10_0000 + 0x1000 * k, 0x1000_0000 + 0x1000 * k) for k in range(53)]
+    groups = [[column % 7 == 5 and row != 1 for column in range(size)] for row, size in enumerate(sizes)]
+    rules = common.settings(greatest_batch=40, staging=0x2000_0000)
     drawn = written("explain --svg", common.judge(pieces_of(moves), groups, rules))
-    places = [(90 + 70 * column, 10 + 50 * row, column, row) for row in range(12) for column in range(12)]
-    boxes = re.findall(r'<rect x="(\d+)" y="(\d+)" width="60" height="40"[^>]*/><text x="(\d+)" y="(\d+)">(\d+)</text>', drawn)
-    wanted = [(x, y, x + 4, y + 16, k) for k, (x, y, _, _) in enumerate(places)]
-    common.expect([tuple(map(int, box)) for box in boxes] == wanted, f"boxes stand at {boxes}")
-    bars = re.findall(r'<rect x="(\d+)" y="(\d+)" width="4" height="40"/>', drawn)
-    wanted = [(x - 7, y) for x, y, column, row in places if groups[row][column]]
-    common.expect([tuple(map(int, bar)) for bar in bars] == wanted, f"bars stand at {bars}")
-    names = re.findall(r'<text x="8" y="(\d+)">group (\d+)</text>', drawn)
-    common.expect(names == [(f"{34 + 50 * row}", f"{row}") for row in range(12)], f"rows are named {names}")
-    common.expect(' width="930" height="620" ' in drawn, drawn[:200])
+    places = [(100 + 50 * (c % 16), lines_at[row][c // 16], row, c) for row, size in enumerate(sizes) for c in range(size)]
+    box = r'<rect x="(\d+)" y="(\d+)" width="40" height="40" fill="(white|#ddd)"[^>]*/>'
+    box += r'<text x="(\d+)" y="(\d+)">(\d+)</text>'
+    wanted = []
+    for k, (x, y, row, c) in enumerate(places):
+        ground = ("white", "#ddd")[sum(groups[row][: c + 1]) % 2]
+        wanted.append((f"{x}", f"{y}", ground, f"{x + 4}", f"{y + 16}", f"{k}"))
+    common.expect(re.findall(box, drawn) == wanted, f"boxes stand at {re.findall(box, drawn)}")
+    bar = r'<rect x="(\d+)" y="(\d+)" width="4" height="40"/><text x="(\d+)" y="(\d+)" font-size="8">none alone<'
+    wanted = [(f"{x - 7}", f"{y}", f"{x - 5}", f"{y + 51}") for x, y, row, c in places if groups[row][c]]
+    common.expect(re.findall(bar, drawn) == wanted, f"bars stand at {re.findall(bar, drawn)}")
+    left = re.findall(r'<text x="8" y="(\d+)" font-size="11">([^<]*)</text>', drawn)
+    wanted = [("21", "group 0"), ("34", "batch of 40"), ("47", "cost 29")]
+    wanted += [("231", "group 1"), ("244", "batch of 12"), ("257", "cost 14")]
+    wanted += [("285", "group 2"), ("298", "lone"), ("311", "cost 10")]
+    wanted += [("339", "total cost 53; 53 lone submissions cost 530, saved 477")]
+    common.expect(left == wanted, f"at the left stand {left}")
+    common.expect(' width="900" height="352" viewBox="0 0 900 352" ' in drawn, drawn[:200])
+
+
+def reasons_drawn():
+    """What stands under bars: which piece waits for which, why, and how many more; small letters where it is long."""
+    waits = "move 0x1000 -> 0x2000, 64 bytes, record 0x8000\n{0}, record 0x8020\n"
+    for later, under in [
+        ("move 0x2000 -> 0x3000, 64 bytes", "RAW"),
+        ("fill 0x1000 with 0000000000000000, 64 bytes", "WAR"),
+        ("move 0x3000 -> 0x2000, 64 bytes", "WAW"),
+    ]:
+        drawn = written("explain --svg", waits.format(later))
+        wanted = f'<text x="145" y="61" font-size="11">1←0</text><text x="145" y="72" font-size="11">{under}</text></g>'
+        common.expect(wanted in drawn, f"{later}: {drawn}")
+    # 500 pieces, and behind a fence 500 that read what those write
+    moves = [(0x10_0000 + 64 * k, 0x100_0000 + 64 * k) for k in range(500)]
+    moves += [(0x100_0000 + 64 * k, 0x200_0000 + 64 * k) for k in range(500)]
+    rules = common.settings(greatest_batch=1024, staging=0x4000_0000)
+    drawn = written("explain --svg", common.judge(pieces_of(moves), [[k == 500 for k in range(1000)]], rules))
+    wanted = '<text x="295" y="2169" font-size="11">500←0</text><text x="295" y="2180" font-size="10">RAW +499</text></g>'
+    common.expect(wanted in drawn, f"{drawn[:200]}: {re.findall('[^>]*←[^>]*>[^/]*', drawn)}")
 
 
 def named_files():
@@ -454,7 +483,7 @@ def files():
 
 
 PARTS = [examples, lists, refusals, arguments, lines, grammar, texts, fences, sentences, large, split, picture]
-PARTS += [named_files, forms_of_bytes, members, files]
+PARTS += [reasons_drawn, named_files, forms_of_bytes, members, files]
 
 
 def main(words):

@@ -164,18 +164,31 @@ class Batch:
         held = [pair for pair in self.possible if separated(self.corrected, pair)]
         if not all_separated(self.reduced, held):
             yield "a needless fence is needed"
-        guards = {k for k in self.corrected if self.fallible and self.fallible[0] < k}
-        least = len(guards) + fewest(guards, sorted(self.corrected - guards), held)
-        if not guards <= self.reduced or len(self.reduced) != least:
-            yield f"{least} fences stay, {sorted(guards)} of them behind a member that can fail"
-        spare = {k for k in guards if all_separated(self.reduced - {k}, held)}
-        if spare != set(self.found["guarding"]) or not spare <= self.fences:
-            yield f"guarding fences are {sorted(spare)}"
-        if any(what["earlier"] != self.fallible[0] for what in self.found["guarding"].values()):
-            yield f"member {self.fallible[0]} is the first that can fail"
+        behind = [(m, b) for m in self.fallible for b in range(m + 1, len(self.entries))]
+        abandoned = [pair for pair in behind if separated(self.corrected, pair)]
+        if not all_separated(self.reduced, abandoned):
+            yield "a needless fence guards"
+        least = fewest(set(), sorted(self.corrected), held + abandoned)
+        if len(self.reduced) != least:
+            yield f"{least} fences stay"
+        yield from self.guarding_faults(held)
         complete = not self.found["missing"]
         if any(what["once_corrected"] == complete for what in self.found["needless"].values()):
             yield "what is needless once fences are set is not so"
+
+    def guarding_faults(self, held):
+        """A fence that stays guards where no conflict needs it beside those that stay before it and all behind it."""
+        spare = set()
+        for k in self.reduced:
+            others = {it for it in self.reduced if it < k} | {it for it in self.corrected if it > k}
+            if all_separated(others, held):
+                spare.add(k)
+        if spare != set(self.found["guarding"]) or not spare <= self.fences:
+            yield f"guarding fences are {sorted(spare)}"
+        for k, what in self.found["guarding"].items():
+            first = [m for m in self.fallible if m < k and not separated(self.corrected, (m, k - 1))]
+            if what["earlier"] != min(first, default=None):
+                yield f"fence {k} guards {first}, and not first {what['earlier']}"
 
 
 def submissions(recording, report):

@@ -1,5 +1,5 @@
 -- What an audit promises holds.
-use Rattle.std.proofs.Common.{inl, inr, ◌≡◌, ◌↔◌, ℕ, Bool, ◌+◌, ◌-◌, ◌<◌, Some, List, length, get_or, false, ap, ◌∙◌, subst, arith, slice_get}
+use Rattle.std.proofs.Common.{inl, inr, ◌≡◌, ◌↔◌, ℕ, Bool, ◌+◌, ◌-◌, ◌<◌, ◌≤◌, Some, List, length, get_or, false, ap, ◌∙◌, subst, arith, slice_get}
 use Rattle.std.proofs.lemmas.Option.{slice_get-get_or}
 use Rattle.std.proofs.lemmas.Bool.{cases_lt}
 use Rattle.dsa_settings.specs.Plan.{Group}
@@ -10,7 +10,7 @@ use Rattle.dsa_audit.specs.declared.missing.FencePlace.{FencePlace}
 use Rattle.dsa_audit.specs.declared.missing.FencePlace.TheVariants.{NoFence, Given, Missing}
 use Rattle.dsa_audit.specs.declared.needless.FenceUse.{FenceUse}
 use Rattle.dsa_audit.specs.Members.{AreKnownToConflict, CanConflict, KnownConflict, PossibleConflict}
-use Rattle.dsa_audit.specs.Audits.{HasFence, IsSeparated, IsMissing, PlaceHolds, IsCorrected, IsReduced, Separates}
+use Rattle.dsa_audit.specs.Audits.{HasFence, IsMissing, PlaceHolds, IsCorrected, IsReduced, Separates}
 use Rattle.dsa_audit.specs.Laws.{IsBetween, AllCanFail, Starts, Holds}
 use Rattle.dsa_audit.proofs.Flags.{fence_within}
 
@@ -44,7 +44,10 @@ same_starts : (ms : List Member) (bs : List Bool) (h k : Group) (uses : List Fen
     → AllCanFail bs failed → Starts failed h b ↔ Starts failed k b
 same_starts ms bs h k uses failed b reduced can = (
   (λ starts a fails p. starts a fails (record { at = p.at; behind = p.behind; up_to = p.up_to; fence = reduced.less.fences p.at p.fence })),
-  (λ starts a fails p. starts a fails (record { at = p.at; behind = p.behind; up_to = p.up_to; fence = reduced.guards a p.at (can a fails) p.behind p.fence })),
+  (λ starts a fails p.
+      let up_to : p.at ≤ p.at = omega arith in
+      let q = reduced.guards a p.at (can a fails) (fence_within h p.at p.fence) (record { at = p.at; behind = p.behind; up_to = up_to; fence = p.fence }) in
+      starts a fails (record { at = q.at; behind = q.behind; up_to = omega (arith, q.up_to, p.up_to); fence = q.fence })),
 )
 
 pub held : (ms : List Member) (bs : List Bool) (T : ℕ → ℕ → Type 0) (g h k : Group) (places : List FencePlace) (uses : List FenceUse)

@@ -1,4 +1,5 @@
 pub mod Flags
 pub mod Scanned
+pub mod Guards
 pub mod Reducing
 pub mod Held

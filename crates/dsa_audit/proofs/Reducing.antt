@@ -1,16 +1,16 @@
 -- A batch whose needless fences are gone up to some member.
-use Rattle.std.proofs.Common.{◌≡◌, ℕ, ◌+◌, ◌<◌, ◌≤◌, ◌⊎◌, inl, inr, ◌-◌, Option, Some, None, Bool, true, false, List, [], ◌∷◌, ◌++◌, length, get_or, take, refl, sym, subst, arith, length-append}
-use Rattle.std.specs.Prelude.{MatchOption}
+use Rattle.std.proofs.Common.{◌≡◌, ℕ, ◌+◌, ◌<◌, ◌≤◌, ◌⊎◌, inl, inr, ◌-◌, Bool, true, false, List, [], ◌∷◌, ◌++◌, length, get_or, take, refl, sym, subst, arith, length-append}
 use Rattle.std.proofs.Math.ListN.{get_or-append}
 use Rattle.std.proofs.Math.Seq.{get_or-append_seam}
 use Rattle.std.proofs.lemmas.Bool.{true≢false, cases_lt}
 use Rattle.dsa_settings.specs.Plan.{Group, fence_count}
 use Rattle.dsa_audit.specs.declared.needless.FenceUse.{FenceUse}
 use Rattle.dsa_audit.specs.declared.needless.FenceUse.TheVariants as fence_use
-use Rattle.dsa_audit.specs.Audits.{HasFence, IsSeparated, SeparatesAsMuch, HasFencesOf, CanFail, KeepsGuards, IsFirstToFail, UseHolds, IsReduced}
-use Rattle.dsa_audit.specs.Steps.{IsNextUse, IsSpare, IsWitness, is_kept, epoch_kept}
+use Rattle.dsa_audit.specs.Audits.{HasFence, IsSeparated, SeparatesAsMuch, HasFencesOf, KeepsGuards, IsGuard, IsFirstGuard, UseHolds, IsReduced}
+use Rattle.dsa_audit.specs.Steps.{IsNextUse, IsSpare, IsWitness, is_kept, epoch_kept, given_after}
 use Rattle.dsa_audit.proofs.Flags.{fence_within, pushed_before, pushed_back, pushed_last, pushed_old, separated_pushed, count_more, count_all, count_true, count_false}
 use Rattle.dsa_audit.proofs.Scanned.{IsCounted, IsMore}
+use Rattle.dsa_audit.proofs.Guards.{IsLastGiven, given_none, given_here, given_before, keeps_guards, none_guards, first_guards, guard_stays}
 
 -- a fence that is still to be looked at, up to member b
 pub record IsLater (g : Group) (at b : ℕ) : Type 0 where
@@ -19,7 +19,7 @@ pub record IsLater (g : Group) (at b : ℕ) : Type 0 where
   pub up_to : place ≤ b
   pub fence : HasFence g place
 
-pub record Reducing (C : ℕ → ℕ → Type 0) (bs : List Bool) (g : Group) (at epoch : ℕ) (us : List FenceUse) (h : Group) : Type 0 where
+pub record Reducing (C : ℕ → ℕ → Type 0) (bs : List Bool) (g : Group) (at last epoch : ℕ) (us : List FenceUse) (h : Group) : Type 0 where
   pub count : length h ≡ at
   pub uses : length us ≡ at
   pub behind : epoch ≤ at
@@ -27,7 +27,8 @@ pub record Reducing (C : ℕ → ℕ → Type 0) (bs : List Bool) (g : Group) (a
   pub opened : (k : ℕ) → epoch < k → ¬ HasFence h k
   pub given : (k : ℕ) → HasFence h k → HasFence g k
   pub separates : (a b m : ℕ) → b < length g → C a b → a < m → m ≤ b → m < at → HasFence g m → IsSeparated h a b ⊎ IsLater g at b
-  pub guards : (m k : ℕ) → k < at → CanFail bs m → m < k → HasFence g k → HasFence h k
+  pub begins : IsLastGiven g at last
+  pub guards : (m k : ℕ) → k < at → IsGuard bs g k m → HasFence g k → HasFence h k
   pub least : (other : Group) → HasFencesOf other g → SeparatesAsMuch C g other → KeepsGuards bs g other → IsCounted h at epoch other
   pub each : (k : ℕ) → k < at → UseHolds C bs g h k (get_or us k fence_use.NoFence)
 
@@ -36,7 +37,6 @@ use_pushed C bs g h x k fence_use.NoFence lt (given, none) = (given, λ f. none 
 use_pushed C bs g h x k fence_use.Needless lt (given, none, safe) = (given, (λ f. none (pushed_old h x k lt f)), safe)
 use_pushed C bs g h x k (fence_use.Guarding m) lt is =
     record {
-      before = is.before;
       first = is.first;
       given = is.given;
       stays = pushed_before h x k is.stays;
@@ -82,12 +82,12 @@ not_last h at count f =
     ]
 
 -- no fence stays at `at`; where there is one, what it separates is separated without it
-dropped_next : (C : ℕ → ℕ → Type 0) (bs : List Bool) (g : Group) (at epoch : ℕ) (us : List FenceUse) (h : Group) (u : FenceUse) → Reducing C bs g at epoch us h
+dropped_next : (C : ℕ → ℕ → Type 0) (bs : List Bool) (g : Group) (at last next epoch : ℕ) (us : List FenceUse) (h : Group) (u : FenceUse) → Reducing C bs g at last epoch us h
     → UseHolds C bs g (h ++ false ∷ []) at u
     → ((a b : ℕ) → b < length g → C a b → a < at → at ≤ b → HasFence g at → IsSeparated (h ++ false ∷ []) a b ⊎ IsLater g (at + 1) b)
-    → ((m : ℕ) → m < at → CanFail bs m → HasFence g at → ⊥)
-    → Reducing C bs g (at + 1) epoch (us ++ u ∷ []) (h ++ false ∷ [])
-dropped_next C bs g at epoch us h u s is spare safe =
+    → ((m : ℕ) → IsGuard bs g at m → HasFence g at → ⊥) → IsLastGiven g (at + 1) next
+    → Reducing C bs g (at + 1) next epoch (us ++ u ∷ []) (h ++ false ∷ [])
+dropped_next C bs g at last next epoch us h u s is spare safe begins =
     record {
       count = omega (arith, s.count, length-append h (false ∷ []));
       uses = omega (arith, s.uses, length-append us (u ∷ []));
@@ -118,10 +118,11 @@ dropped_next C bs g at epoch us h u s is spare safe =
                       ]
                 ]
           ];
-      guards = λ m k below fails before f.
+      begins = begins;
+      guards = λ m k below guard f.
           elim (cases_lt k at) [
-            | inl less ↦ pushed_before h false k (s.guards m k less fails before f)
-            | inr more ↦ let e : k ≡ at = omega arith in absurd (safe m (omega arith) fails (subst (HasFence g) e f))
+            | inl less ↦ pushed_before h false k (s.guards m k less guard f)
+            | inr more ↦ let e : k ≡ at = omega arith in absurd (safe m (subst (λ (z : ℕ). IsGuard bs g z m) e guard) (subst (HasFence g) e f))
           ];
       least = λ other less separates keeps.
           let l = s.least other less separates keeps in
@@ -135,11 +136,11 @@ dropped_next C bs g at epoch us h u s is spare safe =
     }
 
 -- the fence at `at` stays, and whatever separates as much and keeps guards has one for it
-kept_next : (C : ℕ → ℕ → Type 0) (bs : List Bool) (g : Group) (at epoch : ℕ) (us : List FenceUse) (h : Group) (u : FenceUse) → Reducing C bs g at epoch us h
+kept_next : (C : ℕ → ℕ → Type 0) (bs : List Bool) (g : Group) (at last epoch : ℕ) (us : List FenceUse) (h : Group) (u : FenceUse) → Reducing C bs g at last epoch us h
     → HasFence g at → UseHolds C bs g (h ++ true ∷ []) at u
     → ((other : Group) → HasFencesOf other g → SeparatesAsMuch C g other → KeepsGuards bs g other → IsMore at epoch other)
-    → Reducing C bs g (at + 1) at (us ++ u ∷ []) (h ++ true ∷ [])
-kept_next C bs g at epoch us h u s fenced is more_of =
+    → Reducing C bs g (at + 1) at at (us ++ u ∷ []) (h ++ true ∷ [])
+kept_next C bs g at last epoch us h u s fenced is more_of =
     record {
       count = omega (arith, s.count, length-append h (true ∷ []));
       uses = omega (arith, s.uses, length-append us (u ∷ []));
@@ -164,9 +165,10 @@ kept_next C bs g at epoch us h u s fenced is more_of =
                   | inr later ↦ inl (record { at = at; behind = omega arith; up_to = omega (arith, later.from, later.up_to); fence = pushed_last h at s.count })
                 ]
           ];
-      guards = λ m k below fails before f.
+      begins = given_here g at fenced;
+      guards = λ m k below guard f.
           elim (cases_lt k at) [
-            | inl less ↦ pushed_before h true k (s.guards m k less fails before f)
+            | inl less ↦ pushed_before h true k (s.guards m k less guard f)
             | inr more ↦ pushed_last h k (omega (arith, s.count))
           ];
       least = λ other less separates keeps.
@@ -183,10 +185,10 @@ kept_next C bs g at epoch us h u s fenced is more_of =
       each = each_pushed C bs g h true at us u s.count s.uses s.each is;
     }
 
-needed_next : (C : ℕ → ℕ → Type 0) (bs : List Bool) (g : Group) (at epoch : ℕ) (us : List FenceUse) (h : Group) (i j : ℕ) → Reducing C bs g at epoch us h
-    → HasFence g at → IsWitness C g epoch at i j → Reducing C bs g (at + 1) at (us ++ fence_use.Needed i j ∷ []) (h ++ true ∷ [])
-needed_next C bs g at epoch us h i j s fenced witness =
-    kept_next C bs g at epoch us h (fence_use.Needed i j) s fenced
+needed_next : (C : ℕ → ℕ → Type 0) (bs : List Bool) (g : Group) (at last epoch : ℕ) (us : List FenceUse) (h : Group) (i j : ℕ) → Reducing C bs g at last epoch us h
+    → HasFence g at → IsWitness C g epoch at i j → Reducing C bs g (at + 1) at at (us ++ fence_use.Needed i j ∷ []) (h ++ true ∷ [])
+needed_next C bs g at last epoch us h i j s fenced witness =
+    kept_next C bs g at last epoch us h (fence_use.Needed i j) s fenced
     (record {
       before = witness.before;
       behind = witness.behind;
@@ -210,13 +212,12 @@ needed_next C bs g at epoch us h i j s fenced witness =
           }
     ])
 
-guarding_next : (C : ℕ → ℕ → Type 0) (bs : List Bool) (g : Group) (at epoch : ℕ) (us : List FenceUse) (h : Group) (m : ℕ) → Reducing C bs g at epoch us h
-    → HasFence g at → IsSpare C g epoch at → IsFirstToFail bs m → m < at
-    → Reducing C bs g (at + 1) at (us ++ fence_use.Guarding m ∷ []) (h ++ true ∷ [])
-guarding_next C bs g at epoch us h m s fenced spare first before =
-    kept_next C bs g at epoch us h (fence_use.Guarding m) s fenced
+guarding_next : (C : ℕ → ℕ → Type 0) (bs : List Bool) (g : Group) (at last epoch : ℕ) (us : List FenceUse) (h : Group) (m : ℕ) → Reducing C bs g at last epoch us h
+    → HasFence g at → IsSpare C g epoch at → IsFirstGuard bs g at m
+    → Reducing C bs g (at + 1) at at (us ++ fence_use.Guarding m ∷ []) (h ++ true ∷ [])
+guarding_next C bs g at last epoch us h m s fenced spare first =
+    kept_next C bs g at last epoch us h (fence_use.Guarding m) s fenced
     (record {
-      before = before;
       first = first;
       given = fenced;
       stays = pushed_last h at s.count;
@@ -242,29 +243,20 @@ guarding_next C bs g at epoch us h m s fenced spare first before =
       place = at;
       behind = λ e within up_to. within;
       up_to = omega arith;
-      fence = keeps m at first.fails before fenced;
+      fence =
+          let up_to : at ≤ at = omega arith in
+          let p = keeps m at first.guard.fails (fence_within g at fenced) (record { at = at; behind = first.guard.before; up_to = up_to; fence = fenced }) in
+          guard_stays bs g other at m less.fences fenced first.guard p;
     })
 
--- no member before `at` can fail, where the first that can does not stand before it
-none_fails : (bs : List Bool) (first : Option ℕ) (at : ℕ) → MatchOption first ((m : ℕ) → ¬ CanFail bs m) (IsFirstToFail bs)
-    → ((m : ℕ) → first ≡ Some m → at ≤ m) → (m : ℕ) → m < at → ¬ CanFail bs m
-none_fails bs None at is late m lt fails = is m fails
-none_fails bs (Some f) at is late m lt fails =
-    let le : at ≤ f = late f refl in
-    is.first m (omega (arith, le, lt)) fails
-
-first_fails : (bs : List Bool) (first : Option ℕ) (m : ℕ) → MatchOption first ((n : ℕ) → ¬ CanFail bs n) (IsFirstToFail bs) → first ≡ Some m → IsFirstToFail bs m
-first_fails bs None m is e = absurd cc
-first_fails bs (Some f) m is e = let same : f ≡ m = cc in subst (IsFirstToFail bs) same is
-
-pub reducing_next : (C : ℕ → ℕ → Type 0) (bs : List Bool) (g : Group) (at epoch : ℕ) (us : List FenceUse) (h : Group) (u : FenceUse) (first : Option ℕ)
-    → MatchOption first ((m : ℕ) → ¬ CanFail bs m) (IsFirstToFail bs) → Reducing C bs g at epoch us h → IsNextUse C first g epoch at u
-    → Reducing C bs g (at + 1) (epoch_kept u epoch at) (us ++ u ∷ []) (h ++ is_kept u ∷ [])
-reducing_next C bs g at epoch us h fence_use.NoFence first fails s is =
-    dropped_next C bs g at epoch us h fence_use.NoFence s (is, not_last h at s.count) (λ a b within conflict before behind f. absurd (is f))
-    (λ m before can f. is f)
-reducing_next C bs g at epoch us h fence_use.Needless first fails s (fenced, spare, late) =
-    dropped_next C bs g at epoch us h fence_use.Needless s (fenced, not_last h at s.count, none_fails bs first at fails late)
+pub reducing_next : (C : ℕ → ℕ → Type 0) (bs : List Bool) (g : Group) (at last epoch : ℕ) (us : List FenceUse) (h : Group) (u : FenceUse)
+    → Reducing C bs g at last epoch us h → IsNextUse C bs g last epoch at u
+    → Reducing C bs g (at + 1) (given_after u last at) (epoch_kept u epoch at) (us ++ u ∷ []) (h ++ is_kept u ∷ [])
+reducing_next C bs g at last epoch us h fence_use.NoFence s is =
+    dropped_next C bs g at last last epoch us h fence_use.NoFence s (is, not_last h at s.count) (λ a b within conflict before behind f. absurd (is f))
+    (λ m guard f. is f) (given_before g at last s.begins is)
+reducing_next C bs g at last epoch us h fence_use.Needless s (fenced, spare, none) =
+    dropped_next C bs g at last at epoch us h fence_use.Needless s (fenced, not_last h at s.count, none_guards bs g at last s.begins none)
     (λ a b within conflict before behind f.
     elim (cases_lt a epoch) [
       | inl early ↦
@@ -278,12 +270,12 @@ reducing_next C bs g at epoch us h fence_use.Needless first fails s (fenced, spa
           let p = spare a b from before behind within conflict in
           inr (record { place = p.at; from = omega (arith, p.behind); up_to = p.up_to; fence = p.fence })
     ])
-    (λ m before can f. none_fails bs first at fails late m before can)
-reducing_next C bs g at epoch us h (fence_use.Guarding m) first fails s (fenced, spare, (is, before)) =
-    guarding_next C bs g at epoch us h m s fenced spare (first_fails bs first m fails is) before
-reducing_next C bs g at epoch us h (fence_use.Needed i j) first fails s (fenced, witness) = needed_next C bs g at epoch us h i j s fenced witness
+    (λ m guard f. none_guards bs g at last s.begins none m guard) (given_here g at fenced)
+reducing_next C bs g at last epoch us h (fence_use.Guarding m) s (fenced, spare, is) =
+    guarding_next C bs g at last epoch us h m s fenced spare (first_guards bs g at last m s.begins is)
+reducing_next C bs g at last epoch us h (fence_use.Needed i j) s (fenced, witness) = needed_next C bs g at last epoch us h i j s fenced witness
 
-pub reducing_none : (C : ℕ → ℕ → Type 0) (bs : List Bool) (g : Group) → Reducing C bs g 0 0 [] []
+pub reducing_none : (C : ℕ → ℕ → Type 0) (bs : List Bool) (g : Group) → Reducing C bs g 0 0 0 [] []
 reducing_none C bs g =
     record {
       count = refl;
@@ -293,13 +285,14 @@ reducing_none C bs g =
       opened = λ k after f. true≢false (sym f);
       given = λ k f. absurd (true≢false (sym f));
       separates = λ a b m within conflict after up_to below f. absurd (omega arith);
-      guards = λ m k below fails before f. absurd (omega arith);
+      begins = given_none g;
+      guards = λ m k below guard f. absurd (omega arith);
       least = λ other less separates keeps. record { end = 0; within = omega arith; up_to = omega arith; counted = omega arith };
       each = λ k below. absurd (omega arith);
     }
 
-pub reducing_all : (C : ℕ → ℕ → Type 0) (bs : List Bool) (g : Group) (at epoch : ℕ) (us : List FenceUse) (h : Group) → Reducing C bs g at epoch us h → length g ≡ at → IsReduced C bs g us h
-reducing_all C bs g at epoch us h s all =
+pub reducing_all : (C : ℕ → ℕ → Type 0) (bs : List Bool) (g : Group) (at last epoch : ℕ) (us : List FenceUse) (h : Group) → Reducing C bs g at last epoch us h → length g ≡ at → IsReduced C bs g us h
+reducing_all C bs g at last epoch us h s all =
     record {
       less = record { same_length = omega (arith, s.count); fences = s.given };
       separates = λ a b ordered within conflict separated.
@@ -307,9 +300,7 @@ reducing_all C bs g at epoch us h s all =
             | inl there ↦ there
             | inr later ↦ let w : later.place < length g = fence_within g later.place later.fence in absurd (omega (arith, later.from))
           ];
-      guards = λ m k fails before f.
-          let w : k < length g = fence_within g k f in
-          s.guards m k (omega arith) fails before f;
+      guards = keeps_guards bs g h (λ m k within guard f. s.guards m k (omega arith) guard f);
       least = λ other less separates keeps.
           let l = s.least other less separates keeps in
           omega (arith, l.counted, count_all other l.end);

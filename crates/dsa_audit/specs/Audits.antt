@@ -70,14 +70,21 @@ pub record IsCorrected (C : ℕ → ℕ → Type 0) (g : Group) (places : List F
 abbrev pub CanFail : List Bool → ℕ → Type 0
 CanFail fallible k = get_or fallible k false ≡ true
 
--- h has each fence of g that stands behind a member that can fail
+-- h has a fence between a member that can fail and a later one wherever g has: the same members are abandoned
 abbrev pub KeepsGuards : List Bool → Group → Group → Type 0
-KeepsGuards fallible g h = (m k : ℕ) → CanFail fallible m → m < k → HasFence g k → HasFence h k
+KeepsGuards fallible g h =
+    (m b : ℕ) → CanFail fallible m → b < length g → IsSeparated g m b → IsSeparated h m b
 
--- m is the first member that can fail
-pub record IsFirstToFail (fallible : List Bool) (m : ℕ) : Type 0 where
+-- member m can fail, and is in the epoch that ends before member k: a fence there is the first behind m
+pub record IsGuard (fallible : List Bool) (g : Group) (k m : ℕ) : Type 0 where
+  pub before : m < k
   pub fails : CanFail fallible m
-  pub first : (n : ℕ) → n < m → ¬ CanFail fallible n
+  pub open_between : (n : ℕ) → m < n → n < k → ¬ HasFence g n
+
+-- m is the first member of that epoch that can fail
+pub record IsFirstGuard (fallible : List Bool) (g : Group) (k m : ℕ) : Type 0 where
+  pub guard : IsGuard fallible g k m
+  pub first : (n : ℕ) → n < m → ¬ IsGuard fallible g k n
 
 -- the fence before member k is needed: members i and j conflict, and it alone separates them, of the fences that stay
 -- (h), and behind it also of those given (g)
@@ -92,27 +99,26 @@ pub record IsNeeded (C : ℕ → ℕ → Type 0) (g h : Group) (k i j : ℕ) : T
   pub alone_after : ShareEpoch g k j
 
 -- the fence before member k guards: no conflict needs it, since each two members around it that conflict have another
--- fence between, one that stays (h) before it or one that was given (g) behind it; but member m stands before it, the
--- first that can fail
+-- fence between, one that stays (h) before it or one that was given (g) behind it; but it is the first behind a member
+-- that can fail, and m is the first such member
 pub record IsGuarding (C : ℕ → ℕ → Type 0) (fallible : List Bool) (g h : Group) (k m : ℕ) : Type 0 where
-  pub before : m < k
-  pub first : IsFirstToFail fallible m
+  pub first : IsFirstGuard fallible g k m
   pub given : HasFence g k
   pub stays : HasFence h k
   pub unneeded :
       (i j : ℕ) → i < k → k ≤ j → j < length g → C i j → IsSeparated h i (k - 1) ⊎ IsSeparated g k j
 
--- what is said of member k holds: there is no fence in g or h; there is one in g alone, and no member before it can
--- fail; it guards; or it is needed
+-- what is said of member k holds: there is no fence in g or h; there is one in g alone, the first behind no member that
+-- can fail; it guards; or it is needed
 abbrev pub UseHolds : (ℕ → ℕ → Type 0) → List Bool → Group → Group → ℕ → FenceUse → Type 0
 UseHolds C fallible g h k fence_use.NoFence = (¬ HasFence g k) × (¬ HasFence h k)
 UseHolds C fallible g h k fence_use.Needless =
-    HasFence g k × (¬ HasFence h k) × ((m : ℕ) → m < k → ¬ CanFail fallible m)
+    HasFence g k × (¬ HasFence h k) × ((m : ℕ) → ¬ IsGuard fallible g k m)
 UseHolds C fallible g h k (fence_use.Guarding m) = IsGuarding C fallible g h k m
 UseHolds C fallible g h k (fence_use.Needed i j) = IsNeeded C g h k i j
 
--- h is g without the needless fences: it separates all conflicts that g separates, and has each fence behind a member
--- that can fail; whatever does both with fences of g alone has no fewer; and what is said of each member holds
+-- h is g without the needless fences: it separates all conflicts that g separates, and the same members are abandoned;
+-- whatever does both with fences of g alone has no fewer; and what is said of each member holds
 pub record IsReduced (C : ℕ → ℕ → Type 0) (fallible : List Bool) (g : Group) (uses : List FenceUse) (h : Group) : Type 0 where
   pub less : HasFencesOf h g
   pub separates : SeparatesAsMuch C g h

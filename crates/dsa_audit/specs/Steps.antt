@@ -1,11 +1,11 @@
 -- One step of an audit, for private clauses. `epoch` is the member that the epoch of the fences so far begins with.
-use Rattle.std.specs.Prelude.{ℕ, ◌≡◌, ◌<◌, ◌≤◌, Bool, true, false, Option, Some, length}
+use Rattle.std.specs.Prelude.{ℕ, ◌<◌, ◌≤◌, Bool, true, false, List, length}
 use Rattle.dsa_settings.specs.Plan.{Group}
 use Rattle.dsa_audit.specs.declared.missing.FencePlace.{FencePlace}
 use Rattle.dsa_audit.specs.declared.missing.FencePlace.TheVariants as fence_place
 use Rattle.dsa_audit.specs.declared.needless.FenceUse.{FenceUse}
 use Rattle.dsa_audit.specs.declared.needless.FenceUse.TheVariants as fence_use
-use Rattle.dsa_audit.specs.Audits.{HasFence, IsSeparated, ShareEpoch}
+use Rattle.dsa_audit.specs.Audits.{HasFence, IsSeparated, ShareEpoch, CanFail}
 
 -- no member from `from` on and below `before` conflicts with `later`; member i is the last such one
 abbrev pub NoneFrom : (ℕ → ℕ → Type 0) → ℕ → ℕ → ℕ → Type 0
@@ -64,21 +64,31 @@ pub record IsWitness (C : ℕ → ℕ → Type 0) (g : Group) (epoch at i j : �
   pub conflict : C i j
   pub open_after : ShareEpoch g at j
 
--- what a fence before `at` is for that no conflict needs, where `first` is the first member that can fail
-abbrev pub IsSpareUse : Option ℕ → ℕ → FenceUse → Type 0
-IsSpareUse first at fence_use.NoFence = ⊥
-IsSpareUse first at fence_use.Needless = (m : ℕ) → first ≡ Some m → at ≤ m
-IsSpareUse first at (fence_use.Guarding m) = (first ≡ Some m) × (m < at)
-IsSpareUse first at (fence_use.Needed i j) = ⊥
+-- no member from `from` on and below `before` can fail; member m is the first of them that can
+abbrev pub NoneFails : List Bool → ℕ → ℕ → Type 0
+NoneFails fallible from before = (n : ℕ) → from ≤ n → n < before → ¬ CanFail fallible n
+
+pub record IsFirstToFail (fallible : List Bool) (from before m : ℕ) : Type 0 where
+  pub begun : from ≤ m
+  pub ends : m < before
+  pub fails : CanFail fallible m
+  pub first : (n : ℕ) → from ≤ n → n < m → ¬ CanFail fallible n
+
+-- what a fence before `at` is for that no conflict needs, where the last one of the batch before it is at `given`
+abbrev pub IsSpareUse : List Bool → ℕ → ℕ → FenceUse → Type 0
+IsSpareUse fallible given at fence_use.NoFence = ⊥
+IsSpareUse fallible given at fence_use.Needless = NoneFails fallible given at
+IsSpareUse fallible given at (fence_use.Guarding m) = IsFirstToFail fallible given at m
+IsSpareUse fallible given at (fence_use.Needed i j) = ⊥
 
 -- what the fence before a member is for
-abbrev pub IsNextUse : (ℕ → ℕ → Type 0) → Option ℕ → Group → ℕ → ℕ → FenceUse → Type 0
-IsNextUse C first g epoch at fence_use.NoFence = ¬ HasFence g at
-IsNextUse C first g epoch at fence_use.Needless =
-    HasFence g at × IsSpare C g epoch at × IsSpareUse first at fence_use.Needless
-IsNextUse C first g epoch at (fence_use.Guarding m) =
-    HasFence g at × IsSpare C g epoch at × IsSpareUse first at (fence_use.Guarding m)
-IsNextUse C first g epoch at (fence_use.Needed i j) = HasFence g at × IsWitness C g epoch at i j
+abbrev pub IsNextUse : (ℕ → ℕ → Type 0) → List Bool → Group → ℕ → ℕ → ℕ → FenceUse → Type 0
+IsNextUse C fallible g given epoch at fence_use.NoFence = ¬ HasFence g at
+IsNextUse C fallible g given epoch at fence_use.Needless =
+    HasFence g at × IsSpare C g epoch at × IsSpareUse fallible given at fence_use.Needless
+IsNextUse C fallible g given epoch at (fence_use.Guarding m) =
+    HasFence g at × IsSpare C g epoch at × IsSpareUse fallible given at (fence_use.Guarding m)
+IsNextUse C fallible g given epoch at (fence_use.Needed i j) = HasFence g at × IsWitness C g epoch at i j
 
 abbrev pub is_kept : FenceUse → Bool
 is_kept fence_use.NoFence = false
@@ -91,3 +101,9 @@ epoch_kept fence_use.NoFence epoch at = epoch
 epoch_kept fence_use.Needless epoch at = epoch
 epoch_kept (fence_use.Guarding m) epoch at = at
 epoch_kept (fence_use.Needed i j) epoch at = at
+
+abbrev pub given_after : FenceUse → ℕ → ℕ → ℕ
+given_after fence_use.NoFence given at = given
+given_after fence_use.Needless given at = at
+given_after (fence_use.Guarding m) given at = at
+given_after (fence_use.Needed i j) given at = at

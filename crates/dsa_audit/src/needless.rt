@@ -1,8 +1,8 @@
 //! The fences that a batch does not need.
 
 ghost use Rattle.std.specs.Prelude.{◌≡◌, ◌<◌, ◌≤◌, ℕ, length, IfOk, MatchOption};
-ghost use Rattle.dsa_audit.specs.Audits.{HasFence, CanFail, IsFirstToFail, IsReduced};
-ghost use Rattle.dsa_audit.specs.Steps.{IsNextUse, IsSpareUse, NoneAcross, IsAcross, IsUnfencedUpTo, is_kept, epoch_kept};
+ghost use Rattle.dsa_audit.specs.Audits.{HasFence, IsReduced};
+ghost use Rattle.dsa_audit.specs.Steps.{IsNextUse, IsSpareUse, NoneAcross, IsAcross, NoneFails, IsFirstToFail, IsUnfencedUpTo, is_kept, epoch_kept, given_after};
 
 use crate::relation::{Relation, last_conflict};
 use std::alloc::{AllocError, Global};
@@ -14,7 +14,8 @@ pub enum FenceUse {
     NoFence,
     /// It is needed: of all fences that stay it alone separates these two members, which conflict.
     Needed(usize, usize),
-    /// No conflict needs it by itself, but this earlier member can fail, the first that can: the fence may then stop the rest.
+    /// No conflict needs it by itself, but it is the first behind this member, which can fail: it then stops the rest. Where
+    /// there are more such members, this is the first.
     Guarding(usize),
     /// It may go.
     Needless,
@@ -36,6 +37,16 @@ impl FenceUse {
         ensures { result ≡ epoch_kept self epoch at }
     {
         if self.is_kept() { at } else { epoch }
+    }
+
+    /// The member that the last fence of the batch stands before, going on behind this one.
+    fn given(self, given: usize, at: usize) -> usize
+        ensures { result ≡ given_after self given at }
+    {
+        match self {
+            FenceUse::NoFence => given,
+            FenceUse::Needed(_, _) | FenceUse::Guarding(_) | FenceUse::Needless => at,
+        }
     }
 }
 
@@ -78,12 +89,12 @@ fn across<R: Relation>(relation: &R, epoch: usize, at: usize, end: usize) -> Opt
     None
 }
 
-/// The first member that can fail.
-fn first_to_fail(fallible: &[bool]) -> Option<usize>
-    ensures { MatchOption result ((m : ℕ) → ¬ CanFail fallible.now m)
-        (IsFirstToFail fallible.now) }
+/// The first member that can fail, from `from` on and before `before`.
+fn first_to_fail(fallible: &[bool], from: usize, before: usize) -> Option<usize>
+    ensures { MatchOption result (NoneFails fallible.now from before)
+        (IsFirstToFail fallible.now from before) }
 {
-    for m in 0..fallible.len() {
+    for m in from..before.min(fallible.len()) {
         if fallible[m] {
             return Some(m);
         }
@@ -91,46 +102,42 @@ fn first_to_fail(fallible: &[bool]) -> Option<usize>
     None
 }
 
-/// What a fence before the member is for that no conflict needs.
-fn spare_use(first: Option<usize>, at: usize) -> FenceUse
-    ensures { IsSpareUse first at result }
+/// What a fence before the member is for that no conflict needs, where the last one of the batch before it is at `given`.
+fn spare_use(fallible: &[bool], given: usize, at: usize) -> FenceUse
+    ensures { IsSpareUse fallible.now given at result }
 {
-    match first {
-        Some(m) => {
-            if m < at {
-                FenceUse::Guarding(m)
-            } else {
-                FenceUse::Needless
-            }
-        }
+    match first_to_fail(fallible, given, at) {
+        Some(m) => FenceUse::Guarding(m),
         None => FenceUse::Needless,
     }
 }
 
-/// What the fence before the member is for, where the last fence that stays is at `epoch`, and `first` is the first member
-/// that can fail.
+/// What the fence before the member is for, where the last fence of the batch is at `given`, and the last that stays at
+/// `epoch`.
 fn use_of<R: Relation>(
     fences: &[bool],
     relation: &R,
-    first: Option<usize>,
+    fallible: &[bool],
+    given: usize,
     epoch: usize,
     at: usize,
 ) -> FenceUse
     requires known { length fences.now ≡ R.count relation.now }
     requires within { at < length fences.now }
-    ensures { IsNextUse (R.conflict relation.now) first fences.now epoch at result }
+    ensures { IsNextUse (R.conflict relation.now) fallible.now fences.now given epoch at result }
 {
     if !fences[at] {
         return FenceUse::NoFence;
     }
     match across(relation, epoch, at, next_fence(fences, at)) {
         Some((earlier, later)) => FenceUse::Needed(earlier, later),
-        None => spare_use(first, at),
+        None => spare_use(fallible, given, at),
     }
 }
 
-/// The fewest fences of a batch that separate all conflicts that its fences separate, with all those behind a member that
-/// can fail (`fallible`), each with a conflict that needs it or the first such member; the others may go, all at once.
+/// The fewest fences of a batch that separate all conflicts that its fences separate, and behind which the same members are
+/// abandoned, whichever fail of those that can (`fallible`): each with a conflict that needs it, or with the first member
+/// that can fail of the epoch before it. The others may go, all at once.
 pub fn drop_needless<R: Relation>(
     alloc: Global,
     fences: &[bool],
@@ -145,12 +152,13 @@ pub fn drop_needless<R: Relation>(
     let mut uses = Vec::new(alloc);
     let mut kept = Vec::new(alloc);
     let mut epoch = 0;
-    let first = first_to_fail(fallible);
+    let mut given = 0;
     for at in 0..fences.len() {
-        let fence = use_of(fences, relation, first, epoch, at);
+        let fence = use_of(fences, relation, fallible, given, epoch, at);
         uses.push(fence)?;
         kept.push(fence.is_kept())?;
         epoch = fence.epoch(epoch, at);
+        given = fence.given(given, at);
     }
     Ok(Reduced { uses, fences: kept })
 }

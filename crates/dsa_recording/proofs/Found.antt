@@ -1,5 +1,5 @@
 -- Each finding of a report is of an entry.
-use Rattle.std.proofs.Common.{◌≡◌, ℕ, zero, suc, ◌+◌, ◌-◌, ◌<◌, ◌≤◌, List, [], ◌∷◌, ◌++◌, Option, Some, None, length, get_or, slice_get, drop, min, refl, sym, ap, subst, ◌∙◌, arith}
+use Rattle.std.proofs.Common.{◌≡◌, ℕ, zero, suc, ◌+◌, ◌-◌, ◌<◌, ◌≤◌, List, [], ◌∷◌, ◌++◌, Some, length, get_or, slice_get, drop, min, refl, sym, ap, subst, ◌∙◌, arith}
 use Rattle.std.specs.List.{AllByRecursion}
 use Rattle.std.proofs.lemmas.List.{length-take, length-drop}
 use Rattle.dsa_descriptor.specs.Lists.{entries}
@@ -16,10 +16,10 @@ use Rattle.dsa_recording.specs.declared.stream.Submission.{Submission}
 use Rattle.dsa_recording.specs.declared.submission.Audited.{Audited}
 use Rattle.dsa_recording.specs.declared.findings.Finding.{Finding}
 use Rattle.dsa_recording.specs.declared.report.Report.{Report}
-use Rattle.dsa_recording.specs.Streams.{end_of, ReadsUpTo}
+use Rattle.dsa_recording.specs.Streams.{end_of}
 use Rattle.dsa_recording.specs.Submissions.{IsWithin, IsAudited, AreAudited, members_in}
 use Rattle.dsa_recording.specs.Findings.{unseen_kind, missing_kind, use_kind, finding_of, member_findings, findings_upto, submission_findings, recording_findings}
-use Rattle.dsa_recording.specs.Details.{IsOf, HasEntry, IsIn, IsPlaced}
+use Rattle.dsa_recording.specs.Details.{IsOf, IsPlaced}
 use Rattle.dsa_recording.specs.Reports.{IsReport}
 use Rattle.dsa_recording.proofs.Within.{each_within, has_all}
 
@@ -50,7 +50,7 @@ found_missing number k ms g h (fence_place.Missing i) lt holds = (record { numbe
 
 found_use : (number k : ℕ) (ms : List Member) (bs g h : List _) (u : FenceUse) → k < length ms → UseHolds (PossibleConflict ms) bs g h k u → AllByRecursion (IsAt number ms) (finding_of number k (use_kind u))
 found_use number k ms bs g h fence_use.NoFence lt holds = tt
-found_use number k ms bs g h (fence_use.Guarding m) lt holds = (record { number_is = refl; member_is = lt; kind = holds.before }, tt)
+found_use number k ms bs g h (fence_use.Guarding m) lt holds = (record { number_is = refl; member_is = lt; kind = holds.first.guard.before }, tt)
 found_use number k ms bs g h fence_use.Needless lt holds = (record { number_is = refl; member_is = lt; kind = tt }, tt)
 found_use number k ms bs g h (fence_use.Needed i j) lt holds = tt
 

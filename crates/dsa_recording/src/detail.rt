@@ -19,7 +19,7 @@ pub enum Cause {
     NotSeen(Unseen),
     /// A fence is missing before it: it conflicts with this earlier member, as the hazard says.
     MissingFence(usize, Hazard),
-    /// No conflict needs the fence before it, but this earlier member can fail.
+    /// No conflict needs the fence before it, but it is the first behind this earlier member, which can fail.
     GuardingFence(usize),
     /// The fence before it may go, once the missing ones of its batch are set.
     NeedlessFence,

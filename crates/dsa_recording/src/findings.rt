@@ -14,7 +14,7 @@ pub enum FindingKind {
     NotSeen(Unseen),
     /// A fence is missing before it: it conflicts with this earlier member.
     MissingFence(usize),
-    /// No conflict needs the fence before it, but this earlier member can fail.
+    /// No conflict needs the fence before it, but it is the first behind this earlier member, which can fail.
     GuardingFence(usize),
     /// The fence before it may go, once the missing ones of its batch are set.
     NeedlessFence,

@@ -26,7 +26,7 @@ pub struct Totals {
     pub missing: usize,
     /// How many are needless.
     pub needless: usize,
-    /// How many guard: no conflict needs them, but an earlier member can fail.
+    /// How many guard: no conflict needs them, but each is the first behind a member that can fail.
     pub guarding: usize,
 }
 

@@ -14,8 +14,8 @@ pub enum FenceUse {
     NoFence,
     /// It is needed: of all fences that stay it alone separates these two members, which conflict.
     Needed(usize, usize),
-    /// No conflict needs it by itself, but it is the first behind this member, which can fail: it then stops the rest. Where
-    /// there are more such members, this is the first.
+    /// No conflict needs it by itself, but it is the first behind this member, which can fail: it then stops the rest. Of
+    /// more such members this is the first.
     Guarding(usize),
     /// It may go.
     Needless,

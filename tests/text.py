@@ -6,13 +6,16 @@ read, it compares with the golden files of tests/text: options, help, statuses, 
 and pictures. The words are names of parts."""
 
 import json
+import random
 import re
+import shlex
 import subprocess
 import tempfile
 from pathlib import Path
 
 import common
 import golden
+import pictured
 from common import move, named, program, run_test
 import model
 from model import COMPARE, DELTA, DUALCAST, FILL, PATTERN, Op
@@ -391,6 +394,30 @@ def reasons_drawn():
     common.expect(wanted in drawn, f"{drawn[:200]}: {re.findall('[^>]*←[^>]*>[^/]*', drawn)}")
 
 
+def pictures():
+    """Pictures as a model draws them from the words of the same plan: those of the golden files and of the examples, and
+    those of lists of up to 1,024 pieces that conflict here and there."""
+    asked = []
+    for path in sorted(Path("tests/text").glob("*.golden")):
+        for case in golden.cases(path):
+            if "--svg" in case.words and case.output:
+                asked.append((case.place, shlex.split(case.words), case.text, case.output.decode()))
+    for path in sorted(Path("examples/text").glob("*.svg")):
+        words = ["explain", "--svg", *path.with_suffix(".args").read_text().split()]
+        asked.append((path, words, path.with_suffix(".txt").read_bytes(), path.read_text()))
+    chance = random.Random(5)
+    for count in (2, 7, 16, 17, 100, 1024):
+        places = [(chance.randrange(2 * count) * 64, chance.randrange(2 * count) * 64) for _ in range(count)]
+        lines = (f"move {a} -> {b + (a == b) * 64}, 64 bytes, record {0x1000_0000 + 32 * k}" for k, (a, b) in enumerate(places))
+        words = ["explain", "--svg", "--greatest-batch", "1024", "--staging", "0x70000000"]
+        asked.append((f"{count} moves", words, "\n".join(lines).encode(), None))
+    for place, words, text, wanted in asked:
+        told = [subprocess.run([TEXT, *less], input=text, capture_output=True).stdout.decode()
+                for less in (words, [word for word in words if word != "--svg"])]
+        common.expect(told[0] == pictured.picture_of(told[1]), f"{place}: {told[0][:600]}")
+        common.expect(wanted in (None, told[0]), f"{place}: {told[0][:600]}")
+
+
 def named_files():
     """Each command reads the file that it names, and not standard input; and a text that is too long is refused."""
     store, job = (Path(f"examples/text/store.{end}") for end in ("txt", "job"))
@@ -483,7 +510,7 @@ def files():
 
 
 PARTS = [examples, lists, refusals, arguments, lines, grammar, texts, fences, sentences, large, split, picture]
-PARTS += [reasons_drawn, named_files, forms_of_bytes, members, files]
+PARTS += [pictures, reasons_drawn, named_files, forms_of_bytes, members, files]
 
 
 def main(words):

@@ -8,7 +8,6 @@ use Rattle.dsa_descriptor.specs.declared.descriptor.Descriptor.{Descriptor}
 use Rattle.dsa_descriptor.specs.declared.span.Span.{Span}
 use Rattle.dsa_descriptor.specs.Descriptors.{fields}
 use Rattle.dsa_descriptor.specs.Fields.{Fields}
-use Rattle.dsa_descriptor.specs.Lists.{list_spelling, HaveOneOwner}
 use Rattle.dsa_descriptor.specs.Pieces.{most_pieces}
 use Rattle.dsa_descriptor.specs.Spans.{IsAddressable}
 use Rattle.dsa_plan.specs.Plan.{Plan}
@@ -17,9 +16,8 @@ use Rattle.dsa_plan.specs.Legal.{IsLeast}
 use Rattle.dsa_splitter.specs.Operations.{IsSplittable}
 use Rattle.dsa_splitter.proofs.Walks.{length_all}
 use Rattle.dsa_calls.specs.declared.fault.PlanFault.{PlanFault}
-use Rattle.dsa_calls.specs.declared.fault.PlanFault.TheVariants.{List as InList}
 use Rattle.dsa_calls.specs.Lists.{IsListOf}
-use Rattle.dsa_calls.specs.Planned.{Submission, IsSubmissionOf, Plans}
+use Rattle.dsa_calls.specs.Planned.{Submission, IsSubmissionOf, Plans, PlansOperations}
 use Rattle.dsa_calls.proofs.Over.{one_list}
 use Rattle.dsa_calls.proofs.Submissions.{one_planned}
 use Rattle.dsa_prepared.specs.Regions.{AllLieInOne, LiesWhole}
@@ -35,7 +33,7 @@ use Rattle.dsa_prepared.proofs.Planned.{ops_lie}
 
 -- ---- what was planned
 
--- the operations that were read again are those that were planned
+-- the list spells these operations, and this is their submission
 pub record IsPlanOf (list : List ℕ) (s : Limits) (ds : List Descriptor) (p : Submission) : Type 0 where
   pub listed : IsListOf list ds
   pub planned : IsSubmissionOf s (map fields ds) p
@@ -43,17 +41,12 @@ pub record IsPlanOf (list : List ℕ) (s : Limits) (ds : List Descriptor) (p : S
 never_both : (p : Submission) (f : PlanFault) → ◌≡◌ {A = Result Submission PlanFault} (Ok p) (Err f) → ⊥
 never_both p f is = cc
 
-same_list : (list : List ℕ) (s : Limits) (p : Submission) (ds es : List Descriptor) → IsListOf list es → IsSubmissionOf s (map fields es) p → ds ≡ es → IsPlanOf list s ds p
-same_list list s p ds es listed planned same =
-    record {
-      listed = subst (λ (xs : List Descriptor). IsListOf list xs) (sym same) listed;
-      planned = subst (λ (xs : List Descriptor). IsSubmissionOf s (map fields xs) p) (sym same) planned;
-    }
+-- what planning them says it says of a list that spells them
+pub plans_list : (list : List ℕ) (s : Limits) (ds : List Descriptor) (p : Submission) → IsListOf list ds → IsSubmissionOf s (map fields ds) p → Plans list s (Ok p)
+plans_list list s ds p listed planned = inr (ds, listed, planned)
 
-pub read_again : (list : List ℕ) (s : Limits) (p : Submission) (ds : List Descriptor) → Plans list s (Ok p) →
-    ((es : List Descriptor) → list ≡ list_spelling (map fields es) → HaveOneOwner (map fields es) → ds ≡ es) → IsPlanOf list s ds p
-read_again list s p ds (inl (fault, other, first, is)) only = absurd (never_both p (InList fault) is)
-read_again list s p ds (inr (es, listed, planned)) only = same_list list s p ds es listed planned (only es listed.spelled listed.owner)
+pub plan_refused : (list : List ℕ) (s : Limits) (ds : List Descriptor) (fault : PlanFault) → IsListOf list ds → PlansOperations s (map fields ds) (Err fault) → Plans list s (Err fault)
+plan_refused list s ds fault listed refused = inr (ds, listed, refused)
 
 pub all_splittable : (list : List ℕ) (s : Limits) (ds : List Descriptor) (p : Submission) → IsPlanOf list s ds p → All (λ d. IsSplittable d.op d.size s.greatest_transfer) ds
 all_splittable list s ds p h k d lt =

@@ -1,7 +1,10 @@
 //! Preparing a list: planning it, and keeping its submission with each address as a region and an offset.
 
-ghost use Rattle.std.specs.Prelude.{◌≡◌, ◌⊎◌, List, IfErr, IfOk, Err};
+ghost use Rattle.std.specs.Prelude.{◌≡◌, ◌⊎◌, List, IfErr, IfOk, Err, map, ℕ};
 ghost use Rattle.dsa_descriptor.specs.declared.descriptor.Descriptor.{Descriptor};
+ghost use Rattle.dsa_descriptor.specs.Descriptors.{fields};
+ghost use Rattle.dsa_descriptor.specs.Lists.{HaveOneOwner};
+ghost use Rattle.dsa_calls.specs.Lists.{IsListOf};
 ghost use Rattle.dsa_calls.specs.declared.fault.PlanFault.TheVariants.{Memory};
 ghost use Rattle.dsa_prepared.specs.declared.fault.PrepareFault.{PrepareFault};
 ghost use Rattle.dsa_prepared.specs.declared.fault.PrepareFault.TheVariants.{Plan};
@@ -11,17 +14,50 @@ use crate::fault::PrepareFault;
 use crate::places::{first_outside, region_fault};
 use crate::prepared::Prepared;
 use crate::template::template_of;
-use dsa_calls::{PlanFault, plan_list};
-use dsa_descriptor::{Span, read_list};
+use dsa_calls::{PlanFault, plan_operations};
+use dsa_descriptor::{Descriptor, Span, read_list};
 use dsa_plan::Settings;
 use std::alloc::Global;
+
+/// Plans operations of one owner, and keeps their submission.
+fn prepare_operations(
+    alloc: Global,
+    operations: &[Descriptor],
+    settings: &Settings,
+    regions: &[Span],
+) -> Result<Prepared, PrepareFault>
+    requires { HaveOneOwner (map fields operations.now) }
+    ensures prepared { (list : List ℕ) → IsListOf list operations.now → IfOk result
+        (λ p. IsPreparedOf list settings.now regions.now operations.now p) }
+    ensures fault { (list : List ℕ) → IsListOf list operations.now →
+        IfErr result (λ fault. (fault ≡ Plan Memory) ⊎
+        IsFirstPrepareFault list settings.now regions.now fault) }
+    ensures refused { (list : List ℕ) → IsListOf list operations.now →
+        (fault : PrepareFault) → IsFirstPrepareFault list settings.now regions.now fault →
+        (result ≡ Err fault) ⊎ (result ≡ Err (Plan Memory)) }
+{
+    let planned = match plan_operations(alloc, operations, settings) {
+        Ok(planned) => planned,
+        Err(fault) => return Err(PrepareFault::Plan(fault)),
+    };
+    if let Some(fault) = region_fault(regions) {
+        return Err(fault);
+    }
+    if let Some(i) = first_outside(operations, regions, settings.greatest_transfer()) {
+        return Err(PrepareFault::Outside(i));
+    }
+    match template_of(alloc, regions, operations, &planned.plan, &planned.pieces) {
+        Ok(prepared) => Ok(prepared),
+        Err(_) => Err(PrepareFault::Plan(PlanFault::Memory)),
+    }
+}
 
 /// Plans the operations that the bytes spell, and keeps their submission so that [`Prepared::fill`] writes it for other
 /// buffers. The regions are the buffers with which the list was made: each range of each operation, and the row of the
 /// records of its pieces, lies in one of them. They come in the order of their addresses.
 ///
 /// # Errors
-/// What [`plan_list`] refuses, as [`PrepareFault::Plan`]; for the least region [`PrepareFault::RegionWrap`], or else
+/// What [`plan_list`](dsa_calls::plan_list()) refuses, as [`PrepareFault::Plan`]; for the least region [`PrepareFault::RegionWrap`], or else
 /// `RegionOrder`; the least operation that is `Outside`; `Plan(PlanFault::Memory)` at the first allocation that fails.
 pub fn prepare(
     alloc: Global,
@@ -40,21 +76,8 @@ pub fn prepare(
         IsFirstPrepareFault list.now settings.now regions.now fault →
         (result ≡ Err fault) ⊎ (result ≡ Err (Plan Memory)) }
 {
-    let planned = match plan_list(alloc, list, settings) {
-        Ok(planned) => planned,
-        Err(fault) => return Err(PrepareFault::Plan(fault)),
-    };
-    if let Some(fault) = region_fault(regions) {
-        return Err(fault);
-    }
-    let Ok(operations) = read_list(alloc, list) else {
-        return Err(PrepareFault::Plan(PlanFault::Memory));
-    };
-    if let Some(i) = first_outside(&operations, regions, settings.greatest_transfer()) {
-        return Err(PrepareFault::Outside(i));
-    }
-    match template_of(alloc, regions, &operations, &planned.plan, &planned.pieces) {
-        Ok(prepared) => Ok(prepared),
-        Err(_) => Err(PrepareFault::Plan(PlanFault::Memory)),
+    match read_list(alloc, list) {
+        Ok(operations) => prepare_operations(alloc, &operations, settings, regions),
+        Err(fault) => Err(PrepareFault::Plan(PlanFault::from(fault))),
     }
 }

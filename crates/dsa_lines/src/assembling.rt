@@ -1,6 +1,6 @@
 //! The bytes of a list, from its text.
 
-ghost use Rattle.std.specs.Prelude.{◌≡◌, ◌++◌, List, map, MatchResult};
+ghost use Rattle.std.specs.Prelude.{◌≡◌, ◌++◌, IfOk, List, map, MatchResult};
 ghost use Rattle.dsa_descriptor.specs.declared.descriptor.Descriptor.{Descriptor};
 ghost use Rattle.dsa_descriptor.specs.Descriptors.{fields};
 ghost use Rattle.dsa_descriptor.specs.Lists.{list_spelling, HaveOneOwner};
@@ -12,7 +12,7 @@ ghost use Rattle.dsa_lines.specs.Assembled.{Assembles, Gathers, IsTextFault, Pus
 use crate::fault::TextFault;
 use crate::lines::line_len;
 use crate::reading::line_bytes;
-use dsa_descriptor::{ListFault, read_list};
+use dsa_descriptor::{Descriptor, ListFault, read_list};
 use std::alloc::Global;
 
 /// Writes the bytes at the end.
@@ -90,6 +90,22 @@ fn text_fault(text: &[u8], fault: ListFault) -> TextFault
     }
 }
 
+/// The operations that a text spells, one for each of its lines that has words: the list that [`assemble`] answers in bytes.
+///
+/// # Errors
+/// Those of [`assemble`].
+pub fn parse_operations(alloc: Global, text: &[u8]) -> Result<Vec<Descriptor>, TextFault>
+    ensures answer { Assembles (λ list. list_spelling (map fields list.items))
+        (lines_of text.now) result }
+    ensures owner { IfOk result (λ list. HaveOneOwner (map fields list.items)) }
+{
+    let bytes = bytes_of_lines(alloc, text)?;
+    match read_list(alloc, bytes.as_slice()) {
+        Ok(operations) => Ok(operations),
+        Err(fault) => Err(text_fault(text, fault)),
+    }
+}
+
 /// The bytes of the list that a text spells, 64 for each of its lines that has words.
 ///
 /// # Errors
@@ -103,6 +119,7 @@ pub fn assemble(alloc: Global, text: &[u8]) -> Result<Vec<u8>, TextFault>
         (λ bytes. bytes.items ≡ list_spelling (map fields ds)) (λ fault. fault ≡ Memory) }
 {
     let bytes = bytes_of_lines(alloc, text)?;
+    // read for its faults alone
     if let Err(fault) = read_list(alloc, bytes.as_slice()) {
         return Err(text_fault(text, fault));
     }

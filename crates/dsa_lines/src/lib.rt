@@ -20,7 +20,7 @@ mod staging_laws;
 mod words;
 mod writing;
 
-pub use assembling::assemble;
+pub use assembling::{assemble, parse_operations};
 pub use disassembling::disassemble;
 pub use emitted_laws::emissions_have_texts;
 pub use fault::{EmittedFault, Expected, LineFault, TextFault};

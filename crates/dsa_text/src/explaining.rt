@@ -21,7 +21,7 @@ use crate::shown::answer_plan;
 use dsa_calls::{PlanFault, Planned, check_plan, plan_operations};
 use dsa_cert::Certificate;
 use dsa_descriptor::{Descriptor, read_list};
-use dsa_lines::assemble;
+use dsa_lines::parse_operations;
 use dsa_plan::{Plan, Settings, read_emission};
 use std::alloc::{AllocError, Global};
 
@@ -88,8 +88,8 @@ pub fn explain_text(
 ) -> Result<Answer, AllocError>
     ensures { IfOk result (ExplainsText text.now settings.now drawn) }
 {
-    match assemble(alloc, text) {
-        Ok(list) => explain_list(alloc, &list, settings, drawn),
+    match parse_operations(alloc, text) {
+        Ok(operations) => explain_operations(alloc, &operations, settings, drawn),
         Err(fault) => Answer::text_fault(alloc, text, fault),
     }
 }

@@ -51,7 +51,8 @@ pub fn check_bytes(
 }
 
 /// The cost of the plan of these pieces, where it is legal and the certificate shows that none costs less, as
-/// [`check_bytes`] checks the plan that bytes submit: for who has read them already.
+/// [`check_bytes`] checks the plan that bytes submit: for who has read them already. Reading them tests what is not looked at here:
+/// that the pieces have one owner, fit the greatest transfer, and keep clear of the staging area.
 ///
 /// # Errors
 /// The first fault of the plan or the certificate, as [`check`] reports it.

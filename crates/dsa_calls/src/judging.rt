@@ -31,7 +31,7 @@ pub fn judge_bytes(
 }
 
 /// The cost of the plan for the pieces, or the first cause to refuse it, as [`judge_bytes`] judges those that bytes spell:
-/// for who has read a list already.
+/// for who has read a list already, and knows that its pieces have one owner.
 pub fn judge_pieces(
     pieces: &[Descriptor],
     plan: &Plan,

@@ -127,9 +127,3 @@ abbrev pub explanation_words : ℕ → Explanation → List Descriptor → List 
 explanation_words price e pieces origins =
     cell_lines price e.costs.groups.items pieces origins 0 e.fences.items e.cells.items
     ++ (cost_words e.costs (length pieces) ++ codes "\n")
-
--- ---- pictures
-
--- the text begins as an image in SVG does
-abbrev pub IsPicture : List ℕ → Type 0
-IsPicture text = (rest : List ℕ) × (text ≡ codes "<svg " ++ rest)

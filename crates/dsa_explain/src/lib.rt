@@ -12,12 +12,13 @@ mod words;
 
 pub use cells::{Cell, lay_out};
 pub use dsa_descriptor::MOST_PIECES;
+pub use dsa_drawing::MOST_ROWS;
 pub use dsa_plan::{Costs, GroupCost, plan_costs};
 pub use explanation::{ExplainFault, Explanation, explain};
 pub use fences::{Fence, fences_of};
 pub use laws::{
     cells_are_pieces_and_fences, each_fence_once, group_costs_add_up, least_plans_save,
 };
-pub use picture::{MOST_ROWS, draw};
+pub use picture::draw;
 pub use reason::Reason;
 pub use words::{Origin, explanation_text, kind_text};

@@ -7,7 +7,8 @@ use Rattle.dsa_explain.specs.declared.explanation.ExplainFault.{ExplainFault}
 use Rattle.dsa_explain.specs.declared.explanation.Explanation.{Explanation}
 use Rattle.dsa_explain.specs.declared.words.Origin.{Origin}
 use Rattle.dsa_explain.specs.Explained.{CanBeExplained, Explains, IsExplanationOf}
-use Rattle.dsa_explain.specs.Words.{IsPicture, explanation_words}
+use Rattle.dsa_drawing.specs.Pictures.{IsPicture}
+use Rattle.dsa_explain.specs.Words.{explanation_words}
 use Rattle.dsa_text.specs.declared.answer.Answer.{Answer}
 use Rattle.dsa_text.specs.Refusals.{IsRefusal, explain_cause}
 

@@ -7,4 +7,6 @@ mod shapes;
 
 pub use names::{hazard_name, op_name};
 pub use places::{LINE, MOST_ROWS, Spot, column_left, lines_of, picture_width, spot_in};
-pub use shapes::{BoxWords, push_bar, push_box, push_conflict, push_head, push_text, svg_of};
+pub use shapes::{
+    Square, push_bar, push_box, push_conflict, push_head, push_text, push_unseen_box, svg_of,
+};

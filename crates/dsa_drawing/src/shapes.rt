@@ -8,17 +8,15 @@ use crate::places::Spot;
 use dsa_ranges::HazardKind;
 use std::alloc::{AllocError, Global};
 
-/// What stands in a box: words for the pointer, a number, a name, and the reason where it is not looked at.
-#[derive(Clone, Copy, Debug)]
-pub struct BoxWords<'a> {
-    /// What a browser shows under the pointer.
-    pub title: &'a str,
-    /// The number of what the box stands for.
+/// A box: where it begins, the number in it, and whether its ground is grey.
+#[derive(Clone, Copy, Debug, PartialEq, Eq)]
+pub struct Square {
+    /// Where it begins.
+    pub spot: Spot,
+    /// The number of what it stands for.
     pub number: usize,
-    /// Its short name.
-    pub name: &'a str,
-    /// Why it is not looked at, if it is not.
-    pub unseen: Option<&'a str>,
+    /// Whether its ground is grey.
+    pub shaded: bool,
 }
 
 /// The greatest size, up to 11, at which so many letters fit into a width; a letter is 3/5 of its size wide.
@@ -112,71 +110,60 @@ fn push_kind(
     push_text(alloc, svg, spot, 50, &format!(in alloc; "{name} +{more}")?)
 }
 
-/// Writes what stands in a box that is not looked at: its number, its name and the reason.
-fn push_unseen(
+/// Writes the front of a box, without the end of its border.
+fn push_square(
     alloc: Global,
     svg: &mut String,
-    spot: Spot,
-    words: &BoxWords<'_>,
-    reason: &str,
+    square: Square,
+    title: &str,
 ) -> Result<(), AllocError> {
-    let number = words.number;
-    push_text(
-        alloc,
-        svg,
-        spot.behind(4).below(12),
-        36,
-        &format!(in alloc; "{number}")?,
-    )?;
-    push_text(alloc, svg, spot.behind(4).below(24), 36, words.name)?;
-    push_text(alloc, svg, spot.behind(1).below(36), 38, reason)
+    let (x, y, number) = (square.spot.x, square.spot.y, square.number);
+    let front = format!(in alloc; "<g><title>{number}: {title}</title>")?;
+    let place = format!(in alloc; "<rect x=\"{x}\" y=\"{y}\" width=\"40\" height=\"40\"")?;
+    let ground = if square.shaded { "#ddd" } else { "white" };
+    let paint = format!(in alloc; " fill=\"{ground}\" stroke=\"black\"")?;
+    svg.push_str(&front)?;
+    svg.push_str(&place)?;
+    svg.push_str(&paint)
 }
 
-/// Writes what stands in any other box: its number and its name.
-fn push_seen(
+/// Writes a box with its number and its name, and a title that a browser shows under the pointer.
+pub fn push_box(
     alloc: Global,
     svg: &mut String,
-    spot: Spot,
-    words: &BoxWords<'_>,
+    square: Square,
+    name: &str,
+    title: &str,
 ) -> Result<(), AllocError> {
     let (left, first, second) = (
-        spot.x.saturating_add(4),
-        spot.y.saturating_add(16),
-        spot.y.saturating_add(32),
+        square.spot.x.saturating_add(4),
+        square.spot.y.saturating_add(16),
+        square.spot.y.saturating_add(32),
     );
-    let (number, name) = (words.number, words.name);
-    let above = format!(in alloc; "<text x=\"{left}\" y=\"{first}\">{number}</text>")?;
-    let below = format!(in alloc; "<text x=\"{left}\" y=\"{second}\">{name}</text>")?;
+    let number = square.number;
+    let above = format!(in alloc; "/><text x=\"{left}\" y=\"{first}\">{number}</text>")?;
+    let below = format!(in alloc; "<text x=\"{left}\" y=\"{second}\">{name}</text></g>\n")?;
+    push_square(alloc, svg, square, title)?;
     svg.push_str(&above)?;
     svg.push_str(&below)
 }
 
-/// Writes a box with its words; one that is not looked at has a border of dashes.
-pub fn push_box(
+/// Writes a box that is not looked at: with a border of dashes, and the reason under its number and its name.
+pub fn push_unseen_box(
     alloc: Global,
     svg: &mut String,
-    spot: Spot,
-    words: &BoxWords<'_>,
-    shaded: bool,
+    square: Square,
+    name: &str,
+    title: &str,
+    reason: &str,
 ) -> Result<(), AllocError> {
-    let (x, y, number, title) = (spot.x, spot.y, words.number, words.title);
-    let front = format!(in alloc; "<g><title>{number}: {title}</title>")?;
-    let place = format!(in alloc; "<rect x=\"{x}\" y=\"{y}\" width=\"40\" height=\"40\"")?;
-    let ground = if shaded { "#ddd" } else { "white" };
-    let paint = format!(in alloc; " fill=\"{ground}\" stroke=\"black\"")?;
-    svg.push_str(&front)?;
-    svg.push_str(&place)?;
-    svg.push_str(&paint)?;
-    match words.unseen {
-        Some(reason) => {
-            svg.push_str(" stroke-dasharray=\"4 3\"/>")?;
-            push_unseen(alloc, svg, spot, words, reason)?;
-        }
-        None => {
-            svg.push_str("/>")?;
-            push_seen(alloc, svg, spot, words)?;
-        }
-    }
+    let (spot, number) = (square.spot, square.number);
+    let words = format!(in alloc; "{number}")?;
+    push_square(alloc, svg, square, title)?;
+    svg.push_str(" stroke-dasharray=\"4 3\"/>")?;
+    push_text(alloc, svg, spot.behind(4).below(12), 34, &words)?;
+    push_text(alloc, svg, spot.behind(4).below(24), 34, name)?;
+    push_text(alloc, svg, spot.behind(1).below(36), 38, reason)?;
     svg.push_str("</g>\n")
 }
 

@@ -11,7 +11,7 @@ use crate::reason::Reason;
 use crate::words::{Origin, cost_text, fence_text, group_text, piece_text};
 use dsa_descriptor::Descriptor;
 use dsa_drawing::{
-    BoxWords, Spot, lines_of, op_name, push_bar, push_box, push_conflict, push_head, push_text,
+    Spot, Square, lines_of, op_name, push_bar, push_box, push_conflict, push_head, push_text,
     spot_in, svg_of,
 };
 use dsa_plan::GroupCost;
@@ -151,25 +151,6 @@ fn push_fence(
     svg.push_str("</g>\n")
 }
 
-/// Writes the box of a piece, with its number and its operation.
-fn push_piece(
-    alloc: Global,
-    svg: &mut String,
-    d: &Descriptor,
-    title: &str,
-    spot: Spot,
-    number: usize,
-    shaded: bool,
-) -> Result<(), AllocError> {
-    let words = BoxWords {
-        title,
-        number,
-        name: op_name(&d.op),
-        unseen: None,
-    };
-    push_box(alloc, svg, spot, &words, shaded)
-}
-
 /// Writes the rows of a picture.
 fn push_cells(
     alloc: Global,
@@ -201,7 +182,12 @@ fn push_cells(
         }
         if let Some(d) = pieces.get(index) {
             let title = piece_text(alloc, d, origins.get(index).copied())?;
-            push_piece(alloc, svg, d, &title, spot, index, shaded)?;
+            let square = Square {
+                spot,
+                number: index,
+                shaded,
+            };
+            push_box(alloc, svg, square, op_name(&d.op), &title)?;
         }
     }
     Ok(())

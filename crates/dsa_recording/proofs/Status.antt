@@ -1,12 +1,15 @@
--- The status of an answer, from that of its report.
-use Rattle.std.proofs.Common.{ℕ, List, inl, Result, Ok, Err}
+-- The answer of a recording, from that of its report.
+use Rattle.std.proofs.Common.{ℕ, ◌≡◌, List, inl, subst, Result, Ok, Err}
 use Rattle.std.specs.Prelude.{IfOk}
+use Rattle.dsa_descriptor.specs.Lists.{entries}
+use Rattle.dsa_recording.specs.declared.answer.AuditAnswer.{AuditAnswer}
+use Rattle.dsa_recording.specs.declared.answer.AuditOptions.{AuditOptions}
 use Rattle.dsa_recording.specs.declared.report.Report.{Report}
 use Rattle.dsa_recording.specs.Reports.{IsReport}
-use Rattle.dsa_recording.specs.declared.words.Denied.{Denied}
-use Rattle.dsa_recording.specs.Answers.{IsStatusOf, IsStatus}
+use Rattle.dsa_recording.specs.Answers.{AnswersReport, AnswersRecording}
 
-pub reported : {X E : Type 0} (r : Result X E) (status : X → ℕ) (bytes : List ℕ) (denied : Denied) (report : Report) → IsReport bytes report
-    → IfOk r (λ x. IsStatusOf denied report.findings.items (status x)) → IfOk r (λ x. IsStatus bytes denied (status x))
-reported (Ok x) status bytes denied report is ok = inl (report, is, ok)
-reported (Err e) status bytes denied report is ok = tt
+pub reported : {E : Type 0} (r : Result AuditAnswer E) (options : AuditOptions) (bytes : List ℕ) (es : List (List ℕ)) (report : Report)
+    → es ≡ entries bytes → IsReport bytes report → IfOk r (AnswersReport options es report) → IfOk r (AnswersRecording options bytes)
+reported (Ok x) options bytes es report same is ok =
+    inl (report, is, subst (λ es. AnswersReport options es report x) same ok)
+reported (Err e) options bytes es report same is ok = tt

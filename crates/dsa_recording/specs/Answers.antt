@@ -1,6 +1,12 @@
--- What the status of `audit` says.
-use Rattle.std.specs.Prelude.{ℕ, ◌≡◌, ◌⊎◌, Bool, true, false, not, List}
+-- What the answer of `audit` says.
+use Rattle.std.specs.Prelude.{ℕ, ◌≡◌, ◌<◌, ◌⊎◌, Bool, true, false, not, List, length, string_bytes}
 use Rattle.std.specs.List.{AllByRecursion}
+use Rattle.dsa_descriptor.specs.Lists.{entries}
+use Rattle.dsa_drawing.specs.Pictures.{IsPicture}
+use Rattle.dsa_recording.specs.declared.answer.AuditAnswer.{AuditAnswer}
+use Rattle.dsa_recording.specs.declared.answer.AuditFormat.{AuditFormat}
+use Rattle.dsa_recording.specs.declared.answer.AuditFormat.TheVariants.{Text, Json, Picture}
+use Rattle.dsa_recording.specs.declared.answer.AuditOptions.{AuditOptions}
 use Rattle.dsa_recording.specs.declared.findings.Finding.{Finding}
 use Rattle.dsa_recording.specs.declared.findings.FindingKind.{FindingKind}
 use Rattle.dsa_recording.specs.declared.findings.FindingKind.TheVariants.{NotSeen, MissingFence, GuardingFence, NeedlessFence}
@@ -25,8 +31,27 @@ abbrev pub IsStatusOf : Denied → List Finding → ℕ → Type 0
 IsStatusOf denied findings status =
     ((status ≡ 0) × AreHarmless denied findings) ⊎ ((status ≡ 1) × (¬ AreHarmless denied findings))
 
--- the status of an answer: that of a report on the bytes; or 2, and they are no recording
-abbrev pub IsStatus : List ℕ → Denied → ℕ → Type 0
-IsStatus bytes denied status =
-    ((r : Report) × IsReport bytes r × IsStatusOf denied r.findings.items status)
-    ⊎ ((status ≡ 2) × ((list : List Submission) → ¬ ReadsStream bytes list))
+-- the report on these entries has no picture: it has more than 1,024 submissions, or they are more than 65,536
+abbrev pub IsTooLarge : List (List ℕ) → Report → Type 0
+IsTooLarge es r = (1024 < length r.submissions.items) ⊎ (65536 < length es)
+
+-- the answer is a picture of the report, with the status of the findings
+pub record Draws (es : List (List ℕ)) (r : Report) (denied : Denied) (answer : AuditAnswer) : Type 0 where
+  pub fits : ¬ IsTooLarge es r
+  pub picture : IsPicture (string_bytes answer.text)
+  pub status : IsStatusOf denied r.findings.items answer.status
+
+-- the answer of a report: its status is that of the findings; or, of pictures alone, it is 2, and the report has none
+abbrev pub AnswersFormat : AuditFormat → List (List ℕ) → Report → Denied → AuditAnswer → Type 0
+AnswersFormat Text es r denied answer = IsStatusOf denied r.findings.items answer.status
+AnswersFormat Json es r denied answer = IsStatusOf denied r.findings.items answer.status
+AnswersFormat Picture es r denied answer = Draws es r denied answer ⊎ ((answer.status ≡ 2) × IsTooLarge es r)
+
+abbrev pub AnswersReport : AuditOptions → List (List ℕ) → Report → AuditAnswer → Type 0
+AnswersReport options es r answer = AnswersFormat options.format es r options.denied answer
+
+-- the answer of a recording: that of a report on the bytes; or its status is 2, and they are no recording
+abbrev pub AnswersRecording : AuditOptions → List ℕ → AuditAnswer → Type 0
+AnswersRecording options bytes answer =
+    ((r : Report) × IsReport bytes r × AnswersReport options (entries bytes) r answer)
+    ⊎ ((answer.status ≡ 2) × ((list : List Submission) → ¬ ReadsStream bytes list))

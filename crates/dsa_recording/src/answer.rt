@@ -1,12 +1,14 @@
 //! The answer to a recording: which fences of its submissions are missing, and which are needless.
 
+ghost use Rattle.dsa_recording.specs.declared.answer.AuditFormat.TheVariants.{Picture};
 ghost use Rattle.std.specs.Prelude.{◌≡◌, ◌≢◌, ◌↔◌, IfOk, IsTrue};
 ghost use Rattle.dsa_recording.specs.declared.stream.StreamFault.TheVariants.{Memory};
-ghost use Rattle.dsa_recording.specs.Answers.{is_harmless, AreHarmless, IsStatusOf, IsStatus};
+ghost use Rattle.dsa_recording.specs.Answers.{is_harmless, AnswersFormat, AnswersRecording, AnswersReport, AreHarmless, IsStatusOf};
 
 use crate::detail::{detail_of, has_all_fences};
 use crate::findings::{Finding, FindingKind};
 use crate::forms::is_text;
+use crate::picture::{draw_report, is_too_large, too_large_text};
 use crate::places::{BytesFault, bytes_of_input};
 use crate::report::{Report, audit_recording};
 use crate::report_json::report_json;
@@ -16,11 +18,22 @@ use crate::words::{Denied, finding_text};
 use dsa_descriptor::u32_at;
 use std::alloc::{AllocError, Global};
 
+/// How a report is written.
+#[derive(Clone, Copy, Debug, PartialEq, Eq)]
+pub enum AuditFormat {
+    /// A line for each finding, and the numbers.
+    Text,
+    /// One line of JSON.
+    Json,
+    /// A picture, as SVG.
+    Picture,
+}
+
 /// How an audit is written, and what it denies.
 #[derive(Clone, Copy, Debug)]
 pub struct AuditOptions {
-    /// Whether the report is one line of JSON.
-    pub json: bool,
+    /// How the report is written.
+    pub format: AuditFormat,
     /// The findings that count as errors.
     pub denied: Denied,
 }
@@ -30,7 +43,8 @@ pub struct AuditOptions {
 pub struct AuditAnswer {
     /// The report, or why there is none.
     pub text: String,
-    /// 0 where nothing is wrong, 1 where a fence is missing or what is denied was found, 2 where there is no recording.
+    /// 0 where nothing is wrong, 1 where a fence is missing or what is denied was found, 2 where there is no recording or
+    /// it is too large for a picture.
     pub status: u8,
 }
 
@@ -95,23 +109,46 @@ fn report_text(
     Ok(text)
 }
 
-/// The answer of a report, with status 1 where some finding is an error.
+/// The answer of a report in this text, with status 1 where some finding is an error.
+fn written(denied: Denied, report: &Report, text: String) -> AuditAnswer
+    ensures text { result.text ≡ text }
+    ensures status { IsStatusOf denied report.now.findings.items result.status }
+{
+    let status = status_of(denied, &report.findings);
+    AuditAnswer { text, status }
+}
+
+/// The answer of a report as a picture, or why it has none.
+fn answer_picture(
+    alloc: Global,
+    all: &[[u8; 64]],
+    report: &Report,
+    denied: Denied,
+) -> Result<AuditAnswer, AllocError>
+    ensures { IfOk result (AnswersFormat Picture all.now report.now denied) }
+{
+    if is_too_large(all, report) {
+        let text = too_large_text(alloc, all, report)?;
+        return Ok(AuditAnswer { text, status: 2 });
+    }
+    Ok(written(denied, report, draw_report(alloc, all, report)?))
+}
+
+/// The answer of a report.
 fn answer_report(
     alloc: Global,
     all: &[[u8; 64]],
     report: &Report,
     options: AuditOptions,
 ) -> Result<AuditAnswer, AllocError>
-    ensures { IfOk result
-        (λ answer. IsStatusOf options.denied report.now.findings.items answer.status) }
+    ensures { IfOk result (AnswersReport options all.now report.now) }
 {
-    let text = if options.json {
-        report_json(alloc, all, report, options.denied)?
-    } else {
-        report_text(alloc, all, report, options.denied)?
-    };
-    let status = status_of(options.denied, &report.findings);
-    Ok(AuditAnswer { text, status })
+    let denied = options.denied;
+    match options.format {
+        AuditFormat::Text => Ok(written(denied, report, report_text(alloc, all, report, denied)?)),
+        AuditFormat::Json => Ok(written(denied, report, report_json(alloc, all, report, denied)?)),
+        AuditFormat::Picture => answer_picture(alloc, all, report, denied),
+    }
 }
 
 /// Why bytes are no recording.
@@ -146,7 +183,7 @@ fn audit_bytes(
     bytes: &[u8],
     options: AuditOptions,
 ) -> Result<AuditAnswer, AllocError>
-    ensures { IfOk result (λ answer. IsStatus bytes.now options.denied answer.status) }
+    ensures { IfOk result (AnswersRecording options bytes.now) }
 {
     match audit_recording(alloc, bytes) {
         Ok(report) => {
@@ -161,7 +198,7 @@ fn audit_bytes(
 }
 
 /// The report on a recording, as bytes or as a text. The status is 0 where nothing is wrong, 1 where a fence is missing or
-/// what is denied was found, and 2 with the reason where there is no recording.
+/// what is denied was found, and 2 with the reason where there is no recording, or it is too large for a picture.
 pub fn audit(
     alloc: Global,
     input: &[u8],

@@ -124,12 +124,7 @@ fn push_crossed(
 }
 
 /// Writes a mark, and the words under it; its bar begins at the spot.
-fn push_shape(
-    alloc: Global,
-    svg: &mut String,
-    mark: Mark,
-    bar: Spot,
-) -> Result<(), AllocError> {
+fn push_shape(alloc: Global, svg: &mut String, mark: Mark, bar: Spot) -> Result<(), AllocError> {
     let (middle, under) = (bar.behind(2), bar.behind(2).below(51));
     match mark {
         Mark::Nothing => Ok(()),
@@ -148,7 +143,13 @@ fn push_shape(
         }
         Mark::Guarding(earlier) => {
             push_bar(alloc, svg, bar, 40)?;
-            push_text(alloc, svg, under, 50, &format!(in alloc; "guards {earlier}")?)
+            push_text(
+                alloc,
+                svg,
+                under,
+                50,
+                &format!(in alloc; "guards {earlier}")?,
+            )
         }
     }
 }
@@ -192,15 +193,15 @@ pub(crate) fn push_legend(alloc: Global, svg: &mut String) -> Result<(), AllocEr
     push_crossed(alloc, svg, left.behind(290), 14)?;
     push_text(alloc, svg, words.behind(304), 100, "needless fence")?;
     push_bar(alloc, svg, left.behind(418), 14)?;
-    push_text(alloc, svg, words.behind(428), 190, "guards 1: member 1 can fail")?;
-    svg.push_str("<rect x=\"630\" y=\"8\" width=\"14\" height=\"14\" fill=\"white\"")?;
-    svg.push_str(" stroke=\"black\" stroke-dasharray=\"4 3\"/>")?;
     push_text(
         alloc,
         svg,
-        words.behind(652),
-        200,
-        "not looked at, and why",
+        words.behind(428),
+        190,
+        "guards 1: member 1 can fail",
     )?;
+    svg.push_str("<rect x=\"630\" y=\"8\" width=\"14\" height=\"14\" fill=\"white\"")?;
+    svg.push_str(" stroke=\"black\" stroke-dasharray=\"4 3\"/>")?;
+    push_text(alloc, svg, words.behind(652), 200, "not looked at, and why")?;
     svg.push_str("\n")
 }

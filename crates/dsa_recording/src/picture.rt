@@ -16,7 +16,8 @@ use crate::words::unseen_text;
 use dsa_audit::Member;
 use dsa_descriptor::{op_at, u32_at};
 use dsa_drawing::{
-    BoxWords, MOST_ROWS, Spot, lines_of, op_name, push_box, push_head, push_text, spot_in, svg_of,
+    MOST_ROWS, Spot, Square, lines_of, op_name, push_box, push_head, push_text, push_unseen_box,
+    spot_in, svg_of,
 };
 use std::alloc::{AllocError, Global};
 
@@ -105,51 +106,26 @@ fn entry_name(alloc: Global, entry: &[u8; 64]) -> Result<String, AllocError> {
     }
 }
 
-/// Writes the box of a member of which all is known.
-fn push_known(
-    alloc: Global,
-    svg: &mut String,
-    spot: Spot,
-    number: usize,
-    name: &str,
-    entry: usize,
-    shaded: bool,
-) -> Result<(), AllocError> {
-    let title = format!(in alloc; "{name} (entry {entry})")?;
-    let words = BoxWords {
-        title: &title,
-        number,
-        name,
-        unseen: None,
-    };
-    push_box(alloc, svg, spot, &words, shaded)
-}
-
-/// Writes the box of a member.
+/// Writes the box of a member, which has this entry.
 fn push_member(
     alloc: Global,
     svg: &mut String,
     member: &Member,
-    entry: (usize, &[u8; 64]),
-    number: usize,
-    spot: Spot,
-    shaded: bool,
+    square: Square,
+    at: usize,
+    entry: &[u8; 64],
 ) -> Result<(), AllocError> {
-    let (at, bytes) = entry;
-    let name = entry_name(alloc, bytes)?;
+    let name = entry_name(alloc, entry)?;
     match member {
-        Member::Known(_) => push_known(alloc, svg, spot, number, &name, at, shaded),
+        Member::Known(_) => {
+            let title = format!(in alloc; "{name}, entry {at}")?;
+            push_box(alloc, svg, square, &name, &title)
+        }
         Member::Unknown(why) => {
-            let code = u32_at(bytes, 4) >> 24;
-            let reason = unseen_text(alloc, *why, code as u8)?;
-            let title = format!(in alloc; "{name} (entry {at}), {reason}")?;
-            let words = BoxWords {
-                title: &title,
-                number,
-                name: &name,
-                unseen: Some(unseen_name(*why)),
-            };
-            push_box(alloc, svg, spot, &words, shaded)
+            let code = u32_at(entry, 4) >> 24;
+            let words = unseen_text(alloc, *why, code as u8)?;
+            let title = format!(in alloc; "{name}, entry {at}, {words}")?;
+            push_unseen_box(alloc, svg, square, &name, &title, unseen_name(*why))
         }
     }
 }
@@ -173,8 +149,13 @@ fn push_members(
         }
         push_mark(alloc, svg, mark_of(audited, number), complete, spot)?;
         let at = first.saturating_add(number);
-        if let Some(bytes) = all.get(at) {
-            push_member(alloc, svg, member, (at, bytes), number, spot, shaded)?;
+        if let Some(entry) = all.get(at) {
+            let square = Square {
+                spot,
+                number,
+                shaded,
+            };
+            push_member(alloc, svg, member, square, at, entry)?;
         }
     }
     Ok(())
@@ -219,11 +200,7 @@ fn push_totals(
 }
 
 /// What stands in a picture behind its first word.
-fn picture_body(
-    alloc: Global,
-    all: &[[u8; 64]],
-    report: &Report,
-) -> Result<String, AllocError> {
+fn picture_body(alloc: Global, all: &[[u8; 64]], report: &Report) -> Result<String, AllocError> {
     let mut svg = String::new(alloc);
     let end = rows_end(&report.audits);
     let totals = totals_text(alloc, &totals_of(report))?;

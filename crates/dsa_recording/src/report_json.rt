@@ -20,7 +20,7 @@ fn severity_name(severity: Severity) -> &'static str {
 }
 
 /// The name of a reason why a member is not looked at.
-fn unseen_name(why: Unseen) -> &'static str {
+pub(crate) fn unseen_name(why: Unseen) -> &'static str {
     match why {
         Unseen::Operation => "operation",
         Unseen::Nested => "nested",

@@ -98,7 +98,7 @@ fn push_severity(text: &mut String, severity: Severity) -> Result<(), AllocError
 }
 
 /// Why a member of this operation code is not looked at.
-fn unseen_text(alloc: Global, why: Unseen, code: u8) -> Result<String, AllocError>
+pub(crate) fn unseen_text(alloc: Global, why: Unseen, code: u8) -> Result<String, AllocError>
     ensures { IfOk result (λ s. string_bytes s ≡ unseen_words why code) }
 {
     match why {
@@ -117,7 +117,11 @@ fn unseen_text(alloc: Global, why: Unseen, code: u8) -> Result<String, AllocErro
 }
 
 /// Why a fence is missing behind an earlier member.
-fn hazard_text(alloc: Global, earlier: usize, hazard: Hazard) -> Result<String, AllocError>
+pub(crate) fn hazard_text(
+    alloc: Global,
+    earlier: usize,
+    hazard: Hazard,
+) -> Result<String, AllocError>
     ensures { IfOk result (λ s. string_bytes s ≡ hazard_words hazard.kind earlier hazard.address) }
 {
     let address = hazard.address;
@@ -141,7 +145,7 @@ fn hazard_text(alloc: Global, earlier: usize, hazard: Hazard) -> Result<String, 
 }
 
 /// That a fence is needless, at once or with the missing ones.
-fn needless_text(alloc: Global, complete: bool) -> Result<String, AllocError>
+pub(crate) fn needless_text(alloc: Global, complete: bool) -> Result<String, AllocError>
     ensures { IfOk result (λ s. string_bytes s ≡ needless_words complete) }
 {
     if complete {
@@ -155,7 +159,7 @@ fn needless_text(alloc: Global, complete: bool) -> Result<String, AllocError>
 }
 
 /// That a fence guards, and which member can fail.
-fn guarding_text(alloc: Global, earlier: usize) -> Result<String, AllocError>
+pub(crate) fn guarding_text(alloc: Global, earlier: usize) -> Result<String, AllocError>
     ensures { IfOk result (λ s. string_bytes s ≡ guarding_words earlier) }
 {
     format!(in alloc; "guarding fence: member {earlier} can fail")

@@ -33,7 +33,7 @@ use crate::settings::{Setting, settings_of};
 use clap::error::ErrorKind;
 use clap::{Arg, ArgAction, ArgMatches, Command};
 use dsa_calls::PlanFault;
-use dsa_recording::{AuditOptions, Denied, audit, is_text};
+use dsa_recording::{AuditFormat, AuditOptions, Denied, audit, is_text};
 use dsa_report::{Stop, read_text, write_line};
 use std::alloc::{AllocError, Global};
 use std::fs::File;
@@ -179,7 +179,8 @@ fn deny<'a>(alloc: Global) -> Arg<'a> {
 /// The command `audit`.
 fn audit_command<'a>(alloc: Global) -> Result<Command<'a>, AllocError> {
     let json = flag(alloc, "json", "write the report as JSON");
-    let options = vec![in alloc; file(alloc), json, deny(alloc)]?;
+    let svg = flag(alloc, "svg", "draw the submissions and their fences").conflicts_with("json")?;
+    let options = vec![in alloc; file(alloc), json, svg, deny(alloc)]?;
     Command::new(alloc, "audit")
         .about("Reads a recording of what was submitted, and reports missing and needless fences")
         .args(options)
@@ -272,6 +273,17 @@ fn denied_in(matches: &ArgMatches<'_>) -> Option<Denied> {
         }
     }
     Some(denied)
+}
+
+/// How the report is to be written.
+fn format_in(matches: &ArgMatches<'_>) -> AuditFormat {
+    if matches.get_flag("json") {
+        AuditFormat::Json
+    } else if matches.get_flag("svg") {
+        AuditFormat::Picture
+    } else {
+        AuditFormat::Text
+    }
 }
 
 /// What the command of the matches answers.
@@ -408,7 +420,7 @@ fn audited(rt: &HostRuntime, matches: &ArgMatches<'_>) -> Result<ExitCode, Alloc
         return Ok(failed(rt, reason));
     };
     let options = AuditOptions {
-        json: matches.get_flag("json"),
+        format: format_in(matches),
         denied,
     };
     let file = matches.get_str("file");

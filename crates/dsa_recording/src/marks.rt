@@ -103,22 +103,30 @@ fn push_dashes(
     svg.push_str(" stroke=\"#c00\" stroke-width=\"4\" stroke-dasharray=\"6 4\"/>")
 }
 
-/// Writes the hollow bar of a needless fence, crossed out, whose left upper end is at the spot.
-fn push_crossed(
+/// Writes the hollow bar of a fence that no conflict needs, whose left upper end is at the spot.
+fn push_hollow(
     alloc: Global,
     svg: &mut String,
     spot: Spot,
     height: usize,
 ) -> Result<(), AllocError> {
     let (x, y) = (spot.x, spot.y);
-    let (left, upper) = (
-        x.saturating_sub(4),
-        y.saturating_add(height / 2).saturating_sub(6),
-    );
     let bar = format!(in alloc; "<rect x=\"{x}\" y=\"{y}\" width=\"4\" height=\"{height}\"")?;
-    let cross = format!(in alloc; "<path d=\"M{left} {upper}l12 12m0 -12l-12 12\"")?;
     svg.push_str(&bar)?;
-    svg.push_str(" fill=\"white\" stroke=\"black\"/>")?;
+    svg.push_str(" fill=\"white\" stroke=\"black\"/>")
+}
+
+/// Writes a hollow bar that is crossed out, whose left upper end is at the spot.
+fn push_crossed(
+    alloc: Global,
+    svg: &mut String,
+    spot: Spot,
+    height: usize,
+) -> Result<(), AllocError> {
+    let left = spot.x.saturating_sub(4);
+    let upper = spot.y.saturating_add(height / 2).saturating_sub(6);
+    let cross = format!(in alloc; "<path d=\"M{left} {upper}l12 12m0 -12l-12 12\"")?;
+    push_hollow(alloc, svg, spot, height)?;
     svg.push_str(&cross)?;
     svg.push_str(" stroke=\"black\" stroke-width=\"2\"/>")
 }
@@ -142,7 +150,7 @@ fn push_shape(alloc: Global, svg: &mut String, mark: Mark, bar: Spot) -> Result<
             push_text(alloc, svg, under, 50, "needless")
         }
         Mark::Guarding(earlier) => {
-            push_bar(alloc, svg, bar, 40)?;
+            push_hollow(alloc, svg, bar, 40)?;
             push_text(
                 alloc,
                 svg,
@@ -192,7 +200,7 @@ pub(crate) fn push_legend(alloc: Global, svg: &mut String) -> Result<(), AllocEr
     )?;
     push_crossed(alloc, svg, left.behind(290), 14)?;
     push_text(alloc, svg, words.behind(304), 100, "needless fence")?;
-    push_bar(alloc, svg, left.behind(418), 14)?;
+    push_hollow(alloc, svg, left.behind(418), 14)?;
     push_text(
         alloc,
         svg,

@@ -147,7 +147,6 @@ fn push_members(
         if fenced && number != 0 {
             shaded = !shaded;
         }
-        push_mark(alloc, svg, mark_of(audited, number), complete, spot)?;
         let at = first.saturating_add(number);
         if let Some(entry) = all.get(at) {
             let square = Square {
@@ -157,6 +156,8 @@ fn push_members(
             };
             push_member(alloc, svg, member, square, at, entry)?;
         }
+        // behind the box, which would cover a part of a cross
+        push_mark(alloc, svg, mark_of(audited, number), complete, spot)?;
     }
     Ok(())
 }

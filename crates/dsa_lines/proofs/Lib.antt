@@ -5,6 +5,7 @@ pub mod RoundTrip
 pub mod OneLine
 pub mod LineLemmas
 pub mod TextLemmas
+pub mod RecordingLemmas
 pub mod AnswerLemmas
 pub mod OneText
 pub mod EmittedLemmas

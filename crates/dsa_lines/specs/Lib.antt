@@ -7,6 +7,7 @@ pub mod Views
 pub mod Answers
 pub mod Texts
 pub mod Assembled
+pub mod Recordings
 pub mod Portals
 pub mod Stagings
 pub mod EmittedTexts

@@ -16,7 +16,7 @@ use dsa_descriptor::{Descriptor, ListFault, read_list};
 use std::alloc::Global;
 
 /// Writes the bytes at the end.
-fn push_entry(bytes: &mut Vec<u8>, entry: &[u8; 64]) -> Result<(), TextFault>
+pub(crate) fn push_entry(bytes: &mut Vec<u8>, entry: &[u8]) -> Result<(), TextFault>
     ensures { MatchResult result (λ _. bytes.new.items ≡ bytes.old.items ++
         entry.now) (λ fault. fault ≡ Memory) }
 {

@@ -45,6 +45,10 @@ pub enum Expected {
     Expect,
     /// The word `record`.
     Record,
+    /// The word `of`.
+    Of,
+    /// The word `at`.
+    At,
     /// The name of an option that does not stand before.
     Option,
     /// The end of the line.
@@ -72,6 +76,8 @@ impl Expected {
             Expected::Bytes => "bytes",
             Expected::Expect => "expect",
             Expected::Record => "record",
+            Expected::Of => "of",
+            Expected::At => "at",
             Expected::Option =>
                 "an option that does not stand before: pasid, privileged, check, flags or handle",
             Expected::End => "the end of the line",

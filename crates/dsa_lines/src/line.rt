@@ -3,6 +3,7 @@
 ghost use Rattle.std.specs.Prelude.{◌≡◌, ◌<◌, ◌^◌};
 ghost use Rattle.dsa_descriptor.specs.Spelling.{owner_word, operation_word, spelling};
 ghost use Rattle.dsa_lines.specs.Views.{view};
+ghost use Rattle.dsa_lines.specs.Recordings.{fenced};
 
 use dsa_descriptor::Op;
 
@@ -37,6 +38,19 @@ impl Line {
         ensures { result ≡ operation_word (view self.now) }
     {
         self.flags + (u32::from(self.op.code()) << 24)
+    }
+
+    /// The same with the flag fence.
+    pub(crate) fn fenced(self) -> Line
+        requires { self.flags < 2 ^ 16 }
+        ensures fields { view result ≡ fenced (view self) }
+        ensures pasid { result.pasid ≡ self.pasid }
+        ensures flags { result.flags < 2 ^ 16 }
+    {
+        Line {
+            flags: u32::from(self.flags as u16 | 1),
+            ..self
+        }
     }
 
     /// The 64 bytes of the fields.

@@ -1,5 +1,5 @@
 -- The detail of a finding, from that within its submission.
-use Rattle.std.proofs.Common.{◌≡◌, ℕ, ◌<◌, List, Option, Some, None, slice_get, length, get_or, sym, ap, subst, ◌∙◌}
+use Rattle.std.proofs.Common.{◌≡◌, ℕ, List, Option, Some, None, slice_get, sym, ap, subst, ◌∙◌}
 use Rattle.std.specs.Prelude.{MatchOption}
 use Rattle.dsa_audit.specs.declared.member.Member.{Member}
 use Rattle.dsa_recording.specs.declared.stream.Submission.{Submission}
@@ -7,7 +7,7 @@ use Rattle.dsa_recording.specs.declared.submission.Audited.{Audited}
 use Rattle.dsa_recording.specs.declared.findings.Finding.{Finding}
 use Rattle.dsa_recording.specs.declared.detail.Detail.{Detail}
 use Rattle.dsa_recording.specs.declared.report.Report.{Report}
-use Rattle.dsa_recording.specs.Details.{HasEntry, Describes, IsIn, IsPlaced, IsDetail}
+use Rattle.dsa_recording.specs.Details.{HasEntry, Describes, IsPlaced, IsDetail}
 
 pub placed : (es : List (List ℕ)) (r : Report) (f : Finding) (s : Submission) (a : Audited) (ms : List Member) (o : Option Detail)
     → slice_get r.submissions.items f.submission ≡ Some s → slice_get r.audits.items f.submission ≡ Some a → a.members.items ≡ ms

@@ -7,7 +7,7 @@ ghost use Rattle.dsa_recording.specs.Answers.{is_harmless, AnswersFormat, Answer
 
 use crate::detail::{detail_of, has_all_fences};
 use crate::findings::{Finding, FindingKind};
-use crate::forms::is_text;
+use crate::forms::{form_of, is_text};
 use crate::picture::{draw_report, is_too_large, too_large_text};
 use crate::places::{BytesFault, bytes_of_input};
 use crate::report::{Report, audit_recording};
@@ -16,6 +16,7 @@ use crate::stream::StreamFault;
 use crate::totals::{totals_of, totals_text};
 use crate::words::{Denied, finding_text};
 use dsa_descriptor::u32_at;
+use dsa_lines::{Expected, TextFault, assemble_recording};
 use std::alloc::{AllocError, Global};
 
 /// How a report is written.
@@ -197,7 +198,46 @@ fn audit_bytes(
     }
 }
 
-/// The report on a recording, as bytes or as a text. The status is 0 where nothing is wrong, 1 where a fence is missing or
+/// Whether the first word of a text has digits alone, as a text of bytes begins; no line of a recording does.
+fn begins_with_digits(text: &[u8]) -> bool {
+    let mut seen = false;
+    for byte in text {
+        if (*byte as char).is_ascii_hexdigit() {
+            seen = true;
+        } else {
+            return seen && byte.is_ascii_whitespace();
+        }
+    }
+    seen
+}
+
+/// What a recording has at a place where its lines leave the grammar.
+fn expected_words(expected: Expected) -> &'static str {
+    if expected == Expected::Operation {
+        "hexadecimal digits, or batch, fence, move, fill, compare, delta or dualcast"
+    } else {
+        expected.text()
+    }
+}
+
+/// The report on a recording that is written as lines.
+fn audit_lines(
+    alloc: Global,
+    text: &[u8],
+    options: AuditOptions,
+) -> Result<AuditAnswer, AllocError> {
+    match assemble_recording(alloc, text) {
+        Ok(bytes) => audit_bytes(alloc, &bytes, options),
+        Err(TextFault::Grammar(line, column, expected)) => {
+            let words = expected_words(expected);
+            refusal(format!(in alloc; "line {line}, column {column}: error: expected {words}\n")?)
+        }
+        // the lines of a recording are no list, so the first does not come
+        Err(TextFault::List(_, _)) | Err(TextFault::Memory) => Err(AllocError),
+    }
+}
+
+/// The report on a recording, as bytes or as a text: of bytes in hexadecimal, or of lines. The status is 0 where nothing is wrong, 1 where a fence is missing or
 /// what is denied was found, and 2 with the reason where there is no recording, or it is too large for a picture.
 pub fn audit(
     alloc: Global,
@@ -206,6 +246,9 @@ pub fn audit(
 ) -> Result<AuditAnswer, AllocError> {
     if !is_text(input) {
         return audit_bytes(alloc, input, options);
+    }
+    if form_of(input).is_none() && !begins_with_digits(input) {
+        return audit_lines(alloc, input, options);
     }
     match bytes_of_input(alloc, input) {
         Ok(bytes) => audit_bytes(alloc, &bytes, options),

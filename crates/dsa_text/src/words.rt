@@ -130,6 +130,8 @@ pub(crate) fn hint_of(word: &[u8], expected: Expected) -> Option<&'static str> {
         | Expected::And
         | Expected::Expect
         | Expected::Record
+        | Expected::Of
+        | Expected::At
         | Expected::End => None,
     }
 }

@@ -1,4 +1,4 @@
-use Rattle.std.proofs.Common.{◌≡◌, arith, sym}
+use Rattle.std.proofs.Common.{arith, sym}
 use Rattle.std.proofs.lemmas.Option.{slice_get_read}
 use Rattle.dsa_recording.proofs.Placed.{placed}
 use Rattle.dsa_recording.proofs.detail.detail_of.Goals as goal

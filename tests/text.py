@@ -395,12 +395,12 @@ def reasons_drawn():
 
 
 def pictures():
-    """Pictures as a model draws them from the words of the same plan: those of the golden files and of the examples, and
-    those of lists of up to 1,024 pieces that conflict here and there."""
+    """Pictures of plans as a model draws them from the words of the same plan: those of the golden files and of the
+    examples, and those of lists of up to 1,024 pieces that conflict here and there."""
     asked = []
     for path in sorted(Path("tests/text").glob("*.golden")):
         for case in golden.cases(path):
-            if "--svg" in case.words and case.output:
+            if case.words.startswith("explain") and "--svg" in case.words and case.output:
                 asked.append((case.place, shlex.split(case.words), case.text, case.output.decode()))
     for path in sorted(Path("examples/text").glob("*.svg")):
         words = ["explain", "--svg", *path.with_suffix(".args").read_text().split()]

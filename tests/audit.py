@@ -1,8 +1,8 @@
 """Runs `dsa_text audit` on recordings. Random ones, which a seed makes, are judged by brute force: every set of fences of
-each batch is tried, addresses are sets of bytes, and nothing is shared with the program. Recordings of what the planner
-submits have no finding, and lack a fence where one is left out. Every operation code, recordings that end early, and how
-long large recordings take. The words are names of parts; a number is how many random recordings are judged, 200 without
-one."""
+each batch is tried, addresses are sets of bytes, and nothing is shared with the program. Pictures of them have what a
+model takes from their reports. Recordings of what the planner submits have no finding, and lack a fence where one is left
+out. Every operation code, recordings that end early, and how long large recordings take. The words are names of parts; a
+number is how many random recordings are judged, 200 without one."""
 
 import itertools
 import json
@@ -12,6 +12,7 @@ import struct
 import subprocess
 import time
 from pathlib import Path
+from xml.etree import ElementTree
 
 import common
 from common import move, named, program, run_test
@@ -280,6 +281,149 @@ def brute_force():
     common.expect(all(sums[name] > COUNT // 10 for name in ("missing", "needless", "guarding", "unseen")), f"too few findings: {sums}")
 
 
+# ---- pictures
+
+NAMES = {0: "no-op", MOVE: "move", FILL: "fill", COMPARE: "cmp", PATTERN: "pat", DELTA: "delta", DUALCAST: "dual"}
+HAZARDS = {"read after write": "RAW", "write after read": "WAR", "write after write": "WAW"}
+SVG = "{http://www.w3.org/2000/svg}"
+
+
+def counted(number, one, more=""):
+    return f"{number} {one if number == 1 else more or one + 's'}"
+
+
+def mark_of(found, fenced, later):
+    """The kind of the mark before a member, and the words under it; of what was found of the member."""
+    what = found.get(later, {}).get("mark")
+    if what is None:
+        return ("fence",) if fenced else None
+    if what["kind"] == "missing":
+        return ("missing", f"{later}←{what['earlier']}", HAZARDS[what["hazard"]])
+    return ("guarding", f"guards {what['earlier']}") if what["kind"] == "guarding" else ("needless", "needless")
+
+
+def wanted_parts(recording, report):
+    """What a picture has of a recording, from its report: at the left of each submission its number and what it is, the
+    boxes of its members with their marks, each where it begins; and where the last submission ends."""
+    entries = [recording[k : k + 64] for k in range(0, len(recording), 64)]
+    parts, at, number, end, findings = [], 0, 0, 36, {}
+    for it in report["findings"]:
+        part = "unseen" if it["what"]["kind"] == "unseen" else "mark"
+        findings.setdefault(it["submission"], {}).setdefault(it["member"] or 0, {})[part] = it["what"]
+    while at < len(entries):
+        is_batch, found = entries[at][7] == 1, findings.get(number, {})
+        first, size = (at + 1, struct.unpack_from("<I", entries[at], 32)[0]) if is_batch else (at, 1)
+        height = 68 if any("mark" in it for it in found.values()) else 48
+        parts.append(("row", 8, end + 11, f"submission {number}", f"batch of {size}" if is_batch else "lone"))
+        ground = ["white", "#ddd"]
+        for k, it in enumerate(entries[first : first + size]):
+            x, y, fenced, code = 100 + 50 * (k % 16), end + k // 16 * height, it[4] & 1, it[7]
+            if fenced and k:
+                ground.reverse()
+            name, why = NAMES.get(code, f"0x{code:02x}"), found.get(k, {}).get("unseen", {}).get("why")
+            border = ["4 3", why] if why else [None]
+            parts.append(("box", x, y, f"{k}: {name}, entry {first + k}", ground[0], f"{k}", name, *border))
+            if mark := mark_of(found, fenced, k):
+                parts.append((mark[0], x - 7, y, *mark[1:]))
+        at, number, end = first + size, number + 1, end + max(1, -(-size // 16)) * height + 6
+    return parts, end
+
+
+def part_of(group):
+    """What a group of shapes and words is, and where it begins."""
+    title, *shapes = group
+    words = [it.text for it in shapes if it.tag == f"{SVG}text"]
+    shapes = [it for it in shapes if it.tag != f"{SVG}text"]
+    tags = [it.tag.removeprefix(SVG) for it in shapes]
+    if not tags:
+        return ("row", int(group[1].get("x")), int(group[1].get("y")), *words)
+    shape, place = shapes[0], lambda x, y: (int(shapes[0].get(x)), int(shapes[0].get(y)))
+    if tags == ["rect"] and shape.get("width") == "40":
+        line, border = title.text.split(", not looked at: ")[0], shape.get("stroke-dasharray")
+        return ("box", *place("x", "y"), line, shape.get("fill"), *words[:2], border, *words[2:])
+    x, y = place("x1", "y1") if tags == ["line"] else place("x", "y")
+    if tags == ["line"]:
+        is_red = shape.get("stroke") == "#c00" and shape.get("stroke-dasharray") == "6 4"
+        return ("missing" if is_red else "a line", x - 2, y, *words)
+    if tags == ["rect", "path"]:
+        return ("needless" if shapes[1].get("d") == f"M{x - 4} {y + 14}l12 12m0 -12l-12 12" else "a path", x, y, *words)
+    return ({None: "fence", "white": "guarding"}.get(shape.get("fill"), "a bar"), x, y, *words)
+
+
+def drawn_totals(totals):
+    """The two lines of numbers of a report."""
+    held = f"{counted(totals['batches'], 'batch', 'batches')} and {counted(totals['lone'], 'lone submission')}"
+    first = f"{counted(totals['descriptors'], 'descriptor')} in {held}, {totals['unseen']} not looked at"
+    numbers = ", ".join(f"{totals[name]} {name}" for name in ("missing", "needless", "guarding"))
+    return [first, f"{counted(totals['fences'], 'fence')}, {numbers}"]
+
+
+def draw(recording, words=""):
+    """The picture of a recording, the status, and what stands on standard error."""
+    ran = subprocess.run([TEXT, "audit", "--svg", *words.split()], input=recording, capture_output=True)
+    return ran.stdout.decode(), ran.returncode, ran.stderr.decode()
+
+
+def compare(recording, name, words=""):
+    """The picture of a recording has what its report says, and nothing else; the kinds of its parts."""
+    report, _ = audited(recording)
+    drawn, status, error = draw(recording, words)
+    totals, (wanted, end) = report["totals"], wanted_parts(recording, report)
+    denied = sum(totals[kind] for kind in ("needless", "unseen") if kind in words)
+    common.expect((status, error) == (int(totals["missing"] + denied > 0), ""), f"{name}: status {status}, {error}")
+    root = ElementTree.fromstring(drawn)
+    parts = [part_of(group) for group in root.iter(f"{SVG}g")]
+    fault = next((pair for pair in itertools.zip_longest(wanted, parts) if pair[0] != pair[1]), None)
+    common.expect(not fault, f"{name}: wanted and drawn are {fault}")
+    common.expect((root.get("width"), root.get("height")) == ("900", f"{end + 38}"), f"{name}: {drawn[:200]}")
+    last = [(it.get("y"), it.text) for it in root.findall(f"{SVG}text")[-2:]]
+    lines = [(f"{end + 11 + 14 * k}", line) for k, line in enumerate(drawn_totals(totals))]
+    common.expect(last == lines, f"{name}: at the end stand {last}")
+    kinds = [part[0] for part in parts]
+    return {kind: kinds.count(kind) for kind in ("row", "box", "fence", "missing", "needless", "guarding")}
+
+
+def pictures():
+    """Random recordings, drawn: each picture as the report of the same recording says. Each second one denies something."""
+    sums = {}
+    for seed in range(COUNT):
+        words = ["", "--deny needless", "", "--deny needless,unseen"][seed % 4]
+        for kind, number in compare(Maker(seed).recording(), f"seed {seed} {words}", words).items():
+            sums[kind] = sums.get(kind, 0) + number
+    print("drawn: " + ", ".join(f"{number} {kind}" for kind, number in sums.items()))
+    common.expect(all(number > COUNT // 10 for number in sums.values()), f"too few parts are drawn: {sums}")
+
+
+def sizes():
+    """Pictures of nothing, of batches of several sizes, of the most submissions and entries that a picture has, and none of
+    more."""
+    apart = [move(0x1000000 + 64 * k, 0x9000000 + 64 * k, record_at=0x20000000 + 32 * k).bytes() for k in range(1025)]
+    same = [move(0x1000, 0x2000, record_at=0x20000000 + 32 * k).bytes() for k in range(1023)]
+    none = dict.fromkeys(("row", "box", "fence", "missing", "needless", "guarding"), 0)
+    common.expect(compare(b"", "nothing") == none, "nothing has parts")
+    common.expect(compare(batch(), "an empty batch") == none | {"row": 1}, "an empty batch has other parts")
+    for size in (1, 2, 15, 16, 17, 32, 33, 1023):
+        got = compare(batch(*apart[:size]), f"{size} members")
+        common.expect(got == none | {"row": 1, "box": size}, f"{size} members: {got}")
+        got = compare(batch(*same[:size]), f"{size} members that conflict")
+        common.expect(got == none | {"row": 1, "box": size, "missing": size - 1}, f"{size} members that conflict: {got}")
+        fenced = [bytes([*it[:4], it[4] | 1, *it[5:]]) for it in apart[:size]]
+        got = compare(batch(*fenced), f"{size} needless fences")
+        common.expect(got == none | {"row": 1, "box": size, "needless": size}, f"{size} needless fences: {got}")
+    got = compare(b"".join(apart[:1024]), "1024 lone submissions")
+    common.expect(got == none | {"row": 1024, "box": 1024}, f"1024 lone submissions: {got}")
+    most = batch(*apart[:1023]) * 64
+    for recording, reason in [
+        (b"".join(apart), "error: 1025 submissions, a picture has 1024 at most [91 Picture]\n"),
+        (batch() * 1025, "error: 1025 submissions, a picture has 1024 at most [91 Picture]\n"),
+        (most + apart[0], "error: 65537 entries, a picture has 65536 at most [91 Picture]\n"),
+    ]:
+        got = draw(recording)
+        common.expect(got == ("", 2, reason), f"{len(recording) // 64} entries: {got}"[:600])
+    drawn, status, error = draw(most)
+    common.expect((status, error, drawn.count(": move, entry ")) == (0, "", 64 * 1023), f"65536 entries: {status}, {error}")
+
+
 # ---- what the planner submits
 
 
@@ -414,7 +558,8 @@ def main(words):
     TEXT = program("dsa_text")
     numbers = [int(word) for word in words if word.isdigit()]
     COUNT = numbers[-1] if numbers else COUNT
-    for part in named([brute_force, planned, unseen, ends, forms, speed], [it for it in words if not it.isdigit()]):
+    parts = [brute_force, pictures, sizes, planned, unseen, ends, forms, speed]
+    for part in named(parts, [it for it in words if not it.isdigit()]):
         part()
 
 

@@ -460,6 +460,43 @@ def planned():
     common.expect(without > 10, f"only {without} fences were left out")
 
 
+def disassembled(words, emitted):
+    """The lines of a portal or of a staging area."""
+    ran = subprocess.run([TEXT, "disassemble", *words.split()], input=emitted, capture_output=True, text=False)
+    common.expect(ran.returncode == 0, f"disassemble {words} ends with {ran.returncode}: {ran.stderr[:300]}")
+    return ran.stdout.decode().splitlines(keepends=True)
+
+
+def lines():
+    """What the planner submits has the same report in lines: those of the portal, and behind that of each batch its members'.
+    So it has without one of its fences, which is a word less in one of the lines."""
+    fences = 0
+    for path in sorted(Path("tests/jobs").glob("plan-*.job")) + sorted(Path("examples").glob("**/p*.job")):
+        answer = subprocess.run([program("dsa")], input=path.read_bytes(), capture_output=True).stdout
+        if answer.startswith(b"refused"):
+            continue
+        answer, address = json.loads(answer), json.loads(path.read_text())["settings"]["staging"]
+        portal, staging = bytes.fromhex(answer["portal"]), bytes.fromhex(answer["staging"])
+        if not portal:
+            continue
+        members, text = disassembled(f"--staging --at {address}", staging) if staging else [], []
+        for line in disassembled("--portal", portal):
+            text.append(line)
+            if line.startswith("batch of "):
+                words = line.split()
+                first = (int(words[4].rstrip(","), 16) - address) // 64
+                text += members[first : first + int(words[2])]
+        recording = recorded(portal, staging, address)
+        common.expect(audited("".join(text).encode()) == audited(recording), f"{path}: another report of its lines")
+        fenced = [k for k, line in enumerate(text) if line.startswith("fence ")]
+        for k in fenced[:2]:
+            without = recording[: 64 * k + 4] + bytes([recording[64 * k + 4] - 1]) + recording[64 * k + 5 :]
+            less = "".join([*text[:k], text[k].removeprefix("fence "), *text[k + 1 :]]).encode()
+            common.expect(audited(less) == audited(without), f"{path}, without the fence of line {k}: another report")
+            fences += 1
+    common.expect(fences > 10, f"only {fences} fences were left out")
+
+
 # ---- recordings made by hand
 
 
@@ -558,7 +595,7 @@ def main(words):
     TEXT = program("dsa_text")
     numbers = [int(word) for word in words if word.isdigit()]
     COUNT = numbers[-1] if numbers else COUNT
-    parts = [brute_force, pictures, sizes, planned, unseen, ends, forms, speed]
+    parts = [brute_force, pictures, sizes, planned, lines, unseen, ends, forms, speed]
     for part in named(parts, [it for it in words if not it.isdigit()]):
         part()
 

@@ -395,8 +395,7 @@ def pictures():
 
 
 def sizes():
-    """Pictures of nothing, of batches of several sizes, of the most submissions and entries that a picture has, and none of
-    more."""
+    """Pictures of nothing, of batches of several sizes, and of the most submissions and entries that a picture has."""
     apart = [move(0x1000000 + 64 * k, 0x9000000 + 64 * k, record_at=0x20000000 + 32 * k).bytes() for k in range(1025)]
     same = [move(0x1000, 0x2000, record_at=0x20000000 + 32 * k).bytes() for k in range(1023)]
     none = dict.fromkeys(("row", "box", "fence", "missing", "needless", "guarding"), 0)
@@ -410,18 +409,26 @@ def sizes():
         fenced = [bytes([*it[:4], it[4] | 1, *it[5:]]) for it in apart[:size]]
         got = compare(batch(*fenced), f"{size} needless fences")
         common.expect(got == none | {"row": 1, "box": size, "needless": size}, f"{size} needless fences: {got}")
-    got = compare(b"".join(apart[:1024]), "1024 lone submissions")
-    common.expect(got == none | {"row": 1024, "box": 1024}, f"1024 lone submissions: {got}")
-    most = batch(*apart[:1023]) * 64
+    for recording, boxes, name in [
+        (b"".join(apart[:1024]), 1024, "1024 lone submissions"),
+        (batch(*apart[:63]) * 1024, 63 * 1024, "1024 batches of 65536 entries"),
+    ]:
+        got = compare(recording, name)
+        common.expect(got == none | {"row": 1024, "box": boxes}, f"{name}: {got}")
+
+
+def too_large():
+    """No picture of more submissions or entries than it has at most, but of such a recording the report in words."""
+    one = move(0x1000, 0x2000).bytes()
     for recording, reason in [
-        (b"".join(apart), "error: 1025 submissions, a picture has 1024 at most [91 Picture]\n"),
-        (batch() * 1025, "error: 1025 submissions, a picture has 1024 at most [91 Picture]\n"),
-        (most + apart[0], "error: 65537 entries, a picture has 65536 at most [91 Picture]\n"),
+        (one * 1025, "1025 submissions, a picture has 1024"),
+        (batch() * 1025, "1025 submissions, a picture has 1024"),
+        (batch(*[entry(0)] * 63) * 1023 + batch(*[entry(0)] * 64), "65537 entries, a picture has 65536"),
     ]:
         got = draw(recording)
-        common.expect(got == ("", 2, reason), f"{len(recording) // 64} entries: {got}"[:600])
-    drawn, status, error = draw(most)
-    common.expect((status, error, drawn.count(": move, entry ")) == (0, "", 64 * 1023), f"65536 entries: {status}, {error}")
+        common.expect(got == ("", 2, f"error: {reason} at most [91 Picture]\n"), f"{reason}: {got}"[:600])
+        _, status = audited(recording)
+        common.expect(status in (0, 1), f"{reason}: the report ends with status {status}")
 
 
 # ---- what the planner submits
@@ -595,7 +602,7 @@ def main(words):
     TEXT = program("dsa_text")
     numbers = [int(word) for word in words if word.isdigit()]
     COUNT = numbers[-1] if numbers else COUNT
-    parts = [brute_force, pictures, sizes, planned, lines, unseen, ends, forms, speed]
+    parts = [brute_force, pictures, sizes, too_large, planned, lines, unseen, ends, forms, speed]
     for part in named(parts, [it for it in words if not it.isdigit()]):
         part()
 

@@ -423,7 +423,7 @@ def too_large():
     for recording, reason in [
         (one * 1025, "1025 submissions, a picture has 1024"),
         (batch() * 1025, "1025 submissions, a picture has 1024"),
-        (batch(*[entry(0)] * 63) * 1023 + batch(*[entry(0)] * 64), "65537 entries, a picture has 65536"),
+        (batch(*[entry(0, 0)] * 63) * 1023 + batch(*[entry(0, 0)] * 64), "65537 entries, a picture has 65536"),
     ]:
         got = draw(recording)
         common.expect(got == ("", 2, f"error: {reason} at most [91 Picture]\n"), f"{reason}: {got}"[:600])

@@ -8,3 +8,4 @@ pub mod Placed
 pub mod Spelled
 pub mod Found
 pub mod Status
+pub mod Summed

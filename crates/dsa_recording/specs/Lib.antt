@@ -8,4 +8,5 @@ pub mod Details
 pub mod Forms
 pub mod Words
 pub mod Answers
+pub mod Totals
 pub mod Laws

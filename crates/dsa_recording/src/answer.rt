@@ -4,6 +4,7 @@ ghost use Rattle.dsa_recording.specs.declared.answer.AuditFormat.TheVariants.{Pi
 ghost use Rattle.std.specs.Prelude.{◌≡◌, ◌≢◌, ◌↔◌, IfOk, IsTrue};
 ghost use Rattle.dsa_recording.specs.declared.stream.StreamFault.TheVariants.{Memory};
 ghost use Rattle.dsa_recording.specs.Answers.{is_harmless, AnswersFormat, AnswersRecording, AnswersReport, AreHarmless, IsStatusOf};
+ghost use Rattle.dsa_recording.specs.Totals.{HasSums};
 
 use crate::detail::{detail_of, has_all_fences};
 use crate::findings::{Finding, FindingKind};
@@ -97,7 +98,9 @@ fn report_text(
     all: &[[u8; 64]],
     report: &Report,
     denied: Denied,
-) -> Result<String, AllocError> {
+) -> Result<String, AllocError>
+    requires { HasSums report.now }
+{
     let complete = completeness(alloc, report)?;
     let mut text = String::new(alloc);
     for finding in &report.findings {
@@ -126,6 +129,7 @@ fn answer_picture(
     report: &Report,
     denied: Denied,
 ) -> Result<AuditAnswer, AllocError>
+    requires { HasSums report.now }
     ensures { IfOk result (AnswersFormat Picture all.now report.now denied) }
 {
     if is_too_large(all, report) {
@@ -142,6 +146,7 @@ fn answer_report(
     report: &Report,
     options: AuditOptions,
 ) -> Result<AuditAnswer, AllocError>
+    requires { HasSums report.now }
     ensures { IfOk result (AnswersReport options all.now report.now) }
 {
     let denied = options.denied;

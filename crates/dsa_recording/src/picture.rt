@@ -4,6 +4,7 @@
 ghost use Rattle.std.specs.Prelude.{◌↔◌, IfOk, IsTrue, string_bytes};
 ghost use Rattle.dsa_drawing.specs.Pictures.{IsPicture};
 ghost use Rattle.dsa_recording.specs.Answers.{IsTooLarge};
+ghost use Rattle.dsa_recording.specs.Totals.{HasSums};
 
 use crate::detail::has_all_fences;
 use crate::marks::{has_words, mark_of, push_legend, push_mark};
@@ -201,7 +202,9 @@ fn push_totals(
 }
 
 /// What stands in a picture behind its first word.
-fn picture_body(alloc: Global, all: &[[u8; 64]], report: &Report) -> Result<String, AllocError> {
+fn picture_body(alloc: Global, all: &[[u8; 64]], report: &Report) -> Result<String, AllocError>
+    requires { HasSums report.now }
+{
     let mut svg = String::new(alloc);
     let end = rows_end(&report.audits);
     let totals = totals_text(alloc, &totals_of(report))?;
@@ -222,6 +225,7 @@ pub(crate) fn draw_report(
     all: &[[u8; 64]],
     report: &Report,
 ) -> Result<String, AllocError>
+    requires { HasSums report.now }
     ensures { IfOk result (λ s. IsPicture (string_bytes s)) }
 {
     svg_of(alloc, &picture_body(alloc, all, report)?)

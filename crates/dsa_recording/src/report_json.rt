@@ -1,5 +1,7 @@
 //! A report on a recording as JSON.
 
+ghost use Rattle.dsa_recording.specs.Totals.{HasSums};
+
 use crate::answer::{completeness, is_complete};
 use crate::detail::{Cause, Detail, detail_of};
 use crate::report::Report;
@@ -114,7 +116,9 @@ pub(crate) fn report_json(
     all: &[[u8; 64]],
     report: &Report,
     denied: Denied,
-) -> Result<String, AllocError> {
+) -> Result<String, AllocError>
+    requires { HasSums report.now }
+{
     let complete = completeness(alloc, report)?;
     let mut findings = Vec::new(alloc);
     for finding in &report.findings {

@@ -1,7 +1,8 @@
 //! What the findings of an audit come to.
 
-ghost use Rattle.std.specs.Prelude.{◌≡◌};
+ghost use Rattle.std.specs.Prelude.{◌≡◌, ◌<◌, ◌^◌, not};
 ghost use Rattle.std.specs.List.{count_by, sum_by};
+ghost use Rattle.dsa_recording.specs.Totals.{member_count, set_count, is_unseen, is_missing, is_needless, is_guarding, IsTotals, HasSums};
 
 use crate::findings::{Finding, FindingKind};
 use crate::report::Report;
@@ -31,7 +32,9 @@ pub struct Totals {
 }
 
 /// How many submissions are batches.
-fn batches_in(submissions: &[Submission]) -> usize {
+fn batches_in(submissions: &[Submission]) -> usize
+    ensures { result ≡ count_by (λ s. s.is_batch) submissions.now }
+{
     submissions
         .iter()
         .filter(|submission| submission.is_batch)
@@ -39,47 +42,78 @@ fn batches_in(submissions: &[Submission]) -> usize {
 }
 
 /// How many fences are set.
-fn fences_in(fences: &[bool]) -> usize {
+fn fences_in(fences: &[bool]) -> usize
+    ensures { result ≡ count_by (λ b. b) fences.now }
+{
     fences.iter().filter(|fence| **fence).count()
 }
 
-/// Adds up what each submission has.
-fn sums_of(audits: &[Audited]) -> (usize, usize) {
-    let mut descriptors: usize = 0;
-    let mut fences: usize = 0;
+/// How many submissions are lone descriptors.
+fn lone_in(submissions: &[Submission]) -> usize
+    ensures { result ≡ count_by (λ s. not s.is_batch) submissions.now }
+{
+    submissions
+        .iter()
+        .filter(|submission| !submission.is_batch)
+        .count()
+}
+
+/// How many members all submissions have.
+fn members_in(audits: &[Audited]) -> usize
+    requires { sum_by member_count audits.now < 2 ^ 64 }
+    ensures { result ≡ sum_by member_count audits.now }
+{
+    let mut members = 0;
     for audited in audits {
-        descriptors = descriptors.saturating_add(audited.members.len());
-        fences = fences.saturating_add(fences_in(&audited.fences));
+        members += audited.members.len();
     }
-    (descriptors, fences)
+    members
+}
+
+/// How many fences are set in all submissions.
+fn all_fences_in(audits: &[Audited]) -> usize
+    requires { sum_by set_count audits.now < 2 ^ 64 }
+    ensures { result ≡ sum_by set_count audits.now }
+{
+    let mut fences = 0;
+    for audited in audits {
+        fences += fences_in(&audited.fences);
+    }
+    fences
 }
 
 /// How many members are not looked at, and how many fences are missing, needless, or guard.
-fn counts_of(findings: &[Finding]) -> (usize, usize, usize, usize) {
+fn counts_of(findings: &[Finding]) -> (usize, usize, usize, usize)
+    ensures unseen { result.0 ≡ count_by (λ f. is_unseen f.kind) findings.now }
+    ensures missing { result.1 ≡ count_by (λ f. is_missing f.kind) findings.now }
+    ensures needless { result.2 ≡ count_by (λ f. is_needless f.kind) findings.now }
+    ensures guarding { result.3 ≡ count_by (λ f. is_guarding f.kind) findings.now }
+{
     let (mut unseen, mut missing): (usize, usize) = (0, 0);
     let (mut needless, mut guarding): (usize, usize) = (0, 0);
     for finding in findings {
         match finding.kind {
-            FindingKind::NotSeen(_) => unseen = unseen.saturating_add(1),
-            FindingKind::MissingFence(_) => missing = missing.saturating_add(1),
-            FindingKind::GuardingFence(_) => guarding = guarding.saturating_add(1),
-            FindingKind::NeedlessFence => needless = needless.saturating_add(1),
+            FindingKind::NotSeen(_) => unseen += 1,
+            FindingKind::MissingFence(_) => missing += 1,
+            FindingKind::GuardingFence(_) => guarding += 1,
+            FindingKind::NeedlessFence => needless += 1,
         }
     }
     (unseen, missing, needless, guarding)
 }
 
 /// The numbers of a report.
-pub fn totals_of(report: &Report) -> Totals {
-    let batches = batches_in(&report.submissions);
-    let (descriptors, fences) = sums_of(&report.audits);
+pub fn totals_of(report: &Report) -> Totals
+    requires { HasSums report.now }
+    ensures { IsTotals report.now result }
+{
     let (unseen, missing, needless, guarding) = counts_of(&report.findings);
     Totals {
-        batches,
-        lone: report.submissions.len().saturating_sub(batches),
-        descriptors,
+        batches: batches_in(&report.submissions),
+        lone: lone_in(&report.submissions),
+        descriptors: members_in(&report.audits),
         unseen,
-        fences,
+        fences: all_fences_in(&report.audits),
         missing,
         needless,
         guarding,

@@ -1,5 +1,10 @@
+use Rattle.std.proofs.Common.{arith}
 use Rattle.dsa_recording.proofs.Status.{reported}
+use Rattle.dsa_recording.proofs.Summed.{has_sums}
 use Rattle.dsa_recording.proofs.answer.audit_bytes.Goals as goal
+
+pub answer_report-requires : goal.answer_report-requires
+answer_report-requires c = has_sums c.args.bytes.now c.in-Ok.report c.in-Ok.ensures.answer (omega arith)
 
 pub returns-in-Ok : goal.returns-in-Ok
 returns-in-Ok c =

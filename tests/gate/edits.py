@@ -250,25 +250,26 @@ def sum_of(crate, edits):
     return total.hexdigest()
 
 
-def link_kept(crate, to):
-    """Links what the crate's proof kept: a check replaces such a file, and changes none. Where a file could not be taken, it
-    says why and tries once more."""
+def take_kept(crate, to):
+    """Links what the crate's proof kept, where the kit's checks replace such a file and change none, and else copies it. Where
+    a file could not be taken, it says why and tries once more."""
+    take = getattr(rt, "linked", shutil.copytree)
     try:
-        rt.linked(f"{crate.folder}/{toolchain.KEPT}", to)
+        take(f"{crate.folder}/{toolchain.KEPT}", to)
     except shutil.Error as error:
         _, path, why = error.args[0][0]
         print(f"note: {os.path.basename(path)}: {why}; trying once more", flush=True)
         shutil.rmtree(to)
-        rt.linked(f"{crate.folder}/{toolchain.KEPT}", to)
+        take(f"{crate.folder}/{toolchain.KEPT}", to)
 
 
 def failures_of(crate, edits):
     """Tries the edits, prints what came of each, and returns how many are not as they should be."""
     failed = 0
-    # In the crate's own out/, where links can be made, so that nothing takes room twice.
+    # In the crate's own out/, where links can be made.
     with tempfile.TemporaryDirectory(prefix="edits-", dir=f"{crate.folder}/out") as room:
         kept = f"{room}/kept"
-        link_kept(crate, kept)
+        take_kept(crate, kept)
         for edit, is_well, said in tried(crate, edits, kept):
             failed += not is_well
             print(f"must-fail {crate.name}/{edit.name}: {said[:160] if is_well else 'FAILED: ' + said[:400]}", flush=True)

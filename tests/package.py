@@ -237,7 +237,7 @@ def completion():
 def said():
     """The file PROVED names the commit, the toolchain, each promise of README.md, and the sums of the programs."""
     text = Path(PREFIX, "share/doc/dsa-planner/PROVED").read_text()
-    kit = re.search(r'^KIT_ID = "(.*)"', Path("tests/gate/toolchain.py").read_text(), re.M)[1]
+    kit = subprocess.run(["rt", "version"], capture_output=True, text=True, check=True).stdout.split()[0]
     expect(f"Toolchain: {kit}\n" in text and make.commit()[0] in text, "PROVED does not name the toolchain and the commit")
     rows = re.findall(r"^\| (.*?) \| ", Path("README.md").read_text().split("## How sure")[1].split("\n- ")[0], re.M)
     expect(len(rows) > 5 and all(row in text for row in rows[1:]), "PROVED does not have the promises of README.md")

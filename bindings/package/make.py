@@ -179,7 +179,7 @@ def commit():
 def proved():
     """The file that says what was proved."""
     name, _ = commit()
-    kit = re.search(r'^KIT_ID = "(.*)"', (ROOT / "tests/gate/toolchain.py").read_text(), re.M)[1]
+    kit = run("rt", "version").split()[0]
     sums = "\n".join(f"{hashlib.sha256(path.read_bytes()).hexdigest()}  {file}" for file, path in PROVED.items())
     return f"""What was proved of dsa-planner {".".join(map(str, version()))}
 

@@ -57,6 +57,10 @@ def roff(markdown):
             at += 1
         elif line.startswith("    "):
             out += shown([it[4:] for it in run("    ")])
+        elif line.startswith("```"):
+            end = lines.index("```", at + 1)
+            out += shown(lines[at + 1 : end])
+            at = end + 1
         elif line.startswith("|"):
             out += table(run(r"\|"))
         elif mark := re.match(r"(- |\d+\. )", line):

@@ -4,9 +4,9 @@ import re
 LINE = 16
 SHORT = {"move": "move", "fill": "fill", "delta": "delta", "dualcast": "dual"}
 KINDS = {"read after write": "RAW", "write after read": "WAR", "write after write": "WAW"}
-GROUP = re.compile(r"group (\d+): (?:lone submission|batch of (\d+), (\d+) fences?, \d+ epochs?), cost (\d+)")
+GROUP = re.compile(r"group (\d+): (?:lone submission|batch of (\d+)(?: \(full\))?, (\d+) fences?, \d+ epochs?), cost (\d+)")
 FENCE = re.compile(r"  -- fence, cost \d+: (.*)")
-REASON = re.compile(r"(\d+) after (\d+), (.*) at 0x[0-9a-f]+(?:, and (\d+) more)?")
+REASON = re.compile(r"(\d+) after (\d+), (.*) at 0x[0-9a-f]+(?: \(record of \d+\))?(?:, and (\d+) more)?")
 PIECE = re.compile(r"  (\d+): (\w+) .*")
 
 

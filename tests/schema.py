@@ -1,6 +1,7 @@
 """Looks at docs/jobs.schema.json by a validator of the keywords that it uses: it accepts the jobs that the program
-reads and their answers, and rejects the others. What is right is taken from docs/FORMATS.md, typed by hand, and from
-the lines beside the jobs. It needs no program. The words are names of parts."""
+reads and their answers, and rejects the others; and at the schemas of reports in docs/FORMATS.md. What is right is taken
+from docs/FORMATS.md, typed by hand, from the lines beside the jobs, and from the golden files. It needs no program. The
+words are names of parts."""
 
 import copy
 import json
@@ -8,6 +9,7 @@ import re
 from pathlib import Path
 
 import common
+import golden
 from common import expect, named, run_test
 
 SCHEMA = json.loads((common.ROOT / "docs/jobs.schema.json").read_text())
@@ -264,11 +266,42 @@ def members():
         rejects(value, f"the job {value}")
 
 
+def resolved(schema, definitions):
+    """The schema with its definitions in place of the references to them."""
+    if isinstance(schema, list):
+        return [resolved(inner, definitions) for inner in schema]
+    if not isinstance(schema, dict):
+        return schema
+    own = {word: resolved(inner, definitions) for word, inner in schema.items() if word not in ("$ref", "$defs")}
+    if "$ref" in schema:
+        own |= resolved(definitions[schema["$ref"].removeprefix("#/$defs/")], definitions)
+    return own
+
+
+def reports():
+    """The schemas of docs/FORMATS.md accept what the golden files of `--json` have, and nothing with a member more or less."""
+    schemas = [json.loads(text) for text in re.findall(r"```json\n(.*?)```", Path("docs/FORMATS.md").read_text(), re.S)]
+    expect(len(schemas) == 2, f"docs/FORMATS.md has {len(schemas)} schemas")
+    schemas = {"explain": resolved(schemas[0], schemas[0]["$defs"]), "audit": resolved(schemas[1], schemas[1]["$defs"])}
+    seen = dict.fromkeys(schemas, 0)
+    for path in sorted(Path("tests/text").glob("*.golden")):
+        for case in golden.cases(path):
+            if "--json" not in case.words or not case.output:
+                continue
+            command = case.words.split()[0]
+            seen[command] += 1
+            report = json.loads(case.output)
+            expect(holds(schemas[command], report), f"{case.place}: the schema of {command} rejects what is written")
+            for what, other in inexact(report):
+                expect(not holds(schemas[command], other), f"{case.place}: the schema of {command} accepts it with {what}")
+    expect(min(seen.values()) > 2, f"few reports are compared: {seen}")
+
+
 def main(words):
     keywords()
     # the others need a validator that knows every keyword
     if not common.failed:
-        for part in named([formats, examples, values, members], words):
+        for part in named([formats, examples, values, members, reports], words):
             part()
 
 

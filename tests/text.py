@@ -266,7 +266,8 @@ def shown(moves, plan, reasons):
     for number, fences in enumerate(plan):
         count = sum(fences)
         cost = 14 + 3 * count if len(fences) > 1 else 10
-        kind = f"batch of {len(fences)}, {count} fence{'s' * (count != 1)}, {count + 1} epoch{'s' * (count != 0)}"
+        full = " (full)" * (len(fences) == 4)
+        kind = f"batch of {len(fences)}{full}, {count} fence{'s' * (count != 1)}, {count + 1} epoch{'s' * (count != 0)}"
         rows.append(f"group {number}: {kind if len(fences) > 1 else 'lone submission'}, cost {cost}")
         for fenced in fences:
             if fenced:
@@ -321,7 +322,7 @@ def large():
     rows = []
     for k, line in enumerate(lines):
         if k % 1024 == 0:
-            rows.append(f"group {k // 1024}: batch of 1024, 0 fences, 1 epoch, cost 14")
+            rows.append(f"group {k // 1024}: batch of 1024 (full), 0 fences, 1 epoch, cost 14")
         rows.append(f"  {k}: {line}")
     rows.append(f"cost 896; {count} lone submissions cost 655360, saved 654464")
     expect("explain --greatest-batch 1024", text, "\n".join(rows))

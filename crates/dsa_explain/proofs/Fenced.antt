@@ -7,6 +7,7 @@ use Rattle.dsa_descriptor.specs.Fields.{Fields}
 use Rattle.dsa_plan.specs.Plan.{Group, Plan}
 use Rattle.dsa_plan.specs.Legal.{IsFenced}
 use Rattle.dsa_explain.specs.declared.fences.Fence.{Fence}
+use Rattle.dsa_explain.specs.declared.fences.Detail.{Detail}
 use Rattle.dsa_explain.specs.Fences.{AddsExplained, HasReasons, IsExplained, fence_places, fenced_in, fenced_pieces}
 
 -- ---- the loop over a group
@@ -41,19 +42,19 @@ pub is_fenced : (start i : ℕ) (g : Group) → i < length g → get_or g i fals
 is_fenced start i g within fenced =
     let e : (start + i) - start ≡ i = omega arith in (omega arith, rw e (slice_get-get_or g i false within ∙ ap Some fenced))
 
-pub explained_pushed : (fs : List Fields) (start : ℕ) (g : Group) (before fences : List Fence) (fence : Fence) → IsFenced start g fence.piece
-    → HasReasons fs start g fence → AddsExplained fs start g before fences → AddsExplained fs start g before (fences ++ fence ∷ [])
-explained_pushed fs start g before fences fence fenced reasons adds plan number there begins all =
-    All-append (IsExplained fs plan) fences (fence ∷ []) (adds plan number there begins all)
-    (All-cons (IsExplained fs plan) fence []
+pub explained_pushed : (detail : Detail) (fs : List Fields) (start : ℕ) (g : Group) (before fences : List Fence) (fence : Fence) → IsFenced start g fence.piece
+    → HasReasons detail fs start g fence → AddsExplained detail fs start g before fences → AddsExplained detail fs start g before (fences ++ fence ∷ [])
+explained_pushed detail fs start g before fences fence fenced reasons adds plan number there begins all =
+    All-append (IsExplained detail fs plan) fences (fence ∷ []) (adds plan number there begins all)
+    (All-cons (IsExplained detail fs plan) fence []
     (record {
       number = number;
       group = g;
       is_group = there;
       fenced = subst (λ (s : ℕ). IsFenced s g fence.piece) begins fenced;
-      reasons = subst (λ (s : ℕ). HasReasons fs s g fence) begins reasons;
+      reasons = subst (λ (s : ℕ). HasReasons detail fs s g fence) begins reasons;
     })
-    (All-nil (IsExplained fs plan)))
+    (All-nil (IsExplained detail fs plan)))
 
 -- ---- the loop over a plan
 

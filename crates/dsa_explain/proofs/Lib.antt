@@ -7,3 +7,4 @@ pub mod Fenced
 pub mod CostSums
 pub mod FencedOnce
 pub mod Lines
+pub mod NoFloats

@@ -11,14 +11,15 @@ use Rattle.dsa_plan.specs.Costs.{AreCosts}
 use Rattle.dsa_plan.specs.LegalFaults.{IsFirstLegalFault}
 use Rattle.dsa_explain.specs.Cells.{cells_from}
 use Rattle.dsa_explain.specs.Fences.{AreFencesOf}
+use Rattle.dsa_explain.specs.declared.fences.Detail.{Detail}
 use Rattle.dsa_explain.specs.declared.explanation.Explanation.{Explanation}
 use Rattle.dsa_explain.specs.declared.explanation.ExplainFault.{ExplainFault}
 use Rattle.dsa_explain.specs.declared.explanation.ExplainFault.TheVariants.{TooManyPieces, Legal, Memory}
 
 -- the plan's costs, its fences and its cells
-pub record IsExplanationOf (s : Limits) (pieces : List Descriptor) (plan : Plan) (e : Explanation) : Type 0 where
+pub record IsExplanationOf (s : Limits) (detail : Detail) (pieces : List Descriptor) (plan : Plan) (e : Explanation) : Type 0 where
   pub costs : AreCosts s (length pieces) plan e.costs
-  pub fences : AreFencesOf (map fields pieces) plan e.fences.items
+  pub fences : AreFencesOf detail (map fields pieces) plan e.fences.items
   pub cells : e.cells.items ≡ cells_from 0 plan
 
 -- the plan is legal, of pieces that are not too many
@@ -28,10 +29,10 @@ pub record CanBeExplained (s : Limits) (pieces : List Descriptor) (plan : Plan) 
 
 -- Of a plan that can be explained, and of no other, its explanation, or that memory ran out. Else
 -- that the pieces are too many; else the plan's first fault.
-abbrev pub Explains : Limits → List Descriptor → Plan → Result Explanation ExplainFault → Type 0
-Explains s pieces plan (Ok e) = CanBeExplained s pieces plan × IsExplanationOf s pieces plan e
-Explains s pieces plan (Err Memory) = CanBeExplained s pieces plan
-Explains s pieces plan (Err TooManyPieces) = most_pieces < length pieces
-Explains s pieces plan (Err (Legal fault)) =
+abbrev pub Explains : Limits → Detail → List Descriptor → Plan → Result Explanation ExplainFault → Type 0
+Explains s detail pieces plan (Ok e) = CanBeExplained s pieces plan × IsExplanationOf s detail pieces plan e
+Explains s detail pieces plan (Err Memory) = CanBeExplained s pieces plan
+Explains s detail pieces plan (Err TooManyPieces) = most_pieces < length pieces
+Explains s detail pieces plan (Err (Legal fault)) =
     (length pieces ≤ most_pieces)
     × IsFirstLegalFault (ConflictAt (map fields pieces)) s.greatest_batch (length pieces) plan fault

@@ -1,11 +1,13 @@
 -- The fences of a plan, and what each is for.
-use Rattle.std.specs.Prelude.{◌≡◌, ℕ, suc, ◌+◌, ◌-◌, All, List, [], ◌∷◌, ◌++◌, length, map, slice_get, Some, if◌then◌else◌}
+use Rattle.std.specs.Prelude.{◌≡◌, ℕ, suc, ◌+◌, ◌-◌, All, List, [], ◌∷◌, ◌++◌, length, map, slice_get, take, Some, if◌then◌else◌}
 use Rattle.dsa_descriptor.specs.Fields.{Fields}
 use Rattle.dsa_plan.specs.Plan.{Group, Plan, start_of}
 use Rattle.dsa_plan.specs.Legal.{IsFenced}
 use Rattle.dsa_explain.specs.declared.reason.Reason.{Reason}
 use Rattle.dsa_explain.specs.Reasons.{AreReasonsFor}
 use Rattle.dsa_explain.specs.declared.fences.Fence.{Fence}
+use Rattle.dsa_explain.specs.declared.fences.Detail.{Detail}
+use Rattle.dsa_explain.specs.declared.fences.Detail.TheVariants.{First, All as Every}
 
 -- the fenced pieces of a group that begins with this piece, in order
 abbrev pub fenced_in : ℕ → Group → List ℕ
@@ -19,34 +21,39 @@ fenced_pieces piece [] = []
 fenced_pieces piece (group ∷ plan) =
     fenced_in piece group ++ fenced_pieces (piece + length group) plan
 
--- the fence has the first of all reasons for it, and says how many more there are
-pub record HasReasons (pieces : List Fields) (start : ℕ) (group : Group) (fence : Fence) : Type 0 where
+-- the reasons that are named of a fence: the first one, or each
+abbrev pub named_of : Detail → List Reason → List Reason
+named_of First reasons = take 1 reasons
+named_of Every reasons = reasons
+
+-- the fence has its reasons in that detail, and says how many more there are
+pub record HasReasons (detail : Detail) (pieces : List Fields) (start : ℕ) (group : Group) (fence : Fence) : Type 0 where
   pub reasons : List Reason
   pub are : AreReasonsFor pieces start group fence.piece reasons
-  pub first : fence.reason ≡ slice_get reasons 0
-  pub more : fence.more ≡ length reasons - 1
+  pub named : fence.named.items ≡ named_of detail reasons
+  pub more : fence.more ≡ length reasons - length fence.named.items
 
 -- the fence stands in some group of the plan, and its reasons are what needs it there
-pub record IsExplained (pieces : List Fields) (plan : Plan) (fence : Fence) : Type 0 where
+pub record IsExplained (detail : Detail) (pieces : List Fields) (plan : Plan) (fence : Fence) : Type 0 where
   pub number : ℕ
   pub group : Group
   pub is_group : slice_get plan number ≡ Some group
   pub fenced : IsFenced (start_of plan number) group fence.piece
-  pub reasons : HasReasons pieces (start_of plan number) group fence
+  pub reasons : HasReasons detail pieces (start_of plan number) group fence
 
 -- the pieces that fences stand before
 abbrev pub fence_places : List Fence → List ℕ
 fence_places fences = map (λ fence. fence.piece) fences
 
 -- one fence before each fenced piece of the plan, in order, and each with its reasons
-pub record AreFencesOf (pieces : List Fields) (plan : Plan) (fences : List Fence) : Type 0 where
+pub record AreFencesOf (detail : Detail) (pieces : List Fields) (plan : Plan) (fences : List Fence) : Type 0 where
   pub places : fence_places fences ≡ fenced_pieces 0 plan
-  pub reasons : All (IsExplained pieces plan) fences
+  pub reasons : All (IsExplained detail pieces plan) fences
 
 -- ---- for private clauses
 
 -- fences of the group of that number are added to explained ones, and then all are explained
-abbrev pub AddsExplained : List Fields → ℕ → Group → List Fence → List Fence → Type 0
-AddsExplained pieces start group before after =
+abbrev pub AddsExplained : Detail → List Fields → ℕ → Group → List Fence → List Fence → Type 0
+AddsExplained detail pieces start group before after =
     (plan : Plan) (number : ℕ) → slice_get plan number ≡ Some group → start ≡ start_of plan number →
-    All (IsExplained pieces plan) before → All (IsExplained pieces plan) after
+    All (IsExplained detail pieces plan) before → All (IsExplained detail pieces plan) after

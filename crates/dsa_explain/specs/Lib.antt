@@ -2,5 +2,6 @@ pub mod Reasons
 pub mod Fences
 pub mod Cells
 pub mod Words
+pub mod Document
 pub mod Explained
 pub mod Laws

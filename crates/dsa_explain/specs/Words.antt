@@ -1,10 +1,12 @@
 -- The words of an explanation (this project's choice).
-use Rattle.std.specs.Prelude.{ℕ, suc, ◌+◌, ◌-◌, ◌==◌, nat_le, nat_lt, List, [], ◌∷◌, ◌++◌, codes, decimal, drop, length, slice_get, Option, Some, None, if◌then◌else◌}
+use Rattle.std.specs.Prelude.{ℕ, suc, ◌+◌, ◌-◌, ◌==◌, ◌&&◌, nat_le, nat_lt, Bool, false, List, [], ◌∷◌, ◌++◌, codes, decimal, drop, length, slice_get, Option, Some, None, if◌then◌else◌}
+use Rattle.std.specs.List.{flat_map}
 use Rattle.dsa_descriptor.specs.declared.descriptor.Descriptor.{Descriptor}
 use Rattle.dsa_ranges.specs.declared.hazards.HazardKind.{HazardKind}
 use Rattle.dsa_ranges.specs.declared.hazards.HazardKind.TheVariants.{ReadAfterWrite, WriteAfterRead, WriteAfterWrite}
 use Rattle.dsa_lines.specs.Numbers.{hex}
 use Rattle.dsa_lines.specs.Text.{op_words, text_of}
+use Rattle.dsa_plan.specs.Settings.{Limits}
 use Rattle.dsa_plan.specs.declared.costs.Costs.{Costs}
 use Rattle.dsa_plan.specs.declared.costs.GroupCost.{GroupCost}
 use Rattle.dsa_explain.specs.declared.cells.Cell.{Cell}
@@ -35,28 +37,64 @@ abbrev pub lone_words : ℕ → ℕ → List ℕ
 lone_words number cost =
     codes "group " ++ (decimal number ++ (codes ": lone submission, cost " ++ decimal cost))
 
+-- that a batch is as large as it may be
+abbrev pub full_words : ℕ → ℕ → List ℕ
+full_words greatest size = if size == greatest then codes " (full)" else []
+
 -- a batch: its size, and what it costs
-abbrev pub batch_words : ℕ → GroupCost → List ℕ
-batch_words number group =
-    codes "group " ++ (decimal number ++ (codes ": batch of " ++ (decimal group.size ++ (codes ", " ++ fences_words group.fences group.cost))))
+abbrev pub batch_words : ℕ → ℕ → GroupCost → List ℕ
+batch_words greatest number group =
+    codes "group "
+    ++ (decimal number
+    ++ (codes ": batch of "
+    ++ (decimal group.size ++ (full_words greatest group.size ++ (codes ", " ++ fences_words group.fences group.cost)))))
 
-abbrev pub group_words : ℕ → GroupCost → List ℕ
-group_words number group =
-    if group.size == 1 then lone_words number group.cost else batch_words number group
+abbrev pub group_words : ℕ → ℕ → GroupCost → List ℕ
+group_words greatest number group =
+    if group.size == 1 then lone_words number group.cost else batch_words greatest number group
 
--- the conflict that a fence separates: its two pieces, its kind and an address of it
-abbrev pub reason_words : Option Reason → List ℕ
-reason_words None = codes "no conflict needs it alone"
-reason_words (Some r) =
+-- the two pieces of a conflict, its kind and an address of it
+abbrev pub conflict_words : Reason → List ℕ
+conflict_words r =
     decimal r.later ++ (codes " after " ++ (decimal r.earlier ++ (codes ", " ++ (kind_words r.hazard.kind ++ (codes " at " ++ hex r.hazard.address)))))
+
+-- the address is one of the 32 of the piece's completion record
+abbrev pub is_in_record : Option Descriptor → ℕ → Bool
+is_in_record None address = false
+is_in_record (Some d) address = nat_le d.record_at address && nat_lt (address - d.record_at) 32
+
+-- the piece of a conflict whose completion record has the address, if one has; the earlier one if both have
+abbrev pub record_of : List Descriptor → Reason → Option ℕ
+record_of pieces r =
+    if is_in_record (slice_get pieces r.earlier) r.hazard.address
+    then Some r.earlier
+    else (if is_in_record (slice_get pieces r.later) r.hazard.address then Some r.later else None)
+
+-- that the address lies in a completion record
+abbrev pub record_words : Option ℕ → List ℕ
+record_words None = []
+record_words (Some piece) = codes " (record of " ++ (decimal piece ++ codes ")")
+
+-- a conflict that a fence separates
+abbrev pub reason_words : List Descriptor → Reason → List ℕ
+reason_words pieces r = conflict_words r ++ record_words (record_of pieces r)
+
+-- the first of the conflicts that are named
+abbrev pub first_words : List Descriptor → Option Reason → List ℕ
+first_words pieces None = codes "no conflict needs it alone"
+first_words pieces (Some r) = reason_words pieces r
 
 -- how many more conflicts a fence alone separates, where there are any
 abbrev pub more_words : ℕ → List ℕ
 more_words more = if more == 0 then [] else codes ", and " ++ (decimal more ++ codes " more")
 
--- a fence: the first conflict that it alone separates, and how many more
-abbrev pub fence_words : Fence → List ℕ
-fence_words fence = reason_words fence.reason ++ more_words fence.more
+-- a fence: the first conflict that it alone separates, and how many more there are that are not named
+abbrev pub fence_words : List Descriptor → Fence → List ℕ
+fence_words pieces fence = first_words pieces (slice_get fence.named.items 0) ++ more_words fence.more
+
+-- the line of each further conflict that is named
+abbrev pub further_lines : List Descriptor → List Reason → List ℕ
+further_lines pieces reasons = flat_map (λ r. codes "     and " ++ (reason_words pieces r ++ codes "\n")) reasons
 
 -- which piece of its operation this is, where that has several
 abbrev pub origin_words : Option Origin → List ℕ
@@ -87,22 +125,25 @@ cost_words costs pieces =
 -- ---- the lines
 
 -- the line of a group, before its first piece
-abbrev pub line_of_group : ℕ → Option GroupCost → List ℕ
-line_of_group number None = []
-line_of_group number (Some group) = group_words number group ++ codes "\n"
+abbrev pub line_of_group : ℕ → ℕ → Option GroupCost → List ℕ
+line_of_group greatest number None = []
+line_of_group greatest number (Some group) = group_words greatest number group ++ codes "\n"
 
-abbrev pub group_line : List GroupCost → Cell → List ℕ
-group_line groups cell =
-    if cell.column == 0 then line_of_group cell.row (slice_get groups cell.row) else []
+abbrev pub group_line : ℕ → List GroupCost → Cell → List ℕ
+group_line greatest groups cell =
+    if cell.column == 0 then line_of_group greatest cell.row (slice_get groups cell.row) else []
 
--- the line of the first of these fences, before a fenced piece
-abbrev pub line_of_fence : ℕ → Option Fence → List ℕ
-line_of_fence price None = []
-line_of_fence price (Some fence) =
-    codes "  -- fence, cost " ++ (decimal price ++ (codes ": " ++ (fence_words fence ++ codes "\n")))
+-- the lines of the first of these fences, before a fenced piece
+abbrev pub line_of_fence : ℕ → List Descriptor → Option Fence → List ℕ
+line_of_fence price pieces None = []
+line_of_fence price pieces (Some fence) =
+    codes "  -- fence, cost "
+    ++ (decimal price
+    ++ (codes ": " ++ (fence_words pieces fence ++ (codes "\n" ++ further_lines pieces (drop 1 fence.named.items)))))
 
-abbrev pub fence_line : ℕ → List Fence → Cell → List ℕ
-fence_line price fences cell = if cell.fenced then line_of_fence price (slice_get fences 0) else []
+abbrev pub fence_line : ℕ → List Descriptor → List Fence → Cell → List ℕ
+fence_line price pieces fences cell =
+    if cell.fenced then line_of_fence price pieces (slice_get fences 0) else []
 
 -- the fences that are left behind the piece
 abbrev pub fences_left : List Fence → Cell → List Fence
@@ -114,16 +155,16 @@ piece_line index None origin = []
 piece_line index (Some d) origin = codes "  " ++ (decimal index ++ (codes ": " ++ (piece_words d origin ++ codes "\n")))
 
 -- the lines of the pieces from this index on, of their groups and of their fences
-abbrev pub cell_lines : ℕ → List GroupCost → List Descriptor → List Origin → ℕ → List Fence → List Cell → List ℕ
-cell_lines price groups pieces origins index fences [] = []
-cell_lines price groups pieces origins index fences (cell ∷ cells) =
-    group_line groups cell
-    ++ (fence_line price fences cell
+abbrev pub cell_lines : Limits → List GroupCost → List Descriptor → List Origin → ℕ → List Fence → List Cell → List ℕ
+cell_lines s groups pieces origins index fences [] = []
+cell_lines s groups pieces origins index fences (cell ∷ cells) =
+    group_line s.greatest_batch groups cell
+    ++ (fence_line s.fence pieces fences cell
     ++ (piece_line index (slice_get pieces index) (slice_get origins index)
-    ++ cell_lines price groups pieces origins (suc index) (fences_left fences cell) cells))
+    ++ cell_lines s groups pieces origins (suc index) (fences_left fences cell) cells))
 
--- an explanation in words, where a fence has this price: the lines of its pieces, and one of its costs
-abbrev pub explanation_words : ℕ → Explanation → List Descriptor → List Origin → List ℕ
-explanation_words price e pieces origins =
-    cell_lines price e.costs.groups.items pieces origins 0 e.fences.items e.cells.items
+-- an explanation in words, under settings: the lines of its pieces, and one of its costs
+abbrev pub explanation_words : Limits → Explanation → List Descriptor → List Origin → List ℕ
+explanation_words s e pieces origins =
+    cell_lines s e.costs.groups.items pieces origins 0 e.fences.items e.cells.items
     ++ (cost_words e.costs (length pieces) ++ codes "\n")

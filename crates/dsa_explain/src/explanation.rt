@@ -5,7 +5,7 @@ ghost use Rattle.dsa_explain.specs.declared.explanation.ExplainFault.TheVariants
 ghost use Rattle.dsa_explain.specs.Explained.{Explains};
 
 use crate::cells::{Cell, lay_out};
-use crate::fences::{Fence, fences_of};
+use crate::fences::{Detail, Fence, fences_of};
 use dsa_descriptor::{Descriptor, MOST_PIECES};
 use dsa_plan::{Costs, LegalFault, Plan, Settings, is_legal, plan_costs};
 use std::alloc::{AllocError, Global};
@@ -15,7 +15,7 @@ use std::alloc::{AllocError, Global};
 pub struct Explanation {
     /// What its groups cost, and what its pieces cost one by one.
     pub costs: Costs,
-    /// Its fences, in order, each with the conflict that it separates.
+    /// Its fences, in order, each with conflicts that it alone separates.
     pub fences: Vec<Fence>,
     /// Where its pieces and fences stand in a picture.
     pub cells: Vec<Cell>,
@@ -40,7 +40,7 @@ impl From<AllocError> for ExplainFault {
     }
 }
 
-/// The explanation of a legal plan of the pieces.
+/// The explanation of a legal plan of the pieces, in which each fence has the first of its conflicts, or all.
 ///
 /// # Errors
 /// [`ExplainFault::TooManyPieces`] where there are more than [`MOST_PIECES`]; else
@@ -51,8 +51,9 @@ pub fn explain(
     plan: &Plan,
     pieces: &[Descriptor],
     settings: &Settings,
+    detail: Detail,
 ) -> Result<Explanation, ExplainFault>
-    ensures { Explains settings.now pieces.now plan.now result }
+    ensures { Explains settings.now detail pieces.now plan.now result }
 {
     if pieces.len() > MOST_PIECES {
         return Err(ExplainFault::TooManyPieces);
@@ -61,7 +62,7 @@ pub fn explain(
         return Err(ExplainFault::Legal(fault));
     }
     let costs = plan_costs(alloc, plan, pieces.len(), settings)?;
-    let fences = fences_of(alloc, plan, pieces)?;
+    let fences = fences_of(alloc, plan, pieces, detail)?;
     let cells = lay_out(alloc, plan)?;
     Ok(Explanation {
         costs,

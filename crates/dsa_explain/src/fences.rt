@@ -1,26 +1,49 @@
-//! The fences of a plan, each with the conflict that it separates.
+//! The fences of a plan, each with the conflicts that it alone separates.
 
 ghost use Rattle.std.specs.Prelude.{◌≡◌, ◌+◌, ◌≤◌, ◌++◌, IfOk, OnOk, length, map};
 ghost use Rattle.dsa_descriptor.specs.Descriptors.{fields};
 ghost use Rattle.dsa_descriptor.specs.Pieces.{most_pieces};
 ghost use Rattle.dsa_plan.specs.Legal.{IsFenced};
 ghost use Rattle.dsa_plan.specs.Plan.{piece_count};
-ghost use Rattle.dsa_explain.specs.Fences.{AddsExplained, AreFencesOf, HasReasons, fence_places, fenced_in};
+ghost use Rattle.dsa_explain.specs.Fences.{AddsExplained, AreFencesOf, HasReasons, fence_places, fenced_in, named_of};
 
 use crate::reason::{Reason, reasons_of};
 use dsa_descriptor::Descriptor;
 use dsa_plan::{Group, Plan};
 use std::alloc::{AllocError, Global};
 
-/// A fence.
+/// How many of the conflicts that a fence separates an explanation names.
 #[derive(Clone, Copy, Debug, PartialEq, Eq)]
+pub enum Detail {
+    /// The first one.
+    First,
+    /// All of them.
+    All,
+}
+
+/// A fence.
+#[derive(Debug, Drop)]
 pub struct Fence {
     /// The piece that it stands before.
     pub piece: usize,
-    /// The first conflict that it alone separates; none where no conflict needs it alone.
-    pub reason: Option<Reason>,
+    /// The first of the conflicts that it alone separates, or all; none where no conflict needs it alone.
+    pub named: Vec<Reason>,
     /// How many more conflicts it alone separates.
     pub more: usize,
+}
+
+/// The reasons that are named.
+fn named_of(alloc: Global, detail: Detail, reasons: Vec<Reason>) -> Result<Vec<Reason>, AllocError>
+    ensures { IfOk result (λ named. named.items ≡ named_of detail reasons.items) }
+{
+    match detail {
+        // A copy, so that the memory of a long list is given back.
+        Detail::First => {
+            let (first, _) = reasons.split_at(reasons.len().min(1));
+            Vec::from_slice(alloc, first)
+        }
+        Detail::All => Ok(reasons),
+    }
 }
 
 /// The fence at a piece of a group that begins with piece `start`.
@@ -30,19 +53,19 @@ fn fence_of(
     pieces: &[Descriptor],
     start: usize,
     piece: usize,
+    detail: Detail,
 ) -> Result<Fence, AllocError>
     requires known { start + length flags.now ≤ length pieces.now }
     requires few { length pieces.now ≤ most_pieces }
     requires fenced { IsFenced start flags.now piece }
     ensures piece { IfOk result (λ fence. fence.piece ≡ piece) }
-    ensures reasons { IfOk result (HasReasons (map fields pieces.now) start flags.now) }
+    ensures reasons { IfOk result (HasReasons detail (map fields pieces.now) start flags.now) }
 {
     let reasons = reasons_of(alloc, flags, pieces, start, piece)?;
-    Ok(Fence {
-        piece,
-        reason: reasons.first().copied(),
-        more: reasons.len().saturating_sub(1),
-    })
+    let count = reasons.len();
+    let named = named_of(alloc, detail, reasons)?;
+    let more = count.saturating_sub(named.len());
+    Ok(Fence { piece, named, more })
 }
 
 /// Writes the fences of a group at the end.
@@ -52,18 +75,19 @@ fn push_fences(
     group: &Group,
     pieces: &[Descriptor],
     start: usize,
+    detail: Detail,
 ) -> Result<(), AllocError>
     requires known { start + length group.now ≤ length pieces.now }
     requires few { length pieces.now ≤ most_pieces }
     ensures places { OnOk result (fence_places fences.new.items ≡
         fence_places fences.old.items ++ fenced_in start group.now) }
-    ensures explained { OnOk result (AddsExplained (map fields pieces.now)
+    ensures explained { OnOk result (AddsExplained detail (map fields pieces.now)
         start group.now fences.old.items fences.new.items) }
 {
     let flags = group.fences();
     for (column, fenced) in flags.iter().enumerate() {
         if *fenced {
-            fences.push(fence_of(alloc, flags, pieces, start, start + column)?)?;
+            fences.push(fence_of(alloc, flags, pieces, start, start + column, detail)?)?;
         }
     }
     Ok(())
@@ -74,16 +98,17 @@ pub fn fences_of(
     alloc: Global,
     plan: &Plan,
     pieces: &[Descriptor],
+    detail: Detail,
 ) -> Result<Vec<Fence>, AllocError>
     requires all { piece_count plan.now ≡ length pieces.now }
     requires few { length pieces.now ≤ most_pieces }
     ensures { IfOk result
-        (λ fences. AreFencesOf (map fields pieces.now) plan.now fences.items) }
+        (λ fences. AreFencesOf detail (map fields pieces.now) plan.now fences.items) }
 {
     let mut fences = Vec::new(alloc);
     let mut start: usize = 0;
     for group in plan.groups() {
-        push_fences(alloc, &mut fences, group, pieces, start)?;
+        push_fences(alloc, &mut fences, group, pieces, start, detail)?;
         start += group.len();
     }
     Ok(fences)

@@ -3,6 +3,7 @@
 #![tactic(auto)]
 
 mod cells;
+mod document;
 mod explanation;
 mod fences;
 mod laws;
@@ -11,11 +12,12 @@ mod reason;
 mod words;
 
 pub use cells::{Cell, lay_out};
+pub use document::explanation_line;
 pub use dsa_descriptor::MOST_PIECES;
 pub use dsa_drawing::MOST_ROWS;
 pub use dsa_plan::{Costs, GroupCost, plan_costs};
 pub use explanation::{ExplainFault, Explanation, explain};
-pub use fences::{Fence, fences_of};
+pub use fences::{Detail, Fence, fences_of};
 pub use laws::{
     cells_are_pieces_and_fences, each_fence_once, group_costs_add_up, least_plans_save,
 };

@@ -14,7 +14,7 @@ use dsa_drawing::{
     Spot, Square, lines_of, op_name, push_bar, push_box, push_conflict, push_head, push_text,
     spot_in, svg_of,
 };
-use dsa_plan::GroupCost;
+use dsa_plan::{GroupCost, Settings};
 use std::alloc::{AllocError, Global};
 
 /// Where a group stands: each of its lines has this height, and the next group begins at its end.
@@ -77,13 +77,14 @@ fn push_total(
 fn push_row(
     alloc: Global,
     svg: &mut String,
+    greatest: u64,
     number: usize,
     group: &GroupCost,
     top: usize,
 ) -> Result<(), AllocError> {
     let spot = Spot { x: 8, y: top };
     let (size, cost) = (group.size, group.cost);
-    let title = group_text(alloc, number, group)?;
+    let title = group_text(alloc, greatest, number, group)?;
     let front = format!(in alloc; "<g><title>{title}</title>")?;
     svg.push_str(&front)?;
     push_text(
@@ -118,7 +119,7 @@ fn push_row(
 fn push_reason(
     alloc: Global,
     svg: &mut String,
-    reason: Option<Reason>,
+    reason: Option<&Reason>,
     more: usize,
     middle: Spot,
 ) -> Result<(), AllocError> {
@@ -133,6 +134,7 @@ fn push_reason(
 fn push_fence(
     alloc: Global,
     svg: &mut String,
+    pieces: &[Descriptor],
     fence: Option<&Fence>,
     spot: Spot,
 ) -> Result<(), AllocError> {
@@ -143,11 +145,16 @@ fn push_fence(
         x: spot.x.saturating_sub(7),
         y: spot.y,
     };
-    let words = fence_text(alloc, fence)?;
+    let words = fence_text(alloc, pieces, fence)?;
+    let more = fence
+        .named
+        .len()
+        .saturating_sub(1)
+        .saturating_add(fence.more);
     let front = format!(in alloc; "<g text-anchor=\"middle\"><title>fence: {words}</title>")?;
     svg.push_str(&front)?;
     push_bar(alloc, svg, bar, 40)?;
-    push_reason(alloc, svg, fence.reason, fence.more, bar.behind(2))?;
+    push_reason(alloc, svg, fence.named.first(), more, bar.behind(2))?;
     svg.push_str("</g>\n")
 }
 
@@ -158,6 +165,7 @@ fn push_cells(
     explanation: &Explanation,
     pieces: &[Descriptor],
     origins: &[Origin],
+    greatest: u64,
 ) -> Result<(), AllocError> {
     let mut row = Row {
         top: 10,
@@ -171,12 +179,12 @@ fn push_cells(
             shaded = false;
             if let Some(group) = explanation.costs.groups.get(cell.row) {
                 row = row_of(group, row.end);
-                push_row(alloc, svg, cell.row, group, row.top)?;
+                push_row(alloc, svg, greatest, cell.row, group, row.top)?;
             }
         }
         let spot = spot_in(row.top, row.line, cell.column);
         if cell.fenced {
-            push_fence(alloc, svg, explanation.fences.get(next_fence), spot)?;
+            push_fence(alloc, svg, pieces, explanation.fences.get(next_fence), spot)?;
             next_fence = next_fence.saturating_add(1);
             shaded = !shaded;
         }
@@ -199,13 +207,14 @@ fn picture_body(
     explanation: &Explanation,
     pieces: &[Descriptor],
     origins: &[Origin],
+    greatest: u64,
 ) -> Result<String, AllocError> {
     let mut svg = String::new(alloc);
     let groups = &explanation.costs.groups;
     let (width, height) = (picture_width(groups), groups_end(groups).saturating_add(24));
     let costs = cost_text(alloc, &explanation.costs, pieces.len())?;
     push_head(alloc, &mut svg, width, height, &costs)?;
-    push_cells(alloc, &mut svg, explanation, pieces, origins)?;
+    push_cells(alloc, &mut svg, explanation, pieces, origins, greatest)?;
     push_total(alloc, &mut svg, explanation, &costs)?;
     Ok(svg)
 }
@@ -219,8 +228,11 @@ pub fn draw(
     explanation: &Explanation,
     pieces: &[Descriptor],
     origins: &[Origin],
+    settings: &Settings,
 ) -> Result<String, AllocError>
     ensures { IfOk result (λ s. IsPicture (string_bytes s)) }
 {
-    svg_of(alloc, &picture_body(alloc, explanation, pieces, origins)?)
+    let greatest = settings.greatest_batch();
+    let body = picture_body(alloc, explanation, pieces, origins, greatest)?;
+    svg_of(alloc, &body)
 }

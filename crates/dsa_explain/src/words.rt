@@ -1,7 +1,7 @@
 //! The words of an explanation.
 
-ghost use Rattle.std.specs.Prelude.{◌≡◌, ◌++◌, IfOk, OnOk, Some, codes, decimal, slice_get, string_bytes};
-ghost use Rattle.dsa_explain.specs.Words.{batch_words, cell_lines, cost_words, explanation_words, fence_line, fence_words, fences_left, fences_words, group_line, group_words, kind_words, line_of_fence, lone_words, more_words, origin_words, piece_line, piece_words, pieces_words, plural, reason_words, saved_words};
+ghost use Rattle.std.specs.Prelude.{◌≡◌, ◌++◌, IfOk, OnOk, Some, codes, decimal, drop, slice_get, string_bytes};
+ghost use Rattle.dsa_explain.specs.Words.{batch_words, cell_lines, conflict_words, cost_words, explanation_words, fence_line, fence_words, fences_left, fences_words, first_words, full_words, further_lines, group_line, group_words, is_in_record, kind_words, line_of_fence, lone_words, more_words, origin_words, piece_line, piece_words, pieces_words, plural, reason_words, record_of, record_words, saved_words};
 
 use crate::cells::Cell;
 use crate::explanation::Explanation;
@@ -59,50 +59,117 @@ fn lone_text(alloc: Global, number: usize, cost: u64) -> Result<String, AllocErr
     format!(in alloc; "group {number}: lone submission, cost {cost}")
 }
 
-/// The words of a batch up to its fences.
+/// The words of a batch up to its size.
 fn batch_front(alloc: Global, number: usize, size: usize) -> Result<String, AllocError>
     ensures { IfOk result (λ s. string_bytes s ≡ codes "group " ++
-        (decimal number ++ (codes ": batch of " ++ (decimal size ++ codes ", ")))) }
+        (decimal number ++ (codes ": batch of " ++ decimal size))) }
 {
-    format!(in alloc; "group {number}: batch of {size}, ")
+    format!(in alloc; "group {number}: batch of {size}")
+}
+
+/// That a batch is as large as it may be.
+fn full_text(greatest: u64, size: usize) -> &'static str
+    ensures { result.now ≡ full_words greatest size }
+{
+    if size as u64 == greatest {
+        " (full)"
+    } else {
+        ""
+    }
 }
 
 /// The words of a batch: its size, its fences and the epochs that they part it into, and its cost.
-fn batch_text(alloc: Global, number: usize, group: &GroupCost) -> Result<String, AllocError>
-    ensures { IfOk result (λ s. string_bytes s ≡ batch_words number group.now) }
+fn batch_text(
+    alloc: Global,
+    greatest: u64,
+    number: usize,
+    group: &GroupCost,
+) -> Result<String, AllocError>
+    ensures { IfOk result (λ s. string_bytes s ≡ batch_words greatest number group.now) }
 {
     let mut text = batch_front(alloc, number, group.size)?;
     let fences = fences_text(alloc, group.fences, group.cost)?;
+    text.push_str(full_text(greatest, group.size))?;
+    text.push_str(", ")?;
     text.push_str(&fences)?;
     Ok(text)
 }
 
-/// The words of a group.
-pub fn group_text(alloc: Global, number: usize, group: &GroupCost) -> Result<String, AllocError>
-    ensures { IfOk result (λ s. string_bytes s ≡ group_words number group.now) }
+/// The words of a group; `greatest` is the size of the largest batch.
+pub fn group_text(
+    alloc: Global,
+    greatest: u64,
+    number: usize,
+    group: &GroupCost,
+) -> Result<String, AllocError>
+    ensures { IfOk result (λ s. string_bytes s ≡ group_words greatest number group.now) }
 {
     if group.size == 1 {
         lone_text(alloc, number, group.cost)
     } else {
-        batch_text(alloc, number, group)
+        batch_text(alloc, greatest, number, group)
     }
 }
 
-/// The words of the conflict that a fence separates: its two pieces, the address and the kind of hazard.
-fn conflict_text(alloc: Global, reason: Reason) -> Result<String, AllocError>
-    ensures { IfOk result (λ s. string_bytes s ≡ reason_words (Some reason)) }
+/// The words of a conflict: its two pieces, the kind of hazard and the address.
+fn conflict_text(alloc: Global, reason: &Reason) -> Result<String, AllocError>
+    ensures { IfOk result (λ s. string_bytes s ≡ conflict_words reason.now) }
 {
     let (earlier, later) = (reason.earlier, reason.later);
     let (kind, address) = (kind_text(reason.hazard.kind), reason.hazard.address);
     format!(in alloc; "{later} after {earlier}, {kind} at 0x{address:x}")
 }
 
-/// The words of the first conflict that a fence alone separates, if there is one.
-fn reason_text(alloc: Global, reason: Option<Reason>) -> Result<String, AllocError>
-    ensures { IfOk result (λ s. string_bytes s ≡ reason_words reason) }
+/// Whether the address is one of the 32 of the piece's completion record.
+fn is_in_record(pieces: &[Descriptor], piece: usize, address: u64) -> bool
+    ensures { result ≡ is_in_record (slice_get pieces.now piece) address }
 {
-    match reason {
-        Some(reason) => conflict_text(alloc, reason),
+    match pieces.get(piece) {
+        Some(d) => d.record_at <= address && address - d.record_at < 32,
+        None => false,
+    }
+}
+
+/// The piece of a conflict whose completion record has the address, if one has; the earlier one if both have.
+pub(crate) fn record_of(pieces: &[Descriptor], reason: &Reason) -> Option<usize>
+    ensures { result ≡ record_of pieces.now reason.now }
+{
+    if is_in_record(pieces, reason.earlier, reason.hazard.address) {
+        Some(reason.earlier)
+    } else if is_in_record(pieces, reason.later, reason.hazard.address) {
+        Some(reason.later)
+    } else {
+        None
+    }
+}
+
+/// Writes that the address lies in a completion record, where it does.
+fn push_record(alloc: Global, text: &mut String, piece: Option<usize>) -> Result<(), AllocError>
+    ensures { OnOk result (string_bytes text.new ≡ string_bytes text.old ++ record_words piece) }
+{
+    let Some(piece) = piece else {
+        return Ok(());
+    };
+    let words = format!(in alloc; " (record of {piece})")?;
+    text.push_str(&words)
+}
+
+/// The words of a conflict that a fence separates.
+fn reason_text(alloc: Global, pieces: &[Descriptor], reason: &Reason) -> Result<String, AllocError>
+    ensures { IfOk result (λ s. string_bytes s ≡ reason_words pieces.now reason.now) }
+{
+    let mut text = conflict_text(alloc, reason)?;
+    push_record(alloc, &mut text, record_of(pieces, reason))?;
+    Ok(text)
+}
+
+/// The words of the first of the conflicts that are named, if there is one.
+fn first_text(alloc: Global, pieces: &[Descriptor], named: &[Reason]) -> Result<String, AllocError>
+    ensures { IfOk result
+        (λ s. string_bytes s ≡ first_words pieces.now (slice_get named.now 0)) }
+{
+    match named.get(0) {
+        Some(reason) => reason_text(alloc, pieces, reason),
         None => String::from_str(alloc, "no conflict needs it alone"),
     }
 }
@@ -118,11 +185,11 @@ fn push_more(alloc: Global, text: &mut String, more: usize) -> Result<(), AllocE
     text.push_str(&words)
 }
 
-/// The words of a fence: the first conflict that it alone separates, and how many more there are.
-pub fn fence_text(alloc: Global, fence: &Fence) -> Result<String, AllocError>
-    ensures { IfOk result (λ s. string_bytes s ≡ fence_words fence.now) }
+/// The words of a fence: the first conflict that it alone separates, and how many more there are that are not named.
+pub fn fence_text(alloc: Global, pieces: &[Descriptor], fence: &Fence) -> Result<String, AllocError>
+    ensures { IfOk result (λ s. string_bytes s ≡ fence_words pieces.now fence.now) }
 {
-    let mut text = reason_text(alloc, fence.reason)?;
+    let mut text = first_text(alloc, pieces, &fence.named)?;
     push_more(alloc, &mut text, fence.more)?;
     Ok(text)
 }
@@ -225,13 +292,14 @@ fn push_line(text: &mut String, line: &str) -> Result<(), AllocError>
 fn push_group_line(
     alloc: Global,
     text: &mut String,
+    greatest: u64,
     number: usize,
     group: &GroupCost,
 ) -> Result<(), AllocError>
     ensures { OnOk result (string_bytes text.new ≡ string_bytes text.old ++
-        (group_words number group.now ++ codes "\n")) }
+        (group_words greatest number group.now ++ codes "\n")) }
 {
-    let words = group_text(alloc, number, group)?;
+    let words = group_text(alloc, greatest, number, group)?;
     push_line(text, &words)
 }
 
@@ -239,17 +307,18 @@ fn push_group_line(
 fn push_group(
     alloc: Global,
     text: &mut String,
+    greatest: u64,
     groups: &[GroupCost],
     cell: &Cell,
 ) -> Result<(), AllocError>
     ensures { OnOk result (string_bytes text.new ≡ string_bytes text.old ++
-        group_line groups.now cell.now) }
+        group_line greatest groups.now cell.now) }
 {
     if cell.column != 0 {
         return Ok(());
     }
     match groups.get(cell.row) {
-        Some(group) => push_group_line(alloc, text, cell.row, group),
+        Some(group) => push_group_line(alloc, text, greatest, cell.row, group),
         None => Ok(()),
     }
 }
@@ -262,32 +331,76 @@ fn fence_front(alloc: Global, price: u64) -> Result<String, AllocError>
     format!(in alloc; "  -- fence, cost {price}: ")
 }
 
-/// Writes the line of a fence.
+/// Writes the line of a further conflict of a fence.
+fn push_further(
+    alloc: Global,
+    text: &mut String,
+    pieces: &[Descriptor],
+    reason: &Reason,
+) -> Result<(), AllocError>
+    ensures { OnOk result (string_bytes text.new ≡ string_bytes text.old ++
+        (codes "     and " ++ (reason_words pieces.now reason.now ++ codes "\n"))) }
+{
+    let words = reason_text(alloc, pieces, reason)?;
+    text.push_str("     and ")?;
+    push_line(text, &words)
+}
+
+/// Writes the lines of further conflicts of a fence.
+fn push_all_further(
+    alloc: Global,
+    text: &mut String,
+    pieces: &[Descriptor],
+    reasons: &[Reason],
+) -> Result<(), AllocError>
+    ensures { OnOk result (string_bytes text.new ≡ string_bytes text.old ++
+        further_lines pieces.now reasons.now) }
+{
+    for reason in reasons {
+        push_further(alloc, text, pieces, reason)?;
+    }
+    Ok(())
+}
+
+/// The conflicts behind the first one.
+fn behind_first(named: &[Reason]) -> &[Reason]
+    ensures { result.now ≡ drop 1 named.now }
+{
+    match named {
+        [_, behind @ ..] => behind,
+        [] => named,
+    }
+}
+
+/// Writes the lines of a fence.
 fn push_fence_line(
     alloc: Global,
     text: &mut String,
+    pieces: &[Descriptor],
     fence: &Fence,
     price: u64,
 ) -> Result<(), AllocError>
     ensures { OnOk result (string_bytes text.new ≡ string_bytes text.old ++
-        line_of_fence price (Some fence.now)) }
+        line_of_fence price pieces.now (Some fence.now)) }
 {
     let front = fence_front(alloc, price)?;
-    let words = fence_text(alloc, fence)?;
+    let words = fence_text(alloc, pieces, fence)?;
     text.push_str(&front)?;
-    push_line(text, &words)
+    push_line(text, &words)?;
+    push_all_further(alloc, text, pieces, behind_first(&fence.named))
 }
 
-/// Writes the line of the first of these fences before a fenced piece, and answers those behind it.
+/// Writes the lines of the first of these fences before a fenced piece, and answers those behind it.
 fn push_fence<'a>(
     alloc: Global,
     text: &mut String,
+    pieces: &[Descriptor],
     fences: &'a [Fence],
     cell: &Cell,
     price: u64,
 ) -> Result<&'a [Fence], AllocError>
     ensures line { OnOk result (string_bytes text.new ≡ string_bytes text.old ++
-        fence_line price fences.now cell.now) }
+        fence_line price pieces.now fences.now cell.now) }
     ensures left { IfOk result (λ left. left.now ≡ fences_left fences.now cell.now) }
 {
     if !cell.fenced {
@@ -296,7 +409,7 @@ fn push_fence<'a>(
     let [fence, left @ ..] = fences else {
         return Ok(fences);
     };
-    push_fence_line(alloc, text, fence, price)?;
+    push_fence_line(alloc, text, pieces, fence, price)?;
     Ok(left)
 }
 
@@ -351,15 +464,15 @@ fn push_cells(
     cells: &[Cell],
     pieces: &[Descriptor],
     origins: &[Origin],
-    price: u64,
+    settings: &Settings,
 ) -> Result<(), AllocError>
     ensures { OnOk result (string_bytes text.new ≡ string_bytes text.old ++
-        cell_lines price groups.now pieces.now origins.now 0 fences.now cells.now) }
+        cell_lines settings.now groups.now pieces.now origins.now 0 fences.now cells.now) }
 {
     let mut left = fences;
     for (index, cell) in cells.iter().enumerate() {
-        push_group(alloc, text, groups, cell)?;
-        left = push_fence(alloc, text, left, cell, price)?;
+        push_group(alloc, text, settings.greatest_batch(), groups, cell)?;
+        left = push_fence(alloc, text, pieces, left, cell, settings.fence())?;
         push_piece(alloc, text, pieces, origins, index)?;
     }
     Ok(())
@@ -374,7 +487,7 @@ pub fn explanation_text(
     settings: &Settings,
 ) -> Result<String, AllocError>
     ensures { IfOk result (λ s. string_bytes s ≡
-        explanation_words settings.now.fence explanation.now pieces.now origins.now) }
+        explanation_words settings.now explanation.now pieces.now origins.now) }
 {
     let mut text = String::new(alloc);
     push_cells(
@@ -385,7 +498,7 @@ pub fn explanation_text(
         &explanation.cells,
         pieces,
         origins,
-        settings.fence(),
+        settings,
     )?;
     let costs = cost_text(alloc, &explanation.costs, pieces.len())?;
     push_line(&mut text, &costs)?;

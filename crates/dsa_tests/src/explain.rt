@@ -1,7 +1,7 @@
 use crate::given::move_of;
 use dsa_descriptor::Descriptor;
 use dsa_explain::{
-    Cell, ExplainFault, Explanation, Fence, GroupCost, MOST_PIECES, Reason,
+    Cell, Detail, ExplainFault, Explanation, GroupCost, MOST_PIECES, Reason,
     cells_are_pieces_and_fences, each_fence_once, explain, group_costs_add_up,
 };
 use dsa_plan::{Group, LegalFault, Plan, Settings, SettingsFault};
@@ -41,7 +41,15 @@ fn explained(
 ) -> Result<Result<Explanation, ExplainFault>, Fail> {
     let pieces = moves(alloc, list)?;
     let plan = plan_of(alloc, groups)?;
-    Ok(explain(alloc, &plan, &pieces, &settings()?))
+    Ok(explain(alloc, &plan, &pieces, &settings()?, Detail::First))
+}
+
+/// What an explanation has of a fence: its piece, the first conflict that it alone separates, and how many more.
+#[derive(Clone, Copy, Debug, PartialEq, Eq)]
+struct Fence {
+    piece: usize,
+    reason: Option<Reason>,
+    more: usize,
 }
 
 /// Whether these are the fences of the plan of these moves.
@@ -52,9 +60,22 @@ fn has_fences(
     fences: &[Fence],
 ) -> Result<bool, Fail> {
     match explained(alloc, list, groups)? {
-        Ok(explanation) => Ok(explanation.fences.as_slice() == fences),
+        Ok(explanation) => are_fences(alloc, &explanation, fences),
         Err(_) => Ok(false),
     }
+}
+
+/// Whether these are the fences of the explanation.
+fn are_fences(alloc: Global, explanation: &Explanation, fences: &[Fence]) -> Result<bool, Fail> {
+    let mut found = Vec::new(alloc);
+    for fence in &explanation.fences {
+        found.push(Fence {
+            piece: fence.piece,
+            reason: fence.named.first().copied(),
+            more: fence.more,
+        })?;
+    }
+    Ok(found.as_slice() == fences)
 }
 
 fn needed(piece: usize, earlier: usize, later: usize, address: u64, kind: HazardKind) -> Fence {
@@ -150,7 +171,7 @@ fn fences_of_two_groups(rt: HostRuntime) -> Result<(), Fail> {
     match explained(rt.alloc(), &CHAIN, &[&[false, true], &[false, true]])? {
         Ok(explanation) => {
             let fences = [needed(1, 0, 1, 0x2000, read), needed(3, 2, 3, 0x4000, read)];
-            assert!(rt; explanation.fences.as_slice() == fences.as_slice());
+            assert!(rt; are_fences(rt.alloc(), &explanation, &fences)?);
             let cells = [
                 cell(0, 0, false),
                 cell(0, 1, true),
@@ -218,12 +239,12 @@ fn at_most_65536_pieces(rt: HostRuntime) -> Result<(), Fail> {
     let plan = plan_of(alloc, &[])?;
     let most = copies(alloc, MOST_PIECES)?;
     assert_eq!(rt;
-        explain(alloc, &plan, &most, &settings).err(),
+        explain(alloc, &plan, &most, &settings, Detail::First).err(),
         Some(ExplainFault::Legal(LegalFault::Count))
     );
     let more = copies(alloc, MOST_PIECES + 1)?;
     assert_eq!(rt;
-        explain(alloc, &plan, &more, &settings).err(),
+        explain(alloc, &plan, &more, &settings, Detail::First).err(),
         Some(ExplainFault::TooManyPieces)
     );
     Ok(())

@@ -1,5 +1,5 @@
 -- What explaining answers, by what the calls answer.
-use Rattle.std.proofs.Common.{◌≡◌, ◌⊎◌, inl, inr, ℕ, Bool, List, map, Result, Ok, Err, IfOk, codes, sym, subst}
+use Rattle.std.proofs.Common.{◌≡◌, ◌⊎◌, inl, inr, ℕ, Bool, List, map, Result, Option, Some, Ok, Err, IfOk, codes, sym, subst}
 use Rattle.std.proofs.lemmas.Result.{IfOk-weaker}
 use Rattle.dsa_descriptor.specs.declared.descriptor.Descriptor.{Descriptor}
 use Rattle.dsa_descriptor.specs.Descriptors.{fields}
@@ -17,7 +17,8 @@ use Rattle.dsa_text.specs.declared.answer.Answer.{Answer}
 use Rattle.dsa_text.specs.Refusals.{IsRefusal}
 use Rattle.dsa_text.specs.Explained.{ExplainsList, is_refused_list, is_planned}
 use Rattle.dsa_text.specs.Origins.{origins_from}
-use Rattle.dsa_text.specs.Shown.{AnswersPlan}
+use Rattle.dsa_text.specs.declared.form.Form.{Form}
+use Rattle.dsa_text.specs.Shown.{AnswersPlan, form_of}
 use Rattle.clap.specs.declared.parser.matches.ArgMatches.{ArgMatches}
 use Rattle.dsa_text.specs.Options.{IsFlag}
 use Rattle.dsa_text.specs.Inputs.{ExplainsAs, ExplainsInput, is_job}
@@ -42,20 +43,20 @@ same_fault shown lines TextMemory e = e
 -- ---- a plan
 
 -- the answer of a plan, seen by what its pieces and origins are equal to
-pub plan_answered : {E : Type 0} (r : Result Answer E) (s : Limits) (plan : Plan) (ds ds' : List Descriptor) (origins origins' : List Origin) (drawn : Bool)
-    → ds ≡ ds' → origins ≡ origins' → IfOk r (AnswersPlan s plan ds origins drawn) → IfOk r (AnswersPlan s plan ds' origins' drawn)
-plan_answered r s plan ds ds' origins origins' drawn e f h =
-    subst (λ (os : List Origin). IfOk r (AnswersPlan s plan ds' os drawn)) f (subst (λ (xs : List Descriptor). IfOk r (AnswersPlan s plan xs origins drawn)) e h)
+pub plan_answered : {E : Type 0} (r : Result Answer E) (s : Limits) (plan : Plan) (ds ds' : List Descriptor) (origins origins' : List Origin) (least : Option ℕ) (form : Form)
+    → ds ≡ ds' → origins ≡ origins' → IfOk r (AnswersPlan s plan ds origins least form) → IfOk r (AnswersPlan s plan ds' origins' least form)
+plan_answered r s plan ds ds' origins origins' least form e f h =
+    subst (λ (os : List Origin). IfOk r (AnswersPlan s plan ds' os least form)) f (subst (λ (xs : List Descriptor). IfOk r (AnswersPlan s plan xs origins least form)) e h)
 
 -- of planned operations, for a list that spells them
-pub operations_planned : {E : Type 0} (list : List ℕ) (s : Limits) (drawn : Bool) (ds : List Descriptor) (p : Submission) (r : Result Answer E) → IsListOf list ds → IsSubmissionOf s (map fields ds) p
-    → IfOk r (AnswersPlan s p.plan p.pieces (origins_from s.greatest_transfer 0 (map fields ds)) drawn) → IfOk r (ExplainsList list s drawn)
-operations_planned list s drawn ds p r listed says answers = IfOk-weaker r _ _ (λ a shown. is_planned ds p listed says shown) answers
+pub operations_planned : {E : Type 0} (list : List ℕ) (s : Limits) (form : Form) (ds : List Descriptor) (p : Submission) (r : Result Answer E) → IsListOf list ds → IsSubmissionOf s (map fields ds) p
+    → IfOk r (AnswersPlan s p.plan p.pieces (origins_from s.greatest_transfer 0 (map fields ds)) (Some p.cost) form) → IfOk r (ExplainsList list s form)
+operations_planned list s form ds p r listed says answers = IfOk-weaker r _ _ (λ a shown. is_planned ds p listed says shown) answers
 
-pub operations_refused : {E : Type 0} (list : List ℕ) (s : Limits) (drawn : Bool) (ds : List Descriptor) (fault : PlanFault) (r : Result Answer E) → IsListOf list ds
-    → OrMemory {X = Submission} {Y = Submission} (λ p. p) (PlansOperations s (map fields ds)) (Err fault) → IfOk r (IsRefusal fault) → IfOk r (ExplainsList list s drawn)
-operations_refused list s drawn ds fault r listed (inl is) h = IfOk-weaker r _ _ (λ a x. is_refused_list fault (inl is) x) h
-operations_refused list s drawn ds fault r listed (inr says) h = IfOk-weaker r _ _ (λ a x. is_refused_list fault (inr (inr (ds, listed, says))) x) h
+pub operations_refused : {E : Type 0} (list : List ℕ) (s : Limits) (form : Form) (ds : List Descriptor) (fault : PlanFault) (r : Result Answer E) → IsListOf list ds
+    → OrMemory {X = Submission} {Y = Submission} (λ p. p) (PlansOperations s (map fields ds)) (Err fault) → IfOk r (IsRefusal fault) → IfOk r (ExplainsList list s form)
+operations_refused list s form ds fault r listed (inl is) h = IfOk-weaker r _ _ (λ a x. is_refused_list fault (inl is) x) h
+operations_refused list s form ds fault r listed (inr says) h = IfOk-weaker r _ _ (λ a x. is_refused_list fault (inr (inr (ds, listed, says))) x) h
 
 -- the one cause is the one that is told
 pub same_cause : {E : Type 0} (r : Result Answer E) (told fault : PlanFault) (o p : Result ℕ PlanFault) → o ≡ p → o ≡ Err told → p ≡ Err fault → IfOk r (IsRefusal told) → IfOk r (IsRefusal fault)
@@ -65,8 +66,17 @@ same_cause r told fault o p e is is' h =
 
 -- ---- an input
 
--- explained as the input's kind, and drawn as the flag says
-pub as_input : {E : Type 0} (r : Result Answer E) (m : ArgMatches) (text : List ℕ) (drawn b : Bool) → is_job text ≡ b → IsFlag m (codes "svg") drawn
-    → IfOk r (ExplainsAs b m text drawn) → IfOk r (ExplainsInput m text)
-as_input r m text drawn b kind flag h =
-    IfOk-weaker r _ _ (λ a x. (drawn, flag, subst (λ (k : Bool). ExplainsAs k m text drawn a) (sym kind) x)) h
+-- explained as the input's kind, in the form that the flags ask for
+pub as_input : {E : Type 0} (r : Result Answer E) (m : ArgMatches) (text : List ℕ) (svg json all b : Bool) (form : Form) → is_job text ≡ b
+    → IsFlag m (codes "svg") svg → IsFlag m (codes "json") json → IsFlag m (codes "all") all → form ≡ form_of svg json all
+    → IfOk r (ExplainsAs b m text form) → IfOk r (ExplainsInput m text)
+as_input r m text svg json all b form kind svg_is json_is all_is same h =
+    IfOk-weaker r _ _ (λ a x. record {
+      svg = svg;
+      json = json;
+      all = all;
+      svg_is = svg_is;
+      json_is = json_is;
+      all_is = all_is;
+      explains = subst (λ (k : Bool). ExplainsAs k m text (form_of svg json all) a) (sym kind) (subst (λ (f : Form). ExplainsAs b m text f a) same x);
+    }) h

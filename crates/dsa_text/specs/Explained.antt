@@ -1,5 +1,5 @@
 -- What explaining a text, a list, a plan of one's own or the bytes of an emission answers (this project's choice).
-use Rattle.std.specs.Prelude.{◌≡◌, ◌⊎◌, ◌-◌, ◌==◌, ℕ, Bool, true, false, List, [], ◌++◌, codes, decimal, map, string_bytes, Ok, Err, if◌then◌else◌}
+use Rattle.std.specs.Prelude.{◌≡◌, ◌⊎◌, ◌-◌, ◌==◌, ℕ, List, [], ◌++◌, codes, decimal, map, string_bytes, Option, Some, None, Ok, Err, if◌then◌else◌}
 use Rattle.dsa_descriptor.specs.declared.descriptor.Descriptor.{Descriptor}
 use Rattle.dsa_descriptor.specs.Fields.{Fields}
 use Rattle.dsa_descriptor.specs.Descriptors.{fields}
@@ -16,9 +16,12 @@ use Rattle.dsa_calls.specs.Checked.{Checks, IsShownLeast}
 use Rattle.dsa_calls.specs.Judge.{Judges, JudgesPieces}
 use Rattle.dsa_calls.specs.Lists.{IsListOf}
 use Rattle.dsa_calls.specs.Planned.{Submission, Plans, PlansOperations, IsSubmissionOf}
+use Rattle.dsa_explain.specs.declared.fences.Detail.{Detail}
 use Rattle.dsa_explain.specs.declared.explanation.ExplainFault.{ExplainFault}
 use Rattle.dsa_explain.specs.Explained.{Explains}
 use Rattle.dsa_text.specs.declared.answer.Answer.{Answer}
+use Rattle.dsa_text.specs.declared.form.Form.{Form}
+use Rattle.dsa_text.specs.declared.form.Form.TheVariants.{Words, Picture, Json}
 use Rattle.dsa_text.specs.Refusals.{IsRefusal, RefusesText, explain_cause}
 use Rattle.dsa_text.specs.Origins.{origins_from}
 use Rattle.dsa_text.specs.Shown.{AnswersPlan, TellsPlan}
@@ -31,24 +34,24 @@ MemoryOr Cause fault = (fault ≡ Memory) ⊎ Cause fault
 
 -- refused where `plan_list` refuses the list, for its cause; else the plan that it answers, and which
 -- piece is of which operation
-pub data ExplainsList (list : List ℕ) (s : Limits) (drawn : Bool) (a : Answer) : Type 0 where
-  is_refused_list : (fault : PlanFault) → MemoryOr (λ f. Plans list s (Err f)) fault → IsRefusal fault a → ExplainsList list s drawn a
+pub data ExplainsList (list : List ℕ) (s : Limits) (form : Form) (a : Answer) : Type 0 where
+  is_refused_list : (fault : PlanFault) → MemoryOr (λ f. Plans list s (Err f)) fault → IsRefusal fault a → ExplainsList list s form a
   is_planned : (ds : List Descriptor) (p : Submission) → IsListOf list ds → IsSubmissionOf s (map fields ds) p
-      → AnswersPlan s p.plan p.pieces (origins_from s.greatest_transfer 0 (map fields ds)) drawn a → ExplainsList list s drawn a
+      → AnswersPlan s p.plan p.pieces (origins_from s.greatest_transfer 0 (map fields ds)) (Some p.cost) form a → ExplainsList list s form a
 
 -- refused where the text spells no list; else that of the list that it spells
-pub data ExplainsText (text : List ℕ) (s : Limits) (drawn : Bool) (a : Answer) : Type 0 where
-  is_refused_text : (fault : TextFault) → Assembles (λ bytes. bytes) (lines_of text) (Err fault) → RefusesText fault a → ExplainsText text s drawn a
-  is_assembled : (list : List ℕ) → IsListing (lines_of text) list → ExplainsList list s drawn a → ExplainsText text s drawn a
+pub data ExplainsText (text : List ℕ) (s : Limits) (form : Form) (a : Answer) : Type 0 where
+  is_refused_text : (fault : TextFault) → Assembles (λ bytes. bytes) (lines_of text) (Err fault) → RefusesText fault a → ExplainsText text s form a
+  is_assembled : (list : List ℕ) → IsListing (lines_of text) list → ExplainsList list s form a → ExplainsText text s form a
 
 -- ---- the plan that bytes submit
 
 -- refused where `check` refuses the bytes or the certificate, for its cause; else the plan that the
 -- bytes submit, which the certificate shows to be of least cost
-pub data ExplainsChecked (portal staging : List ℕ) (s : Limits) (c : Contents) (drawn : Bool) (a : Answer) : Type 0 where
-  is_refused_check : (fault : PlanFault) → MemoryOr (λ f. Checks portal staging s c (Err f)) fault → IsRefusal fault a → ExplainsChecked portal staging s c drawn a
+pub data ExplainsChecked (portal staging : List ℕ) (s : Limits) (c : Contents) (form : Form) (a : Answer) : Type 0 where
+  is_refused_check : (fault : PlanFault) → MemoryOr (λ f. Checks portal staging s c (Err f)) fault → IsRefusal fault a → ExplainsChecked portal staging s c form a
   is_checked : (cost : ℕ) (plan : Plan) (ds : List Descriptor) → IsEmission s portal staging plan ds → IsShownLeast s (map fields ds) plan c cost
-      → AnswersPlan s plan ds [] drawn a → ExplainsChecked portal staging s c drawn a
+      → AnswersPlan s plan ds [] (Some cost) form a → ExplainsChecked portal staging s c form a
 
 -- ---- a plan of one's own
 
@@ -57,34 +60,34 @@ abbrev pub more_words : ℕ → List ℕ
 more_words more =
     if more == 0 then codes "no plan costs less\n" else codes "this plan costs " ++ (decimal more ++ codes " more\n")
 
-abbrev pub least_words : ℕ → ℕ → List ℕ
-least_words cost least = codes "least " ++ (decimal least ++ (codes ": " ++ more_words (cost - least)))
+abbrev pub least_words : ℕ → Option ℕ → List ℕ
+least_words cost None = []
+least_words cost (Some least) = codes "least " ++ (decimal least ++ (codes ": " ++ more_words (cost - least)))
 
--- the line names the cost of the least plan of the pieces, if there is one: a planner needs a staging
--- area of its own
-abbrev pub NamesLeast : Limits → List Fields → ℕ → List ℕ → Type 0
-NamesLeast s fs cost line =
-    ((p : Submission) × PlansOperations s fs (Ok p) × (line ≡ least_words cost p.cost))
-    ⊎ ((fault : PlanFault) × PlansOperations s fs (Err fault) × (line ≡ []))
+-- the cost of the least plan of the pieces, if there is one: a planner needs a staging area of its own
+abbrev pub IsLeastCost : Limits → List Fields → Option ℕ → Type 0
+IsLeastCost s fs None = (fault : PlanFault) × PlansOperations s fs (Err fault)
+IsLeastCost s fs (Some least) = (p : Submission) × PlansOperations s fs (Ok p) × (least ≡ p.cost)
 
--- the plan in words, and behind them the least cost
-pub record TellsJudged (s : Limits) (plan : Plan) (pieces : List Descriptor) (cost : ℕ) (text : List ℕ) : Type 0 where
+-- the plan in words, and behind them the least cost, if there is one
+pub record TellsJudged (s : Limits) (detail : Detail) (plan : Plan) (pieces : List Descriptor) (cost : ℕ) (text : List ℕ) : Type 0 where
   pub words : List ℕ
-  pub line : List ℕ
-  pub tells : TellsPlan s plan pieces [] words
-  pub least : NamesLeast s (map fields pieces) cost line
-  pub text_is : text ≡ words ++ line
+  pub least : Option ℕ
+  pub tells : TellsPlan s detail plan pieces [] words
+  pub is_least : IsLeastCost s (map fields pieces) least
+  pub text_is : text ≡ words ++ least_words cost least
 
--- a judged plan as a picture, or in words with the least cost; or refused for the cause that `explain`
--- finds, which can only be an allocation failure
-pub data AnswersJudged (s : Limits) (plan : Plan) (pieces : List Descriptor) (cost : ℕ) (drawn : Bool) (a : Answer) : Type 0 where
-  is_drawn : drawn ≡ true → AnswersPlan s plan pieces [] true a → AnswersJudged s plan pieces cost drawn a
-  is_told : drawn ≡ false → a.status ≡ 0 → TellsJudged s plan pieces cost (string_bytes a.text) → AnswersJudged s plan pieces cost drawn a
-  is_untold : drawn ≡ false → (fault : ExplainFault) → Explains s pieces plan (Err fault) → IsRefusal (explain_cause fault) a → AnswersJudged s plan pieces cost drawn a
+-- a judged plan as a picture, or as JSON or in words with the least cost; or refused for the cause that
+-- `explain` finds, which can only be an allocation failure
+pub data AnswersJudged (s : Limits) (plan : Plan) (pieces : List Descriptor) (cost : ℕ) (form : Form) (a : Answer) : Type 0 where
+  is_drawn : form ≡ Picture → AnswersPlan s plan pieces [] None form a → AnswersJudged s plan pieces cost form a
+  is_spelled : (least : Option ℕ) → form ≡ Json → IsLeastCost s (map fields pieces) least → AnswersPlan s plan pieces [] least form a → AnswersJudged s plan pieces cost form a
+  is_told : (detail : Detail) → form ≡ Words detail → a.status ≡ 0 → TellsJudged s detail plan pieces cost (string_bytes a.text) → AnswersJudged s plan pieces cost form a
+  is_untold : (detail : Detail) → form ≡ Words detail → (fault : ExplainFault) → Explains s detail pieces plan (Err fault) → IsRefusal (explain_cause fault) a → AnswersJudged s plan pieces cost form a
 
 -- refused where `judge` refuses the list or the plan, for its cause; else the plan with the cost that
 -- `judge` answers
-pub data ExplainsJudged (list : List ℕ) (plan : Plan) (s : Limits) (drawn : Bool) (a : Answer) : Type 0 where
-  is_refused_judge : (fault : PlanFault) → MemoryOr (λ f. Judges list plan s (Err f)) fault → IsRefusal fault a → ExplainsJudged list plan s drawn a
+pub data ExplainsJudged (list : List ℕ) (plan : Plan) (s : Limits) (form : Form) (a : Answer) : Type 0 where
+  is_refused_judge : (fault : PlanFault) → MemoryOr (λ f. Judges list plan s (Err f)) fault → IsRefusal fault a → ExplainsJudged list plan s form a
   is_judged : (cost : ℕ) (ds : List Descriptor) → IsListOf list ds → JudgesPieces (map fields ds) plan s (Ok cost)
-      → AnswersJudged s plan ds cost drawn a → ExplainsJudged list plan s drawn a
+      → AnswersJudged s plan ds cost form a → ExplainsJudged list plan s form a

@@ -5,12 +5,14 @@ use Rattle.clap.specs.declared.parser.matches.ArgMatches.{ArgMatches}
 use Rattle.dsa_plan.specs.Settings.{Limits}
 use Rattle.dsa_calls.specs.declared.fault.PlanFault.TheVariants.{Settings as Outside}
 use Rattle.dsa_text.specs.declared.answer.Answer.{Answer}
+use Rattle.dsa_text.specs.declared.form.Form.{Form}
 use Rattle.dsa_text.specs.declared.settings.SettingsWords.{SettingsWords}
 use Rattle.dsa_text.specs.Refusals.{IsRefusal}
 use Rattle.dsa_text.specs.SettingsWords.{GivesSettings}
 use Rattle.dsa_text.specs.Options.{AreSettingsGiven, AreWords, IsFlag}
 use Rattle.dsa_text.specs.Explained.{ExplainsText}
 use Rattle.dsa_text.specs.Jobs.{ExplainsJobText}
+use Rattle.dsa_text.specs.Shown.{form_of}
 
 -- an input is a job where a brace is its first byte that is no blank, and else operations as text
 abbrev pub is_job : List ℕ → Bool
@@ -22,20 +24,26 @@ abbrev pub options_message : List ℕ
 options_message = codes "error: a job has settings of its own, so no option gives any [92 Options]\n"
 
 -- a job is refused where some option of settings is given; else it is explained
-pub data ExplainsWithOptions (m : ArgMatches) (text : List ℕ) (drawn : Bool) (a : Answer) : Type 0 where
-  has_options : AreSettingsGiven m → a.status ≡ 1 → string_bytes a.text ≡ options_message → ExplainsWithOptions m text drawn a
-  has_none : ¬ AreSettingsGiven m → ExplainsJobText text drawn a → ExplainsWithOptions m text drawn a
+pub data ExplainsWithOptions (m : ArgMatches) (text : List ℕ) (form : Form) (a : Answer) : Type 0 where
+  has_options : AreSettingsGiven m → a.status ≡ 1 → string_bytes a.text ≡ options_message → ExplainsWithOptions m text form a
+  has_none : ¬ AreSettingsGiven m → ExplainsJobText text form a → ExplainsWithOptions m text form a
 
 -- operations are refused where the options spell no settings; else they are explained with those that
 -- they spell
-pub data ExplainsOperations (m : ArgMatches) (text : List ℕ) (drawn : Bool) (a : Answer) : Type 0 where
-  spells_none : (w : SettingsWords) → AreWords m w → GivesSettings w None → IsRefusal Outside a → ExplainsOperations m text drawn a
-  spells_settings : (w : SettingsWords) (s : Limits) → AreWords m w → GivesSettings w (Some s) → ExplainsText text s drawn a → ExplainsOperations m text drawn a
+pub data ExplainsOperations (m : ArgMatches) (text : List ℕ) (form : Form) (a : Answer) : Type 0 where
+  spells_none : (w : SettingsWords) → AreWords m w → GivesSettings w None → IsRefusal Outside a → ExplainsOperations m text form a
+  spells_settings : (w : SettingsWords) (s : Limits) → AreWords m w → GivesSettings w (Some s) → ExplainsText text s form a → ExplainsOperations m text form a
 
-abbrev pub ExplainsAs : Bool → ArgMatches → List ℕ → Bool → Answer → Type 0
-ExplainsAs true m text drawn a = ExplainsWithOptions m text drawn a
-ExplainsAs false m text drawn a = ExplainsOperations m text drawn a
+abbrev pub ExplainsAs : Bool → ArgMatches → List ℕ → Form → Answer → Type 0
+ExplainsAs true m text form a = ExplainsWithOptions m text form a
+ExplainsAs false m text form a = ExplainsOperations m text form a
 
--- as a job or as operations, and drawn as the flag says
-abbrev pub ExplainsInput : ArgMatches → List ℕ → Answer → Type 0
-ExplainsInput m text a = (drawn : Bool) × IsFlag m (codes "svg") drawn × ExplainsAs (is_job text) m text drawn a
+-- as a job or as operations, in the form that the flags ask for
+pub record ExplainsInput (m : ArgMatches) (text : List ℕ) (a : Answer) : Type 0 where
+  pub svg : Bool
+  pub json : Bool
+  pub all : Bool
+  pub svg_is : IsFlag m (codes "svg") svg
+  pub json_is : IsFlag m (codes "json") json
+  pub all_is : IsFlag m (codes "all") all
+  pub explains : ExplainsAs (is_job text) m text (form_of svg json all) a

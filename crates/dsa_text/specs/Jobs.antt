@@ -1,5 +1,5 @@
 -- What explaining a job answers (this project's choice).
-use Rattle.std.specs.Prelude.{ℕ, Bool, List, Ok, Err}
+use Rattle.std.specs.Prelude.{ℕ, List, Ok, Err}
 use Rattle.dsa_cert.specs.Certificates.{contents}
 use Rattle.dsa_calls.specs.declared.fault.PlanFault.{PlanFault}
 use Rattle.dsa_calls.specs.declared.fault.PlanFault.TheVariants.{Do}
@@ -7,20 +7,21 @@ use Rattle.dsa_report.specs.declared.jobs.Job.{Job}
 use Rattle.dsa_report.specs.declared.jobs.Job.TheVariants.{Judge, Plan, Check, Replay, Run}
 use Rattle.dsa_report.specs.Read.{ReadsJobText}
 use Rattle.dsa_text.specs.declared.answer.Answer.{Answer}
+use Rattle.dsa_text.specs.declared.form.Form.{Form}
 use Rattle.dsa_text.specs.Refusals.{IsRefusal}
 use Rattle.dsa_text.specs.Explained.{ExplainsChecked, ExplainsJudged, ExplainsList}
 
 -- of a job to plan, to judge or to check what that of its members answers; one to replay or to run is
 -- refused
-abbrev pub ExplainsJob : Job → Bool → Answer → Type 0
-ExplainsJob (Plan job) drawn a = ExplainsList job.list.items job.settings drawn a
-ExplainsJob (Judge job) drawn a = ExplainsJudged job.list.items job.plan job.settings drawn a
-ExplainsJob (Check job) drawn a =
-    ExplainsChecked job.portal.items job.staging.items job.settings (contents job.certificate) drawn a
-ExplainsJob (Replay job) drawn a = IsRefusal Do a
-ExplainsJob (Run job) drawn a = IsRefusal Do a
+abbrev pub ExplainsJob : Job → Form → Answer → Type 0
+ExplainsJob (Plan job) form a = ExplainsList job.list.items job.settings form a
+ExplainsJob (Judge job) form a = ExplainsJudged job.list.items job.plan job.settings form a
+ExplainsJob (Check job) form a =
+    ExplainsChecked job.portal.items job.staging.items job.settings (contents job.certificate) form a
+ExplainsJob (Replay job) form a = IsRefusal Do a
+ExplainsJob (Run job) form a = IsRefusal Do a
 
 -- refused where the text spells no job, for the cause why; else that of the job that it spells
-pub data ExplainsJobText (text : List ℕ) (drawn : Bool) (a : Answer) : Type 0 where
-  is_no_job : (fault : PlanFault) → ReadsJobText text (Err fault) → IsRefusal fault a → ExplainsJobText text drawn a
-  is_read : (job : Job) → ReadsJobText text (Ok job) → ExplainsJob job drawn a → ExplainsJobText text drawn a
+pub data ExplainsJobText (text : List ℕ) (form : Form) (a : Answer) : Type 0 where
+  is_no_job : (fault : PlanFault) → ReadsJobText text (Err fault) → IsRefusal fault a → ExplainsJobText text form a
+  is_read : (job : Job) → ReadsJobText text (Ok job) → ExplainsJob job form a → ExplainsJobText text form a

@@ -1,27 +1,54 @@
 -- What explaining a plan of pieces answers (this project's choice).
-use Rattle.std.specs.Prelude.{◌≡◌, ◌<◌, ◌≤◌, ℕ, Bool, true, false, List, ◌++◌, codes, decimal, length, string_bytes, Err}
+use Rattle.std.specs.Prelude.{◌≡◌, ◌<◌, ◌≤◌, ℕ, Bool, List, ◌++◌, codes, decimal, length, string_bytes, Option, Err, if◌then◌else◌}
 use Rattle.dsa_descriptor.specs.declared.descriptor.Descriptor.{Descriptor}
 use Rattle.dsa_plan.specs.Plan.{Plan}
 use Rattle.dsa_plan.specs.Settings.{Limits}
+use Rattle.dsa_explain.specs.declared.fences.Detail.{Detail}
+use Rattle.dsa_explain.specs.declared.fences.Detail.TheVariants.{First, All as Every}
 use Rattle.dsa_explain.specs.declared.explanation.ExplainFault.{ExplainFault}
 use Rattle.dsa_explain.specs.declared.explanation.Explanation.{Explanation}
 use Rattle.dsa_explain.specs.declared.words.Origin.{Origin}
 use Rattle.dsa_explain.specs.Explained.{CanBeExplained, Explains, IsExplanationOf}
 use Rattle.dsa_drawing.specs.Pictures.{IsPicture}
 use Rattle.dsa_explain.specs.Words.{explanation_words}
+use Rattle.dsa_explain.specs.Document.{explanation_line}
 use Rattle.dsa_text.specs.declared.answer.Answer.{Answer}
+use Rattle.dsa_text.specs.declared.form.Form.{Form}
+use Rattle.dsa_text.specs.declared.form.Form.TheVariants.{Words, Picture, Json}
 use Rattle.dsa_text.specs.Refusals.{IsRefusal, explain_cause}
+
+-- ---- forms
+
+-- how many of the conflicts of each fence a form shows
+abbrev pub detail_of : Form → Detail
+detail_of (Words detail) = detail
+detail_of Picture = First
+detail_of Json = Every
+
+-- the form that flags ask for: a picture, JSON, words with all conflicts; else words with the first ones
+abbrev pub form_of : Bool → Bool → Bool → Form
+form_of svg json all =
+    if svg then Picture else (if json then Json else (if all then Words Every else Words First))
+
+-- ---- what is shown
 
 -- the most groups that are drawn
 abbrev pub most_rows : ℕ
 most_rows = 1024
 
 -- the text is the explanation of the plan in words, and the plan can be explained
-pub record TellsPlan (s : Limits) (plan : Plan) (pieces : List Descriptor) (origins : List Origin) (text : List ℕ) : Type 0 where
+pub record TellsPlan (s : Limits) (detail : Detail) (plan : Plan) (pieces : List Descriptor) (origins : List Origin) (text : List ℕ) : Type 0 where
   pub can : CanBeExplained s pieces plan
   pub explanation : Explanation
-  pub is : IsExplanationOf s pieces plan explanation
-  pub words : text ≡ explanation_words s.fence explanation pieces origins
+  pub is : IsExplanationOf s detail pieces plan explanation
+  pub words : text ≡ explanation_words s explanation pieces origins
+
+-- the text is the line of the explanation in JSON, with all conflicts and what the least plan costs, where that is known
+pub record SpellsPlan (s : Limits) (plan : Plan) (pieces : List Descriptor) (origins : List Origin) (least : Option ℕ) (text : List ℕ) : Type 0 where
+  pub can : CanBeExplained s pieces plan
+  pub explanation : Explanation
+  pub is : IsExplanationOf s Every pieces plan explanation
+  pub line : text ≡ explanation_line explanation pieces origins least
 
 -- the text is a picture, and the plan can be explained and has few groups
 pub record DrawsPlan (s : Limits) (plan : Plan) (pieces : List Descriptor) (text : List ℕ) : Type 0 where
@@ -29,10 +56,11 @@ pub record DrawsPlan (s : Limits) (plan : Plan) (pieces : List Descriptor) (text
   pub few : length plan ≤ most_rows
   pub picture : IsPicture text
 
--- a picture where the plan is to be drawn, and else words
-abbrev pub ShowsPlan : Bool → Limits → Plan → List Descriptor → List Origin → List ℕ → Type 0
-ShowsPlan true s plan pieces origins text = DrawsPlan s plan pieces text
-ShowsPlan false s plan pieces origins text = TellsPlan s plan pieces origins text
+-- the plan in a form
+abbrev pub ShowsPlan : Form → Limits → Plan → List Descriptor → List Origin → Option ℕ → List ℕ → Type 0
+ShowsPlan (Words detail) s plan pieces origins least text = TellsPlan s detail plan pieces origins text
+ShowsPlan Picture s plan pieces origins least text = DrawsPlan s plan pieces text
+ShowsPlan Json s plan pieces origins least text = SpellsPlan s plan pieces origins least text
 
 -- the message where a plan has too many groups to draw
 abbrev pub too_many_groups : ℕ → List ℕ
@@ -41,8 +69,8 @@ too_many_groups groups =
 
 -- A plan that can be explained has status 0, and is shown. Refused is one that can't be, for the cause
 -- that `explain` finds, and one with too many groups to draw.
-pub data AnswersPlan (s : Limits) (plan : Plan) (pieces : List Descriptor) (origins : List Origin) (drawn : Bool) (a : Answer) : Type 0 where
-  is_shown : a.status ≡ 0 → ShowsPlan drawn s plan pieces origins (string_bytes a.text) → AnswersPlan s plan pieces origins drawn a
-  is_unfit : (fault : ExplainFault) → Explains s pieces plan (Err fault) → IsRefusal (explain_cause fault) a → AnswersPlan s plan pieces origins drawn a
-  is_too_large : drawn ≡ true → CanBeExplained s pieces plan → most_rows < length plan → a.status ≡ 1
-      → string_bytes a.text ≡ too_many_groups (length plan) → AnswersPlan s plan pieces origins drawn a
+pub data AnswersPlan (s : Limits) (plan : Plan) (pieces : List Descriptor) (origins : List Origin) (least : Option ℕ) (form : Form) (a : Answer) : Type 0 where
+  is_shown : a.status ≡ 0 → ShowsPlan form s plan pieces origins least (string_bytes a.text) → AnswersPlan s plan pieces origins least form a
+  is_unfit : (fault : ExplainFault) → Explains s (detail_of form) pieces plan (Err fault) → IsRefusal (explain_cause fault) a → AnswersPlan s plan pieces origins least form a
+  is_too_large : form ≡ Picture → CanBeExplained s pieces plan → most_rows < length plan → a.status ≡ 1
+      → string_bytes a.text ≡ too_many_groups (length plan) → AnswersPlan s plan pieces origins least form a

@@ -1,6 +1,6 @@
-//! `explain`: what the plan of a text or a job does, in words or as a picture.
+//! `explain`: what the plan of a text or a job does and why.
 
-ghost use Rattle.std.specs.Prelude.{◌⊎◌, ◌≤◌, IfOk, List, Err, length, map, ℕ};
+ghost use Rattle.std.specs.Prelude.{◌⊎◌, ◌≤◌, IfOk, List, Some, Err, length, map, ℕ};
 ghost use Rattle.dsa_descriptor.specs.Descriptors.{fields};
 ghost use Rattle.dsa_descriptor.specs.Lists.{HaveOneOwner};
 ghost use Rattle.dsa_descriptor.specs.Pieces.{most_pieces};
@@ -16,6 +16,7 @@ ghost use Rattle.dsa_text.specs.Refusals.{IsRefusal};
 ghost use Rattle.dsa_text.specs.Shown.{AnswersPlan};
 
 use crate::answer::Answer;
+use crate::form::Form;
 use crate::origins::origins_of;
 use crate::shown::answer_plan;
 use dsa_calls::{PlanFault, Planned, check_plan, plan_operations};
@@ -31,10 +32,11 @@ fn answer_planned(
     operations: &[Descriptor],
     planned: &Planned,
     settings: &Settings,
-    drawn: bool,
+    form: Form,
 ) -> Result<Answer, AllocError>
     ensures { IfOk result (AnswersPlan settings.now planned.now.plan planned.now.pieces.items
-        (origins_from settings.now.greatest_transfer 0 (map fields operations.now)) drawn) }
+        (origins_from settings.now.greatest_transfer 0 (map fields operations.now))
+        (Some planned.now.cost) form) }
 {
     let origins = origins_of(alloc, operations, settings)?;
     answer_plan(
@@ -43,7 +45,8 @@ fn answer_planned(
         &planned.pieces,
         &origins,
         settings,
-        drawn,
+        Some(planned.cost),
+        form,
     )
 }
 
@@ -52,29 +55,29 @@ fn explain_operations(
     alloc: Global,
     operations: &[Descriptor],
     settings: &Settings,
-    drawn: bool,
+    form: Form,
 ) -> Result<Answer, AllocError>
     requires { HaveOneOwner (map fields operations.now) }
     ensures { (list : List ℕ) → IsListOf list operations.now →
-        IfOk result (ExplainsList list settings.now drawn) }
+        IfOk result (ExplainsList list settings.now form) }
 {
     match plan_operations(alloc, operations, settings) {
-        Ok(planned) => answer_planned(alloc, operations, &planned, settings, drawn),
+        Ok(planned) => answer_planned(alloc, operations, &planned, settings, form),
         Err(fault) => Answer::fault(alloc, fault),
     }
 }
 
-/// What the plan of least cost of a list does and why, in words, or as a picture where it is to be drawn.
+/// What the plan of least cost of a list does and why, in this form.
 pub fn explain_list(
     alloc: Global,
     list: &[u8],
     settings: &Settings,
-    drawn: bool,
+    form: Form,
 ) -> Result<Answer, AllocError>
-    ensures { IfOk result (ExplainsList list.now settings.now drawn) }
+    ensures { IfOk result (ExplainsList list.now settings.now form) }
 {
     match read_list(alloc, list) {
-        Ok(operations) => explain_operations(alloc, &operations, settings, drawn),
+        Ok(operations) => explain_operations(alloc, &operations, settings, form),
         Err(fault) => Answer::fault(alloc, PlanFault::from(fault)),
     }
 }
@@ -84,12 +87,12 @@ pub fn explain_text(
     alloc: Global,
     text: &[u8],
     settings: &Settings,
-    drawn: bool,
+    form: Form,
 ) -> Result<Answer, AllocError>
-    ensures { IfOk result (ExplainsText text.now settings.now drawn) }
+    ensures { IfOk result (ExplainsText text.now settings.now form) }
 {
     match parse_operations(alloc, text) {
-        Ok(operations) => explain_operations(alloc, &operations, settings, drawn),
+        Ok(operations) => explain_operations(alloc, &operations, settings, form),
         Err(fault) => Answer::text_fault(alloc, text, fault),
     }
 }
@@ -101,19 +104,29 @@ fn explain_emission(
     pieces: &[Descriptor],
     certificate: &Certificate,
     settings: &Settings,
-    drawn: bool,
+    form: Form,
 ) -> Result<Answer, AllocError>
     requires { length pieces.now ≤ most_pieces }
     ensures answer { (portal staging : List ℕ) →
         IsEmission settings.now portal staging plan.now pieces.now → IfOk result
-        (ExplainsChecked portal staging settings.now (contents certificate.now) drawn) }
+        (ExplainsChecked portal staging settings.now (contents certificate.now) form) }
     ensures refused { (fault : PlanFault) →
         ChecksPlan settings.now
         (map fields pieces.now) plan.now (contents certificate.now) (Err fault) →
         IfOk result (IsRefusal fault) }
 {
     match check_plan(pieces, settings, plan, certificate) {
-        Ok(_) => answer_plan(alloc, plan, pieces, [].as_slice(), settings, drawn),
+        Ok(cost) => {
+            answer_plan(
+                alloc,
+                plan,
+                pieces,
+                [].as_slice(),
+                settings,
+                Some(cost),
+                form,
+            )
+        }
         Err(fault) => Answer::fault(alloc, fault),
     }
 }
@@ -125,10 +138,10 @@ pub fn explain_checked(
     staging: &[u8],
     certificate: &Certificate,
     settings: &Settings,
-    drawn: bool,
+    form: Form,
 ) -> Result<Answer, AllocError>
     ensures answer { IfOk result (ExplainsChecked portal.now staging.now settings.now
-        (contents certificate.now) drawn) }
+        (contents certificate.now) form) }
     // What `check` refuses is refused for the same cause, unless an allocation failed.
     ensures refused { (fault : PlanFault) →
         Checks portal.now staging.now settings.now (contents certificate.now) (Err fault) →
@@ -136,7 +149,7 @@ pub fn explain_checked(
 {
     match read_emission(alloc, portal, staging, settings) {
         Ok((plan, pieces)) => {
-            explain_emission(alloc, &plan, &pieces, certificate, settings, drawn)
+            explain_emission(alloc, &plan, &pieces, certificate, settings, form)
         }
         Err(fault) => Answer::fault(alloc, PlanFault::from(fault)),
     }

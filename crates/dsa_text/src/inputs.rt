@@ -7,6 +7,7 @@ ghost use Rattle.dsa_text.specs.Refusals.{IsRefusal};
 
 use crate::answer::Answer;
 use crate::explaining::explain_text;
+use crate::form::{Form, form_of};
 use crate::jobs::explain_job_text;
 use crate::options::{are_settings_given, settings_words};
 use crate::settings::{SettingsWords, settings_fault, settings_of};
@@ -52,14 +53,14 @@ fn explain_with_options(
     alloc: Global,
     matches: &ArgMatches<'_>,
     text: &[u8],
-    drawn: bool,
+    form: Form,
 ) -> Result<Answer, AllocError>
-    ensures { IfOk result (ExplainsWithOptions matches.now text.now drawn) }
+    ensures { IfOk result (ExplainsWithOptions matches.now text.now form) }
 {
     if are_settings_given(matches) {
         return refused_options(alloc);
     }
-    explain_job_text(alloc, text, drawn)
+    explain_job_text(alloc, text, form)
 }
 
 /// What `explain` answers of operations, with the settings that the options spell.
@@ -67,13 +68,13 @@ fn explain_operations(
     alloc: Global,
     matches: &ArgMatches<'_>,
     text: &[u8],
-    drawn: bool,
+    form: Form,
 ) -> Result<Answer, AllocError>
-    ensures { IfOk result (ExplainsOperations matches.now text.now drawn) }
+    ensures { IfOk result (ExplainsOperations matches.now text.now form) }
 {
     let words = settings_words(matches);
     match settings_of(alloc, &words)? {
-        Some(settings) => explain_text(alloc, text, &settings, drawn),
+        Some(settings) => explain_text(alloc, text, &settings, form),
         None => refused_settings(alloc, &words),
     }
 }
@@ -86,10 +87,13 @@ pub(crate) fn explain(
 ) -> Result<Answer, AllocError>
     ensures { IfOk result (ExplainsInput matches.now text.now) }
 {
-    let drawn = matches.get_flag("svg");
+    let svg = matches.get_flag("svg");
+    let json = matches.get_flag("json");
+    let all = matches.get_flag("all");
+    let form = form_of(svg, json, all);
     if is_job(text) {
-        explain_with_options(alloc, matches, text, drawn)
+        explain_with_options(alloc, matches, text, form)
     } else {
-        explain_operations(alloc, matches, text, drawn)
+        explain_operations(alloc, matches, text, form)
     }
 }

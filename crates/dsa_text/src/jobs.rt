@@ -8,6 +8,7 @@ ghost use Rattle.dsa_text.specs.Refusals.{IsRefusal};
 use crate::answer::Answer;
 use crate::diagnosis::job_fault;
 use crate::explaining::{explain_checked, explain_list};
+use crate::form::Form;
 use crate::judging::explain_judged;
 use dsa_calls::PlanFault;
 use dsa_report::{Job, read_job};
@@ -22,34 +23,30 @@ fn not_explained(alloc: Global) -> Result<Answer, AllocError>
 }
 
 /// What `explain` answers of a job: one to plan, to judge or to check.
-fn explain_job(alloc: Global, job: &Job, drawn: bool) -> Result<Answer, AllocError>
-    ensures { IfOk result (ExplainsJob job.now drawn) }
+fn explain_job(alloc: Global, job: &Job, form: Form) -> Result<Answer, AllocError>
+    ensures { IfOk result (ExplainsJob job.now form) }
 {
     match job {
-        Job::Plan(job) => explain_list(alloc, &job.list, &job.settings, drawn),
-        Job::Judge(job) => explain_judged(alloc, &job.list, &job.plan, &job.settings, drawn),
+        Job::Plan(job) => explain_list(alloc, &job.list, &job.settings, form),
+        Job::Judge(job) => explain_judged(alloc, &job.list, &job.plan, &job.settings, form),
         Job::Check(job) => explain_checked(
             alloc,
             &job.portal,
             &job.staging,
             &job.certificate,
             &job.settings,
-            drawn,
+            form,
         ),
         Job::Replay(_) | Job::Run(_) => not_explained(alloc),
     }
 }
 
 /// What `explain` answers of the text of a job.
-pub(crate) fn explain_job_text(
-    alloc: Global,
-    text: &[u8],
-    drawn: bool,
-) -> Result<Answer, AllocError>
-    ensures { IfOk result (ExplainsJobText text.now drawn) }
+pub(crate) fn explain_job_text(alloc: Global, text: &[u8], form: Form) -> Result<Answer, AllocError>
+    ensures { IfOk result (ExplainsJobText text.now form) }
 {
     match read_job(alloc, text) {
-        Ok(job) => explain_job(alloc, &job, drawn),
+        Ok(job) => explain_job(alloc, &job, form),
         Err(fault) => job_fault(alloc, text, fault),
     }
 }

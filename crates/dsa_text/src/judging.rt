@@ -1,21 +1,23 @@
 //! `explain` of a plan of one's own.
 
-ghost use Rattle.std.specs.Prelude.{◌≡◌, ◌⊎◌, ◌++◌, IfOk, OnOk, MatchOption, List, false, Ok, Err, map, string_bytes, ℕ};
+ghost use Rattle.std.specs.Prelude.{◌≡◌, ◌⊎◌, IfOk, List, Some, Err, map, string_bytes, ℕ};
 ghost use Rattle.dsa_descriptor.specs.Descriptors.{fields};
 ghost use Rattle.dsa_descriptor.specs.Lists.{HaveOneOwner};
 ghost use Rattle.dsa_calls.specs.declared.fault.PlanFault.{PlanFault};
 ghost use Rattle.dsa_calls.specs.declared.fault.PlanFault.TheVariants.{Memory};
 ghost use Rattle.dsa_calls.specs.Judge.{Judges, JudgesPieces};
 ghost use Rattle.dsa_calls.specs.Lists.{IsListOf};
-ghost use Rattle.dsa_calls.specs.Planned.{PlansOperations, Submission};
-ghost use Rattle.dsa_text.specs.Explained.{AnswersJudged, ExplainsJudged, NamesLeast, least_words, more_words};
+ghost use Rattle.dsa_text.specs.declared.form.Form.TheVariants.{Json, Picture, Words};
+ghost use Rattle.dsa_text.specs.Explained.{AnswersJudged, ExplainsJudged, IsLeastCost, least_words, more_words};
 ghost use Rattle.dsa_text.specs.Refusals.{IsRefusal};
 
 use crate::answer::Answer;
+use crate::form::Form;
 use crate::judged::missing_message;
 use crate::shown::{answer_plan, plan_words};
 use dsa_calls::{PlanFault, judge_pieces, plan_operations};
 use dsa_descriptor::{Descriptor, read_list};
+use dsa_explain::Detail;
 use dsa_plan::{LegalFault, Plan, Settings};
 use std::alloc::{AllocError, Global};
 
@@ -27,10 +29,7 @@ fn least_cost(
     settings: &Settings,
 ) -> Result<Option<u64>, AllocError>
     requires { HaveOneOwner (map fields pieces.now) }
-    ensures { IfOk result (λ found. MatchOption found ((fault : PlanFault) ×
-        PlansOperations settings.now (map fields pieces.now) (Err fault))
-        (λ cost. (p : Submission) × PlansOperations settings.now
-        (map fields pieces.now) (Ok p) × (cost ≡ p.cost))) }
+    ensures { IfOk result (IsLeastCost settings.now (map fields pieces.now)) }
 {
     match plan_operations(alloc, pieces, settings) {
         Ok(planned) => Ok(Some(planned.cost)),
@@ -49,28 +48,21 @@ fn more_text(alloc: Global, more: u64) -> Result<String, AllocError>
     format!(in alloc; "this plan costs {more} more\n")
 }
 
-/// The line that names the least cost.
-fn least_text(alloc: Global, cost: u64, least: u64) -> Result<String, AllocError>
-    ensures { IfOk result (λ s. string_bytes s ≡ least_words cost least) }
+/// The line that names the least cost, and how much more the plan costs.
+fn least_line(alloc: Global, cost: u64, least: u64) -> Result<String, AllocError>
+    ensures { IfOk result (λ s. string_bytes s ≡ least_words cost (Some least)) }
 {
     let mut line = format!(in alloc; "least {least}: ")?;
     line.push_str(&more_text(alloc, cost.saturating_sub(least))?)?;
     Ok(line)
 }
 
-/// The line that names what the least plan costs, and how much more this one does; empty where there is no plan.
-fn least_line(
-    alloc: Global,
-    pieces: &[Descriptor],
-    settings: &Settings,
-    cost: u64,
-) -> Result<String, AllocError>
-    requires { HaveOneOwner (map fields pieces.now) }
-    ensures { IfOk result
-        (λ s. NamesLeast settings.now (map fields pieces.now) cost (string_bytes s)) }
+/// The line that names the least cost; empty where there is none.
+fn least_text(alloc: Global, cost: u64, least: Option<u64>) -> Result<String, AllocError>
+    ensures { IfOk result (λ s. string_bytes s ≡ least_words cost least) }
 {
-    match least_cost(alloc, pieces, settings)? {
-        Some(least) => least_text(alloc, cost, least),
+    match least {
+        Some(least) => least_line(alloc, cost, least),
         None => Ok(String::new(alloc)),
     }
 }
@@ -82,16 +74,49 @@ fn judged_words(
     pieces: &[Descriptor],
     settings: &Settings,
     cost: u64,
+    detail: Detail,
 ) -> Result<Answer, AllocError>
     requires { HaveOneOwner (map fields pieces.now) }
-    ensures { IfOk result (AnswersJudged settings.now plan.now pieces.now cost false) }
+    ensures { IfOk result
+        (AnswersJudged settings.now plan.now pieces.now cost (Words detail)) }
 {
-    let mut text = match plan_words(alloc, plan, pieces, [].as_slice(), settings) {
+    let mut text = match plan_words(alloc, plan, pieces, [].as_slice(), settings, detail) {
         Ok(text) => text,
         Err(fault) => return Answer::explain_fault(alloc, fault),
     };
-    text.push_str(&least_line(alloc, pieces, settings, cost)?)?;
+    let least = least_cost(alloc, pieces, settings)?;
+    text.push_str(&least_text(alloc, cost, least)?)?;
     Ok(Answer::done(text))
+}
+
+/// A judged plan as a picture.
+fn judged_picture(
+    alloc: Global,
+    plan: &Plan,
+    pieces: &[Descriptor],
+    settings: &Settings,
+    cost: u64,
+) -> Result<Answer, AllocError>
+    ensures { IfOk result (AnswersJudged settings.now plan.now pieces.now cost Picture) }
+{
+    let none = [].as_slice();
+    answer_plan(alloc, plan, pieces, none, settings, None, Form::Picture)
+}
+
+/// A judged plan as JSON, with what the least plan costs.
+fn judged_json(
+    alloc: Global,
+    plan: &Plan,
+    pieces: &[Descriptor],
+    settings: &Settings,
+    cost: u64,
+) -> Result<Answer, AllocError>
+    requires { HaveOneOwner (map fields pieces.now) }
+    ensures { IfOk result (AnswersJudged settings.now plan.now pieces.now cost Json) }
+{
+    let least = least_cost(alloc, pieces, settings)?;
+    let none = [].as_slice();
+    answer_plan(alloc, plan, pieces, none, settings, least, Form::Json)
 }
 
 /// The answer of a judged plan.
@@ -101,15 +126,15 @@ fn answer_judged(
     pieces: &[Descriptor],
     settings: &Settings,
     cost: u64,
-    drawn: bool,
+    form: Form,
 ) -> Result<Answer, AllocError>
     requires { HaveOneOwner (map fields pieces.now) }
-    ensures { IfOk result (AnswersJudged settings.now plan.now pieces.now cost drawn) }
+    ensures { IfOk result (AnswersJudged settings.now plan.now pieces.now cost form) }
 {
-    if drawn {
-        answer_plan(alloc, plan, pieces, [].as_slice(), settings, true)
-    } else {
-        judged_words(alloc, plan, pieces, settings, cost)
+    match form {
+        Form::Words(detail) => judged_words(alloc, plan, pieces, settings, cost, detail),
+        Form::Picture => judged_picture(alloc, plan, pieces, settings, cost),
+        Form::Json => judged_json(alloc, plan, pieces, settings, cost),
     }
 }
 
@@ -140,17 +165,17 @@ fn explain_pieces(
     pieces: &[Descriptor],
     plan: &Plan,
     settings: &Settings,
-    drawn: bool,
+    form: Form,
 ) -> Result<Answer, AllocError>
     requires { HaveOneOwner (map fields pieces.now) }
     ensures answer { (list : List ℕ) → IsListOf list pieces.now →
-        IfOk result (ExplainsJudged list plan.now settings.now drawn) }
+        IfOk result (ExplainsJudged list plan.now settings.now form) }
     ensures refused { (fault : PlanFault) →
         JudgesPieces (map fields pieces.now) plan.now settings.now (Err fault) →
         IfOk result (IsRefusal fault) }
 {
     match judge_pieces(pieces, plan, settings) {
-        Ok(cost) => answer_judged(alloc, plan, pieces, settings, cost, drawn),
+        Ok(cost) => answer_judged(alloc, plan, pieces, settings, cost, form),
         Err(fault) => refuse_judged(alloc, pieces, plan, fault),
     }
 }
@@ -162,16 +187,16 @@ pub fn explain_judged(
     list: &[u8],
     plan: &Plan,
     settings: &Settings,
-    drawn: bool,
+    form: Form,
 ) -> Result<Answer, AllocError>
-    ensures answer { IfOk result (ExplainsJudged list.now plan.now settings.now drawn) }
+    ensures answer { IfOk result (ExplainsJudged list.now plan.now settings.now form) }
     // What `judge` refuses is refused for the same cause, unless an allocation failed.
     ensures refused { (fault : PlanFault) →
         Judges list.now plan.now settings.now (Err fault) →
         IfOk result (λ a. IsRefusal Memory a ⊎ IsRefusal fault a) }
 {
     match read_list(alloc, list) {
-        Ok(pieces) => explain_pieces(alloc, &pieces, plan, settings, drawn),
+        Ok(pieces) => explain_pieces(alloc, &pieces, plan, settings, form),
         Err(fault) => Answer::fault(alloc, PlanFault::from(fault)),
     }
 }

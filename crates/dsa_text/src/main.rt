@@ -7,6 +7,7 @@ mod bytes;
 mod diagnosis;
 mod disassembling;
 mod explaining;
+mod form;
 mod inputs;
 mod jobs;
 mod judged;
@@ -159,11 +160,15 @@ fn disassemble_command<'a>(alloc: Global) -> Result<Command<'a>, AllocError> {
 /// The command `explain`.
 fn explain_command<'a>(alloc: Global) -> Result<Command<'a>, AllocError> {
     let options = settings_options(alloc)?;
+    let all = flag(alloc, "all", "name every conflict that a fence separates");
+    let json = flag(alloc, "json", "write the explanation as JSON");
     Command::new(alloc, "explain")
         .about("Reads lines or a job to plan, judge or check, and tells what the plan does and why")
         .after_help(UNITS)
         .arg(file(alloc))?
         .arg(flag(alloc, "svg", "draw the plan"))?
+        .arg(json.conflicts_with("svg")?)?
+        .arg(all.conflicts_with("svg")?.conflicts_with("json")?)?
         .args(options)
 }
 

@@ -1,12 +1,17 @@
-//! A plan of pieces, explained in words or as a picture.
+//! A plan of pieces, explained in words, as a picture or as JSON.
 
-ghost use Rattle.std.specs.Prelude.{◌≡◌, IfOk, MatchResult, true, false, Err, string_bytes};
+ghost use Rattle.std.specs.Prelude.{◌≡◌, IfOk, MatchResult, Err, string_bytes};
 ghost use Rattle.dsa_explain.specs.Explained.{Explains};
-ghost use Rattle.dsa_text.specs.Shown.{AnswersPlan, TellsPlan, too_many_groups};
+ghost use Rattle.dsa_explain.specs.declared.fences.Detail.TheVariants.{All as Every};
+ghost use Rattle.dsa_text.specs.declared.form.Form.TheVariants.{Json, Picture, Words};
+ghost use Rattle.dsa_text.specs.Shown.{AnswersPlan, SpellsPlan, TellsPlan, too_many_groups};
 
 use crate::answer::Answer;
+use crate::form::Form;
 use dsa_descriptor::Descriptor;
-use dsa_explain::{ExplainFault, MOST_ROWS, Origin, draw, explain, explanation_text};
+use dsa_explain::{
+    Detail, ExplainFault, MOST_ROWS, Origin, draw, explain, explanation_line, explanation_text,
+};
 use dsa_plan::{Plan, Settings};
 use std::alloc::{AllocError, Global};
 
@@ -17,12 +22,13 @@ pub(crate) fn plan_words(
     pieces: &[Descriptor],
     origins: &[Origin],
     settings: &Settings,
+    detail: Detail,
 ) -> Result<String, ExplainFault>
     ensures { MatchResult result
-        (λ s. TellsPlan settings.now plan.now pieces.now origins.now (string_bytes s))
-        (λ fault. Explains settings.now pieces.now plan.now (Err fault)) }
+        (λ s. TellsPlan settings.now detail plan.now pieces.now origins.now (string_bytes s))
+        (λ fault. Explains settings.now detail pieces.now plan.now (Err fault)) }
 {
-    let explanation = explain(alloc, plan, pieces, settings)?;
+    let explanation = explain(alloc, plan, pieces, settings, detail)?;
     match explanation_text(alloc, &explanation, pieces, origins, settings) {
         Ok(text) => Ok(text),
         Err(_) => Err(ExplainFault::Memory),
@@ -36,11 +42,52 @@ fn answer_words(
     pieces: &[Descriptor],
     origins: &[Origin],
     settings: &Settings,
+    least: Option<u64>,
+    detail: Detail,
 ) -> Result<Answer, AllocError>
-    ensures { IfOk result (AnswersPlan settings.now plan.now pieces.now origins.now false) }
+    ensures { IfOk result
+        (AnswersPlan settings.now plan.now pieces.now origins.now least (Words detail)) }
 {
-    match plan_words(alloc, plan, pieces, origins, settings) {
+    match plan_words(alloc, plan, pieces, origins, settings, detail) {
         Ok(text) => Ok(Answer::done(text)),
+        Err(fault) => Answer::explain_fault(alloc, fault),
+    }
+}
+
+/// What a plan of pieces does and why, as JSON.
+fn plan_line(
+    alloc: Global,
+    plan: &Plan,
+    pieces: &[Descriptor],
+    origins: &[Origin],
+    settings: &Settings,
+    least: Option<u64>,
+) -> Result<String, ExplainFault>
+    ensures { MatchResult result
+        (λ s. SpellsPlan settings.now plan.now pieces.now origins.now least (string_bytes s))
+        (λ fault. Explains settings.now Every pieces.now plan.now (Err fault)) }
+{
+    let explanation = explain(alloc, plan, pieces, settings, Detail::All)?;
+    match explanation_line(alloc, &explanation, pieces, origins, least) {
+        Ok(line) => Ok(line),
+        Err(_) => Err(ExplainFault::Memory),
+    }
+}
+
+/// The answer of a plan of pieces as JSON.
+fn answer_json(
+    alloc: Global,
+    plan: &Plan,
+    pieces: &[Descriptor],
+    origins: &[Origin],
+    settings: &Settings,
+    least: Option<u64>,
+) -> Result<Answer, AllocError>
+    ensures { IfOk result
+        (AnswersPlan settings.now plan.now pieces.now origins.now least Json) }
+{
+    match plan_line(alloc, plan, pieces, origins, settings, least) {
+        Ok(line) => Ok(Answer::done(line)),
         Err(fault) => Answer::explain_fault(alloc, fault),
     }
 }
@@ -62,10 +109,12 @@ fn answer_picture(
     pieces: &[Descriptor],
     origins: &[Origin],
     settings: &Settings,
+    least: Option<u64>,
 ) -> Result<Answer, AllocError>
-    ensures { IfOk result (AnswersPlan settings.now plan.now pieces.now origins.now true) }
+    ensures { IfOk result
+        (AnswersPlan settings.now plan.now pieces.now origins.now least Picture) }
 {
-    let explanation = match explain(alloc, plan, pieces, settings) {
+    let explanation = match explain(alloc, plan, pieces, settings, Detail::First) {
         Ok(explanation) => explanation,
         Err(fault) => return Answer::explain_fault(alloc, fault),
     };
@@ -73,23 +122,27 @@ fn answer_picture(
     if groups > MOST_ROWS {
         return too_many_groups(alloc, groups);
     }
-    Ok(Answer::done(draw(alloc, &explanation, pieces, origins)?))
+    Ok(Answer::done(draw(alloc, &explanation, pieces, origins, settings)?))
 }
 
-/// The answer of a plan of pieces, in words, or as a picture where it is to be drawn.
+/// The answer of a plan of pieces in a form; `least` is what the least plan costs, where that is known.
 pub(crate) fn answer_plan(
     alloc: Global,
     plan: &Plan,
     pieces: &[Descriptor],
     origins: &[Origin],
     settings: &Settings,
-    drawn: bool,
+    least: Option<u64>,
+    form: Form,
 ) -> Result<Answer, AllocError>
-    ensures { IfOk result (AnswersPlan settings.now plan.now pieces.now origins.now drawn) }
+    ensures { IfOk result
+        (AnswersPlan settings.now plan.now pieces.now origins.now least form) }
 {
-    if drawn {
-        answer_picture(alloc, plan, pieces, origins, settings)
-    } else {
-        answer_words(alloc, plan, pieces, origins, settings)
+    match form {
+        Form::Words(detail) => {
+            answer_words(alloc, plan, pieces, origins, settings, least, detail)
+        }
+        Form::Picture => answer_picture(alloc, plan, pieces, origins, settings, least),
+        Form::Json => answer_json(alloc, plan, pieces, origins, settings, least),
     }
 }

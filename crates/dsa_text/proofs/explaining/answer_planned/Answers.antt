@@ -4,5 +4,5 @@ use Rattle.dsa_text.proofs.explaining.answer_planned.Goals as goal
 
 pub returns : goal.returns
 returns c =
-    plan_answered c.answer_plan.result c.args.settings.now c.args.planned.now.plan _ c.args.planned.now.pieces.items _ _ c.args.drawn c.deref.ensures.value
+    plan_answered c.answer_plan.result c.args.settings.now c.args.planned.now.plan _ c.args.planned.now.pieces.items _ _ _ c.args.form c.deref.ensures.value
     (c.deref-2.ensures.value ∙ c.in_ok-origins.ensures) c.answer_plan.ensures

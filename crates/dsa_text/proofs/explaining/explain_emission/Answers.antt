@@ -9,12 +9,12 @@ use Rattle.dsa_text.proofs.explaining.explain_emission.Goals as goal
 
 pub returns-in-Ok-clause-answer : goal.returns-in-Ok-clause-answer
 returns-in-Ok-clause-answer c = λ portal staging emission.
-    IfOk-weaker c.answer_plan.result _ _ (λ a answered. is_checked c.in-Ok.field-0 c.args.plan.now c.args.pieces.now emission c.in-Ok.ensures answered)
-    (plan_answered c.answer_plan.result c.args.settings.now c.args.plan.now _ c.args.pieces.now _ _ c.args.drawn refl c.as_slice.ensures c.answer_plan.ensures)
+    IfOk-weaker c.answer_plan.result _ _ (λ a answered. is_checked c.in-Ok.cost c.args.plan.now c.args.pieces.now emission c.in-Ok.ensures answered)
+    (plan_answered c.answer_plan.result c.args.settings.now c.args.plan.now _ c.args.pieces.now _ _ _ c.args.form refl c.as_slice.ensures c.answer_plan.ensures)
 
 pub returns-in-Ok-clause-refused : goal.returns-in-Ok-clause-refused
 returns-in-Ok-clause-refused c = λ fault checks.
-    let same = one_plan_checked c.args.settings.now (map fields c.args.pieces.now) c.args.plan.now (contents c.args.certificate.now) (Ok c.in-Ok.field-0) (Err fault) c.in-Ok.ensures checks in
+    let same = one_plan_checked c.args.settings.now (map fields c.args.pieces.now) c.args.plan.now (contents c.args.certificate.now) (Ok c.in-Ok.cost) (Err fault) c.in-Ok.ensures checks in
     absurd cc
 
 pub returns-in-Err-clause-answer : goal.returns-in-Err-clause-answer

@@ -1,0 +1,38 @@
+-- The document of an explanation has no float.
+use Rattle.std.proofs.Common.{◌≡◌, ℕ, List, [], ◌∷◌, map, Bool, false, ◌||◌, refl}
+use Rattle.std.specs.Prelude.{Option, Some, None}
+use Rattle.serde_json.specs.Data.{Data}
+use Rattle.serde_json.specs.View.{items_of}
+use Rattle.serde_json.specs.Written.{has_float, items_have_float}
+use Rattle.dsa_descriptor.specs.declared.descriptor.Descriptor.{Descriptor}
+use Rattle.dsa_explain.specs.declared.explanation.Explanation.{Explanation}
+use Rattle.dsa_explain.specs.declared.fences.Fence.{Fence}
+use Rattle.dsa_explain.specs.declared.reason.Reason.{Reason}
+use Rattle.dsa_explain.specs.declared.words.Origin.{Origin}
+use Rattle.dsa_explain.specs.Document.{optional_value, group_value, reason_value, fence_value, piece_value, origin_value, explanation_value}
+use Rattle.dsa_explain.specs.Words.{record_of}
+
+-- an array has none where no item has
+items : {X : Type 0} (f : X → Data) (xs : List X) → ((x : X) → has_float (f x) ≡ false) → items_have_float (items_of (map f xs)) ≡ false
+items f [] each = refl
+items f (x ∷ xs) each = rw (each x) (items f xs each)
+
+optional : (n : Option ℕ) → has_float (optional_value n) ≡ false
+optional None = refl
+optional (Some n) = refl
+
+reason : (pieces : List Descriptor) (r : Reason) → has_float (reason_value pieces r) ≡ false
+reason pieces r = rw (optional (record_of pieces r)) refl
+
+fence : (pieces : List Descriptor) (f : Fence) → has_float (fence_value pieces f) ≡ false
+fence pieces f = rw (items (reason_value pieces) f.named.items (reason pieces)) refl
+
+pub explained : (e : Explanation) (pieces : List Descriptor) (origins : List Origin) (least : Option ℕ) → has_float (explanation_value e pieces origins least) ≡ false
+explained e pieces origins least =
+    rw (
+      items (fence_value pieces) e.fences.items (fence pieces),
+      items group_value e.costs.groups.items (λ group. refl),
+      optional least,
+      items origin_value origins (λ origin. refl),
+      items piece_value pieces (λ d. refl),
+    ) refl

@@ -1,0 +1,73 @@
+-- The document of an explanation, as a JSON value (this project's choice).
+use Rattle.std.specs.Prelude.{ℕ, List, [], ◌∷◌, ◌++◌, codes, map, Option, Some, None}
+use Rattle.serde_json.specs.Data.{Data, null, string}
+use Rattle.serde_json.specs.Written.{compact_text}
+use Rattle.dsa_cert.specs.Spelled.{whole, array_of, object_of}
+use Rattle.dsa_descriptor.specs.declared.descriptor.Descriptor.{Descriptor}
+use Rattle.dsa_lines.specs.Numbers.{hex}
+use Rattle.dsa_lines.specs.Text.{op_words, text_of}
+use Rattle.dsa_plan.specs.declared.costs.GroupCost.{GroupCost}
+use Rattle.dsa_explain.specs.declared.explanation.Explanation.{Explanation}
+use Rattle.dsa_explain.specs.declared.fences.Fence.{Fence}
+use Rattle.dsa_explain.specs.declared.reason.Reason.{Reason}
+use Rattle.dsa_explain.specs.declared.words.Origin.{Origin}
+use Rattle.dsa_explain.specs.Words.{kind_words, record_of}
+
+-- a number that may be missing
+abbrev pub optional_value : Option ℕ → Data
+optional_value None = null
+optional_value (Some n) = whole n
+
+-- a group: what it costs, how many fences it has, and how many pieces
+abbrev pub group_value : GroupCost → Data
+group_value group =
+    object_of ((codes "cost", whole group.cost) ∷ (codes "fences", whole group.fences) ∷ (codes "size", whole group.size) ∷ [])
+
+-- a conflict: an address of it, its two pieces, its kind, and the piece whose completion record has the address
+abbrev pub reason_value : List Descriptor → Reason → Data
+reason_value pieces r =
+    object_of (
+    (codes "address", string (hex r.hazard.address))
+    ∷ (codes "earlier", whole r.earlier)
+    ∷ (codes "hazard", string (kind_words r.hazard.kind))
+    ∷ (codes "later", whole r.later)
+    ∷ (codes "record_of", optional_value (record_of pieces r))
+    ∷ [])
+
+-- a fence: the piece that it stands before, and the conflicts that it alone separates
+abbrev pub fence_value : List Descriptor → Fence → Data
+fence_value pieces fence =
+    object_of (
+    (codes "before", whole fence.piece)
+    ∷ (codes "conflicts", array_of (map (reason_value pieces) fence.named.items))
+    ∷ [])
+
+-- a piece: what it does
+abbrev pub piece_value : Descriptor → Data
+piece_value d = string (text_of (op_words d.op d.size))
+
+-- of which operation a piece is, which of its pieces, from 1 on, and how many it has
+abbrev pub origin_value : Origin → Data
+origin_value origin =
+    object_of (
+    (codes "operation", whole origin.operation)
+    ∷ (codes "piece", whole origin.piece)
+    ∷ (codes "pieces", whole origin.pieces)
+    ∷ [])
+
+-- an explanation, with the origins of its pieces, and the cost of the least plan where it is known
+abbrev pub explanation_value : Explanation → List Descriptor → List Origin → Option ℕ → Data
+explanation_value e pieces origins least =
+    object_of (
+    (codes "cost", whole e.costs.cost)
+    ∷ (codes "fences", array_of (map (fence_value pieces) e.fences.items))
+    ∷ (codes "groups", array_of (map group_value e.costs.groups.items))
+    ∷ (codes "least", optional_value least)
+    ∷ (codes "lone_cost", whole e.costs.lone)
+    ∷ (codes "origins", array_of (map origin_value origins))
+    ∷ (codes "pieces", array_of (map piece_value pieces))
+    ∷ [])
+
+-- its compact text, as a line
+abbrev pub explanation_line : Explanation → List Descriptor → List Origin → Option ℕ → List ℕ
+explanation_line e pieces origins least = compact_text (explanation_value e pieces origins least) ++ codes "\n"

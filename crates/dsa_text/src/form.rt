@@ -1,0 +1,45 @@
+//! How `explain` shows a plan.
+
+ghost use Rattle.std.specs.Prelude.{◌≡◌};
+ghost use Rattle.dsa_text.specs.Shown.{detail_of, form_of};
+
+use dsa_explain::Detail;
+
+/// How a plan is shown.
+#[derive(Clone, Copy, Debug, PartialEq, Eq)]
+pub enum Form {
+    /// In words, with so many of the conflicts of each fence.
+    Words(Detail),
+    /// As a picture.
+    Picture,
+    /// As a line of JSON.
+    Json,
+}
+
+impl Form {
+    /// How many of the conflicts of each fence it shows.
+    pub(crate) fn detail(self) -> Detail
+        ensures { result ≡ detail_of self }
+    {
+        match self {
+            Form::Words(detail) => detail,
+            Form::Picture => Detail::First,
+            Form::Json => Detail::All,
+        }
+    }
+}
+
+/// The form that the flags `--svg`, `--json` and `--all` ask for.
+pub(crate) fn form_of(svg: bool, json: bool, all: bool) -> Form
+    ensures { result ≡ form_of svg json all }
+{
+    if svg {
+        Form::Picture
+    } else if json {
+        Form::Json
+    } else if all {
+        Form::Words(Detail::All)
+    } else {
+        Form::Words(Detail::First)
+    }
+}

@@ -4,6 +4,10 @@ import re
 LINE = 16
 SHORT = {"move": "move", "fill": "fill", "delta": "delta", "dualcast": "dual"}
 KINDS = {"read after write": "RAW", "write after read": "WAR", "write after write": "WAW"}
+LEGEND = (
+    "bar: fence; 2←1: piece 2 waits for piece 1; +N: N more conflicts",
+    "RAW: read after write; WAR: write after read; WAW: write after write",
+)
 GROUP = re.compile(r"group (\d+): (?:lone submission|batch of (\d+)(?: \(full\))?, (\d+) fences?, \d+ epochs?), cost (\d+)")
 FENCE = re.compile(r"  -- fence, cost \d+: (.*)")
 REASON = re.compile(r"(\d+) after (\d+), (.*) at 0x[0-9a-f]+(?: \(record of \d+\))?(?:, and (\d+) more)?")
@@ -61,9 +65,11 @@ def picture_of(words):
         elif found := PIECE.fullmatch(line):
             parts.append(drawn_piece(found, x, y, shaded))
             column += 1
-    width, height = 100 + 50 * min(LINE, widest), end + 24
+    has_fences = any(FENCE.fullmatch(line) for line in words.splitlines())
+    width, height = 100 + 50 * min(LINE, widest), end + (54 if has_fences else 24)
     sizes = f'width="{width}" height="{height}" viewBox="0 0 {width} {height}"'
     head = f'<svg xmlns="http://www.w3.org/2000/svg" role="img" {sizes} font-family="monospace" font-size="11">'
     total = lettered(8, end + 11, width - 16, f"total {costs}")
     ground = '<rect width="100%" height="100%" fill="white"/>'
-    return "\n".join([head, f"<title>{costs}</title>", ground, *parts, total, "</svg>", ""])
+    legend = [lettered(8, end + 27 + 15 * at, width - 16, line) for at, line in enumerate(LEGEND)] if has_fences else []
+    return "\n".join([head, f"<title>{costs}</title>", ground, *parts, total, *legend, "</svg>", ""])

@@ -371,8 +371,10 @@ def picture():
     wanted += [("231", "group 1"), ("244", "batch of 12"), ("257", "cost 14")]
     wanted += [("285", "group 2"), ("298", "lone"), ("311", "cost 10")]
     wanted += [("339", "total cost 53; 53 lone submissions cost 530, saved 477")]
+    wanted += [("355", "bar: fence; 2←1: piece 2 waits for piece 1; +N: N more conflicts")]
+    wanted += [("370", "RAW: read after write; WAR: write after read; WAW: write after write")]
     common.expect(left == wanted, f"at the left stand {left}")
-    common.expect(' width="900" height="352" viewBox="0 0 900 352" ' in drawn, drawn[:200])
+    common.expect(' width="900" height="382" viewBox="0 0 900 382" ' in drawn, drawn[:200])
 
 
 def reasons_drawn():

@@ -17,6 +17,12 @@ use dsa_drawing::{
 use dsa_plan::{GroupCost, Settings};
 use std::alloc::{AllocError, Global};
 
+/// What stands under the bar of a fence.
+const LEGEND: &str = "bar: fence; 2←1: piece 2 waits for piece 1; +N: N more conflicts";
+
+/// The kinds of conflicts.
+const KINDS: &str = "RAW: read after write; WAR: write after read; WAW: write after write";
+
 /// Where a group stands: each of its lines has this height, and the next group begins at its end.
 #[derive(Clone, Copy)]
 struct Row {
@@ -70,6 +76,30 @@ fn push_total(
         picture_width(groups).saturating_sub(16),
         &words,
     )?;
+    svg.push_str("\n")
+}
+
+/// Whether a group has a fence.
+fn has_fences(groups: &[GroupCost]) -> bool {
+    groups.iter().any(|group| group.fences > 0)
+}
+
+/// The height of a picture: under the costs it has room for a legend where there are fences.
+fn picture_height(groups: &[GroupCost]) -> usize {
+    let behind: usize = if has_fences(groups) { 54 } else { 24 };
+    groups_end(groups).saturating_add(behind)
+}
+
+/// Writes under the costs what stands under a bar.
+fn push_legend(alloc: Global, svg: &mut String, groups: &[GroupCost]) -> Result<(), AllocError> {
+    let width = picture_width(groups).saturating_sub(16);
+    let spot = Spot {
+        x: 8,
+        y: groups_end(groups).saturating_add(27),
+    };
+    push_text(alloc, svg, spot, width, LEGEND)?;
+    svg.push_str("\n")?;
+    push_text(alloc, svg, spot.below(15), width, KINDS)?;
     svg.push_str("\n")
 }
 
@@ -211,17 +241,21 @@ fn picture_body(
 ) -> Result<String, AllocError> {
     let mut svg = String::new(alloc);
     let groups = &explanation.costs.groups;
-    let (width, height) = (picture_width(groups), groups_end(groups).saturating_add(24));
+    let (width, height) = (picture_width(groups), picture_height(groups));
     let costs = cost_text(alloc, &explanation.costs, pieces.len())?;
     push_head(alloc, &mut svg, width, height, &costs)?;
     push_cells(alloc, &mut svg, explanation, pieces, origins, greatest)?;
     push_total(alloc, &mut svg, explanation, &costs)?;
+    if has_fences(groups) {
+        push_legend(alloc, &mut svg, groups)?;
+    }
     Ok(svg)
 }
 
 /// The picture of a plan as SVG, in black, white and grey and without scripts. A group has 16 boxes to a line, its cost at
 /// the left, and epochs that are white and grey by turns. Under the bar of a fence stand the two pieces that it separates,
-/// the kind of their conflict and how many more it alone separates; the costs stand at the end. A browser shows the words
+/// the kind of their conflict and how many more it alone separates; the costs stand at the end, and where there are fences
+/// a legend of what stands under them. A browser shows the words
 /// of each row, box and bar under the pointer.
 pub fn draw(
     alloc: Global,

@@ -1,4 +1,4 @@
-use Rattle.std.proofs.Common.{◌≡◌, false, ◌∙◌, ap, subst, sym, List, ℕ, ◌++◌}
+use Rattle.std.proofs.Common.{◌≡◌, false, ◌∙◌, ap, List, ℕ, ◌++◌}
 use Rattle.std.specs.Prelude.{codes, string_bytes}
 use Rattle.serde_json.specs.Data.{Data}
 use Rattle.serde_json.specs.View.{view}

@@ -147,6 +147,16 @@ bytes_are p (suc (suc (suc (suc (suc (suc (suc (suc i)))))))) = none
 pattern_long : (p : ℕ) → 0 < length (pattern_word p)
 pattern_long p = omega (arith, length-encode_with lower_digits (to_le_bytes w64 p), bytes_length p)
 
+-- the digits of bytes are one word
+digits_long : (bytes : List ℕ) → 0 < length bytes → 0 < length (encode_with lower_digits bytes)
+digits_long bytes lt = omega (arith, length-encode_with lower_digits bytes)
+
+pub digits_word : (bytes : List ℕ) → 0 < length bytes → is_word (encode_with lower_digits bytes) ≡ true
+digits_word bytes lt = plain_word (encode_with lower_digits bytes) (encoded_in bytes) (digits_long bytes lt)
+
+pub spaced_digits : (bytes : List ℕ) → 0 < length bytes → spaced (encode_with lower_digits bytes) ≡ 32 ∷ encode_with lower_digits bytes
+spaced_digits bytes lt = plain_spaced (encode_with lower_digits bytes) (encoded_in bytes) (digits_long bytes lt)
+
 pub pattern_is_word : (p : ℕ) → is_word (pattern_word p) ≡ true
 pattern_is_word p = plain_word (pattern_word p) (encoded_in (to_le_bytes w64 p)) (pattern_long p)
 

@@ -1,20 +1,23 @@
 -- What a portal submits, and its text.
-use Rattle.std.proofs.Common.{◌≡◌, ◌≢◌, ℕ, zero, suc, ◌/◌, ◌^◌, ◌<◌, true, false, List, [], ◌∷◌, ◌++◌, length, get_or, refl, sym, ap, subst, ◌∙◌, append_assoc, length-append, ⊎_elim, arith}
-use Rattle.std.specs.Prelude.{◌⊎◌, Result, Ok, Err, IfOk, IfErr, MatchResult, codes, decimal, not, ◌==◌, ◌&&◌}
+use Rattle.std.proofs.Common.{◌≡◌, ◌≢◌, ℕ, ◌^◌, ◌<◌, true, false, List, [], ◌∷◌, ◌++◌, length, get_or, refl, sym, ap, subst, ◌∙◌, append_assoc, length-append, arith}
+use Rattle.std.specs.Prelude.{◌⊎◌, Result, Ok, Err, IfOk, IfErr, MatchResult, slice_index, codes, decimal, not, ◌==◌, ◌&&◌}
+use Rattle.hex.specs.Hex.{IsBytes, decode_of, encode_lower}
+use Rattle.hex.specs.declared.error.FromHexError.{FromHexError}
+use Rattle.hex.proofs.HexLemmas.{decode_of-encode_lower}
 use Rattle.std.specs.List.{AllZip}
-use Rattle.std.proofs.lemmas.Bool.{cases_order, eqb-true}
+use Rattle.std.proofs.lemmas.Bool.{eqb-true}
 use Rattle.std.proofs.lemmas.List.{append-nil}
 use Rattle.std.proofs.lemmas.Option.{same_Some}
 use Rattle.dsa_descriptor.specs.declared.descriptor.Descriptor.{Descriptor}
 use Rattle.dsa_descriptor.specs.declared.fault.FieldFault.{FieldFault}
+use Rattle.dsa_descriptor.specs.declared.fault.FieldFault.TheVariants.{Opcode, FlagBits, Reserved, SizeZero, Wrap, RecordAlign, DualcastBits, Overlap, Delta, Expected, RecordMeetsData}
 use Rattle.dsa_descriptor.specs.declared.op.Op.{Op}
 use Rattle.dsa_descriptor.specs.declared.op.Op.TheVariants.{Move, Fill, Compare, ComparePattern, ApplyDelta, Dualcast}
 use Rattle.dsa_descriptor.specs.Descriptors.{fields}
 use Rattle.dsa_descriptor.specs.Fields.{Fields}
 use Rattle.dsa_descriptor.specs.Faults.{IsFirstFault}
-use Rattle.dsa_descriptor.specs.Lists.{entries, entry}
+use Rattle.dsa_descriptor.specs.Lists.{entries}
 use Rattle.dsa_descriptor.specs.Spelling.{spelling}
-use Rattle.dsa_descriptor.proofs.Entries.{length-chunks}
 use Rattle.dsa_descriptor.proofs.Rules.{first_is_one}
 use Rattle.dsa_descriptor.proofs.Same.{one_spelling, same_descriptor, fault_only}
 use Rattle.dsa_emission.specs.EmissionFaults.{is_batch_entry}
@@ -23,12 +26,12 @@ use Rattle.dsa_lines.specs.declared.fault.EmittedFault.{EmittedFault}
 use Rattle.dsa_lines.specs.declared.fault.EmittedFault.TheVariants.{Field, Emission, Memory}
 use Rattle.dsa_lines.specs.Words.{Word, words_of}
 use Rattle.dsa_lines.specs.Numbers.{hex, number_of}
-use Rattle.dsa_lines.specs.Text.{op_words, text_of, line_text}
+use Rattle.dsa_lines.specs.Text.{op_words, spaced, text_of, line_text}
 use Rattle.dsa_lines.specs.Grammar.{fields_of}
-use Rattle.dsa_lines.specs.Portals.{Submission, Submits, IsPortal, batch_words, submission_text, portal_text, IsFirstPortalFault}
-use Rattle.dsa_lines.specs.Portals.Submission.{Batch, Lone}
-use Rattle.dsa_lines.proofs.WordLemmas.{AreWords, text_words, both}
-use Rattle.dsa_lines.proofs.NumberLemmas.{hex_word, decimal_word, hex_again, decimal_again, spaced_decimal}
+use Rattle.dsa_lines.specs.Portals.{Submission, Submits, IsOther, IsPortal, batch_words, other_words, submission_text, portal_text, why, IsFirstPortalFault}
+use Rattle.dsa_lines.specs.Portals.Submission.{Batch, Lone, Other}
+use Rattle.dsa_lines.proofs.WordLemmas.{AreWords, is_word, text_words, both}
+use Rattle.dsa_lines.proofs.NumberLemmas.{hex_word, decimal_word, hex_again, decimal_again, spaced_decimal, digits_word, spaced_digits}
 use Rattle.dsa_lines.proofs.LineLemmas.{is_line, words_line, canonical_is_line}
 use Rattle.dsa_lines.proofs.RoundTrip.{line_spells}
 use Rattle.dsa_lines.proofs.EmittedLemmas.{only_memory, fault_or_memory}
@@ -39,6 +42,18 @@ use Rattle.dsa_lines.proofs.EmittedLemmas.{only_memory, fault_or_memory}
 pub no_batch : (bytes : List ℕ) (d : Descriptor) → bytes ≡ spelling (fields d) → is_batch_entry bytes ≡ true → ⊥
 no_batch bytes d e is = code_told (fields d) d.listed (ap (λ (b : List ℕ). get_or b 7 0) (sym e) ∙ eqb-true _ _ is)
 
+batch_or_other : (bytes others : List ℕ) (fault : FieldFault) → is_batch_entry bytes ≡ true → (bytes ≡ others) × IsOther others fault → ⊥
+batch_or_other bytes others fault code is =
+    let no : true ≡ false = sym code ∙ ap is_batch_entry is.0 ∙ is.1.no_batch in cc
+
+fault_of : (bytes others : List ℕ) (fault : FieldFault) → (bytes ≡ others) × IsOther others fault → IsFirstFault bytes fault
+fault_of bytes others fault is = subst (λ (b : List ℕ). IsFirstFault b fault) (sym is.0) is.1.fault_is
+
+same_other : (b c : List ℕ) (f g : FieldFault) → b ≡ c → IsOther b f → IsOther c g → Other b f ≡ Other c g
+same_other b c f g e p q =
+    let fault : f ≡ g = first_is_one b f g p.fault_is (subst (λ (x : List ℕ). IsFirstFault x g) (sym e) q.fault_is) in
+    λ i. Other (e i) (fault i)
+
 one_submission : (bytes : List ℕ) (s t : Submission) → Submits bytes s → Submits bytes t → s ≡ t
 one_submission bytes (Batch c l r) (Batch c' l' r') p q =
     let a : c ≡ c' = sym p.count_there ∙ q.count_there in
@@ -48,6 +63,11 @@ one_submission bytes (Batch c l r) (Batch c' l' r') p q =
 one_submission bytes (Batch c l r) (Lone d) p q = absurd (no_batch bytes d q p.code)
 one_submission bytes (Lone d) (Batch c l r) p q = absurd (no_batch bytes d p q.code)
 one_submission bytes (Lone d) (Lone e) p q = ap Lone (one_spelling d e (sym p ∙ q))
+one_submission bytes (Batch c l r) (Other b f) p q = absurd (batch_or_other bytes b f p.code q)
+one_submission bytes (Other b f) (Batch c l r) p q = absurd (batch_or_other bytes b f q.code p)
+one_submission bytes (Lone d) (Other b f) p q = absurd (fault_only bytes f d (fault_of bytes b f q) p)
+one_submission bytes (Other b f) (Lone d) p q = absurd (fault_only bytes f d (fault_of bytes b f p) q)
+one_submission bytes (Other b f) (Other c g) p q = same_other b c f g (sym p.0 ∙ q.0) p.1 q.1
 
 one_each : (es : List (List ℕ)) (ss ts : List Submission) → AllZip Submits es ss → AllZip Submits es ts → ss ≡ ts
 one_each [] [] [] p q = refl
@@ -72,6 +92,44 @@ batch_read : (c l r : ℕ) → c < 2 ^ 64 → l < 2 ^ 64 → r < 2 ^ 64 → word
 batch_read c l r a b d =
     let are = batch_words_are c l r a b d in
     text_words 98 (codes "atch") (codes "of" ∷ decimal c ∷ codes "at" ∷ hex l ∷ codes "," ∷ codes "record" ∷ hex r ∷ []) refl are.1
+
+why_word : (fault : FieldFault) → is_word (why fault) ≡ true
+why_word Opcode = refl
+why_word FlagBits = refl
+why_word Reserved = refl
+why_word SizeZero = refl
+why_word Wrap = refl
+why_word RecordAlign = refl
+why_word DualcastBits = refl
+why_word Overlap = refl
+why_word Delta = refl
+why_word Expected = refl
+why_word RecordMeetsData = refl
+
+-- a code is a byte
+code_fits : (bytes : List ℕ) → IsBytes bytes → slice_index bytes 7 < 2 ^ 64
+code_fits bytes are = omega (arith, are 7)
+
+other_words_are : (bytes : List ℕ) (fault : FieldFault) → length bytes ≡ 64 → IsBytes bytes → AreWords (other_words bytes fault)
+other_words_are bytes fault long are =
+    (refl, (hex_word (slice_index bytes 7) (code_fits bytes are), (why_word fault, (refl, (refl, (refl, (digits_word bytes (omega arith), tt)))))))
+
+other_read : (bytes : List ℕ) (fault : FieldFault) → length bytes ≡ 64 → IsBytes bytes → words_of (text_of (other_words bytes fault)) ≡ other_words bytes fault
+other_read bytes fault long are =
+    let all = other_words_are bytes fault long are in
+    text_words 117 (codes "nknown") (hex (slice_index bytes 7) ∷ why fault ∷ codes "," ∷ codes "64" ∷ codes "bytes" ∷ encode_lower bytes ∷ []) refl all.1
+
+-- the line of other bytes, as the code makes it
+regroup_other : (a h b w c d : List ℕ) → ((a ++ (h ++ (b ++ w))) ++ c) ++ d ≡ a ++ (h ++ (b ++ (w ++ (c ++ d))))
+regroup_other a h b w c d = simp append_assoc
+
+spaced_why : (fault : FieldFault) → spaced (why fault) ≡ 32 ∷ why fault
+spaced_why fault = refl
+
+pub other_is : (bytes : List ℕ) (fault : FieldFault) → length bytes ≡ 64
+    → text_of (other_words bytes fault)
+    ≡ ((codes "unknown " ++ (hex (slice_index bytes 7) ++ (codes " " ++ why fault))) ++ codes ", 64 bytes ") ++ encode_lower bytes
+other_is bytes fault long = rw (spaced_digits bytes (omega arith), append-nil) (sym (regroup_other (codes "unknown ") (hex (slice_index bytes 7)) (codes " ") (why fault) (codes ", 64 bytes ") (encode_lower bytes)))
 
 -- the line of a batch, as the code makes it
 regroup : (a c b h r : List ℕ) → (a ++ (c ++ (b ++ h))) ++ r ≡ a ++ (c ++ (b ++ (h ++ r)))
@@ -106,6 +164,23 @@ submission_line : (bytes : List ℕ) (s : Submission) → Submits bytes s → is
 submission_line bytes (Batch c l r) p =
     words_line (batch_words c l r) (batch_words_are c l r (omega (arith, p.count_fits)) p.list_fits p.record_fits)
 submission_line bytes (Lone d) p = canonical_is_line (fields d) d.listed
+submission_line bytes (Other b f) p = words_line (other_words b f) (other_words_are b f p.1.whole p.1.are_bytes)
+
+-- no canonical line begins as that of other bytes does
+op_known : (op : Op) (size : ℕ) (more : List Word) → get_or (text_of (op_words op size ++ more)) 0 0 ≡ 117 → ⊥
+op_known (Move src dst) size more = λ e. (let no : ◌≡◌ {A = ℕ} 109 117 = e in absurd (omega arith))
+op_known (Fill pattern dst) size more = λ e. (let no : ◌≡◌ {A = ℕ} 102 117 = e in absurd (omega arith))
+op_known (Compare src src2 expected) size more = λ e. (let no : ◌≡◌ {A = ℕ} 99 117 = e in absurd (omega arith))
+op_known (ComparePattern src pattern expected) size more = λ e. (let no : ◌≡◌ {A = ℕ} 99 117 = e in absurd (omega arith))
+op_known (ApplyDelta delta dst record_size) size more = λ e. (let no : ◌≡◌ {A = ℕ} 100 117 = e in absurd (omega arith))
+op_known (Dualcast src dst dst2) size more = λ e. (let no : ◌≡◌ {A = ℕ} 100 117 = e in absurd (omega arith))
+
+no_unknown : (f : Fields) → get_or (line_text f) 0 0 ≡ 117 → ⊥
+unfolding line_text
+no_unknown f = op_known f.op f.size _
+
+other_begins : (b : List ℕ) (fault : FieldFault) (t : List ℕ) → text_of (other_words b fault) ≡ t → get_or t 0 0 ≡ 117
+other_begins b fault t e = ap (λ (x : List ℕ). get_or x 0 0) (sym e)
 
 batch_begins : (c l r : ℕ) (t : List ℕ) → text_of (batch_words c l r) ≡ t → get_or t 0 0 ≡ 98
 batch_begins c l r t e = ap (λ (b : List ℕ). get_or b 0 0) (sym e)
@@ -123,6 +198,19 @@ same_submission bytes other (Batch c l r) (Batch c' l' r') p q e =
 same_submission bytes other (Batch c l r) (Lone d) p q e = absurd ((line_begins (fields d)).0 (batch_begins c l r (line_text (fields d)) e))
 same_submission bytes other (Lone d) (Batch c l r) p q e = absurd ((line_begins (fields d)).0 (batch_begins c l r (line_text (fields d)) (sym e)))
 same_submission bytes other (Lone d) (Lone f) p q e = ap Lone (same_line d f e)
+same_submission bytes other (Batch c l r) (Other b f) p q e =
+    let no : ◌≡◌ {A = ℕ} 98 117 = ap (λ (t : List ℕ). get_or t 0 0) e in absurd (omega arith)
+same_submission bytes other (Other b f) (Batch c l r) p q e =
+    let no : ◌≡◌ {A = ℕ} 117 98 = ap (λ (t : List ℕ). get_or t 0 0) e in absurd (omega arith)
+same_submission bytes other (Lone d) (Other b f) p q e = absurd (no_unknown (fields d) (other_begins b f (line_text (fields d)) (sym e)))
+same_submission bytes other (Other b f) (Lone d) p q e = absurd (no_unknown (fields d) (other_begins b f (line_text (fields d)) e))
+same_submission bytes other (Other b f) (Other c g) p q e =
+    let words : other_words b f ≡ other_words c g = sym (other_read b f p.1.whole p.1.are_bytes) ∙ ap words_of e ∙ other_read c g q.1.whole q.1.are_bytes in
+    let digits : encode_lower b ≡ encode_lower c = ap (λ (ws : List Word). get_or ws 6 []) words in
+    let decoded : ◌≡◌ {A = Result (List ℕ) FromHexError} (Ok b) (Ok c) =
+    sym (decode_of-encode_lower b p.1.are_bytes) ∙ ap decode_of digits ∙ decode_of-encode_lower c q.1.are_bytes in
+    let same : b ≡ c = cc in
+    same_other b c f g same p.1 q.1
 
 -- ---- texts
 
@@ -173,12 +261,6 @@ each_more [] (t ∷ ss) e s p q = absurd p
 each_more (f ∷ es) [] e s p q = absurd p
 each_more (f ∷ es) (t ∷ ss) e s p q = (p.0, each_more es ss e s p.1 q)
 
-pub each_at : (es : List (List ℕ)) (ss : List Submission) (i : ℕ) → AllZip Submits es ss → i < length es → (s : Submission) × Submits (get_or es i []) s
-each_at [] ss i p lt = absurd (omega arith)
-each_at (e ∷ es) [] i p lt = absurd p
-each_at (e ∷ es) (s ∷ ss) zero p lt = (s, p.0)
-each_at (e ∷ es) (s ∷ ss) (suc i) p lt = each_at es ss i p.1 (omega arith)
-
 pub no_portal_text : portal_text [] ≡ []
 unfolding portal_text
 no_portal_text = refl
@@ -190,32 +272,17 @@ portal_text_more (t ∷ ss) s = ap (λ (x : List ℕ). (submission_text t ++ 10 
 
 -- ---- faults
 
--- an entry that submits something has no fault
-submits_or_fault : (bytes : List ℕ) (s : Submission) (fault : FieldFault) → Submits bytes s → is_batch_entry bytes ≡ false → IsFirstFault bytes fault → ⊥
-submits_or_fault bytes (Batch c l r) fault p none first = let no : true ≡ false = sym p.code ∙ none in cc
-submits_or_fault bytes (Lone d) fault p none first = fault_only bytes fault d first p
-
 portal_or_fault : (bytes : List ℕ) (ss : List Submission) (fault : EmittedFault) → IsPortal bytes ss → fault ≢ Memory → IsFirstPortalFault bytes fault → ⊥
-portal_or_fault bytes ss (Field i fault) p other first =
-    let lt : i < length (entries bytes) = omega (arith, first.inside, length-chunks (length bytes / 64) bytes) in
-    let here = each_at (entries bytes) ss i p.each lt in
-    submits_or_fault (entry bytes i) here.0 fault here.1 first.no_batch first.fault_is
+portal_or_fault bytes ss (Field i fault) p other first = first
 portal_or_fault bytes ss (Emission fault) p other first = first.1 p.whole
 portal_or_fault bytes ss Memory p other first = other refl
 
 one_fault : (bytes : List ℕ) (f g : EmittedFault) → f ≢ Memory → g ≢ Memory → IsFirstPortalFault bytes f → IsFirstPortalFault bytes g → f ≡ g
 one_fault bytes Memory g nf ng p q = absurd (nf refl)
-one_fault bytes (Field i f) Memory nf ng p q = absurd (ng refl)
+one_fault bytes (Field i f) g nf ng p q = absurd p
 one_fault bytes (Emission f) Memory nf ng p q = absurd (ng refl)
 one_fault bytes (Emission f) (Emission g) nf ng p q = ap Emission (p.0 ∙ sym q.0)
-one_fault bytes (Emission f) (Field j g) nf ng p q = absurd (p.1 q.whole)
-one_fault bytes (Field i f) (Emission g) nf ng p q = absurd (q.1 p.whole)
-one_fault bytes (Field i f) (Field j g) nf ng p q =
-    ⊎_elim (λ (e : i ≡ j). let r : IsFirstFault (entry bytes i) g = subst (λ (k : ℕ). IsFirstFault (entry bytes k) g) (sym e) q.fault_is in
-    let same : f ≡ g = first_is_one (entry bytes i) f g p.fault_is r in λ k. Field (e k) (same k))
-    (⊎_elim (λ (lt : i < j). let here = q.before i lt in absurd (submits_or_fault (entry bytes i) here.0 f here.1 p.no_batch p.fault_is))
-    (λ (gt : j < i). let here = p.before j gt in absurd (submits_or_fault (entry bytes j) here.0 g here.1 q.no_batch q.fault_is)))
-    (cases_order i j)
+one_fault bytes (Emission f) (Field j g) nf ng p q = absurd q
 
 -- what follows of what was answered
 module _ (A : Type 0) (shown : A → List ℕ) (bytes : List ℕ) where

@@ -1,11 +1,13 @@
 -- The text of a portal.
-use Rattle.std.specs.Prelude.{◌≡◌, ◌≢◌, ⊤, ℕ, ◌%◌, ◌/◌, ◌^◌, ◌<◌, true, false, List, [], ◌∷◌, ◌++◌, length, codes, decimal}
+use Rattle.std.specs.Prelude.{◌≡◌, ◌≢◌, ℕ, ◌%◌, ◌^◌, ◌<◌, true, false, List, [], ◌∷◌, ◌++◌, length, slice_index, codes, decimal}
 use Rattle.std.specs.List.{AllZip}
+use Rattle.hex.specs.Hex.{IsBytes, encode_lower}
 use Rattle.dsa_descriptor.specs.declared.descriptor.Descriptor.{Descriptor}
 use Rattle.dsa_descriptor.specs.declared.fault.FieldFault.{FieldFault}
 use Rattle.dsa_descriptor.specs.Descriptors.{fields}
+use Rattle.dsa_descriptor.specs.Causes.{field_name}
 use Rattle.dsa_descriptor.specs.Faults.{IsFirstFault}
-use Rattle.dsa_descriptor.specs.Lists.{entries, entry}
+use Rattle.dsa_descriptor.specs.Lists.{entries}
 use Rattle.dsa_descriptor.specs.Places.{u32_at, u64_at}
 use Rattle.dsa_descriptor.specs.Spelling.{spelling}
 use Rattle.dsa_emission.specs.declared.emission_fault.EmissionFault.TheVariants.{PortalLength}
@@ -18,10 +20,12 @@ use Rattle.dsa_lines.specs.Text.{text_of, line_text}
 
 -- ---- what entries submit
 
--- a batch of so many descriptors, with their address and that of its record; or a lone descriptor
+-- a batch of so many descriptors, with their address and that of its record; a lone descriptor; or other bytes, with the
+-- first fault for which they are none
 pub data Submission : Type 0 where
   Batch : (count list_at record_at : ℕ) → Submission
   Lone : (d : Descriptor) → Submission
+  Other : (bytes : List ℕ) (fault : FieldFault) → Submission
 
 -- the entry is that of this batch, whatever its other bytes are (specification 341204, batch descriptor)
 pub record IsBatchOf (count list_at record_at : ℕ) (bytes : List ℕ) : Type 0 where
@@ -34,10 +38,18 @@ pub record IsBatchOf (count list_at record_at : ℕ) (bytes : List ℕ) : Type 0
   pub list_fits : list_at < 2 ^ 64
   pub record_fits : record_at < 2 ^ 64
 
--- the 64 bytes submit it: they are those of such a batch, or of the descriptor
+-- these 64 bytes are no batch's, and they are no descriptor for this fault
+pub record IsOther (bytes : List ℕ) (fault : FieldFault) : Type 0 where
+  pub no_batch : is_batch_entry bytes ≡ false
+  pub fault_is : IsFirstFault bytes fault
+  pub whole : length bytes ≡ 64
+  pub are_bytes : IsBytes bytes
+
+-- the 64 bytes submit it: they are those of such a batch, or of the descriptor, or these others
 abbrev pub Submits : List ℕ → Submission → Type 0
 Submits bytes (Batch count list_at record_at) = IsBatchOf count list_at record_at bytes
 Submits bytes (Lone d) = bytes ≡ spelling (fields d)
+Submits bytes (Other others fault) = (bytes ≡ others) × IsOther others fault
 
 -- the bytes are a portal that submits these, entry by entry
 pub record IsPortal (bytes : List ℕ) (submissions : List Submission) : Type 0 where
@@ -50,10 +62,20 @@ abbrev pub batch_words : ℕ → ℕ → ℕ → List Word
 batch_words count list_at record_at =
     codes "batch" ∷ codes "of" ∷ decimal count ∷ codes "at" ∷ hex list_at ∷ codes "," ∷ codes "record" ∷ hex record_at ∷ []
 
+-- the name of a fault, in parentheses
+abbrev pub why : FieldFault → List ℕ
+why fault = codes "(" ++ (field_name fault ++ codes ")")
+
+-- other bytes: the operation code in byte 7, why they are no descriptor, and all of them
+abbrev pub other_words : List ℕ → FieldFault → List Word
+other_words bytes fault =
+    codes "unknown" ∷ hex (slice_index bytes 7) ∷ why fault ∷ codes "," ∷ codes "64" ∷ codes "bytes" ∷ encode_lower bytes ∷ []
+
 -- a line, with no newline
 abbrev pub submission_text : Submission → List ℕ
 submission_text (Batch count list_at record_at) = text_of (batch_words count list_at record_at)
 submission_text (Lone d) = line_text (fields d)
+submission_text (Other bytes fault) = text_of (other_words bytes fault)
 
 -- a line for each entry
 unfoldable pub portal_text : List Submission → List ℕ
@@ -62,18 +84,9 @@ portal_text (s ∷ ss) = (submission_text s ++ 10 ∷ []) ++ portal_text ss
 
 -- ---- why bytes are no portal
 
--- entry i is the first that submits nothing: it is no batch, and no descriptor for this fault
-pub record IsFirstWrongEntry (bytes : List ℕ) (i : ℕ) (fault : FieldFault) : Type 0 where
-  pub whole : length bytes % 64 ≡ 0
-  pub inside : i < length bytes / 64
-  pub before : (j : ℕ) → j < i → (s : Submission) × Submits (entry bytes j) s
-  pub no_batch : is_batch_entry (entry bytes i) ≡ false
-  pub fault_is : IsFirstFault (entry bytes i) fault
-
--- the first fault: the length, then the first wrong entry. Out of memory is reported once the length is right (this
--- project's choice)
+-- the only fault: the length. Out of memory is reported once the length is right (this project's choice)
 abbrev pub IsFirstPortalFault : List ℕ → EmittedFault → Type 0
-IsFirstPortalFault bytes (Field i fault) = IsFirstWrongEntry bytes i fault
+IsFirstPortalFault bytes (Field i fault) = ⊥
 IsFirstPortalFault bytes (Emission fault) = (fault ≡ PortalLength) × (length bytes % 64 ≢ 0)
 IsFirstPortalFault bytes Memory = length bytes % 64 ≡ 0
 
@@ -88,11 +101,3 @@ abbrev pub OnePortalText : Type 0
 OnePortalText =
     (bytes other : List ℕ) (ss ts : List Submission) → IsPortal bytes ss → IsPortal other ts →
     portal_text ss ≡ portal_text ts → ss ≡ ts
-
--- ---- for private clauses
-
--- why an entry of this number has no line
-abbrev pub StopsEntry : ℕ → List ℕ → EmittedFault → Type 0
-StopsEntry number bytes (Field i fault) = (i ≡ number) × (is_batch_entry bytes ≡ false) × IsFirstFault bytes fault
-StopsEntry number bytes (Emission fault) = ⊥
-StopsEntry number bytes Memory = ⊤

@@ -1,15 +1,16 @@
 //! The text of a portal, from its bytes.
 
 ghost use Rattle.std.specs.Prelude.{◌≡◌, ◌≢◌, ◌⊎◌, ◌++◌, ◌∷◌, [], List, IfOk, IfErr, OnOk, MatchResult, codes, decimal, string_bytes};
+ghost use Rattle.hex.specs.Hex.{encode_lower};
 ghost use Rattle.dsa_lines.specs.declared.fault.EmittedFault.{EmittedFault};
 ghost use Rattle.dsa_lines.specs.declared.fault.EmittedFault.TheVariants.{Memory};
-ghost use Rattle.dsa_lines.specs.Portals.{Submission, Submits, IsPortal, IsFirstPortalFault, StopsEntry, batch_words, submission_text, portal_text};
+ghost use Rattle.dsa_lines.specs.Portals.{Submission, Submits, IsPortal, IsFirstPortalFault, batch_words, other_words, submission_text, portal_text, why};
 ghost use Rattle.dsa_lines.specs.Numbers.{hex};
 ghost use Rattle.dsa_lines.specs.Text.{text_of};
 
 use crate::fault::EmittedFault;
 use crate::writing::{line_of, push_record};
-use dsa_descriptor::{Descriptor, u32_at, u64_at};
+use dsa_descriptor::{Descriptor, FieldFault, u32_at, u64_at};
 use dsa_emission::EmissionFault;
 use std::alloc::{AllocError, Global};
 
@@ -34,23 +35,38 @@ fn batch_text(alloc: Global, count: u32, list_at: u64, record_at: u64) -> Result
     Ok(line)
 }
 
+/// The operation code of other bytes, and why they are no descriptor.
+fn other_front(alloc: Global, code: u8, fault: FieldFault) -> Result<String, AllocError>
+    ensures { IfOk result (λ line. string_bytes line ≡ codes "unknown " ++
+        (hex code ++ (codes " " ++ why fault))) }
+{
+    let name = fault.name();
+    format!(in alloc; "unknown 0x{code:x} ({name})")
+}
+
+/// The line of other bytes.
+fn other_text(alloc: Global, entry: &[u8; 64], fault: FieldFault) -> Result<String, AllocError>
+    ensures { IfOk result (λ line. string_bytes line ≡ text_of (other_words entry.now fault)) }
+{
+    let mut line = other_front(alloc, entry[7], fault)?;
+    let digits = hex::encode(alloc, *entry)?;
+    line.push_str(", 64 bytes ")?;
+    line.push_str(&digits)?;
+    Ok(line)
+}
+
 /// The line of an entry.
-fn entry_text(alloc: Global, entry: &[u8; 64], number: usize) -> Result<String, EmittedFault>
-    ensures ok { IfOk result (λ line. (s : Submission) × Submits entry.now s ×
+fn entry_text(alloc: Global, entry: &[u8; 64]) -> Result<String, AllocError>
+    ensures { IfOk result (λ line. (s : Submission) × Submits entry.now s ×
         (string_bytes line ≡ submission_text s)) }
-    ensures err { IfErr result (StopsEntry number entry.now) }
 {
     if entry[7] == BATCH {
         let (list_at, record_at) = (u64_at(entry, 16), u64_at(entry, 8));
-        let line = batch_text(alloc, u32_at(entry, 32), list_at, record_at)?;
-        return Ok(line);
+        return batch_text(alloc, u32_at(entry, 32), list_at, record_at);
     }
     match Descriptor::read(entry) {
-        Ok(d) => {
-            let line = line_of(alloc, &d)?;
-            Ok(line)
-        }
-        Err(fault) => Err(EmittedFault::Field(number, fault)),
+        Ok(d) => line_of(alloc, &d),
+        Err(fault) => other_text(alloc, entry, fault),
     }
 }
 
@@ -64,19 +80,12 @@ pub(crate) fn push_line(text: &mut String, line: &str) -> Result<(), AllocError>
 }
 
 /// Writes the line of an entry at the end.
-fn push_entry(
-    alloc: Global,
-    text: &mut String,
-    entry: &[u8; 64],
-    number: usize,
-) -> Result<(), EmittedFault>
-    ensures ok { IfOk result (λ _. (s : Submission) × Submits entry.now s ×
+fn push_entry(alloc: Global, text: &mut String, entry: &[u8; 64]) -> Result<(), AllocError>
+    ensures { OnOk result ((s : Submission) × Submits entry.now s ×
         (string_bytes text.new ≡ string_bytes text.old ++ (submission_text s ++ 10 ∷ []))) }
-    ensures err { IfErr result (StopsEntry number entry.now) }
 {
-    let line = entry_text(alloc, entry, number)?;
-    push_line(text, &line)?;
-    Ok(())
+    let line = entry_text(alloc, entry)?;
+    push_line(text, &line)
 }
 
 /// A line for each entry.
@@ -90,18 +99,18 @@ fn text_of_portal(alloc: Global, bytes: &[u8]) -> Result<String, EmittedFault>
         return Err(EmittedFault::Emission(EmissionFault::PortalLength));
     }
     let mut text = String::new(alloc);
-    for (number, entry) in all.iter().enumerate() {
-        push_entry(alloc, &mut text, entry, number)?;
+    for entry in all {
+        push_entry(alloc, &mut text, entry)?;
     }
     Ok(text)
 }
 
-/// The text of a portal: a line for each entry, `batch of COUNT at ADDRESS, record ADDRESS` or the canonical line of a
-/// descriptor.
+/// The text of a portal: a line for each entry, `batch of COUNT at ADDRESS, record ADDRESS`, the canonical line of a
+/// descriptor, or `unknown CODE (FAULT), 64 bytes DIGITS` of an entry that is neither.
 ///
 /// # Errors
-/// That the length is no multiple of 64; else the first entry that is neither that of a batch nor a descriptor;
-/// [`EmittedFault::Memory`] at the first allocation that fails.
+/// [`EmissionFault::PortalLength`] where the length is no multiple of 64; else [`EmittedFault::Memory`] at the first
+/// allocation that fails.
 pub fn disassemble_portal(alloc: Global, bytes: &[u8]) -> Result<String, EmittedFault>
     ensures answer { IfOk result (λ text. (ss : List Submission) × IsPortal bytes.now ss ×
         (string_bytes text ≡ portal_text ss)) }

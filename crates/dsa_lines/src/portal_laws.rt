@@ -8,7 +8,7 @@ pub fn one_portal_shown()
     ensures { OnePortalShown }
 {}
 
-/// Portals of one text submit the same: batches of the same sizes and addresses, and the same descriptors.
+/// Portals of one text submit the same: batches of the same sizes and addresses, the same descriptors and other bytes.
 #[tactic(auto, using(crate::proofs::PortalLemmas::one_text))]
 pub fn one_portal_text()
     ensures { OnePortalText }

@@ -5,9 +5,9 @@ use Rattle.dsa_lines.specs.Portals.{Submission, Submits, portal_text}
 use Rattle.dsa_lines.proofs.portal.text_of_portal.Given as goal
 
 -- what the entries so far submit, and its text
-abbrev pub invariant-loop-number : goal.invariant-loop-number
-invariant-loop-number l = record {
+abbrev pub invariant-loop-entry : goal.invariant-loop-entry
+invariant-loop-entry l = record {
   done : List Submission;
-  each : AllZip Submits (take l.number l.all) done;
+  each : AllZip Submits (take l.entry-index l.all) done;
   text : string_bytes l.text ≡ portal_text done;
 }

@@ -1,5 +1,6 @@
-/* Measures planning in process, beside a loop that only copies the descriptors: speed [ROUNDS]. For each shape of a list
- * and each length it prints nanoseconds for each operation, best of the rounds. It judges nothing. */
+/* Measures planning in process, beside a loop that only copies the descriptors: speed [ROUNDS [KIND [COUNT]]]. For each kind
+ * of list and each number of moves, or for one alone, it prints nanoseconds for each move, best of the rounds. It judges
+ * nothing. */
 #include <inttypes.h>
 #include <stdio.h>
 #include <stdlib.h>
@@ -22,20 +23,43 @@ static void put_move(uint64_t i, uint64_t src, uint64_t dst)
     memcpy(d + 32, &size, 4);
 }
 
-/* Moves that do not conflict; each of which reads what the one before writes; between random pages, four for each move. */
-static void fill_list(const char *shape, uint64_t n)
+/* The page of this number: moves are between whole pages. */
+static uint64_t page(uint64_t number)
 {
+    return 0x10000000 + 4096 * number;
+}
+
+/* A number below `limit`. */
+static uint64_t drawn(uint64_t *seed, uint64_t limit)
+{
+    *seed = *seed * UINT64_C(6364136223846793005) + 1;
+    return (*seed >> 33) % limit;
+}
+
+/* Moves from page to page. apart: from each page to the next; two areas: all sources lie before all destinations;
+ * shuffled: distinct pages in any order; chained: each move reads what the one before writes; random: any of four pages for
+ * each move, so that some conflict. */
+static void fill_list(const char *kind, uint64_t n)
+{
+    static uint64_t pages[2 * MOST];
     uint64_t seed = 7;
+    for (uint64_t i = 0; i < 2 * n; i++) {
+        uint64_t other = drawn(&seed, i + 1);
+        pages[i] = pages[other];
+        pages[other] = i;
+    }
     for (uint64_t i = 0; i < n; i++) {
-        if (strcmp(shape, "apart") == 0)
-            put_move(i, 0x10000000 + 8192 * i, 0x10000000 + 8192 * i + 4096);
-        else if (strcmp(shape, "chained") == 0)
-            put_move(i, 0x10000000 + 4096 * i, 0x10000000 + 4096 * (i + 1));
+        if (strcmp(kind, "apart") == 0)
+            put_move(i, page(2 * i), page(2 * i + 1));
+        else if (strcmp(kind, "two areas") == 0)
+            put_move(i, page(i), page(n + i));
+        else if (strcmp(kind, "shuffled") == 0)
+            put_move(i, page(pages[2 * i]), page(pages[2 * i + 1]));
+        else if (strcmp(kind, "chained") == 0)
+            put_move(i, page(i), page(i + 1));
         else {
-            seed = seed * UINT64_C(6364136223846793005) + 1;
-            uint64_t src = (seed >> 33) % (4 * n);
-            seed = seed * UINT64_C(6364136223846793005) + 1;
-            put_move(i, 0x10000000 + 4096 * src, 0x10000000 + 4096 * ((seed >> 33) % (4 * n)));
+            uint64_t source = page(drawn(&seed, 4 * n));
+            put_move(i, source, page(drawn(&seed, 4 * n)));
         }
     }
 }
@@ -54,33 +78,48 @@ static void copy_list(uint64_t n)
     __asm__ volatile("" : : "r"(staging) : "memory");
 }
 
+/* Plans the list `repeat` times. */
+static void plan_list(uint64_t n, uint64_t repeat, struct dsa_planned *planned)
+{
+    static const struct dsa_settings s = {1, 32, 4096, 10, 14, 3, UINT64_C(1) << 40};
+    struct dsa_refusal r;
+    for (uint64_t i = 0; i < repeat; i++)
+        if (dsa_plan_list(&s, &s.batch, 0, list, 64 * n, portal, sizeof portal, staging, sizeof staging, planned, &r))
+            exit(EXIT_FAILURE);
+}
+
+static void measure(const char *kind, uint64_t n, int rounds)
+{
+    uint64_t repeat = n < 4096 ? 4096 / n : 1;
+    double plan = 1e18, copy = 1e18, count = (double)(repeat * n);
+    struct dsa_planned p = {0};
+    fill_list(kind, n);
+    for (int round = 0; round < rounds; round++) {
+        double start = now();
+        plan_list(n, repeat, &p);
+        double middle = now();
+        for (uint64_t i = 0; i < repeat; i++)
+            copy_list(n);
+        double end = now();
+        plan = (middle - start) / count < plan ? (middle - start) / count : plan;
+        copy = (end - middle) / count < copy ? (end - middle) / count : copy;
+    }
+    printf("%-9s %6" PRIu64 " moves: plan %6.1f ns an operation, copy %5.1f; cost %" PRIu64 ", one by one %" PRIu64 "\n",
+           kind, n, plan, copy, p.cost, 10 * n);
+}
+
 int main(int argc, char **argv)
 {
-    static const char *const shapes[] = {"apart", "chained", "random"};
+    static const char *const kinds[] = {"apart", "two areas", "shuffled", "chained", "random"};
     static const uint64_t lengths[] = {8, 32, 64, 1024, MOST};
-    const struct dsa_settings s = {1, 32, 4096, 10, 14, 3, UINT64_C(1) << 40};
     int rounds = argc > 1 ? atoi(argv[1]) : 20;
-    for (size_t shape = 0; shape < 3; shape++)
+    for (size_t kind = 0; kind < 5; kind++)
         for (size_t k = 0; k < 5; k++) {
-            uint64_t n = lengths[k], repeat = n < 4096 ? 65536 / n : 1;
-            double plan = 1e18, copy = 1e18;
-            struct dsa_planned p;
-            struct dsa_refusal r;
-            fill_list(shapes[shape], n);
-            for (int round = 0; round < rounds; round++) {
-                double start = now();
-                for (uint64_t i = 0; i < repeat; i++)
-                    if (dsa_plan_list(&s, &s.batch, 0, list, 64 * n, portal, sizeof portal, staging, sizeof staging, &p, &r))
-                        return EXIT_FAILURE;
-                double middle = now();
-                for (uint64_t i = 0; i < repeat; i++)
-                    copy_list(n);
-                double end = now(), count = (double)(repeat * n);
-                plan = (middle - start) / count < plan ? (middle - start) / count : plan;
-                copy = (end - middle) / count < copy ? (end - middle) / count : copy;
-            }
-            printf("%-8s %6" PRIu64 " moves: plan %6.1f ns an operation, copy %5.1f; cost %" PRIu64 ", one by one %" PRIu64 "\n",
-                   shapes[shape], n, plan, copy, p.cost, 10 * n);
+            if (argc > 2 && strcmp(argv[2], kinds[kind]) != 0)
+                continue;
+            if (argc > 3 && strtoull(argv[3], NULL, 10) != lengths[k])
+                continue;
+            measure(kinds[kind], lengths[k], rounds);
         }
     return EXIT_SUCCESS;
 }

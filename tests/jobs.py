@@ -206,13 +206,22 @@ def many_overlaps():
         expect_chosen(pieces, model.Settings(4, 0x1_0000, 10, 14, 3, 0x100_0000_0000))
 
 
-def expect_chosen(pieces, area):
-    """The answer is the plan that the model chooses."""
-    rules = settings(greatest_batch=area.greatest_batch, greatest_transfer=area.greatest_transfer, staging=area.staging)
+def rules_of(area):
+    """The settings of a model, as a job spells them."""
+    return settings(greatest_batch=area.greatest_batch, greatest_transfer=area.greatest_transfer, staging=area.staging)
+
+
+def expect_planned(operations, pieces, area):
+    """The answer is the plan that the model chooses for the pieces of the operations."""
     groups, prices, pairs = model.chosen(pieces, area)
     portal, staging = model.emission(groups, pieces, area)
     answer = {"certificate": {"pairs": pairs, "prices": prices, "version": 1}, "cost": prices[-1], "plan": groups}
-    expect(plan(pieces, rules), raw({**answer, "portal": portal.hex(), "staging": staging.hex()}))
+    expect(plan(operations, rules_of(area)), raw({**answer, "portal": portal.hex(), "staging": staging.hex()}))
+
+
+def expect_chosen(pieces, area):
+    """The same, where each operation is its own only piece."""
+    expect_planned(pieces, pieces, area)
 
 
 def placed(count, size, places, records):
@@ -261,6 +270,73 @@ def short_lists():
             lists += [[*base[:later], piece, *base[later + 1 :]] for piece in shared]
             for pieces in lists:
                 expect_chosen(pieces, area)
+
+
+def in_two_areas(count, size, lower, upper, records):
+    """Moves of one size, side by side: piece after piece from one area to the other."""
+    return [move(lower + size * k, upper + size * k, size, records + 32 * k) for k in range(count)]
+
+
+def rising_lists():
+    """Plans of the model for lists whose data rises in one area or in two, with a gap, side by side, and with one byte that
+    two pieces share: where the lower area ends, where the upper one begins, and behind the piece before."""
+    area = model.Settings(4, 4096, 10, 14, 3, 0x100_0000_0000)
+    for count in (2, 5, 8, 9, 33, 64, 65, 70):
+        last, size = count - 1, 64
+        end = 0x10_0000 + size * count
+        fills = [Op(FILL, size, 0x8000 + 32 * k, 0, 0x10_0000 + size * k) for k in range(count)]
+        lists = [fills, [*fills[:last], Op(FILL, size, fills[last].record_at, 0, fills[last].second - 1)]]
+        for records in (0x8000, 0x8000_0000, end + 0x1000 - 32 * count, end + 0x1000 - 32 * count + 1 & -32):
+            lists.append(in_two_areas(count, size, 0x10_0000, end + 0x1000, records))
+        for lower, upper in [(0x10_0000, end), (end, 0x10_0000), (0x10_0000, end - 1), (end - 1, 0x10_0000)]:
+            lists.append(in_two_areas(count, size, lower, upper, 0x8000))
+        two = in_two_areas(count, size, 0x10_0000, end, 0x8000)
+        at = two[last].record_at
+        lists += [
+            [*two[:last], piece]
+            for piece in [
+                move(two[last].first - 1, two[last].second, size, at),
+                move(two[last].first, two[last].second - 1, size, at),
+                move(two[last].first + 1, two[last].second, size, at),
+                move(end + size * count, end + size * count + 32, size, at),
+                move(end + size * last - 1, end + size * last + 64, size, at),
+                Op(COMPARE, size, at, two[0].first, two[0].first),
+                Op(DELTA, size, at, 0x90_0000, two[last].second, 10),
+                Op(DUALCAST, size, at, two[last].first, 0x90_0000, 0x91_0000),
+                move(two[last].first, two[last].second, size, two[last - 1].record_at),
+                move(two[last].first, two[last].second, size, two[0].first & -32),
+            ]
+        ]
+        for pieces in lists:
+            expect_chosen(pieces, area)
+
+
+def around_the_staging_area():
+    """Lists with data and records below, above and on both sides of the staging area, next to it, and with one byte in it: of
+    operations that are their own pieces, and with one that is two."""
+    for count in (1, 2, 8, 33):
+        for long in (False, True):
+            pieces_in_all = count + long
+            area = model.Settings(4, 4096, 10, 14, 3, 0x100_0000)
+            first, end = area.staging, area.staging + 96 * pieces_in_all
+            for data in (first - 0x2000 * count, end):
+                for records in (first - 0x8_0000, first - 0x10_0000 - 32 * count, end + 0x8_0000):
+                    moves = [move(data + 0x2000 * k, data + 0x2000 * k + 0x1000, 4096, records + 64 * k) for k in range(count)]
+                    if long:
+                        moves[0] = move(0x3000_0000, 0x3001_0000, 4097, moves[0].record_at)
+                    pieces = [piece for one in moves for piece in model.pieces_of(one, 4096)]
+                    expect_planned(moves, pieces, area)
+                    place, number = count - 1, pieces_in_all - 1
+                    if long and count == 1:
+                        continue
+                    for source, record_at in [
+                        (first - 4095, moves[place].record_at),
+                        (end - 1, moves[place].record_at),
+                        (0x3000_0000, first),
+                        (0x3000_0000, end - 32),
+                    ]:
+                        wrong = [*moves[:place], move(source, 0x3002_0000, 4096, record_at)]
+                        expect(plan(wrong, rules_of(area)), f"refused 33 StagingMeets {number}")
 
 
 def ask(pieces, prices, pairs, table, cause):
@@ -423,8 +499,8 @@ def longest():
     expect(b" " * 67_108_865, "refused 86 JobTooLong")
 
 
-PARTS = [texts, members, limits_of_settings, fields, splits, plans, answers, many_overlaps, short_lists, steps, steps_over_blocks]
-PARTS += [emissions, order_of_faults, traces, longest]
+PARTS = [texts, members, limits_of_settings, fields, splits, plans, answers, many_overlaps, short_lists]
+PARTS += [rising_lists, around_the_staging_area, steps, steps_over_blocks, emissions, order_of_faults, traces, longest]
 
 
 def main(words):

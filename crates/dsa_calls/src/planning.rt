@@ -19,7 +19,7 @@ use dsa_cert::Certificate;
 use dsa_descriptor::{Descriptor, read_list};
 use dsa_plan::{Emission, Plan, Settings, cost, emit};
 use dsa_search::{Found, search};
-use dsa_splitter::pieces;
+use dsa_splitter::{into_pieces, pieces};
 use std::alloc::{AllocError, Global};
 
 /// A planned list.
@@ -47,7 +47,7 @@ pub(crate) fn pieces_of(
     ensures can { IfOk result (λ pieces. CanBePlanned settings.now (map fields pieces.items)) }
 {
     let operations = read_list(alloc, list)?;
-    let pieces = pieces(alloc, &operations, settings)?;
+    let pieces = into_pieces(alloc, operations, settings)?;
     Ok(pieces)
 }
 

@@ -1,9 +1,6 @@
-use Rattle.std.proofs.Common.{map, List, ap, subst, ◌∙◌}
+use Rattle.std.proofs.Common.{map}
 use Rattle.std.proofs.lemmas.Result.{IfOk-from_err, err_from_is_err_and}
-use Rattle.dsa_descriptor.specs.declared.descriptor.Descriptor.{Descriptor}
 use Rattle.dsa_descriptor.specs.Descriptors.{fields}
-use Rattle.dsa_splitter.specs.Pieces.{all_pieces}
-use Rattle.dsa_splitter.specs.Rules.{IsSplit, IsFirstSplitFault}
 use Rattle.dsa_calls.specs.Planned.{PlansOperations, submission_of}
 use Rattle.dsa_calls.proofs.Over.{list_refused}
 use Rattle.dsa_calls.proofs.Submissions.{pieces_can, split_refused}
@@ -22,8 +19,7 @@ returns-in_err-pieces-clause-split c =
     let p = err_from_is_err_and c.from_residual-in_err-pieces.result c.from_residual-in_err-pieces.ensures.1 in
     let s = c.args.settings.now in
     let listed = c.in_ok-operations.ensures.found in
-    let first = subst (λ (ds : List Descriptor). IsFirstSplitFault s.greatest_transfer s.staging (map fields ds) c.in_err-pieces.field-0.0) c.deref.ensures.value c.in_err-pieces.ensures.fault in
-    rw p.1 (split_refused c.args.list.now s c.in_ok-operations.operations.items c.in_err-pieces.field-0.0 p.0 (record { spelled = listed.0; owner = listed.1 }) p.2 first)
+    rw p.1 (split_refused c.args.list.now s c.in_ok-operations.operations.items c.in_err-pieces.field-0.0 p.0 (record { spelled = listed.0; owner = listed.1 }) p.2 c.in_err-pieces.ensures.fault)
 
 pub returns-in_err-pieces-clause-can : goal.returns-in_err-pieces-clause-can
 returns-in_err-pieces-clause-can c = IfOk-from_err c.from_residual-in_err-pieces.result _ c.from_residual-in_err-pieces.ensures.0
@@ -32,18 +28,15 @@ pub returns-clause-split : goal.returns-clause-split
 returns-clause-split c =
     let found = c.in_ok-pieces.ensures.found in
     let listed = c.in_ok-operations.ensures.found in
-    let s = c.args.settings.now in
     record {
       operations = c.in_ok-operations.operations.items;
       listed = record { spelled = listed.0; owner = listed.1 };
-      split = subst (λ (ds : List Descriptor). IsSplit s.greatest_transfer s.staging (map fields ds)) c.deref.ensures.value found.0;
-      pieces_are = found.1 ∙ ap (λ (ds : List Descriptor). all_pieces (map fields ds) s.greatest_transfer) c.deref.ensures.value;
+      split = found.0;
+      pieces_are = found.1;
     }
 
 pub returns-clause-can : goal.returns-clause-can
 returns-clause-can c =
     let found = c.in_ok-pieces.ensures.found in
     let s = c.args.settings.now in
-    pieces_can s (map fields c.in_ok-operations.operations.items) (map fields c.in_ok-pieces.pieces.items) c.in_ok-operations.ensures.found.1
-    (subst (λ (ds : List Descriptor). IsSplit s.greatest_transfer s.staging (map fields ds)) c.deref.ensures.value found.0)
-    (found.1 ∙ ap (λ (ds : List Descriptor). all_pieces (map fields ds) s.greatest_transfer) c.deref.ensures.value)
+    pieces_can s (map fields c.in_ok-operations.operations.items) (map fields c.in_ok-pieces.pieces.items) c.in_ok-operations.ensures.found.1 found.0 found.1

@@ -1,0 +1,68 @@
+//! Lists whose operations are their own pieces and lie off the staging area, as most do: one pass tells.
+
+ghost use Rattle.std.specs.Prelude.{◌≡◌, ℕ, ◌≤◌, ◌<◌, length, map, IsTrue};
+ghost use Rattle.dsa_descriptor.specs.Descriptors.{fields};
+ghost use Rattle.dsa_descriptor.specs.Spans.{InSpan};
+ghost use Rattle.dsa_splitter.specs.Rules.{AreWhole, IsClear, IsSplit};
+
+use crate::operations::data_at;
+use crate::rules::is_one_piece;
+use crate::splitting::STAGED_LEN;
+use dsa_descriptor::{Descriptor, MOST_PIECES, Span};
+use dsa_settings::Settings;
+
+/// The length of a completion record.
+const RECORD_LEN: u64 = 32;
+
+/// Whether the area is known to have none of the addresses from `low` to below `high`.
+fn is_outside(area: Span, low: u64, high: u64) -> bool
+    ensures { IsTrue result → (x : ℕ) → low ≤ x → x < high → InSpan area x → ⊥ }
+{
+    high <= area.first || area.end() <= u128::from(low)
+}
+
+/// Whether each operation is its own only piece, and none has an address in the area: true only where it is so. All data
+/// has to lie on one side of the area, and so do all records.
+fn are_plain(list: &[Descriptor], greatest: u64, area: Span) -> bool
+    ensures whole { IsTrue result → AreWhole list.now greatest }
+    ensures clear { IsTrue result → IsClear area (map fields list.now) }
+{
+    let (mut low, mut high) = (u64::MAX, 0u64);
+    let (mut from, mut to) = (u64::MAX, 0u64);
+    for d in list {
+        if !is_one_piece(d, greatest) {
+            return false;
+        }
+        let Some((p, q)) = data_at(&d.op) else {
+            return false;
+        };
+        let Some(end) = p.max(q).checked_add(u64::from(d.size)) else {
+            return false;
+        };
+        let Some(record_end) = d.record_at.checked_add(RECORD_LEN) else {
+            return false;
+        };
+        low = low.min(p.min(q));
+        high = high.max(end);
+        from = from.min(d.record_at);
+        to = to.max(record_end);
+    }
+    is_outside(area, low, high) && is_outside(area, from, to)
+}
+
+/// Whether the list is split as it stands: true only where each operation is its own only piece, and the rules of a split
+/// list are kept.
+pub(crate) fn is_split(list: &[Descriptor], settings: &Settings) -> bool
+    ensures whole { IsTrue result → AreWhole list.now settings.now.greatest_transfer }
+    ensures split { IsTrue result → IsSplit
+        settings.now.greatest_transfer settings.now.staging (map fields list.now) }
+{
+    if list.len() > MOST_PIECES {
+        return false;
+    }
+    let area = Span {
+        first: settings.staging(),
+        len: STAGED_LEN * list.len() as u64,
+    };
+    are_plain(list, settings.greatest_transfer(), area)
+}

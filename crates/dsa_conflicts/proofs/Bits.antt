@@ -121,22 +121,30 @@ spread_none fs words s by low high from to = record {
   records_within = λ i x lt h. absurd (omega arith);
 }
 
+-- of the first n pieces no two share an address of their data, or of their records; and between which addresses the data
+-- and the records lie
+pub record AreApart (fs : List Fields) (low high from to n : ℕ) : Type 0 where
+  pub data_apart : (i j x : ℕ) → i < j → j < n → HasData fs i x → HasData fs j x → ⊥
+  pub data_within : (i x : ℕ) → i < n → HasData fs i x → (low ≤ x) × (x < high)
+  pub records_apart : (i j x : ℕ) → i < j → j < n → HasRecord fs i x → HasRecord fs j x → ⊥
+  pub records_within : (i x : ℕ) → i < n → HasRecord fs i x → (from ≤ x) × (x < to)
+
 -- with all records on one side of all data, none conflict
-module _ (fs : List Fields) (words : List ℕ) (s by low high from to : ℕ) (spread : AreSpread fs words s by low high from to (length fs)) (side : (to ≤ low) ⊎ (high < from)) where
+module _ (fs : List Fields) (low high from to : ℕ) (apart : AreApart fs low high from to (length fs)) (side : (to ≤ low) ⊎ (high ≤ from)) where
   aside : (i j x : ℕ) → i < length fs → j < length fs → HasRecord fs i x → HasData fs j x → ⊥
   aside i j x i_in j_in h k =
-      let w = spread.records_within i x i_in h in
-      let v = spread.data_within j x j_in k in
+      let w = apart.records_within i x i_in h in
+      let v = apart.data_within j x j_in k in
       elim side [
         | inl below ↦ omega (arith, w.1, v.0, below)
         | inr above ↦ omega (arith, w.0, v.1, above)
       ]
 
   both : (i j x : ℕ) → i < j → i < length fs → j < length fs → HasRecord fs i x ⊎ HasData fs i x → HasRecord fs j x ⊎ HasData fs j x → ⊥
-  both i j x lt i_in j_in (inl a) (inl b) = spread.records_apart i j x lt j_in a b
+  both i j x lt i_in j_in (inl a) (inl b) = apart.records_apart i j x lt j_in a b
   both i j x lt i_in j_in (inl a) (inr b) = aside i j x i_in j_in a b
   both i j x lt i_in j_in (inr a) (inl b) = aside j i x j_in i_in b a
-  both i j x lt i_in j_in (inr a) (inr b) = spread.data_apart i j x lt j_in a b
+  both i j x lt i_in j_in (inr a) (inr b) = apart.data_apart i j x lt j_in a b
 
   by_read : (i : ℕ) (d : Fields) (x : ℕ) → slice_get fs i ≡ Some d → InSome (read_spans d) x → HasRecord fs i x ⊎ HasData fs i x
   by_read i d x at h = inr (d, at, inl h)
@@ -149,14 +157,28 @@ module _ (fs : List Fields) (words : List ℕ) (s by low high from to : ℕ) (sp
   by_either i d x at (inl h) = by_read i d x at h
   by_either i d x at (inr h) = by_write i d x at h
 
-  pub spread_none_conflict : NoneConflict fs
-  spread_none_conflict i j lt (d, e, at_d, at_e, c) =
+  pub apart_none_conflict : NoneConflict fs
+  apart_none_conflict i j lt (d, e, at_d, at_e, c) =
       let i_in = slice_get_within fs i d at_d in
       let j_in = slice_get_within fs j e at_e in
       elim c [
         | inl (x, writes, either) ↦ both i j x lt i_in j_in (by_write i d x at_d writes) (by_either j e x at_e either)
         | inr (x, writes, either) ↦ both i j x lt i_in j_in (by_either i d x at_d either) (by_write j e x at_e writes)
       ]
+
+pub spread_none_conflict : (fs : List Fields) (words : List ℕ) (s by low high from to : ℕ) → AreSpread fs words s by low high from to (length fs) → (to ≤ low) ⊎ (high < from) → NoneConflict fs
+spread_none_conflict fs words s by low high from to spread side =
+    apart_none_conflict fs low (high + 1) from to
+    (record {
+      data_apart = spread.data_apart;
+      data_within = λ i x lt h. let w = spread.data_within i x lt h in (w.0, omega (arith, w.1));
+      records_apart = spread.records_apart;
+      records_within = spread.records_within;
+    })
+    (elim side [
+      | inl below ↦ inl below
+      | inr above ↦ inr (omega (arith, above))
+    ])
 
 -- where none conflict, no piece has a last conflict
 pub none_are_lasts : (fs : List Fields) (window : ℕ) → NoneConflict fs → (lasts : List (Option ℕ)) → length lasts ≡ length fs → ((b : ℕ) → last_at lasts b ≡ None) → HasLasts fs window lasts

@@ -6,6 +6,7 @@ ghost use Rattle.dsa_descriptor.specs.Data.{sources, targets};
 ghost use Rattle.dsa_descriptor.specs.Spans.{InSome, InSpan, span};
 ghost use Rattle.dsa_conflicts.specs.Spread.{IsBitSet, NoneConflict, key_of};
 
+use crate::rising::are_rising;
 use dsa_descriptor::{Descriptor, Op};
 
 /// The number of the bit of a unit: the highest bits of a product, so that units next to each other have bits far apart.
@@ -40,7 +41,7 @@ fn set(words: &mut [u64], key: u64)
 }
 
 /// Two addresses where data of the operation begins, if it has all of its data there. Other operations are rare.
-fn data_at(op: &Op) -> Option<(u64, u64)>
+pub(crate) fn data_at(op: &Op) -> Option<(u64, u64)>
     ensures { IfSome result (λ at. (size x : ℕ) →
         InSome (sources op.now size) x ⊎ InSome (targets op.now size) x →
         InSpan (span at.0 size) x ⊎ InSpan (span at.1 size) x) }
@@ -198,10 +199,13 @@ fn is_chained(pieces: &[Descriptor]) -> bool {
     written == read
 }
 
-/// Whether no two pieces conflict: true only where none do, and asked of short lists.
+/// Whether no two pieces conflict, by tests that take less than a sort: true only where none do.
 pub(crate) fn none_conflict(pieces: &[Descriptor]) -> bool
     ensures { IsTrue result → NoneConflict (map fields pieces.now) }
 {
+    if are_rising(pieces) {
+        return true;
+    }
     if is_chained(pieces) {
         return false;
     }

@@ -104,8 +104,10 @@ pub(crate) fn touches_of(alloc: Global, pieces: &[Descriptor]) -> Result<Vec<Tou
     // Most pieces touch three spans. Each kind has a run of its own, since a stable sort merges runs.
     let mut touches = Vec::with_capacity(alloc, 3 * pieces.len())?;
     push_kind(&mut touches, pieces, Kind::Source)?;
-    push_kind(&mut touches, pieces, Kind::Record)?;
     push_kind(&mut touches, pieces, Kind::Target)?;
+    touches.sort_by_key(|touch| touch.span.first)?;
+    // Most records rise behind all data: then the second sort sees that nothing has to move.
+    push_kind(&mut touches, pieces, Kind::Record)?;
     touches.sort_by_key(|touch| touch.span.first)?;
     Ok(touches)
 }

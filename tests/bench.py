@@ -1,6 +1,7 @@
 #!/usr/bin/env -S python3 -B
-"""Measures the built program beside another program of the same jobs, on large jobs: best wall time and greatest peak
-memory of each, their ratios, and whether the answers are equal. By hand, on a quiet machine; it is no test.
+"""Measures the built program beside another program of the same jobs, on large jobs: best wall time, and of that run the
+system time and the minor page faults, and greatest peak memory of each, the ratio of the times, and whether the answers
+are equal. By hand, on a quiet machine; it is no test.
 
     tests/bench.py OTHER [JOB ..]      OTHER: the other program; JOB: the beginning of a job's name
 
@@ -182,13 +183,14 @@ JOBS = {
 
 
 def measured(program, path, answer):
-    """Wall time in ms and peak memory in MiB of one run, whose answer goes to a file."""
+    """Wall time and system time in ms, minor page faults, and peak memory in MiB of one run, whose answer goes to a
+    file."""
     with open(path, 'rb') as job, open(answer, 'wb') as line:
         begin = time.perf_counter()
         child = subprocess.Popen([program], stdin=job, stdout=line)
         _, status, usage = os.wait4(child.pid, 0)
     child.returncode = os.waitstatus_to_exitcode(status)
-    return 1e3 * (time.perf_counter() - begin), usage.ru_maxrss / 1024
+    return 1e3 * (time.perf_counter() - begin), 1e3 * usage.ru_stime, usage.ru_minflt, usage.ru_maxrss / 1024
 
 
 def same(first, second):
@@ -217,16 +219,18 @@ def row(name, own, other, folder):
     for _ in range(RUNS):
         for k, tried in enumerate((own, other)):
             runs[k].append(measured(tried, job, lines[k]))
-    best = [min(its)[0] for its in runs]
-    peak = [max(memory for _, memory in its) for its in runs]
-    return '| %s | %.0f | %.0f | %.2f | %.0f | %.0f | %s |' % (
-        name, best[0], best[1], best[0] / best[1], peak[0], peak[1], 'equal' if same(*lines) else 'DIFFER')
+    (wall, system, faults, _), (their_wall, their_system, their_faults, _) = map(min, runs)
+    peak, their_peak = (max(run[3] for run in its) for its in runs)
+    return '| %s | %.0f | %.0f | %.2f | %.0f | %.0f | %d | %d | %.0f | %.0f | %s |' % (
+        name, wall, their_wall, wall / their_wall, system, their_system, faults, their_faults, peak, their_peak,
+        'equal' if same(*lines) else 'DIFFER')
 
 
 def main(other, *wanted):
     names = [n for n in (*JOBS, *LONGEST_JOBS) if not wanted or any(n.startswith(w) for w in wanted)]
-    print('| job | dsa, ms | other, ms | ratio | dsa, MiB | other, MiB | answers |')
-    print('|---|---|---|---|---|---|---|')
+    print('| job | dsa, ms | other, ms | ratio | dsa, system ms | other, system ms | dsa, faults | other, faults'
+          ' | dsa, MiB | other, MiB | answers |')
+    print('|---|---|---|---|---|---|---|---|---|---|---|')
     with tempfile.TemporaryDirectory() as folder:
         for name in names:
             print(row(name, program('dsa'), other, folder), flush=True)

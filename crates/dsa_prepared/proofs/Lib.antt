@@ -21,3 +21,7 @@ pub mod Outside
 pub mod SoundTemplates
 pub mod GroupEntries
 pub mod Preparation
+pub mod RowWords
+pub mod RowLists
+pub mod RowChecks
+pub mod RowParts

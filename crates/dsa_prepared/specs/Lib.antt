@@ -10,4 +10,5 @@ pub mod Preparing
 pub mod Filling
 pub mod Causes
 pub mod Sound
+pub mod Rows
 pub mod Laws

@@ -51,6 +51,10 @@ pub record IsPreparedOf (list : List ℕ) (s : Limits) (rs : List Span) (ds : Li
   pub lie : AllByRecursion (LiesWhole rs s.greatest_transfer) (map fields ds)
   pub template : t ≡ template_of rs (map fields ds) submission.plan (map fields submission.pieces)
 
+-- and the plan costs this
+abbrev pub IsCostedOf : List ℕ → Limits → List Span → List Descriptor → Template → ℕ → Type 0
+IsCostedOf list s rs ds t cost = (prepared : IsPreparedOf list s rs ds t) × (cost ≡ prepared.submission.cost)
+
 -- ---- refusals
 
 -- the first cause why regions are refused

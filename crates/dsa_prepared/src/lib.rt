@@ -7,14 +7,19 @@ mod filling;
 mod groups;
 mod keeping;
 mod laws;
+mod parts;
 mod places;
 mod prepared;
 mod preparing;
+mod reading;
+mod row;
 mod template;
 mod tie;
 mod word;
+mod writing;
 
 pub use fault::{FillFault, PrepareFault};
+pub use filling::fill_rows;
 pub use keeping::{
     choice_stays, conflicts_stay, listed_relocates, meeting_spans_stay, pieces_lie,
     pieces_relocate, plans_relocate, regions_are_one_to_one, regions_keep_offsets,
@@ -22,4 +27,6 @@ pub use keeping::{
 };
 pub use laws::{aligned_bases_align, filled_is_emission, filled_is_planned};
 pub use prepared::Prepared;
-pub use preparing::prepare;
+pub use preparing::{Costed, prepare, prepare_costed};
+pub use reading::are_prepared;
+pub use row::Row;

@@ -8,7 +8,7 @@ ghost use Rattle.dsa_calls.specs.Lists.{IsListOf};
 ghost use Rattle.dsa_calls.specs.declared.fault.PlanFault.TheVariants.{Memory};
 ghost use Rattle.dsa_prepared.specs.declared.fault.PrepareFault.{PrepareFault};
 ghost use Rattle.dsa_prepared.specs.declared.fault.PrepareFault.TheVariants.{Plan};
-ghost use Rattle.dsa_prepared.specs.Preparing.{IsPreparedOf, IsFirstPrepareFault};
+ghost use Rattle.dsa_prepared.specs.Preparing.{IsPreparedOf, IsCostedOf, IsFirstPrepareFault};
 
 use crate::fault::PrepareFault;
 use crate::places::{first_outside, region_fault};
@@ -19,16 +19,25 @@ use dsa_descriptor::{Descriptor, Span, read_list};
 use dsa_plan::Settings;
 use std::alloc::Global;
 
+/// A prepared list, and what its plan costs.
+#[derive(Drop)]
+pub struct Costed {
+    /// The prepared submission.
+    pub prepared: Prepared,
+    /// What the plan costs, in the unit of the settings' prices.
+    pub cost: u64,
+}
+
 /// Plans operations of one owner, and keeps their submission.
 fn prepare_operations(
     alloc: Global,
     operations: &[Descriptor],
     settings: &Settings,
     regions: &[Span],
-) -> Result<Prepared, PrepareFault>
+) -> Result<Costed, PrepareFault>
     requires { HaveOneOwner (map fields operations.now) }
     ensures prepared { (list : List ℕ) → IsListOf list operations.now → IfOk result
-        (λ p. IsPreparedOf list settings.now regions.now operations.now p) }
+        (λ x. IsCostedOf list settings.now regions.now operations.now x.prepared x.cost) }
     ensures fault { (list : List ℕ) → IsListOf list operations.now →
         IfErr result (λ fault. (fault ≡ Plan Memory) ⊎
         IsFirstPrepareFault list settings.now regions.now fault) }
@@ -47,8 +56,38 @@ fn prepare_operations(
         return Err(PrepareFault::Outside(i));
     }
     match template_of(alloc, regions, operations, &planned.plan, &planned.pieces) {
-        Ok(prepared) => Ok(prepared),
+        Ok(prepared) => Ok(Costed {
+            prepared,
+            cost: planned.cost,
+        }),
         Err(_) => Err(PrepareFault::Plan(PlanFault::Memory)),
+    }
+}
+
+/// Prepares a list as [`prepare`] does, and answers what the plan costs, too.
+///
+/// # Errors
+/// Those of [`prepare`].
+pub fn prepare_costed(
+    alloc: Global,
+    list: &[u8],
+    settings: &Settings,
+    regions: &[Span],
+) -> Result<Costed, PrepareFault>
+    // What it answers is the template of the planned list, and the plan's cost.
+    ensures prepared { IfOk result (λ x. (ds : List Descriptor) ×
+        IsCostedOf list.now settings.now regions.now ds x.prepared x.cost) }
+    // A refusal is the first cause, or that an allocation failed.
+    ensures fault { IfErr result (λ fault. (fault ≡ Plan Memory) ⊎
+        IsFirstPrepareFault list.now settings.now regions.now fault) }
+    // The first cause is the answer, unless an allocation failed before it was found.
+    ensures refused { (fault : PrepareFault) →
+        IsFirstPrepareFault list.now settings.now regions.now fault →
+        (result ≡ Err fault) ⊎ (result ≡ Err (Plan Memory)) }
+{
+    match read_list(alloc, list) {
+        Ok(operations) => prepare_operations(alloc, &operations, settings, regions),
+        Err(fault) => Err(PrepareFault::Plan(PlanFault::from(fault))),
     }
 }
 
@@ -76,8 +115,8 @@ pub fn prepare(
         IsFirstPrepareFault list.now settings.now regions.now fault →
         (result ≡ Err fault) ⊎ (result ≡ Err (Plan Memory)) }
 {
-    match read_list(alloc, list) {
-        Ok(operations) => prepare_operations(alloc, &operations, settings, regions),
-        Err(fault) => Err(PrepareFault::Plan(PlanFault::from(fault))),
+    match prepare_costed(alloc, list, settings, regions) {
+        Ok(costed) => Ok(costed.prepared),
+        Err(fault) => Err(fault),
     }
 }

@@ -13,6 +13,7 @@ ghost use Rattle.dsa_prepared.specs.Templates.{asked, raised, template_of, ties_
 
 use crate::entry::Entry;
 use crate::groups::{batch_count, portal_entries, staging_entries};
+use crate::parts::Parts;
 use crate::places::{place_in, word_at};
 use crate::prepared::Prepared;
 use crate::tie::Tie;
@@ -196,7 +197,7 @@ pub(crate) fn template_of(
         plan.now (map fields pieces.now)) }
 {
     let groups = plan.groups();
-    Ok(Prepared {
+    let parts = Parts {
         regions: regions.to_vec(alloc)?,
         units: units_of(alloc, regions, operations)?,
         ties: ties_of(alloc, regions, operations)?,
@@ -204,5 +205,6 @@ pub(crate) fn template_of(
         staging: staging_entries(alloc, regions, groups, pieces)?,
         batches: batch_count(groups),
         pieces: pieces.len(),
-    })
+    };
+    Prepared::of(alloc, &parts)
 }

@@ -1,4 +1,5 @@
-use Rattle.std.proofs.Common.{below_more, arith}
+use Rattle.dsa_prepared.specs.Rows.{region_in}
+use Rattle.std.proofs.Common.{map, below_more, arith}
 use Rattle.dsa_prepared.specs.Filling.{IsApartFromEarlier}
 use Rattle.dsa_prepared.proofs.filling.first_meeting.Goals as goal
 
@@ -9,7 +10,7 @@ returns-in-Some c =
 
 pub loop-i-preserved : goal.loop-i-preserved
 loop-i-preserved c =
-    let here : IsApartFromEarlier c.args.regions.now c.args.bases.now c.loop-i.i = c.in-None.ensures in
+    let here : IsApartFromEarlier (map region_in c.args.regions.now) c.args.bases.now c.loop-i.i = c.in-None.ensures in
     below_more _ _ c.loop-i.invariant here
 
 pub returns : goal.returns

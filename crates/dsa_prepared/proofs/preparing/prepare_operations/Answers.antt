@@ -92,7 +92,7 @@ pub returns-in-Ok-template_of-clause-prepared : goal.returns-in-Ok-template_of-c
 returns-in-Ok-template_of-clause-prepared c = λ list listed.
     let whole = subst (λ (g : ℕ). AllByRecursion (LiesWhole c.args.regions.now g) (map fields c.args.operations.now)) c.greatest_transfer.ensures.value c.in_default-first_outside.ensures in
     let plan = (submission_of c.in-Ok.planned).plan in
-    record {
+    let prepared : IsPreparedOf list c.args.settings.now c.args.regions.now c.args.operations.now c.in-Ok-template_of.prepared = record {
       limits = c.greatest_transfer.ensures.limits;
       listed = listed;
       submission = submission_of c.in-Ok.planned;
@@ -100,9 +100,10 @@ returns-in-Ok-template_of-clause-prepared c = λ list listed.
       regions = c.in_default.ensures;
       lie = whole;
       template = c.in-Ok-template_of.ensures ∙ (λ i. template_of c.args.regions.now (map fields c.args.operations.now) plan (map fields (c.deref.ensures.value i)));
-    }
+    } in
+    (prepared, refl)
 
 pub returns-in-Ok-template_of-clause-refused : goal.returns-in-Ok-template_of-clause-refused
 returns-in-Ok-template_of-clause-refused c = λ list listed fault first.
     let prepared = returns-in-Ok-template_of-clause-prepared c list listed in
-    absurd (no_cause list c.args.settings.now c.args.regions.now c.args.operations.now c.in-Ok-template_of.prepared fault prepared first)
+    absurd (no_cause list c.args.settings.now c.args.regions.now c.args.operations.now c.in-Ok-template_of.prepared fault prepared.0 first)

@@ -8,8 +8,8 @@ use Rattle.dsa_prepared.specs.Templates.{template, template_of, portal_entries, 
 use Rattle.dsa_prepared.proofs.SoundTemplates.{sound}
 use Rattle.dsa_prepared.proofs.template.template_of.Goals as goal
 
-pub invariant_of-result : goal.invariant_of-result
-invariant_of-result c =
+pub invariant_of-parts : goal.invariant_of-parts
+invariant_of-parts c =
     let plan : c.groups-groups.result.now ≡ c.args.plan.now = c.groups-groups.ensures in
     let count : length (map fields c.args.pieces.now) ≡ length c.args.pieces.now = length-map c.args.pieces.now fields in
     let regions : c.in_ok-to_vec.field-0.items ≡ c.args.regions.now = c.in_ok-to_vec.ensures.items_if_clones_equal (λ s t is. is) in

@@ -9,7 +9,7 @@ use Rattle.dsa_calls.specs.Planned.{PlansOperations, Submission}
 use Rattle.dsa_calls.proofs.Over.{list_refused}
 use Rattle.dsa_prepared.specs.declared.fault.PrepareFault.TheVariants.{Plan as InPlan}
 use Rattle.dsa_prepared.proofs.Preparation.{one_cause}
-use Rattle.dsa_prepared.proofs.preparing.prepare.Goals as goal
+use Rattle.dsa_prepared.proofs.preparing.prepare_costed.Goals as goal
 
 pub prepare_operations-requires : goal.prepare_operations-requires
 prepare_operations-requires c = subst (λ (ds : List Descriptor). HaveOneOwner (map fields ds)) (sym c.deref.ensures.value) c.in-Ok.ensures.found.1

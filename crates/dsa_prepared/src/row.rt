@@ -1,0 +1,161 @@
+//! Rows of ten words, of which a prepared submission is an array.
+
+ghost use Rattle.std.specs.Prelude.{◌≡◌};
+ghost use Rattle.std.specs.Int.{w64, from_le_bytes, to_le_bytes};
+ghost use Rattle.dsa_prepared.specs.Rows.{AreNumbered, IsNumbered, entry_in, entry_row, kind_of, region_in, region_row, tie_in, tie_row, unit_in, value_of, word_in};
+
+use crate::entry::Entry;
+use crate::tie::Tie;
+use crate::word::Word;
+use dsa_descriptor::Span;
+
+/// `struct dsa_prepared_row`: a row of a prepared submission, its header, a region, a tie or an entry.
+#[repr(C)]
+#[derive(Clone, Copy)]
+pub struct Row {
+    /// What they say depends on the place of the row.
+    pub words: [u64; 10],
+}
+
+/// The word of this kind and value.
+#[inline(always)]
+fn word_in(kind: u64, value: u64) -> Word
+    ensures { result ≡ word_in kind value }
+{
+    if kind == 0 {
+        return Word::Fixed(value);
+    }
+    if kind == 1 {
+        return Word::InStaging(value);
+    }
+    Word::InRegion((kind - 2) as usize, value)
+}
+
+/// The kind of the word.
+fn kind_of(word: Word) -> u64
+    requires { IsNumbered word }
+    ensures { result ≡ kind_of word }
+{
+    match word {
+        Word::InRegion(region, _) => region as u64 + 2,
+        Word::InStaging(_) => 1,
+        Word::Fixed(_) => 0,
+    }
+}
+
+/// The value of the word.
+fn value_of(word: Word) -> u64
+    ensures { result ≡ value_of word }
+{
+    match word {
+        Word::InRegion(_, value) | Word::InStaging(value) | Word::Fixed(value) => value,
+    }
+}
+
+impl Row {
+    /// The region that the row says.
+    #[inline(always)]
+    pub(crate) fn region(&self) -> Span
+        ensures { result ≡ region_in self.now }
+    {
+        Span {
+            first: self.words[0],
+            len: self.words[1],
+        }
+    }
+
+    /// The unit of that region.
+    #[inline(always)]
+    pub(crate) fn unit(&self) -> u64
+        ensures { result ≡ unit_in self.now }
+    {
+        self.words[2]
+    }
+
+    /// The tie that the row says.
+    #[inline(always)]
+    pub(crate) fn tie(&self) -> Tie
+        ensures { result ≡ tie_in self.now }
+    {
+        Tie {
+            region: self.words[0] as usize,
+            offset: self.words[1],
+            other: self.words[2] as usize,
+            other_offset: self.words[3],
+        }
+    }
+
+    /// The entry that the row says.
+    #[inline(always)]
+    pub(crate) fn entry(&self) -> Entry
+        ensures { result ≡ entry_in self.now }
+    {
+        Entry {
+            head: self.words[0].to_le_bytes(),
+            completion: word_in(self.words[2], self.words[3]),
+            first: word_in(self.words[4], self.words[5]),
+            second: word_in(self.words[6], self.words[7]),
+            middle: self.words[1].to_le_bytes(),
+            own: word_in(self.words[8], self.words[9]),
+        }
+    }
+}
+
+/// The row of a region and its unit.
+pub(crate) fn region_row(region: Span, unit: u64) -> Row
+    ensures { result ≡ region_row region unit }
+{
+    Row {
+        words: [region.first, region.len, unit, 0, 0, 0, 0, 0, 0, 0],
+    }
+}
+
+/// The row of a tie.
+pub(crate) fn tie_row(tie: &Tie) -> Row
+    ensures { result ≡ tie_row tie.now }
+{
+    Row {
+        words: [
+            tie.region as u64,
+            tie.offset,
+            tie.other as u64,
+            tie.other_offset,
+            0,
+            0,
+            0,
+            0,
+            0,
+            0,
+        ],
+    }
+}
+
+/// The bytes as a little-endian number.
+fn number_of(bytes: &[u8; 8]) -> u64
+    ensures value { result ≡ from_le_bytes w64 bytes.now }
+    ensures read { to_le_bytes w64 result ≡ bytes.now }
+{
+    u64::from_le_bytes(*bytes)
+}
+
+/// The row of an entry.
+pub(crate) fn entry_row(entry: &Entry) -> Row
+    requires { AreNumbered entry.now }
+    ensures value { result ≡ entry_row entry.now }
+    ensures read { entry_in result ≡ entry.now }
+{
+    Row {
+        words: [
+            number_of(&entry.head),
+            number_of(&entry.middle),
+            kind_of(entry.completion),
+            value_of(entry.completion),
+            kind_of(entry.first),
+            value_of(entry.first),
+            kind_of(entry.second),
+            value_of(entry.second),
+            kind_of(entry.own),
+            value_of(entry.own),
+        ],
+    }
+}

@@ -105,7 +105,8 @@ struct dsa_refusal {
     uint32_t number; /* a number of enum dsa_number */
     uint32_t inner;  /* of DSA_ENTRY the number of the piece's fault, of DSA_PLAN that of the plan's; else 0 */
     uint64_t first;  /* the first index that the cause names, from 0; of DSA_NO_ROOM the bytes that portal needs, of
-                        DSA_NO_ROOM_FOR_CERTIFICATE the number of pieces; else 0 */
+                        DSA_NO_ROOM_FOR_CERTIFICATE the number of pieces, of DSA_NO_ROOM_FOR_ROWS the rows
+                        that are needed; else 0 */
     uint64_t second; /* the second index; of DSA_NO_ROOM the bytes that staging needs; else 0 */
 };
 
@@ -173,7 +174,22 @@ enum dsa_number {
     DSA_SETTINGS = 83, /* a setting outside its limits, an unknown version, or a table of another length */
     /* room in the caller's arrays */
     DSA_NO_ROOM = 90,
-    DSA_NO_ROOM_FOR_CERTIFICATE = 91
+    DSA_NO_ROOM_FOR_CERTIFICATE = 91,
+    DSA_NO_ROOM_FOR_ROWS = 92, /* the rows that are needed */
+    /* preparing: index of the region */
+    DSA_REGION_WRAP = 100,  /* it goes past 2^64 */
+    DSA_REGION_ORDER = 101, /* it begins before the one before it has ended */
+    DSA_OUTSIDE = 102,      /* index of the operation, of which a range or the row of its records lies in no one region */
+    /* filling: index of the region at its new base */
+    DSA_BASES = 103,              /* no index: there are not as many bases as regions */
+    DSA_ROOM = 104,               /* no index: portal or staging is too small */
+    DSA_BASE_WRAP = 105,          /* it would go past 2^64 */
+    DSA_MISALIGNED = 106,         /* a record there would be no multiple of 32, or a delta's destination none of 8 */
+    DSA_BASE_DUALCAST_BITS = 107, /* the two regions of a dualcast's destinations, whose low 12 bits would differ */
+    DSA_REGIONS_MEET = 108,       /* the region, and an earlier one with which it would overlap */
+    DSA_BASE_STAGING_MEETS = 109, /* it would overlap the staging area */
+    DSA_STAGING = 110,            /* no index: the staging address is no multiple of 64, or above 2^63 */
+    DSA_NOT_PREPARED = 111        /* no index: the rows are no prepared list of this version, or were damaged */
 };
 
 /*
@@ -256,13 +272,74 @@ uint32_t dsa_judge(const struct dsa_settings *settings,
                    uint64_t *cost,
                    struct dsa_refusal *refusal);
 
+/* A buffer with which a list was made: addresses first to first + len - 1. */
+struct dsa_region {
+    uint64_t first;
+    uint64_t len;
+};
+
+/* A row of a prepared list. An array of them holds no pointer: it can be copied, read by several threads at once, and
+ * kept in a file for programs with this MAJOR version. docs/FORMATS.md has their layout. */
+struct dsa_prepared_row {
+    uint64_t words[10];
+};
+
+/* A prepared list. */
+struct dsa_prepared_info {
+    uint64_t cost;        /* what the plan costs, wherever the buffers are */
+    uint64_t pieces;      /* how many pieces; the staging area is 96 bytes for each */
+    uint64_t rows;        /* rows written */
+    uint64_t portal_len;  /* bytes that dsa_fill writes to portal */
+    uint64_t staging_len; /* bytes that dsa_fill writes to staging */
+};
+
+/* Rows that are enough for a list of n pieces over r regions. */
+#ifdef __cplusplus
+#define DSA_PREPARED_ROOM(r, n) (1 + static_cast<size_t>(r) + 3 * static_cast<size_t>(n))
+#else
+#define DSA_PREPARED_ROOM(r, n) ((size_t)1 + (size_t)(r) + (size_t)3 * (size_t)(n))
+#endif
+
+/*
+ * Plans a list once, for dsa_fill to write what submits it on any buffers. regions are the buffers at whose addresses the
+ * list was made, in the order of their addresses and without overlap; each range of each operation, and the row of its
+ * pieces' records, lies in one of them. settings->staging counts for planning alone: dsa_fill takes one of its own.
+ *
+ * Returns 0: rows begins with the info->rows rows of the prepared list, and its rest is unchanged; refusal is not written.
+ * Returns another number: refusal has it, and nothing else was written. What dsa_plan_list refuses comes first, then 100
+ * to 102, then DSA_NO_ROOM_FOR_ROWS: refusal.first is the number of rows that are needed.
+ */
+uint32_t dsa_prepare(const struct dsa_settings *settings,
+                     const uint64_t *table, size_t table_len,
+                     const uint8_t *list, size_t list_len,
+                     const struct dsa_region *regions, size_t regions_len,
+                     struct dsa_prepared_row *rows, size_t rows_capacity,
+                     struct dsa_prepared_info *info,
+                     struct dsa_refusal *refusal);
+
+/*
+ * Writes what submits a prepared list where its regions begin at bases, one for each in their order, and the staging area
+ * at staging_address. It allocates nothing, and rows_len is info->rows.
+ *
+ * Returns 0: portal and staging begin with info->portal_len and info->staging_len bytes, those that dsa_plan_list answers
+ * for the list at its new addresses; the rest of each buffer is unchanged, and refusal is not written. Returns another
+ * number: refusal has it, and nothing else was written. DSA_NOT_PREPARED comes first: rows are tested whole each time, so
+ * that damaged ones lead to no address out of the regions and the staging area. Then come 103 to 110, in their order.
+ */
+uint32_t dsa_fill(const struct dsa_prepared_row *rows, size_t rows_len,
+                  const uint64_t *bases, size_t bases_len,
+                  uint64_t staging_address,
+                  uint8_t *portal, size_t portal_capacity,
+                  uint8_t *staging, size_t staging_capacity,
+                  struct dsa_refusal *refusal);
+
 /*
  * What the library takes its memory with, for programs that bring their own (a pool of DPDK or SPDK, an arena) and
  * link libdsa_planner_own_memory.a; the other two libraries neither have nor use functions of these names. `ok` is 1
  * and `at` the block, or `ok` is 0 and `at` some address that is not NULL. A block of size bytes is aligned to align,
  * which is a power of two, at most 16. A size of 0 wants a block too. rattle_realloc gives a block of size bytes that
  * begins as the old one did, and takes the old one back; where it fails, the old one stays as it is. The three are
- * called on the thread of the call, which has given every block back when it returns. dsa_count_pieces and
+ * called on the thread of the call, which has given every block back when it returns. dsa_count_pieces, dsa_fill and
  * dsa_planner_version call none of them.
  */
 struct rattle_block {

@@ -6,3 +6,4 @@ pub mod Laws
 pub mod Planning
 pub mod Checking
 pub mod Judging
+pub mod Preparing

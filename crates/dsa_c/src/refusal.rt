@@ -3,6 +3,7 @@
 ghost use Rattle.std.specs.Prelude.{◌≡◌, ◌<◌};
 ghost use Rattle.dsa_descriptor.specs.Causes.{index_list};
 ghost use Rattle.dsa_calls.specs.Fault.{fault_inner};
+ghost use Rattle.dsa_c.specs.Preparing.{refusal_at};
 ghost use Rattle.dsa_c.specs.Raw.{refusal_of, no_room, no_room_for_certificate, inner_of, ArePlaces, all_places};
 
 use dsa_calls::PlanFault;
@@ -66,6 +67,18 @@ pub(crate) fn no_room_for_certificate(pieces: usize) -> RawRefusal
     }
 }
 
+/// The refusal of this number that names these places.
+pub(crate) fn refusal_at(number: u32, first: u64, second: u64) -> RawRefusal
+    ensures { result ≡ refusal_at number first second }
+{
+    RawRefusal {
+        number,
+        inner: 0,
+        first,
+        second,
+    }
+}
+
 /// The number of the cause within, else 0.
 fn inner(fault: PlanFault) -> u32
     ensures { result ≡ inner_of (fault_inner fault) }
@@ -92,7 +105,7 @@ fn places(fault: PlanFault) -> (u64, u64)
 }
 
 /// These indices, with 0 for each that is missing.
-fn first_two(indices: Indices) -> (u64, u64)
+pub(crate) fn first_two(indices: Indices) -> (u64, u64)
     ensures { ArePlaces (index_list indices) result }
 {
     match indices {

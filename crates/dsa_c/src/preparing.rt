@@ -1,0 +1,174 @@
+//! Preparing a list into an array of the caller.
+
+ghost use Rattle.std.specs.Prelude.{◌≡◌, ◌≢◌, ℕ, ◌<◌, ◌≤◌, List, length, map, IfOk, MatchResult};
+ghost use Rattle.dsa_prepared.specs.Rows.{rows_of};
+ghost use Rattle.dsa_c.specs.declared.settings.RawSettings.{RawSettings};
+ghost use Rattle.dsa_c.specs.Raw.{AreSettings, limits_of};
+ghost use Rattle.dsa_c.specs.Preparing.{IsPreparedFor, IsPreparedInto, RefusesPrepare, info_of, no_room_for_rows, prepare_refusal_of, span_of};
+
+use crate::buffer::put;
+use crate::refusal::{RawRefusal, refusal, refusal_at};
+use crate::settings::{RawSettings, settings_of};
+use dsa_calls::PlanFault;
+use dsa_descriptor::Span;
+use dsa_plan::Settings;
+use dsa_prepared::{Costed, PrepareFault, Row, prepare_costed};
+use std::alloc::{AllocError, Global};
+
+/// The number of the refusal of an array that is too small for the rows.
+pub const NO_ROOM_FOR_ROWS: u32 = 92;
+
+/// `struct dsa_region`: a buffer with which a list was made.
+#[repr(C)]
+#[derive(Clone, Copy)]
+pub struct RawRegion {
+    /// Its first address.
+    pub first: u64,
+    /// Its length in bytes.
+    pub len: u64,
+}
+
+/// `struct dsa_prepared_info`: what was prepared, and what filling writes.
+#[repr(C)]
+#[derive(Clone, Copy)]
+pub struct RawInfo {
+    /// What the plan costs, in the unit of the settings' prices.
+    pub cost: u64,
+    /// The number of pieces.
+    pub pieces: u64,
+    /// The rows that were written.
+    pub rows: u64,
+    /// The bytes that filling writes to the portal, 64 for each group.
+    pub portal_len: u64,
+    /// The bytes that filling writes to the staging area.
+    pub staging_len: u64,
+}
+
+/// The regions' addresses.
+fn spans_of(alloc: Global, regions: &[RawRegion]) -> Result<Vec<Span>, AllocError>
+    ensures { IfOk result (λ spans. spans.items ≡ map span_of regions.now) }
+{
+    let mut spans = Vec::with_capacity(alloc, regions.len())?;
+    for region in regions {
+        spans.push(Span {
+            first: region.first,
+            len: region.len,
+        })?;
+    }
+    Ok(spans)
+}
+
+/// The refusal of this cause.
+fn prepare_refusal(fault: PrepareFault) -> RawRefusal
+    ensures value { result ≡ prepare_refusal_of fault }
+    ensures some { 0 < result.number }
+{
+    match fault {
+        PrepareFault::Plan(fault) => refusal(fault),
+        PrepareFault::RegionWrap(region) => refusal_at(100, region as u64, 0),
+        PrepareFault::RegionOrder(region) => refusal_at(101, region as u64, 0),
+        PrepareFault::Outside(operation) => refusal_at(102, operation as u64, 0),
+    }
+}
+
+/// What was prepared, and what filling writes.
+fn info_of(costed: &Costed) -> RawInfo
+    ensures { result ≡ info_of costed.now.prepared costed.now.cost }
+{
+    RawInfo {
+        cost: costed.cost,
+        pieces: costed.prepared.piece_count() as u64,
+        rows: costed.prepared.as_rows().len() as u64,
+        portal_len: costed.prepared.portal_len() as u64,
+        staging_len: costed.prepared.staging_len() as u64,
+    }
+}
+
+/// The prepared list under settings that are there, where it is prepared and its rows fit.
+fn prepare_under(
+    alloc: Global,
+    settings: &Settings,
+    list: &[u8],
+    regions: &[RawRegion],
+    room: usize,
+) -> Result<Costed, RawRefusal>
+    ensures { (raw : RawSettings) (table : List ℕ) → settings.now ≡ limits_of raw table →
+        AreSettings raw table → MatchResult result
+        (λ x. IsPreparedFor raw table list.now (map span_of regions.now) x.prepared x.cost
+        × (length (rows_of x.prepared) ≤ room))
+        (λ r. (0 < r.number)
+        × RefusesPrepare raw table list.now (map span_of regions.now) room r) }
+{
+    let Ok(spans) = spans_of(alloc, regions) else {
+        return Err(refusal(PlanFault::Memory));
+    };
+    match prepare_costed(alloc, list, settings, &spans) {
+        Ok(costed) => {
+            let rows = costed.prepared.as_rows().len();
+            if rows <= room {
+                Ok(costed)
+            } else {
+                Err(refusal_at(NO_ROOM_FOR_ROWS, rows as u64, 0))
+            }
+        }
+        Err(fault) => Err(prepare_refusal(fault)),
+    }
+}
+
+/// The prepared list, where it is prepared and its rows fit.
+fn prepare_for(
+    alloc: Global,
+    settings: &RawSettings,
+    table: &[u64],
+    list: &[u8],
+    regions: &[RawRegion],
+    room: usize,
+) -> Result<Costed, RawRefusal>
+    ensures { MatchResult result
+        (λ x. IsPreparedFor settings.now table.now list.now (map span_of regions.now)
+        x.prepared x.cost × (length (rows_of x.prepared) ≤ room))
+        (λ r. (0 < r.number) × RefusesPrepare settings.now table.now list.now
+        (map span_of regions.now) room r) }
+{
+    match &settings_of(settings, table) {
+        Ok(checked) => prepare_under(alloc, checked, list, regions, room),
+        Err(_) => Err(refusal(PlanFault::Settings)),
+    }
+}
+
+/// Plans the operations that the bytes of `list` spell, and writes their submission to `rows`, with each address as a
+/// region and an offset, for [`dsa_fill`](crate::dsa_fill). It answers 0 then, and else the number of the refusal, and has
+/// written `refusal` alone.
+#[unsafe(no_mangle)]
+pub extern "C" fn dsa_prepare(
+    alloc: Global,
+    settings: &RawSettings,
+    table: &[u64],
+    list: &[u8],
+    regions: &[RawRegion],
+    rows: &mut [Row],
+    info: &mut RawInfo,
+    refusal: &mut RawRefusal,
+) -> u32
+    // What is written are the rows of the prepared list, at the front of the array, and its rest is left.
+    ensures prepared { result ≡ 0 → IsPreparedInto settings.now table.now list.now
+        (map span_of regions.now) rows.old rows.new info.new }
+    // Otherwise the array is left alone, and the refusal has its cause.
+    ensures unchanged { result ≢ 0 → (rows.new ≡ rows.old) × (info.new ≡ info.old) }
+    ensures refused { result ≢ 0 → (result ≡ refusal.new.number)
+        × RefusesPrepare settings.now table.now list.now (map span_of regions.now)
+        (length rows.old) refusal.new }
+    ensures quiet { result ≡ 0 → refusal.new ≡ refusal.old }
+{
+    match prepare_for(alloc, settings, table, list, regions, rows.len()) {
+        Ok(costed) => {
+            put(rows, costed.prepared.as_rows());
+            *info = info_of(&costed);
+            0
+        }
+        Err(cause) => {
+            *refusal = cause;
+            cause.number
+        }
+    }
+}

@@ -73,7 +73,7 @@ static size_t any_regions(struct dsa_region *r, uint64_t *bases)
         at += one_in(2) ? 8 * below(wide ? 2 : 9) : 0;
         at -= one_in(60) ? 8 * below(30) : 0;
         if (high && i + 1 == n && one_in(3))
-            at = 0 - len;
+            at = 0 - len + 8 * one_in(6);
         r[i] = (struct dsa_region){at, len};
         at += len;
     }

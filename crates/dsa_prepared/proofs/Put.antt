@@ -1,5 +1,5 @@
 -- Entries that are written one after another, and words that have values.
-use Rattle.std.proofs.Common.{◌≡◌, ℕ, ◌+◌, ◌*◌, ◌^◌, ◌<◌, ◌≤◌, List, [], ◌∷◌, ◌++◌, length, take, drop, get_or, refl, sym, ap, subst, ◌∙◌, arith}
+use Rattle.std.proofs.Common.{◌≡◌, ◌⊎◌, inl, inr, ℕ, ◌+◌, ◌*◌, ◌^◌, ◌<◌, ◌≤◌, List, [], ◌∷◌, ◌++◌, length, take, drop, get_or, refl, sym, ap, subst, ◌∙◌, arith}
 use Rattle.std.specs.Prelude.{All, replicate}
 use Rattle.std.proofs.lemmas.List.{take_at, drop_at, drop-drop, take_more, take_all, append-nil, length-append, length-replicate}
 use Rattle.std.proofs.lemmas.List.Concat.{flat_map-append}
@@ -124,3 +124,8 @@ buffers_written t bases staging portal new_portal area mid new_area count batche
       portal_written (filled bases staging t.portal) portal new_portal (64 * length t.portal) a.0 a.1,
       area_written (filled bases staging t.staging) area mid new_area (64 * length t.staging) (32 * t.batches) b.0 b.1 zeros',
     )
+
+-- regions one of which lies beside where the other lies
+pub beside_apart : (s t : Span) (bottom top : ℕ) → (top ≤ s.first) ⊎ (s.first + s.len ≤ bottom) → bottom ≤ t.first → t.first + t.len ≤ top → Apart s t
+beside_apart s t bottom top (inl above) low high address a b = omega (arith, above, high, a.0, b.1)
+beside_apart s t bottom top (inr below) low high address a b = omega (arith, below, low, a.1, b.0)

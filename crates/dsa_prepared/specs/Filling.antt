@@ -76,6 +76,11 @@ IsClearAt rs bases area i = Apart area (new_region rs bases i)
 abbrev pub IsStaging : ℕ → Type 0
 IsStaging staging = (staging ≤ 2 ^ 63) × (staging % 64 ≡ 0)
 
+-- where it goes, the region lies from the first of these addresses to before the second (private clauses alone cite this)
+abbrev pub LiesBetween : List Span → List ℕ → ℕ → ℕ → ℕ → Type 0
+LiesBetween rs bases bottom top i =
+    (bottom ≤ (new_region rs bases i).first) × ((new_region rs bases i).first + (new_region rs bases i).len ≤ top)
+
 -- ---- refusals, in their order
 
 abbrev pub HasBuffers : Template → List ℕ → ℕ → ℕ → Type 0

@@ -1,6 +1,6 @@
 //! Filling a prepared submission for new bases.
 
-ghost use Rattle.std.specs.Prelude.{◌≡◌, ℕ, ◌+◌, ◌*◌, ◌%◌, ◌<◌, ◌≤◌, ◌↔◌, ◌++◌, All, drop, length, List, map, MatchOption, IsTrue, IfOk, IfErr, Err, replicate, take};
+ghost use Rattle.std.specs.Prelude.{◌≡◌, ◌⊎◌, ℕ, ◌+◌, ◌*◌, ◌%◌, ◌<◌, ◌≤◌, ◌↔◌, ◌++◌, All, drop, length, List, map, MatchOption, IsTrue, IfOk, IfErr, Err, replicate, take};
 ghost use Rattle.dsa_descriptor.specs.declared.descriptor.Descriptor.{Descriptor};
 ghost use Rattle.dsa_descriptor.specs.Spans.{Apart};
 ghost use Rattle.dsa_plan.specs.Settings.{Limits};
@@ -10,7 +10,7 @@ ghost use Rattle.dsa_prepared.specs.Rows.{ArePrepared, entry_in, region_in, temp
 ghost use Rattle.dsa_prepared.specs.Sound.{ArePut, AreUnits, HasValues, IsUnit};
 ghost use Rattle.dsa_prepared.specs.Templates.{filled_portal, filled_staging};
 ghost use Rattle.dsa_prepared.specs.Preparing.{IsPreparedOf, region_at};
-ghost use Rattle.dsa_prepared.specs.Filling.{AllBelow, IsFirstNot, FitsAt, IsAlignedBase, IsTied, IsTiedAt, AreApartAt, IsApartFromEarlier, IsClearAt, IsStaging, HasBases, HasRoom, HasBuffers, CanFill, IsFirstFillFault, IsPlannedInto, new_region, tie_at, written};
+ghost use Rattle.dsa_prepared.specs.Filling.{AllBelow, IsFirstNot, LiesBetween, FitsAt, IsAlignedBase, IsTied, IsTiedAt, AreApartAt, IsApartFromEarlier, IsClearAt, IsStaging, HasBases, HasRoom, HasBuffers, CanFill, IsFirstFillFault, IsPlannedInto, new_region, tie_at, written};
 
 use crate::fault::FillFault;
 use crate::reading::{header_word, portal_rows, region_rows, staging_rows, tie_rows};
@@ -125,19 +125,56 @@ fn first_earlier(regions: &[Row], bases: &[u64], region: usize) -> Option<usize>
     None
 }
 
+/// Whether the region lies above or below all others, which lie from `bottom` to before `top`.
+#[inline(always)]
+fn is_beside(region: Span, bottom: u64, top: u128) -> bool
+    ensures { IsTrue result →
+        (top ≤ region.first) ⊎ (region.first + region.len ≤ bottom) }
+{
+    if u128::from(region.first) >= top {
+        return true;
+    }
+    region.end() <= u128::from(bottom)
+}
+
+/// The same as [`first_earlier`], where the earlier regions lie from `bottom` to before `top`. It looks at them where the
+/// region does not lie beside all of them: not at all, if bases rise or fall with the regions.
+#[inline(always)]
+fn first_met(regions: &[Row], bases: &[u64], region: usize, bottom: u64, top: u128) -> Option<usize>
+    requires inside { region < length regions.now }
+    requires based { length bases.now ≡ length regions.now }
+    requires between { AllBelow region
+        (LiesBetween (map region_in regions.now) bases.now bottom top) }
+    ensures { MatchOption result
+        (IsApartFromEarlier (map region_in regions.now) bases.now region)
+        (IsFirstNot region (AreApartAt (map region_in regions.now) bases.now region)) }
+{
+    if is_beside(new_region(regions, bases, region), bottom, top) {
+        return None;
+    }
+    first_earlier(regions, bases, region)
+}
+
 /// The first region that has an address in common with an earlier one, and the first such.
 fn first_meeting(regions: &[Row], bases: &[u64]) -> Option<(usize, usize)>
     requires { length bases.now ≡ length regions.now }
     ensures { MatchOption result
-        (AllBelow (length regions.now) (IsApartFromEarlier (map region_in regions.now) bases.now))
-        (λ p. IsFirstNot (length regions.now) (IsApartFromEarlier (map region_in regions.now) bases.now) p.0
+        (AllBelow (length regions.now)
+        (IsApartFromEarlier (map region_in regions.now) bases.now))
+        (λ p. IsFirstNot (length regions.now)
+        (IsApartFromEarlier (map region_in regions.now) bases.now) p.0
         × IsFirstNot p.0 (AreApartAt (map region_in regions.now) bases.now p.0) p.1) }
 {
+    let mut bottom = u64::MAX;
+    let mut top = 0;
     for i in 0..regions.len() {
-        match first_earlier(regions, bases, i) {
+        match first_met(regions, bases, i, bottom, top) {
             Some(j) => return Some((i, j)),
             None => (),
         }
+        let region = new_region(regions, bases, i);
+        bottom = bottom.min(region.first);
+        top = top.max(region.end());
     }
     None
 }
@@ -180,7 +217,7 @@ fn put_entries(buffer: &mut [u8], entries: &[Row], bases: &[u64], staging: u64)
         buffer.old buffer.new }
 {
     for k in 0..entries.len() {
-        put_entry(buffer, 64 * k, &entries[k].entry().fill(bases, staging));
+        put_entry(buffer, 64 * k, &entries[k].fill(bases, staging));
     }
 }
 

@@ -1,6 +1,8 @@
 //! Rows of ten words, of which a prepared submission is an array.
 
-ghost use Rattle.std.specs.Prelude.{◌≡◌};
+ghost use Rattle.std.specs.Prelude.{◌≡◌, ◌+◌, ◌≤◌, ◌++◌, drop, length, take};
+ghost use Rattle.dsa_prepared.specs.Entries.{filled_entry, word_value};
+ghost use Rattle.dsa_prepared.specs.Sound.{HasValue, HasValues};
 ghost use Rattle.std.specs.Int.{w64, from_le_bytes, to_le_bytes};
 ghost use Rattle.dsa_prepared.specs.Rows.{AreNumbered, IsNumbered, entry_in, entry_row, kind_of, region_in, region_row, tie_in, tie_row, unit_in, value_of, word_in};
 
@@ -17,18 +19,30 @@ pub struct Row {
     pub words: [u64; 10],
 }
 
-/// The word of this kind and value.
+/// The number that a word of this kind and value stands for, where the regions have these bases and the staging area this
+/// address.
 #[inline(always)]
-fn word_in(kind: u64, value: u64) -> Word
-    ensures { result ≡ word_in kind value }
+fn value_in(kind: u64, value: u64, bases: &[u64], staging: u64) -> u64
+    requires { HasValue bases.now staging (word_in kind value) }
+    ensures { result ≡ word_value bases.now staging (word_in kind value) }
 {
     if kind == 0 {
-        return Word::Fixed(value);
+        return value;
     }
     if kind == 1 {
-        return Word::InStaging(value);
+        return staging + value;
     }
-    Word::InRegion((kind - 2) as usize, value)
+    bases[(kind - 2) as usize] + value
+}
+
+/// Writes eight bytes over those from the place on.
+#[inline(always)]
+fn put(bytes: &mut [u8; 64], place: usize, part: &[u8; 8])
+    requires { place ≤ 56 }
+    ensures written { bytes.new ≡ take place bytes.old ++ part.now ++ drop (place + 8) bytes.old }
+    ensures long { length part.now ≡ 8 }
+{
+    bytes[place..place + 8].copy_from_slice(part);
 }
 
 /// The kind of the word.
@@ -85,19 +99,26 @@ impl Row {
         }
     }
 
-    /// The entry that the row says.
+    /// The bytes of the entry that the row says, where the regions have these bases and the staging area this address.
     #[inline(always)]
-    pub(crate) fn entry(&self) -> Entry
-        ensures { result ≡ entry_in self.now }
+    pub(crate) fn fill(&self, bases: &[u64], staging: u64) -> [u8; 64]
+        requires { HasValues bases.now staging (entry_in self.now) }
+        ensures value { result ≡ filled_entry bases.now staging (entry_in self.now) }
+        ensures long { length result ≡ 64 }
     {
-        Entry {
-            head: self.words[0].to_le_bytes(),
-            completion: word_in(self.words[2], self.words[3]),
-            first: word_in(self.words[4], self.words[5]),
-            second: word_in(self.words[6], self.words[7]),
-            middle: self.words[1].to_le_bytes(),
-            own: word_in(self.words[8], self.words[9]),
-        }
+        let words = &self.words;
+        let completion = value_in(words[2], words[3], bases, staging);
+        let first = value_in(words[4], words[5], bases, staging);
+        let second = value_in(words[6], words[7], bases, staging);
+        let own = value_in(words[8], words[9], bases, staging);
+        let mut bytes = [0; 64];
+        put(&mut bytes, 0, &words[0].to_le_bytes());
+        put(&mut bytes, 8, &completion.to_le_bytes());
+        put(&mut bytes, 16, &first.to_le_bytes());
+        put(&mut bytes, 24, &second.to_le_bytes());
+        put(&mut bytes, 32, &words[1].to_le_bytes());
+        put(&mut bytes, 40, &own.to_le_bytes());
+        bytes
     }
 }
 

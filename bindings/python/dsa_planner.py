@@ -5,7 +5,7 @@
     settings = Settings(greatest_batch=4, greatest_transfer=4096, lone=10, batch=14, fence=3, staging=0x10000)
     print(plan_list(settings, bytes_of_descriptors).cost)
 
-The five calls are those of the C library (dsa_planner.h says what each promises, and docs/FORMATS.md explains the bytes);
+The calls are those of the C library (dsa_planner.h says what each promises, and docs/FORMATS.md explains the bytes);
 a call that refuses raises `Refusal`. Calls may run on several threads at once, and other threads of Python run meanwhile.
 
 The library is libdsa_planner.so.1: the file that the variable DSA_PLANNER_LIBRARY names, else the one of the prefix that
@@ -21,8 +21,8 @@ from pathlib import Path
 from typing import Dict, List, NamedTuple, Optional, Sequence, Tuple, Union
 
 __all__ = [
-    "BEGINS", "CAUSES", "FENCED", "MOST_PIECES", "Certificate", "Planned", "Refusal", "Settings", "Summary",
-    "check", "count_pieces", "judge", "library_version", "plan_list", "plan_list_certified",
+    "BEGINS", "CAUSES", "FENCED", "MOST_PIECES", "Certificate", "Planned", "Prepared", "Refusal", "Settings", "Summary",
+    "check", "count_pieces", "judge", "library_version", "plan_list", "plan_list_certified", "prepare",
 ]
 
 MOST_PIECES = 65_536
@@ -63,6 +63,18 @@ class _Refusal(ctypes.Structure):
 
 class _Pair(ctypes.Structure):
     _fields_ = [("first", ctypes.c_uint32), ("second", ctypes.c_uint32)]
+
+
+class _Region(ctypes.Structure):
+    _fields_ = [("first", ctypes.c_uint64), ("len", ctypes.c_uint64)]
+
+
+class _Row(ctypes.Structure):
+    _fields_ = [("words", ctypes.c_uint64 * 10)]
+
+
+class _Info(ctypes.Structure):
+    _fields_ = [(name, ctypes.c_uint64) for name in ("cost", "pieces", "rows", "portal_len", "staging_len")]
 
 
 # ---- the library
@@ -121,6 +133,7 @@ def _declare(library: ctypes.CDLL) -> None:
     size, pairs = ctypes.c_size_t, ctypes.POINTER(_Pair)
     listed = [ctypes.POINTER(_Settings), word, size, byte, size]
     planned, refusal = ctypes.POINTER(_Planned), ctypes.POINTER(_Refusal)
+    regions, rows, info = ctypes.POINTER(_Region), ctypes.POINTER(_Row), ctypes.POINTER(_Info)
     rooms = [byte, size, byte, size]
     certificate = [word, size, pairs, size]
     calls = {
@@ -129,6 +142,8 @@ def _declare(library: ctypes.CDLL) -> None:
         "dsa_plan_list_certified": (ctypes.c_uint32, [*listed, *rooms, *certificate, byte, size, planned, refusal]),
         "dsa_check": (ctypes.c_uint32, [*listed, byte, size, ctypes.c_uint64, *certificate, word, refusal]),
         "dsa_judge": (ctypes.c_uint32, [*listed, byte, size, word, refusal]),
+        "dsa_prepare": (ctypes.c_uint32, [*listed, regions, size, rows, size, info, refusal]),
+        "dsa_fill": (ctypes.c_uint32, [rows, size, word, size, ctypes.c_uint64, *rooms, refusal]),
     }
     for name, (result, arguments) in calls.items():
         call = getattr(library, name)
@@ -271,6 +286,19 @@ CAUSES: Dict[int, Tuple[str, str]] = {
     83: ("Settings", "a setting is outside its limits, or the table of prices has a wrong length"),
     90: ("NoRoom", "portal needs {0} bytes and staging {1}"),
     91: ("NoRoomForCertificate", "the arrays of the certificate need room for {0} pieces"),
+    92: ("NoRoomForRows", "the array of rows needs room for {0} rows"),
+    100: ("RegionWrap", "region {0} goes past 2^64"),
+    101: ("RegionOrder", "region {0} begins before the one before it has ended"),
+    102: ("Outside", "a range of operation {0}, or the row of its records, lies in no one region"),
+    103: ("Bases", "there are not as many bases as regions"),
+    104: ("Room", "a buffer is shorter than the bytes to submit"),
+    105: ("BaseWrap", "at its new base, region {0} would go past 2^64"),
+    106: ("Misaligned", "a completion record or a delta's destination in region {0} would not be aligned"),
+    107: ("BaseDualcastBits", "the destinations of a dualcast, in regions {0} and {1}, would differ in their low twelve bits"),
+    108: ("RegionsMeet", "at their new bases, region {0} and the earlier region {1} would overlap"),
+    109: ("BaseStagingMeets", "at its new base, region {0} would overlap the staging area"),
+    110: ("Staging", "the staging address is no multiple of 64, or above 2^63"),
+    111: ("NotPrepared", "the rows are no prepared list of this version, or were damaged"),
 }
 """The name and the sentence of each cause, by its number; {0} and {1} stand for the places that a refusal names."""
 
@@ -283,7 +311,8 @@ class Refusal(Exception):
     inner: int
     """The number of the cause within, of a plan or a piece that is refused in its turn, else 0."""
     first: int
-    """The first index that the cause names, else 0; of 90 the bytes that portal needs, of 91 the number of pieces."""
+    """The first index that the cause names, else 0; of 90 the bytes that portal needs, of 91 the number of pieces, of 92
+    that of rows."""
     second: int
     """The second index, else 0; of 90 the bytes that staging needs."""
 
@@ -393,3 +422,52 @@ def judge(settings: Settings, operations: Bytes, marks: Bytes) -> int:
     listed, marked = _given("operations", operations), _given("marks", marks)
     _answered(_library.dsa_judge(raw, table, entries, *listed, *marked, cost, refusal), refusal)
     return cost.value
+
+
+class Prepared:
+    """A planned list that `fill` writes for other buffers, without planning it anew. `prepare` makes one; `bytes(prepared)`
+    is the same as bytes, of which `Prepared(bytes)` is one again."""
+
+    def __init__(self, rows: Bytes) -> None:
+        held = bytes(rows)
+        if len(held) % ctypes.sizeof(_Row):
+            raise Refusal(111)
+        self._count = len(held) // ctypes.sizeof(_Row)
+        self._rows = (_Row * max(1, self._count))()
+        ctypes.memmove(self._rows, held, len(held))
+        self._lengths = [int(word) for word in self._rows[0].words] if self._count else [0] * 10
+
+    def __bytes__(self) -> bytes:
+        return bytes(self._rows)[: self._count * ctypes.sizeof(_Row)]
+
+    def fill(self, bases: Sequence[int], staging: int) -> Tuple[bytes, bytes]:
+        """The bytes for the portal and for the staging area, where the regions begin at these bases and the staging area at
+        this address. Raises `Refusal`."""
+        numbers = _words([_whole("a base", base) for base in bases])
+        portal_len, staging_len = (min(size, 80 * MOST_PIECES) for size in self._sizes())
+        portal, area, refusal = _room(portal_len), _room(staging_len), _Refusal()
+        rooms = portal, portal_len, area, staging_len
+        address = _whole("the staging address", staging)
+        code = _library.dsa_fill(self._rows, self._count, numbers, len(bases), address, *rooms, refusal)
+        _answered(code, refusal)
+        return bytes(portal)[:portal_len], bytes(area)[:staging_len]
+
+    def _sizes(self) -> Tuple[int, int]:
+        """How many bytes there are to fill, by the header."""
+        return 64 * self._lengths[3], 64 * self._lengths[4] + 32 * self._lengths[5]
+
+
+def prepare(settings: Settings, operations: Bytes, regions: Sequence[Tuple[int, int]]) -> Prepared:
+    """Plans a list once, for buffers at any addresses: the regions, each its first address and its length, are those with
+    which the list was made, in the order of their addresses. Raises `Refusal`."""
+    raw, table, entries = settings._raw()
+    listed, size = _given("operations", operations)
+    pieces = min(int(_library.dsa_count_pieces(raw, table, entries, listed, size)), MOST_PIECES)
+    spans = (_Region * max(1, len(regions)))()
+    for at, (first, length) in enumerate(regions):
+        spans[at] = _Region(_whole("a region's address", first), _whole("a region's length", length))
+    room = 1 + len(regions) + 3 * pieces
+    rows, info, refusal = (_Row * room)(), _Info(), _Refusal()
+    code = _library.dsa_prepare(raw, table, entries, listed, size, spans, len(regions), rows, room, info, refusal)
+    _answered(code, refusal)
+    return Prepared(bytes(rows)[: info.rows * ctypes.sizeof(_Row)])

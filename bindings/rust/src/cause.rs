@@ -144,6 +144,32 @@ causes! {
     NoRoom = 90: "portal needs {0} bytes and staging {1}",
     /// The arrays of the certificate need room for `first` pieces.
     NoRoomForCertificate = 91: "the arrays of the certificate need room for {0} pieces",
+    /// The array of rows needs room for `first` rows.
+    NoRoomForRows = 92: "the array of rows needs room for {0} rows",
+    /// Region `first` goes past 2^64.
+    RegionWrap = 100: "region {0} goes past 2^64",
+    /// Region `first` begins before the one before it has ended.
+    RegionOrder = 101: "region {0} begins before the one before it has ended",
+    /// A range of operation `first`, or the row of its records, lies in no one region.
+    Outside = 102: "a range of operation {0}, or the row of its records, lies in no one region",
+    /// There are not as many bases as regions.
+    Bases = 103: "there are not as many bases as regions",
+    /// A buffer is shorter than the bytes to submit.
+    Room = 104: "a buffer is shorter than the bytes to submit",
+    /// At its new base, region `first` would go past 2^64.
+    BaseWrap = 105: "at its new base, region {0} would go past 2^64",
+    /// A completion record or a delta's destination in region `first` would not be aligned.
+    Misaligned = 106: "a completion record or a delta's destination in region {0} would not be aligned",
+    /// The destinations of a dualcast, in regions `first` and `second`, would differ in their low twelve bits.
+    BaseDualcastBits = 107: "the destinations of a dualcast, in regions {0} and {1}, would differ in their low twelve bits",
+    /// At their new bases, region `first` and the earlier region `second` would overlap.
+    RegionsMeet = 108: "at their new bases, region {0} and the earlier region {1} would overlap",
+    /// At its new base, region `first` would overlap the staging area.
+    BaseStagingMeets = 109: "at its new base, region {0} would overlap the staging area",
+    /// The staging address is no multiple of 64, or above 2^63.
+    Staging = 110: "the staging address is no multiple of 64, or above 2^63",
+    /// The rows are no prepared list of this version, or were damaged.
+    NotPrepared = 111: "the rows are no prepared list of this version, or were damaged",
 }
 
 impl fmt::Display for Cause {

@@ -37,6 +37,7 @@ extern crate std;
 
 mod cause;
 mod memory;
+mod prepared;
 mod raw;
 
 use alloc::vec;
@@ -44,6 +45,7 @@ use alloc::vec::Vec;
 use core::fmt;
 
 pub use cause::Cause;
+pub use prepared::{prepare, Prepared, Region, Row};
 
 /// The most pieces of a planned list. An operation longer than `greatest_transfer` is several pieces.
 pub const MOST_PIECES: usize = 65_536;
@@ -125,7 +127,7 @@ pub struct Refusal {
     /// The cause within: of [`Cause::Plan`] that of the plan's fault, of [`Cause::Entry`] that of the piece's.
     pub inner: Option<Cause>,
     /// The first index that the cause names, else 0; of [`Cause::NoRoom`] the bytes that `portal` needs, of
-    /// [`Cause::NoRoomForCertificate`] the number of pieces.
+    /// [`Cause::NoRoomForCertificate`] the number of pieces, of [`Cause::NoRoomForRows`] that of rows.
     pub first: u64,
     /// The second, else 0; of [`Cause::NoRoom`] the bytes that `staging` needs.
     pub second: u64,
@@ -454,4 +456,5 @@ const _: fn() = || {
     fn is_send_and_sync<T: Send + Sync>() {}
     is_send_and_sync::<(BatchPrice, Settings, Cause, Refusal)>();
     is_send_and_sync::<(Summary, Certificate, Planned)>();
+    is_send_and_sync::<(Prepared, Region, Row)>();
 };

@@ -1,6 +1,6 @@
 //! The functions of the archive, as `dsa_planner.h` declares them.
 
-use crate::Summary;
+use crate::{Region, Row, Summary};
 
 #[repr(C)]
 pub struct Settings {
@@ -27,6 +27,16 @@ pub struct Refusal {
     pub inner: u32,
     pub first: u64,
     pub second: u64,
+}
+
+#[repr(C)]
+#[derive(Default)]
+pub struct Info {
+    pub cost: u64,
+    pub pieces: u64,
+    pub rows: u64,
+    pub portal_len: u64,
+    pub staging_len: u64,
 }
 
 extern "C" {
@@ -100,6 +110,33 @@ extern "C" {
         marks: *const u8,
         marks_len: usize,
         cost: &mut u64,
+        refusal: &mut Refusal,
+    ) -> u32;
+
+    pub fn dsa_prepare(
+        settings: &Settings,
+        table: *const u64,
+        table_len: usize,
+        list: *const u8,
+        list_len: usize,
+        regions: *const Region,
+        regions_len: usize,
+        rows: *mut Row,
+        rows_capacity: usize,
+        info: &mut Info,
+        refusal: &mut Refusal,
+    ) -> u32;
+
+    pub fn dsa_fill(
+        rows: *const Row,
+        rows_len: usize,
+        bases: *const u64,
+        bases_len: usize,
+        staging_address: u64,
+        portal: *mut u8,
+        portal_capacity: usize,
+        staging: *mut u8,
+        staging_capacity: usize,
         refusal: &mut Refusal,
     ) -> u32;
 }

@@ -1,6 +1,6 @@
 """Builds callers in C of the proved archive, before it is packed, and looks at what they print: golden output, each
 allocation refused in turn, random lists beside the program. It uses valgrind and sanitizers where they are, and says so
-where they aren't; without a C compiler it is skipped. CC names the compiler, LISTS how many random lists (250).
+where they aren't; without a C compiler it is skipped. CC names the compiler, LISTS how many random lists (250), FILLED how many are prepared and filled (1,000).
 tests/package.py has the callers of the package. The words are names of parts."""
 
 import os
@@ -11,7 +11,7 @@ import sys
 import tempfile
 from pathlib import Path
 
-from common import ROOT, compiler, expect, named, program, run_test
+from common import ROOT, block_after, compiler, expect, named, program, run_test
 
 sys.path.insert(0, str(ROOT / "bindings/package"))
 import make
@@ -61,6 +61,14 @@ def examples():
     compiled("bindings/c/submit.c")
 
 
+def sanitizers():
+    """Whether the compiler has them, and what it builds with them runs."""
+    Path(WORK, "empty.c").write_text("int main(void) { return 0; }\n")
+    how = {"stdout": subprocess.DEVNULL, "stderr": subprocess.DEVNULL}
+    built = subprocess.run([compiler(), *SANITIZE, f"{WORK}/empty.c", "-o", f"{WORK}/empty"], **how)
+    return built.returncode == 0 and subprocess.run([f"{WORK}/empty"], **how).returncode == 0
+
+
 def calls():
     """Each call with good and bad arguments, with each allocation refused, and under valgrind and sanitizers."""
     tried("calls", [compiled("tests/bindings/calls.c")])
@@ -72,10 +80,7 @@ def calls():
             tried(f"{Path(caller).name} under valgrind", [*watch, caller])
     else:
         print("there is no valgrind")
-    Path(WORK, "empty.c").write_text("int main(void) { return 0; }\n")
-    how = {"stdout": subprocess.DEVNULL, "stderr": subprocess.DEVNULL}
-    built = subprocess.run([compiler(), *SANITIZE, f"{WORK}/empty.c", "-o", f"{WORK}/empty"], **how)
-    if built.returncode == 0 and subprocess.run([f"{WORK}/empty"], **how).returncode == 0:
+    if sanitizers():
         tried("sanitizers", [compiled("tests/bindings/refused_memory.c", *SANITIZE, memory=False)])
     else:
         print("there are no sanitizers")
@@ -98,10 +103,27 @@ def random_lists():
     expect(True, "")
 
 
+def prepared():
+    """What is filled of random prepared lists is what planning them at their new addresses answers, and each refusal is
+    that of a model, also of rows that were damaged; the most pieces and none; threads that share a prepared list. Then the
+    ring of buffers that docs/USING.md shows."""
+    source, count = "tests/bindings/prepared.c", os.environ.get("FILLED", "1000")
+    tried("prepared lists", [compiled(source, "-pthread"), count, "20261125", "4"])
+    if shutil.which("valgrind"):
+        tried("prepared lists under valgrind", ["valgrind", "-q", "--error-exitcode=9", compiled(source, "-pthread"), "20", "7", "2"])
+    if sanitizers():
+        tried("prepared lists with sanitizers", [compiled(source, "-pthread", *SANITIZE), "200", "9", "4"])
+    ring = block_after("docs/USING.md", "## A ring of buffers", "c")
+    Path(WORK, "ring.c").write_text(ring)
+    tried("the ring of docs/USING.md", [compiled(f"{WORK}/ring.c")], block_after("docs/USING.md", "It prints", ""))
+
+
 def speed():
     """How long short lists take from C: printed, not judged."""
     ran = subprocess.run([compiled("tests/bindings/speed.c"), "5"], stdout=subprocess.PIPE, text=True)
     print("\n".join(line for line in ran.stdout.splitlines() if " 32 moves" in line))
+    ran = subprocess.run([compiled("tests/bindings/fill_speed.c"), "20"], stdout=subprocess.PIPE, text=True)
+    print(ran.stdout.rstrip())
 
 
 def main(words):
@@ -111,7 +133,7 @@ def main(words):
         sys.exit(0)
     make.need_proved("libdsa_c.a")
     with tempfile.TemporaryDirectory() as WORK:
-        for part in named([header, examples, calls, random_lists, speed], words):
+        for part in named([header, examples, calls, prepared, random_lists, speed], words):
             part()
 
 

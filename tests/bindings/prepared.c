@@ -446,6 +446,74 @@ static void threads(size_t count)
     }
 }
 
+/* ---- limits */
+
+/* A move of 8 bytes, with its record. */
+static void put_move(uint8_t *d, uint64_t record, uint64_t src, uint64_t dst)
+{
+    memset(d, 0, 64);
+    d[4] = 0x0c;
+    d[7] = 3;
+    put(d + 8, record, 8);
+    put(d + 16, src, 8);
+    put(d + 24, dst, 8);
+    d[32] = 8;
+}
+
+static void *room(size_t size)
+{
+    void *at = malloc(size);
+    if (!at)
+        fail("no memory", 0);
+    return at;
+}
+
+static void limits(void)
+{
+    enum { MOST = DSA_MOST_PIECES };
+    const struct dsa_settings s = {1, 1024, 4096, 10, 14, 3, UINT64_C(1) << 63};
+    const struct dsa_region none = {0, 0}, three[] = {{0, 8 * MOST}, {8 * MOST, 8 * MOST}, {0x10000000, 32 * MOST}};
+    const uint64_t bases[] = {0x400000000, 0x300000000, 0 - (uint64_t)32 * MOST};
+    struct dsa_prepared_info info;
+    struct dsa_planned p;
+    struct dsa_refusal r;
+    uint8_t *list = room(64 * MOST), *portal = room(64 * MOST), *staging = room(80 * MOST), *want = room(64 * MOST),
+            *want_staging = room(80 * MOST), byte = 0;
+    struct dsa_prepared_row *all = room(DSA_PREPARED_ROOM(3, MOST) * sizeof *all);
+    /* an empty list over no regions is a header */
+    if (dsa_prepare(&s, &s.batch, 0, &byte, 0, &none, 0, all, 1, &info, &r) || info.rows != 1 || info.cost || info.pieces ||
+        info.portal_len || info.staging_len || dsa_fill(all, 1, &s.batch, 0, 0, &byte, 0, &byte, 0, &r))
+        fail("the empty list", 0);
+    if (dsa_prepare(&s, &s.batch, 0, &byte, 0, &none, 0, all, 0, &info, &r) != DSA_NO_ROOM_FOR_ROWS || r.first != 1)
+        fail("the empty list without room", 0);
+    if (dsa_fill(all, 0, &s.batch, 0, 0, &byte, 0, &byte, 0, &r) != DSA_NOT_PREPARED)
+        fail("no rows", 0);
+    /* the most pieces, at the greatest staging address and with the last base that fits */
+    for (uint64_t i = 0; i < MOST; i++)
+        put_move(list + 64 * i, three[2].first + 32 * i, 8 * i, three[1].first + 8 * (MOST - 1 - i));
+    if (dsa_prepare(&s, &s.batch, 0, list, 64 * MOST, three, 3, all, DSA_PREPARED_ROOM(3, MOST), &info, &r) ||
+        info.pieces != MOST)
+        fail("the most pieces", 0);
+    if (dsa_fill(all, info.rows, bases, 3, s.staging, portal, info.portal_len, staging, info.staging_len, &r))
+        fail("filling the most pieces", 0);
+    for (uint64_t i = 0; i < MOST; i++)
+        put_move(list + 64 * i, bases[2] + 32 * i, bases[0] + 8 * i, bases[1] + 8 * (MOST - 1 - i));
+    if (dsa_plan_list(&s, &s.batch, 0, list, 64 * MOST, want, 64 * MOST, want_staging, 80 * MOST, &p, &r) ||
+        p.portal_len != info.portal_len || p.staging_len != info.staging_len || p.cost != info.cost ||
+        memcmp(portal, want, p.portal_len) || memcmp(staging, want_staging, p.staging_len))
+        fail("the most pieces differ", 0);
+    const uint64_t past[] = {bases[0], bases[1], bases[2] + 32};
+    if (dsa_fill(all, info.rows, past, 3, s.staging, portal, info.portal_len, staging, info.staging_len, &r) != DSA_BASE_WRAP ||
+        r.first != 2)
+        fail("past the last base", 0);
+    free(list);
+    free(portal);
+    free(staging);
+    free(want);
+    free(want_staging);
+    free(all);
+}
+
 int main(int argc, char **argv)
 {
     if (argc != 4)
@@ -455,6 +523,7 @@ int main(int argc, char **argv)
     memset(spoiled, 0xee, sizeof spoiled);
     for (uint64_t want = strtoull(argv[1], NULL, 10); filled < want;)
         one_list();
+    limits();
     threads(strtoull(argv[3], NULL, 10));
     printf("%" PRIu64 " lists, %" PRIu64 " planned, %" PRIu64 " filled as planned; of the prepared, split %" PRIu64
            ", in batches %" PRIu64 ", with a dualcast %" PRIu64 ", an empty delta %" PRIu64 ", a base that just fits %" PRIu64 "\n",

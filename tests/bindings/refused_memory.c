@@ -37,12 +37,15 @@ struct rattle_block rattle_realloc(void *at, size_t old_size, size_t size, size_
     return block;
 }
 
-enum { N = 24 };
+enum { N = 24, ROWS = 1 + 2 + 3 * N };
 static const struct dsa_settings settings = {1, 5, 4096, 10, 14, 3, UINT64_C(1) << 40};
 static uint8_t list[64 * N], marks_in[N], portal_in[64 * N], staging_in[80 * N];
 static uint64_t prices_in[N + 1];
 static struct dsa_pair pairs_in[N];
 static struct dsa_planned planned_in;
+static const struct dsa_region regions[] = {{0, 0x100000}, {0x800000, 32 * N}};
+static struct dsa_prepared_row rows_in[ROWS];
+static struct dsa_prepared_info info_in;
 
 /* All that calls write, in one block, so that one comparison sees any change. */
 static struct outputs {
@@ -50,6 +53,8 @@ static struct outputs {
     uint64_t prices[N + 1], cost;
     struct dsa_pair pairs[N];
     struct dsa_planned planned;
+    struct dsa_prepared_row rows[ROWS];
+    struct dsa_prepared_info info;
 } outputs, before;
 
 static uint32_t call(int which, struct dsa_refusal *r)
@@ -66,8 +71,10 @@ static uint32_t call(int which, struct dsa_refusal *r)
     case 2:
         return dsa_check(&settings, &settings.batch, 0, portal_in, planned_in.portal_len, staging_in,
                          planned_in.staging_len, 1, prices_in, N + 1, pairs_in, N, &o->cost, r);
-    default:
+    case 3:
         return dsa_judge(&settings, &settings.batch, 0, list, sizeof list, marks_in, N, &o->cost, r);
+    default:
+        return dsa_prepare(&settings, &settings.batch, 0, list, sizeof list, regions, 2, o->rows, ROWS, &o->info, r);
     }
 }
 
@@ -96,7 +103,7 @@ int main(void)
     memcpy(prices_in, outputs.prices, sizeof prices_in);
     memcpy(pairs_in, outputs.pairs, sizeof pairs_in);
     planned_in = outputs.planned;
-    for (int which = 0; which < 4; which++) {
+    for (int which = 0; which < 5; which++) {
         refused_at = asked = 0;
         if (call(which, &r) != DSA_OK || live != 0 || asked == 0)
             fail("refused with ample memory, or kept some", which, 0);
@@ -122,6 +129,15 @@ int main(void)
     refused_at = 1;
     asked = 0;
     if (dsa_count_pieces(&settings, &settings.batch, 0, list, sizeof list) != N || asked != 0)
-        fail("counting allocates", 4, asked);
+        fail("counting allocates", 5, asked);
+    const uint64_t bases[] = {0x40000000, 0x20000000};
+    refused_at = 0;
+    if (dsa_prepare(&settings, &settings.batch, 0, list, sizeof list, regions, 2, rows_in, ROWS, &info_in, &r) != DSA_OK)
+        fail("not prepared", 4, 0);
+    refused_at = 1;
+    asked = 0;
+    if (dsa_fill(rows_in, info_in.rows, bases, 2, settings.staging, outputs.portal, sizeof outputs.portal, outputs.staging,
+                 sizeof outputs.staging, &r) != DSA_OK || asked != 0)
+        fail("filling allocates", 6, asked);
     return EXIT_SUCCESS;
 }

@@ -64,8 +64,9 @@ impl Kind {
 
 /// A page of four for each move, by a hash.
 fn drawn(number: u64, count: u64) -> u64 {
-    let hash = number.wrapping_add(7).wrapping_mul(0x9e37_79b9_7f4a_7c15);
-    (hash >> 33) % count.wrapping_mul(4).max(1)
+    let spread = number.wrapping_add(7).wrapping_mul(0x9e37_79b9_7f4a_7c15);
+    let mixed = (spread ^ (spread >> 29)).wrapping_mul(0xbf58_476d_1ce4_e5b9);
+    (mixed >> 33) % count.wrapping_mul(4).max(1)
 }
 
 /// The address of a page.
@@ -97,14 +98,14 @@ fn plan(rt: &HostRuntime, list: &[u8], settings: &Settings, times: u64) -> io::R
     Ok(nanos_each(start.elapsed(rt)?, times, list.len() / 64))
 }
 
-/// Copies the list so many times, and says how long that took for each operation, in nanoseconds.
+/// Copies the list so many times, and says how long that took for the list, in nanoseconds.
 fn copy(rt: &HostRuntime, list: &[u8], times: u64) -> io::Result<u128> {
     let mut copied = Vec::from_slice(rt.alloc(), list)?;
     let start = Instant::now(rt)?;
     for _ in 0..times {
         copied.copy_from_slice(list);
     }
-    Ok(nanos_each(start.elapsed(rt)?, times, list.len() / 64))
+    Ok(nanos_each(start.elapsed(rt)?, times, 1))
 }
 
 /// Prints the best of several turns.
@@ -116,7 +117,7 @@ fn measure_list(rt: &HostRuntime, list: &[u8], kind: Kind, settings: &Settings) 
         copied = copied.min(copy(rt, list, 20)?);
     }
     println!(rt;
-        "{} moves, {}: planned in {planned} ns for each operation, copied in {copied}",
+        "{} moves, {}: planned in {planned} ns for each operation; the list is copied in {copied} ns",
         list.len() / 64,
         kind.name()
     )

@@ -1,5 +1,5 @@
 -- What the lines of a recording say, and its bytes.
-use Rattle.std.proofs.Common.{◌≡◌, ◌≢◌, ℕ, Option, Some, None, List, [], ◌∷◌, ◌++◌, refl, sym, ap, subst, ◌∙◌, append_assoc}
+use Rattle.std.proofs.Common.{◌≡◌, ◌≢◌, ◌⊎◌, inl, inr, ℕ, Option, Some, None, List, [], ◌∷◌, ◌++◌, refl, sym, ap, subst, ◌∙◌, append_assoc}
 use Rattle.std.specs.Prelude.{replicate, take}
 use Rattle.std.specs.Int.{w32, w64, to_le_bytes}
 use Rattle.dsa_emission.specs.Emission.{batch_spelling}
@@ -11,7 +11,7 @@ use Rattle.dsa_lines.specs.declared.recording.Recorded.{Recorded}
 use Rattle.dsa_lines.specs.declared.recording.Recorded.TheVariants.{Batch, Entry}
 use Rattle.dsa_lines.specs.Words.{Word, words_of}
 use Rattle.dsa_lines.specs.Grammar.{◌>>=◌}
-use Rattle.dsa_lines.specs.Recordings.{recorded_at, line_recorded, with_recorded, all_recorded, first_owner, batch_bytes, owned_bytes, recording_bytes, AreRecorded, LeavesRecordingAt, IsRecordingFault, StopsRecording}
+use Rattle.dsa_lines.specs.Recordings.{recorded_at, line_recorded, with_recorded, all_recorded, first_owner, batch_bytes, owned_bytes, recording_bytes, AreRecorded, LinesSpell, LinesSpellNone, LeavesRecordingAt, IsRecordingFault, StopsRecording}
 
 pub said_line : (words : List Word) (r : Recorded) → words ≢ [] → recorded_at words ≡ Some r → line_recorded words ≡ Some (r ∷ [])
 said_line [] r some e = absurd (some refl)
@@ -101,3 +101,33 @@ pub stops_there : (number : ℕ) (read : Option (List Recorded)) (lines : List (
 stops_there number read lines (Grammar line column what) leaves e = subst (LeavesRecordingAt lines) (sym e.0) (leaves e.1)
 stops_there number read lines (Listed line fault) leaves e = e
 stops_there number read lines Memory leaves e = tt
+
+-- ---- what leaves the grammar spells nothing
+
+none_with : (here : Option (List Recorded)) → (here >>= λ h. with_recorded h None) ≡ None
+none_with None = refl
+none_with (Some h) = refl
+
+nothing_said : (before : List (List ℕ)) (line : List ℕ) (behind : List (List ℕ)) → line_recorded (words_of line) ≡ None
+    → all_recorded (before ++ line ∷ behind) ≡ None
+unfolding all_recorded
+nothing_said [] line behind e = ap (λ (o : Option (List Recorded)). o >>= λ h. with_recorded h (all_recorded behind)) e
+nothing_said (first ∷ before) line behind e =
+    ap (λ (o : Option (List Recorded)). line_recorded (words_of first) >>= λ h. with_recorded h o) (nothing_said before line behind e)
+    ∙ none_with (line_recorded (words_of first))
+
+pub spells_none : (lines : List (List ℕ)) (fault : TextFault) → IsRecordingFault lines fault → (fault ≡ Memory) ⊎ LinesSpellNone lines
+spells_none lines (Grammar line column what) leaves =
+    inr
+    (λ bytes spells.
+    let never : Some spells.0 ≡ None =
+    sym spells.1 ∙ ap all_recorded leaves.lines_are ∙ nothing_said leaves.before leaves.line leaves.behind leaves.outside in
+    absurd cc)
+spells_none lines (Listed line fault) leaves = absurd leaves
+spells_none lines Memory leaves = inl refl
+
+pub one_spelled : (lines : List (List ℕ)) (bytes other : List ℕ) → LinesSpell lines bytes → LinesSpell lines other → bytes ≡ other
+one_spelled lines bytes other (rs, e, f) (ss, g, h) =
+    let some : Some rs ≡ Some ss = sym e ∙ g in
+    let same : rs ≡ ss = cc in
+    f ∙ ap recording_bytes same ∙ sym h

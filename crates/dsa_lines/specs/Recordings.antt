@@ -88,6 +88,14 @@ recording_bytes (r ∷ rs) = recorded_bytes r rs ++ recording_bytes rs
 
 -- ---- what reading answers
 
+-- the lines spell these bytes
+abbrev pub LinesSpell : List (List ℕ) → List ℕ → Type 0
+LinesSpell lines bytes = (rs : List Recorded) × (all_recorded lines ≡ Some rs) × (bytes ≡ recording_bytes rs)
+
+-- they spell none
+abbrev pub LinesSpellNone : List (List ℕ) → Type 0
+LinesSpellNone lines = (bytes : List ℕ) → ¬ LinesSpell lines bytes
+
 -- the line of this number, from 1 on, is the first that leaves the grammar
 pub record LeavesRecordingAt (lines : List (List ℕ)) (number : ℕ) : Type 0 where
   pub before : List (List ℕ)
@@ -106,8 +114,7 @@ IsRecordingFault lines Memory = ⊤
 
 -- the bytes that the lines spell, or why they spell none
 abbrev pub Records : {X : Type 0} → (X → List ℕ) → List (List ℕ) → Result X TextFault → Type 0
-Records shown lines (Ok bytes) =
-    (rs : List Recorded) × (all_recorded lines ≡ Some rs) × (shown bytes ≡ recording_bytes rs)
+Records shown lines (Ok bytes) = LinesSpell lines (shown bytes)
 Records shown lines (Err fault) = IsRecordingFault lines fault
 
 -- ---- for private clauses

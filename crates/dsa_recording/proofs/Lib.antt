@@ -9,3 +9,5 @@ pub mod Spelled
 pub mod Found
 pub mod Status
 pub mod Summed
+pub mod Inputs
+pub mod Begun

@@ -90,6 +90,13 @@ unfoldable pub form_of : List ℕ → Option Form
 form_of [] = Some Plain
 form_of (c ∷ cs) = if is_spread c then form_of cs else form_by c
 
+-- the text begins with digits, and a blank, a newline or its end stands behind them, as in a text of bytes; no line of a
+-- recording does. `seen`: digits stand before it
+unfoldable pub begins_with_digits : Bool → List ℕ → Bool
+begins_with_digits seen [] = seen
+begins_with_digits seen (c ∷ cs) =
+    if is_digit c then begins_with_digits true cs else seen && (is_blank c || c == 10)
+
 -- ---- the bytes of a text
 
 -- the text spells these bytes, in its form

@@ -8,5 +8,6 @@ pub mod Details
 pub mod Forms
 pub mod Words
 pub mod Answers
+pub mod Inputs
 pub mod Totals
 pub mod Laws

@@ -8,16 +8,13 @@ ghost use Rattle.dsa_recording.specs.Totals.{HasSums};
 
 use crate::detail::{detail_of, has_all_fences};
 use crate::findings::{Finding, FindingKind};
-use crate::forms::{form_of, is_text};
 use crate::picture::{draw_report, is_too_large, too_large_text};
-use crate::places::{BytesFault, bytes_of_input};
 use crate::report::{Report, audit_recording};
 use crate::report_json::report_json;
 use crate::stream::StreamFault;
 use crate::totals::{totals_of, totals_text};
 use crate::words::{Denied, finding_text};
 use dsa_descriptor::u32_at;
-use dsa_lines::{Expected, TextFault, assemble_recording};
 use std::alloc::{AllocError, Global};
 
 /// How a report is written.
@@ -184,7 +181,7 @@ fn fault_text(alloc: Global, bytes: &[u8], fault: StreamFault) -> Result<String,
 }
 
 /// The report on the entries of a recording.
-fn audit_bytes(
+pub(crate) fn audit_bytes(
     alloc: Global,
     bytes: &[u8],
     options: AuditOptions,
@@ -201,77 +198,4 @@ fn audit_bytes(
             Ok(AuditAnswer { text, status: 2 })
         }
     }
-}
-
-/// Whether the first word of a text has digits alone, as a text of bytes begins; no line of a recording does.
-fn begins_with_digits(text: &[u8]) -> bool {
-    let mut seen = false;
-    for byte in text {
-        if (*byte as char).is_ascii_hexdigit() {
-            seen = true;
-        } else {
-            return seen && byte.is_ascii_whitespace();
-        }
-    }
-    seen
-}
-
-/// What a recording has at a place where its lines leave the grammar.
-fn expected_words(expected: Expected) -> &'static str {
-    if expected == Expected::Operation {
-        "hexadecimal digits, or batch, fence, move, fill, compare, delta or dualcast"
-    } else {
-        expected.text()
-    }
-}
-
-/// The report on a recording that is written as lines.
-fn audit_lines(
-    alloc: Global,
-    text: &[u8],
-    options: AuditOptions,
-) -> Result<AuditAnswer, AllocError> {
-    match assemble_recording(alloc, text) {
-        Ok(bytes) => audit_bytes(alloc, &bytes, options),
-        Err(TextFault::Grammar(line, column, expected)) => {
-            let words = expected_words(expected);
-            refusal(format!(in alloc; "line {line}, column {column}: error: expected {words}\n")?)
-        }
-        // the lines of a recording are no list, so the first does not come
-        Err(TextFault::List(_, _)) | Err(TextFault::Memory) => Err(AllocError),
-    }
-}
-
-/// The report on a recording, as bytes or as a text: of bytes in hexadecimal, or of lines. The status is 0 where nothing is wrong, 1 where a fence is missing or
-/// what is denied was found, and 2 with the reason where there is no recording, or it is too large for a picture.
-pub fn audit(
-    alloc: Global,
-    input: &[u8],
-    options: AuditOptions,
-) -> Result<AuditAnswer, AllocError> {
-    if !is_text(input) {
-        return audit_bytes(alloc, input, options);
-    }
-    if form_of(input).is_none() && !begins_with_digits(input) {
-        return audit_lines(alloc, input, options);
-    }
-    match bytes_of_input(alloc, input) {
-        Ok(bytes) => audit_bytes(alloc, &bytes, options),
-        Err(BytesFault::Memory) => Err(AllocError),
-        Err(
-            BytesFault::Digit {
-                line,
-                column,
-                fault,
-            },
-        ) => {
-            let reason = fault.words();
-            refusal(format!(in alloc; "line {line}, column {column}: error: {reason}\n")?)
-        }
-    }
-}
-
-/// The answer where there is no recording.
-fn refusal(text: String) -> Result<AuditAnswer, AllocError> {
-    Ok(AuditAnswer { text, status: 2 })
 }

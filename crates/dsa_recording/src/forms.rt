@@ -1,9 +1,9 @@
 //! The forms of text that a recording comes in.
 
-ghost use Rattle.std.specs.Prelude.{◌≡◌, ◌↔◌, ◌⊎◌, ◌++◌, Ok, Err, IfOk, OnOk, IsTrue, MatchResult};
+ghost use Rattle.std.specs.Prelude.{◌≡◌, ◌↔◌, ◌⊎◌, ◌++◌, false, Ok, Err, IfOk, OnOk, IsTrue, MatchResult};
 ghost use Rattle.hex.specs.Hex.{decode_of};
 ghost use Rattle.hex.specs.declared.error.FromHexError.TheVariants.{OutOfMemory};
-ghost use Rattle.dsa_recording.specs.Forms.{is_blank, is_digit, part_of_line, first_part, next_part, is_passed, kept, digits_of, is_text_byte, IsText, is_spread, form_by, form_of};
+ghost use Rattle.dsa_recording.specs.Forms.{is_blank, is_digit, part_of_line, first_part, next_part, is_passed, kept, digits_of, is_text_byte, IsText, is_spread, form_by, form_of, begins_with_digits};
 
 use hex::FromHexError;
 use std::alloc::{AllocError, Global};
@@ -198,4 +198,18 @@ pub fn form_of(text: &[u8]) -> Option<Form>
         }
     }
     Some(Form::Plain)
+}
+
+/// Whether the first word of a text has digits alone, as in a text of bytes; no line of a recording begins so.
+pub(crate) fn begins_with_digits(text: &[u8]) -> bool
+    ensures { result ≡ begins_with_digits false text.now }
+{
+    let mut seen = false;
+    for byte in text {
+        if !is_digit(*byte) {
+            return seen && (is_blank(*byte) || *byte == b'\n');
+        }
+        seen = true;
+    }
+    seen
 }

@@ -1,0 +1,29 @@
+use Rattle.std.proofs.Common.{get_or, refl, sym, ◌∙◌, arith}
+use Rattle.dsa_recording.proofs.Begun.{begun_more, begun_blank, begun_newline, begun_none, begun_end}
+use Rattle.dsa_recording.proofs.forms.begins_with_digits.Goals as goal
+
+pub returns-then-is_blank : goal.returns-then-is_blank
+returns-then-is_blank c =
+    c.is_blank.ensures
+    ∙ begun_blank c.loop-byte.seen c.args.text.now c.loop-byte.byte-index (get_or c.args.text.now c.loop-byte.byte-index 0) c.loop-byte-test.true refl
+    (sym c.is_digit.ensures ∙ c.if-not-is_digit.true) c.loop-byte.invariant c.if-seen.true
+    (sym c.is_blank.ensures ∙ c.if-is_blank.true)
+
+pub returns-else-is_blank : goal.returns-else-is_blank
+returns-else-is_blank c =
+    begun_newline c.loop-byte.seen c.args.text.now c.loop-byte.byte-index (get_or c.args.text.now c.loop-byte.byte-index 0) c.loop-byte-test.true refl
+    (sym c.is_digit.ensures ∙ c.if-not-is_digit.true) c.loop-byte.invariant c.if-seen.true
+    (sym c.is_blank.ensures ∙ c.if-is_blank.false)
+
+pub returns-else-seen : goal.returns-else-seen
+returns-else-seen c =
+    begun_none c.loop-byte.seen c.args.text.now c.loop-byte.byte-index (get_or c.args.text.now c.loop-byte.byte-index 0) c.loop-byte-test.true refl
+    (sym c.is_digit.ensures ∙ c.if-not-is_digit.true) c.loop-byte.invariant c.if-seen.false
+
+pub loop-byte-preserved : goal.loop-byte-preserved
+loop-byte-preserved c =
+    begun_more c.loop-byte.seen c.args.text.now c.loop-byte.byte-index (get_or c.args.text.now c.loop-byte.byte-index 0) c.loop-byte-test.true refl
+    (sym c.is_digit.ensures ∙ c.if-not-is_digit.false) c.loop-byte.invariant
+
+pub returns : goal.returns
+returns c = begun_end c.loop-byte.seen c.args.text.now c.loop-byte.byte-index (omega (arith, c.loop-byte-test.false)) c.loop-byte.invariant

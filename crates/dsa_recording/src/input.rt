@@ -1,0 +1,96 @@
+//! The answer to a recording as bytes or as text.
+
+ghost use Rattle.std.specs.Prelude.{◌≡◌, IfOk};
+ghost use Rattle.dsa_lines.specs.Texts.{lines_of};
+ghost use Rattle.dsa_recording.specs.Forms.{IsText};
+ghost use Rattle.dsa_recording.specs.Inputs.{AnswersInput, IsInLines, OneRecording};
+
+use crate::answer::{AuditAnswer, AuditOptions, audit_bytes};
+use crate::forms::{begins_with_digits, form_of, is_text};
+use crate::places::{BytesFault, bytes_of_input};
+use dsa_lines::{Expected, TextFault, assemble_recording};
+use std::alloc::{AllocError, Global};
+
+/// The answer where there is no recording.
+fn refusal(text: String) -> AuditAnswer
+    ensures { result.status ≡ 2 }
+{
+    AuditAnswer { text, status: 2 }
+}
+
+/// What a recording has at a place where its lines leave the grammar.
+fn expected_words(expected: Expected) -> &'static str {
+    if expected == Expected::Operation {
+        "hexadecimal digits, or batch, fence, move, fill, compare, delta or dualcast"
+    } else {
+        expected.text()
+    }
+}
+
+/// The report on a recording that is written as lines.
+fn audit_lines(alloc: Global, text: &[u8], options: AuditOptions) -> Result<AuditAnswer, AllocError>
+    requires { IsInLines text.now }
+    ensures { IfOk result (AnswersInput options text.now) }
+{
+    match assemble_recording(alloc, text) {
+        Ok(bytes) => audit_bytes(alloc, &bytes, options),
+        Err(TextFault::Grammar(line, column, expected)) => {
+            let words = expected_words(expected);
+            let reason = format!(in alloc;
+                "line {line}, column {column}: error: expected {words}\n"
+            )?;
+            Ok(refusal(reason))
+        }
+        // the lines of a recording are no list, so the first does not come
+        Err(TextFault::List(_, _)) | Err(TextFault::Memory) => Err(AllocError),
+    }
+}
+
+/// The report on a recording that is written in digits.
+fn audit_digits(
+    alloc: Global,
+    text: &[u8],
+    options: AuditOptions,
+) -> Result<AuditAnswer, AllocError>
+    requires text { IsText text.now }
+    requires unlike { ¬ IsInLines text.now }
+    ensures { IfOk result (AnswersInput options text.now) }
+{
+    match bytes_of_input(alloc, text) {
+        Ok(bytes) => audit_bytes(alloc, &bytes, options),
+        Err(BytesFault::Memory) => Err(AllocError),
+        Err(
+            BytesFault::Digit {
+                line,
+                column,
+                fault,
+            },
+        ) => {
+            let words = fault.words();
+            Ok(refusal(format!(in alloc; "line {line}, column {column}: error: {words}\n")?))
+        }
+    }
+}
+
+/// The report on a recording, as bytes or as a text: of bytes in hexadecimal, or of lines. The status is 0 where nothing
+/// is wrong, 1 where a fence is missing or what is denied was found, and 2 with the reason where there is no recording, or
+/// it is too large for a picture.
+pub fn audit(alloc: Global, input: &[u8], options: AuditOptions) -> Result<AuditAnswer, AllocError>
+    ensures { IfOk result (AnswersInput options input.now) }
+{
+    if !is_text(input) {
+        return audit_bytes(alloc, input, options);
+    }
+    if form_of(input).is_some() {
+        return audit_digits(alloc, input, options);
+    }
+    if begins_with_digits(input) {
+        return audit_digits(alloc, input, options);
+    }
+    audit_lines(alloc, input, options)
+}
+
+/// An input spells one recording at most.
+pub fn one_recording()
+    ensures { OneRecording }
+{}

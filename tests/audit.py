@@ -20,6 +20,7 @@ from model import COMPARE, DELTA, DUALCAST, FILL, MOVE, PATTERN, Op
 
 COUNT = 200
 WRAP = 1 << 64
+GREATEST_BATCH = 6
 
 # ---- entries
 
@@ -134,6 +135,14 @@ class Batch:
             yield f"{least} fences are missing at least"
         yield from self.needless_faults()
 
+    def costs(self, is_batch):
+        """What it costs with each set of fences, under the prices of docs/FORMATS.md; or that it has no price."""
+        size = len(self.entries)
+        if is_batch and not 2 <= size <= GREATEST_BATCH:
+            return {"unpriced": 1}
+        sets = {"recorded": self.fences, "corrected": self.corrected, "reduced": self.reduced}
+        return {name: 14 + 3 * len(fences) if is_batch else 10 for name, fences in sets.items()}
+
     def unseen_faults(self):
         wanted = {k: it for k, it in enumerate(self.known) if isinstance(it, str)}
         got = {k: it["why"] for k, it in self.found["unseen"].items()}
@@ -212,6 +221,7 @@ def submissions(recording, report):
 def judge(recording, report, status, name):
     """Compares a report with what the brute force finds."""
     totals = dict.fromkeys(("batches", "lone", "descriptors", "unseen", "fences", "missing", "needless", "guarding"), 0)
+    costs = dict.fromkeys(("recorded", "corrected", "reduced", "unpriced"), 0)
     for it, is_batch in submissions(recording, report):
         for fault in it.faults():
             common.expect(False, f"{name}, submission {it.number}: {fault}")
@@ -220,6 +230,9 @@ def judge(recording, report, status, name):
         totals["fences"] += len(it.fences)
         for kind, some in it.found.items():
             totals[kind] += len(some)
+        for name, number in it.costs(is_batch).items():
+            costs[name] += number
+    common.expect(report["costs"] == costs, f"{name}: costs {report['costs']}, and not {costs}")
     common.expect(report["totals"] == totals, f"{name}: totals {report['totals']}, and not {totals}")
     common.expect(status == int(totals["missing"] > 0), f"{name}: status {status}")
     return totals
@@ -274,7 +287,7 @@ def brute_force():
     sums = {}
     for seed in range(COUNT):
         recording = Maker(seed).recording()
-        report, status = audited(recording)
+        report, status = audited(recording, f"--greatest-batch {GREATEST_BATCH}")
         for name, number in judge(recording, report, status, f"seed {seed}").items():
             sums[name] = sums.get(name, 0) + number
     print(", ".join(f"{number} {name}" for name, number in sums.items()))

@@ -40,7 +40,7 @@ RECORDING = bytes.fromhex(
     + "00000000 0d000010 4080000000000000 0020000000000000 0030000000000000 40000000" + "00" * 28
 )
 AUDITS = [
-    (("audit",), "3 descriptors in 1 batch and 0 lone submissions, 1 not looked at\n1 fence, 1 missing, 0 needless, 0 guarding\n"),
+    (("audit",), "3 descriptors in 1 batch and 0 lone submissions, 1 not looked at\n1 fence, 1 missing, 0 needless, 0 guarding\ncost 17 as submitted, 20 with the missing fences\n"),
     (("audit", "--json"), '"missing":1,"needless":0,"unseen":1}}\n'),
 ]
 NO_MEMORY = (("error: there was not enough memory [73 Memory]\n", 2),)

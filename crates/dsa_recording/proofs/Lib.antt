@@ -11,3 +11,4 @@ pub mod Status
 pub mod Summed
 pub mod Inputs
 pub mod Begun
+pub mod Priced

@@ -10,4 +10,5 @@ pub mod Words
 pub mod Answers
 pub mod Inputs
 pub mod Totals
+pub mod Costs
 pub mod Laws

@@ -33,8 +33,9 @@ pub record AreMembers (head : List ℕ) (es : List (List ℕ)) (ms : List Member
   pub count : length ms ≡ length es
   pub each : (k : ℕ) → k < length es → IsMember head (get_or es k []) (get_or ms k (Unknown Operation))
 
--- the fences of the submission's entries, what is known of them, which can fail, and an audit of these
+-- whether it is a batch, the fences of the submission's entries, what is known of them, which can fail, and an audit of these
 pub record IsAudited (es : List (List ℕ)) (s : Submission) (a : Audited) : Type 0 where
+  pub is_batch : a.is_batch ≡ s.is_batch
   pub fences : a.fences.items ≡ map is_fenced (members_in es s)
   pub members : AreMembers (slice_index_or es (head_at s) []) (members_in es s) a.members.items
   pub fallible : AreFallible a.members.items (members_in es s) a.fallible.items

@@ -6,6 +6,7 @@ ghost use Rattle.dsa_recording.specs.declared.stream.StreamFault.TheVariants.{Me
 ghost use Rattle.dsa_recording.specs.Answers.{is_harmless, AnswersFormat, AnswersRecording, AnswersReport, AreHarmless, IsStatusOf};
 ghost use Rattle.dsa_recording.specs.Totals.{HasSums};
 
+use crate::costs::{costs_of, costs_text};
 use crate::detail::{detail_of, has_all_fences};
 use crate::findings::{Finding, FindingKind};
 use crate::picture::{draw_report, is_too_large, too_large_text};
@@ -15,6 +16,7 @@ use crate::stream::StreamFault;
 use crate::totals::{totals_of, totals_text};
 use crate::words::{Denied, finding_text};
 use dsa_descriptor::u32_at;
+use dsa_settings::Settings;
 use std::alloc::{AllocError, Global};
 
 /// How a report is written.
@@ -94,6 +96,7 @@ fn report_text(
     alloc: Global,
     all: &[[u8; 64]],
     report: &Report,
+    settings: &Settings,
     denied: Denied,
 ) -> Result<String, AllocError>
     requires { HasSums report.now }
@@ -106,7 +109,9 @@ fn report_text(
             text.push_str(&finding_text(alloc, &detail, known, denied)?)?;
         }
     }
-    text.push_str(&totals_text(alloc, &totals_of(report))?)?;
+    let totals = totals_of(report);
+    text.push_str(&totals_text(alloc, &totals)?)?;
+    text.push_str(&costs_text(alloc, settings, &costs_of(settings, report), &totals)?)?;
     Ok(text)
 }
 
@@ -141,6 +146,7 @@ fn answer_report(
     alloc: Global,
     all: &[[u8; 64]],
     report: &Report,
+    settings: &Settings,
     options: AuditOptions,
 ) -> Result<AuditAnswer, AllocError>
     requires { HasSums report.now }
@@ -148,8 +154,14 @@ fn answer_report(
 {
     let denied = options.denied;
     match options.format {
-        AuditFormat::Text => Ok(written(denied, report, report_text(alloc, all, report, denied)?)),
-        AuditFormat::Json => Ok(written(denied, report, report_json(alloc, all, report, denied)?)),
+        AuditFormat::Text => {
+            let text = report_text(alloc, all, report, settings, denied)?;
+            Ok(written(denied, report, text))
+        }
+        AuditFormat::Json => {
+            let line = report_json(alloc, all, report, settings, denied)?;
+            Ok(written(denied, report, line))
+        }
         AuditFormat::Picture => answer_picture(alloc, all, report, denied),
     }
 }
@@ -184,6 +196,7 @@ fn fault_text(alloc: Global, bytes: &[u8], fault: StreamFault) -> Result<String,
 pub(crate) fn audit_bytes(
     alloc: Global,
     bytes: &[u8],
+    settings: &Settings,
     options: AuditOptions,
 ) -> Result<AuditAnswer, AllocError>
     ensures { IfOk result (AnswersRecording options bytes.now) }
@@ -191,7 +204,7 @@ pub(crate) fn audit_bytes(
     match audit_recording(alloc, bytes) {
         Ok(report) => {
             let (all, _) = bytes.as_chunks::<64>();
-            answer_report(alloc, all, &report, options)
+            answer_report(alloc, all, &report, settings, options)
         }
         Err(fault) => {
             let text = fault_text(alloc, bytes, fault)?;

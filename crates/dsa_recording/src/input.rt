@@ -9,6 +9,7 @@ use crate::answer::{AuditAnswer, AuditOptions, audit_bytes};
 use crate::forms::{begins_with_digits, form_of, is_text};
 use crate::places::{BytesFault, bytes_of_input};
 use dsa_lines::{Expected, TextFault, assemble_recording};
+use dsa_settings::Settings;
 use std::alloc::{AllocError, Global};
 
 /// The answer where there is no recording.
@@ -28,12 +29,17 @@ fn expected_words(expected: Expected) -> &'static str {
 }
 
 /// The report on a recording that is written as lines.
-fn audit_lines(alloc: Global, text: &[u8], options: AuditOptions) -> Result<AuditAnswer, AllocError>
+fn audit_lines(
+    alloc: Global,
+    text: &[u8],
+    settings: &Settings,
+    options: AuditOptions,
+) -> Result<AuditAnswer, AllocError>
     requires { IsInLines text.now }
     ensures { IfOk result (AnswersInput options text.now) }
 {
     match assemble_recording(alloc, text) {
-        Ok(bytes) => audit_bytes(alloc, &bytes, options),
+        Ok(bytes) => audit_bytes(alloc, &bytes, settings, options),
         Err(TextFault::Grammar(line, column, expected)) => {
             let words = expected_words(expected);
             let reason = format!(in alloc;
@@ -50,6 +56,7 @@ fn audit_lines(alloc: Global, text: &[u8], options: AuditOptions) -> Result<Audi
 fn audit_digits(
     alloc: Global,
     text: &[u8],
+    settings: &Settings,
     options: AuditOptions,
 ) -> Result<AuditAnswer, AllocError>
     requires text { IsText text.now }
@@ -57,7 +64,7 @@ fn audit_digits(
     ensures { IfOk result (AnswersInput options text.now) }
 {
     match bytes_of_input(alloc, text) {
-        Ok(bytes) => audit_bytes(alloc, &bytes, options),
+        Ok(bytes) => audit_bytes(alloc, &bytes, settings, options),
         Err(BytesFault::Memory) => Err(AllocError),
         Err(
             BytesFault::Digit {
@@ -74,20 +81,25 @@ fn audit_digits(
 
 /// The report on a recording, as bytes or as a text: of bytes in hexadecimal, or of lines. The status is 0 where nothing
 /// is wrong, 1 where a fence is missing or what is denied was found, and 2 with the reason where there is no recording, or
-/// it is too large for a picture.
-pub fn audit(alloc: Global, input: &[u8], options: AuditOptions) -> Result<AuditAnswer, AllocError>
+/// it is too large for a picture. The report has what the submissions cost under the settings.
+pub fn audit(
+    alloc: Global,
+    input: &[u8],
+    settings: &Settings,
+    options: AuditOptions,
+) -> Result<AuditAnswer, AllocError>
     ensures { IfOk result (AnswersInput options input.now) }
 {
     if !is_text(input) {
-        return audit_bytes(alloc, input, options);
+        return audit_bytes(alloc, input, settings, options);
     }
     if form_of(input).is_some() {
-        return audit_digits(alloc, input, options);
+        return audit_digits(alloc, input, settings, options);
     }
     if begins_with_digits(input) {
-        return audit_digits(alloc, input, options);
+        return audit_digits(alloc, input, settings, options);
     }
-    audit_lines(alloc, input, options)
+    audit_lines(alloc, input, settings, options)
 }
 
 /// An input spells one recording at most.

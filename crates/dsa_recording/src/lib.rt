@@ -3,6 +3,7 @@
 #![tactic(auto)]
 
 mod answer;
+mod costs;
 mod detail;
 mod failure;
 mod findings;
@@ -21,6 +22,7 @@ mod totals;
 mod words;
 
 pub use answer::{AuditAnswer, AuditFormat, AuditOptions};
+pub use costs::{Costs, costs_of, costs_text};
 pub use detail::{Cause, Detail, detail_of, has_all_fences};
 pub use failure::can_fail;
 pub use findings::{Finding, FindingKind, findings_of};

@@ -3,12 +3,14 @@
 ghost use Rattle.dsa_recording.specs.Totals.{HasSums};
 
 use crate::answer::{completeness, is_complete};
+use crate::costs::{Costs, costs_of};
 use crate::detail::{Cause, Detail, detail_of};
 use crate::report::Report;
 use crate::totals::{Totals, totals_of};
 use crate::words::{Denied, Severity, severity_of};
 use dsa_audit::Unseen;
 use dsa_ranges::{Hazard, HazardKind};
+use dsa_settings::Settings;
 use serde_json::{Value, json};
 use std::alloc::{AllocError, Global};
 
@@ -110,11 +112,24 @@ fn totals_json(alloc: Global, totals: &Totals) -> Result<Value, AllocError> {
     })
 }
 
+/// The object of the costs.
+fn costs_json(alloc: Global, costs: &Costs) -> Result<Value, AllocError> {
+    let (recorded, corrected) = (costs.recorded, costs.corrected);
+    let (reduced, unpriced) = (costs.reduced, costs.unpriced as u64);
+    json!(in alloc; {
+        "recorded": recorded,
+        "corrected": corrected,
+        "reduced": reduced,
+        "unpriced": unpriced
+    })
+}
+
 /// The report as one line of JSON.
 pub(crate) fn report_json(
     alloc: Global,
     all: &[[u8; 64]],
     report: &Report,
+    settings: &Settings,
     denied: Denied,
 ) -> Result<String, AllocError>
     requires { HasSums report.now }
@@ -129,7 +144,8 @@ pub(crate) fn report_json(
     }
     let totals = totals_json(alloc, &totals_of(report))?;
     let findings = Value::Array(findings);
-    let value = json!(in alloc; {"findings": findings, "totals": totals})?;
+    let costs = costs_json(alloc, &costs_of(settings, report))?;
+    let value = json!(in alloc; {"findings": findings, "totals": totals, "costs": costs})?;
     let mut line = value.to_string(alloc)?;
     line.push_str("\n")?;
     Ok(line)

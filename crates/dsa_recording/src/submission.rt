@@ -13,6 +13,8 @@ use std::alloc::{AllocError, Global};
 /// A submission whose fences are audited.
 #[derive(Debug, Drop)]
 pub struct Audited {
+    /// Whether it is a batch.
+    pub is_batch: bool,
     /// Whether a fence stands before each member.
     pub fences: Vec<bool>,
     /// What is known of each member.
@@ -76,6 +78,7 @@ pub fn audit_submission(
     let fallible = fallible_of(alloc, &members, entries)?;
     let audit = audit_fences(alloc, &fences, &members, &fallible)?;
     Ok(Audited {
+        is_batch: submission.is_batch,
         fences,
         members,
         fallible,

@@ -42,7 +42,7 @@ fn batches_in(submissions: &[Submission]) -> usize
 }
 
 /// How many fences are set.
-fn fences_in(fences: &[bool]) -> usize
+pub(crate) fn fences_in(fences: &[bool]) -> usize
     ensures { result ≡ count_by (λ b. b) fences.now }
 {
     fences.iter().filter(|fence| **fence).count()
@@ -121,7 +121,12 @@ pub fn totals_of(report: &Report) -> Totals
 }
 
 /// A number of things, with the word for one or for more.
-fn counted(alloc: Global, number: usize, one: &str, more: &str) -> Result<String, AllocError> {
+pub(crate) fn counted(
+    alloc: Global,
+    number: usize,
+    one: &str,
+    more: &str,
+) -> Result<String, AllocError> {
     let word = if number == 1 { one } else { more };
     format!(in alloc; "{number} {word}")
 }

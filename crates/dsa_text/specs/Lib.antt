@@ -7,4 +7,5 @@ pub mod Numbers
 pub mod SettingsWords
 pub mod Options
 pub mod Inputs
+pub mod Audited
 pub mod Laws

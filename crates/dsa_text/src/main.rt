@@ -3,6 +3,7 @@
 
 mod answer;
 mod assembling;
+mod auditing;
 mod bytes;
 mod diagnosis;
 mod disassembling;
@@ -24,6 +25,7 @@ mod words;
 
 use crate::answer::Answer;
 use crate::assembling::{assemble_job, assemble_list};
+use crate::auditing::{audit_command, audit_input};
 use crate::bytes::bytes_or_refusal;
 use crate::disassembling::{disassemble_list, disassemble_portal, disassemble_staging};
 use crate::inputs::{explain, refused_settings};
@@ -34,7 +36,7 @@ use crate::settings::{Setting, settings_of};
 use clap::error::ErrorKind;
 use clap::{Arg, ArgAction, ArgMatches, Command};
 use dsa_calls::PlanFault;
-use dsa_recording::{AuditFormat, AuditOptions, Denied, audit, is_text};
+use dsa_recording::is_text;
 use dsa_report::{Stop, read_text, write_line};
 use std::alloc::{AllocError, Global};
 use std::fs::File;
@@ -67,7 +69,7 @@ Sizes are in bytes, prices in one unit of your choice. Numbers are decimal, or h
 Example: dsa_text assemble --job store.txt | dsa";
 
 /// An option with a value.
-fn value<'a>(alloc: Global, name: &'a str, default: &'a str, help: &'a str) -> Arg<'a> {
+pub(crate) fn value<'a>(alloc: Global, name: &'a str, default: &'a str, help: &'a str) -> Arg<'a> {
     Arg::new(alloc, name)
         .long(name)
         .value_name("N")
@@ -77,7 +79,7 @@ fn value<'a>(alloc: Global, name: &'a str, default: &'a str, help: &'a str) -> A
 }
 
 /// An option without one.
-fn flag<'a>(alloc: Global, name: &'a str, help: &'a str) -> Arg<'a> {
+pub(crate) fn flag<'a>(alloc: Global, name: &'a str, help: &'a str) -> Arg<'a> {
     Arg::new(alloc, name)
         .long(name)
         .action(ArgAction::SetTrue)
@@ -85,7 +87,7 @@ fn flag<'a>(alloc: Global, name: &'a str, help: &'a str) -> Arg<'a> {
 }
 
 /// The file to read.
-fn file<'a>(alloc: Global) -> Arg<'a> {
+pub(crate) fn file<'a>(alloc: Global) -> Arg<'a> {
     Arg::new(alloc, "file")
         .value_name("FILE")
         .action(ArgAction::Set)
@@ -93,7 +95,7 @@ fn file<'a>(alloc: Global) -> Arg<'a> {
 }
 
 /// The option of a table of prices.
-fn batches<'a>(alloc: Global) -> Result<Arg<'a>, AllocError> {
+pub(crate) fn batches<'a>(alloc: Global) -> Result<Arg<'a>, AllocError> {
     Arg::new(alloc, "batches")
         .long("batches")
         .value_name("N,N,..")
@@ -172,25 +174,6 @@ fn explain_command<'a>(alloc: Global) -> Result<Command<'a>, AllocError> {
         .args(options)
 }
 
-/// The option of the findings that count as errors.
-fn deny<'a>(alloc: Global) -> Arg<'a> {
-    Arg::new(alloc, "deny")
-        .long("deny")
-        .value_name("needless,unseen")
-        .action(ArgAction::Set)
-        .help("take these findings for errors too")
-}
-
-/// The command `audit`.
-fn audit_command<'a>(alloc: Global) -> Result<Command<'a>, AllocError> {
-    let json = flag(alloc, "json", "write the report as JSON");
-    let svg = flag(alloc, "svg", "draw the submissions and their fences").conflicts_with("json")?;
-    let options = vec![in alloc; file(alloc), json, svg, deny(alloc)]?;
-    Command::new(alloc, "audit")
-        .about("Reads a recording of what was submitted, and reports missing and needless fences")
-        .args(options)
-}
-
 /// The commands.
 fn subcommands<'a>(alloc: Global) -> Result<Vec<Command<'a>>, AllocError> {
     let mut commands = Vec::new(alloc);
@@ -258,36 +241,6 @@ fn disassemble(
     match bytes_or_refusal(alloc, input)? {
         Ok(bytes) => lines_of(alloc, matches, &bytes, at),
         Err(refusal) => Ok(refusal),
-    }
-}
-
-/// The findings that an option denies, if it names findings.
-fn denied_in(matches: &ArgMatches<'_>) -> Option<Denied> {
-    let mut denied = Denied {
-        needless: false,
-        unseen: false,
-    };
-    let Some(names) = matches.get_str("deny") else {
-        return Some(denied);
-    };
-    for name in names.split(',') {
-        match name {
-            "needless" => denied.needless = true,
-            "unseen" => denied.unseen = true,
-            _ => return None,
-        }
-    }
-    Some(denied)
-}
-
-/// How the report is to be written.
-fn format_in(matches: &ArgMatches<'_>) -> AuditFormat {
-    if matches.get_flag("json") {
-        AuditFormat::Json
-    } else if matches.get_flag("svg") {
-        AuditFormat::Picture
-    } else {
-        AuditFormat::Text
     }
 }
 
@@ -420,18 +373,10 @@ fn run_command(rt: &HostRuntime, matches: &ArgMatches<'_>) -> Result<ExitCode, A
 
 /// Answers `audit`. Status 1 is that a fence is missing, so the report goes to standard output, and a refusal has status 2.
 fn audited(rt: &HostRuntime, matches: &ArgMatches<'_>) -> Result<ExitCode, AllocError> {
-    let Some(denied) = denied_in(matches) else {
-        let reason = "error: --deny takes needless and unseen, with a comma between\n";
-        return Ok(failed(rt, reason));
-    };
-    let options = AuditOptions {
-        format: format_in(matches),
-        denied,
-    };
     let file = matches.get_str("file");
     match input(rt, file) {
         Ok(text) => {
-            let answer = audit(rt.alloc(), &text, options)?;
+            let answer = audit_input(rt.alloc(), matches, &text)?;
             if answer.status == 2 {
                 Ok(failed(rt, &answer.text))
             } else {

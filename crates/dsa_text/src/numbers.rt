@@ -82,7 +82,7 @@ pub(crate) fn size_of(word: &str) -> Option<u64>
 }
 
 /// The parts of a word between commas.
-fn parts_of<'a>(alloc: Global, word: &'a str) -> Result<Vec<&'a str>, AllocError>
+pub(crate) fn parts_of<'a>(alloc: Global, word: &'a str) -> Result<Vec<&'a str>, AllocError>
     ensures { IfOk result
         (λ parts. map (λ part. part.now) parts.items ≡ slice_split (λ c. c == 44) word.now) }
 {

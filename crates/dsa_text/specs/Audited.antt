@@ -1,0 +1,75 @@
+-- What `audit` answers of an input and options (this project's choice).
+use Rattle.std.specs.Prelude.{◌≡◌, ◌==◌, ◌+◌, nat_lt, ℕ, Bool, true, false, List, length, codes, Option, Some, None, option_map, if◌then◌else◌}
+use Rattle.std.specs.List.{count_by, slice_split}
+use Rattle.std.specs.Str.{bytes_eq}
+use Rattle.clap.specs.Words.{first_value, found_of}
+use Rattle.clap.specs.declared.parser.matches.ArgMatches.{ArgMatches}
+use Rattle.dsa_plan.specs.Settings.{Limits}
+use Rattle.dsa_recording.specs.declared.answer.AuditAnswer.{AuditAnswer}
+use Rattle.dsa_recording.specs.declared.answer.AuditFormat.{AuditFormat}
+use Rattle.dsa_recording.specs.declared.answer.AuditFormat.TheVariants.{Text, Json, Picture}
+use Rattle.dsa_recording.specs.declared.words.Denied.{Denied}
+use Rattle.dsa_recording.specs.Inputs.{AnswersInput}
+use Rattle.dsa_text.specs.declared.settings.SettingsWords.{SettingsWords}
+use Rattle.dsa_text.specs.SettingsWords.{GivesSettings}
+use Rattle.dsa_text.specs.Options.{IsFlag, word_of}
+
+-- ---- the findings that count as errors
+
+-- how many of the words are this name
+abbrev pub times_named : List ℕ → List (List ℕ) → ℕ
+times_named name words = count_by (λ word. bytes_eq word name) words
+
+-- those that words name, where each word names some
+abbrev pub denied_by : List (List ℕ) → Option Denied
+denied_by words =
+    if times_named (codes "needless") words + times_named (codes "unseen") words == length words
+    then Some (record {
+      needless = nat_lt 0 (times_named (codes "needless") words);
+      unseen = nat_lt 0 (times_named (codes "unseen") words);
+    })
+    else None
+
+-- those of the option, with commas between; none without it
+abbrev pub denied_of : Option (List ℕ) → Option Denied
+denied_of None = Some (record { needless = false; unseen = false })
+denied_of (Some names) = denied_by (slice_split (λ c. c == 44) names)
+
+abbrev pub denied_in : ArgMatches → Option Denied
+denied_in m = denied_of (first_value (found_of m) (codes "deny"))
+
+-- ---- the form of the report, and the settings
+
+-- as JSON or as a picture where that option was given; else as text
+abbrev pub IsFormat : ArgMatches → AuditFormat → Type 0
+IsFormat m format =
+    (json svg : Bool) × IsFlag m (codes "json") json × IsFlag m (codes "svg") svg
+    × (format ≡ (if json then Json else (if svg then Picture else Text)))
+
+-- each word is the value of the option of its name; an audit has no option of transfers and of the staging area
+pub record AreAuditWords (m : ArgMatches) (w : SettingsWords) : Type 0 where
+  pub greatest_batch : w.greatest_batch.now ≡ word_of m (codes "greatest-batch")
+  pub greatest_transfer : w.greatest_transfer.now ≡ codes "8"
+  pub lone : w.lone.now ≡ word_of m (codes "lone")
+  pub batch : w.batch.now ≡ word_of m (codes "batch")
+  pub batches : option_map (λ word. word.now) w.batches ≡ first_value (found_of m) (codes "batches")
+  pub fence : w.fence.now ≡ word_of m (codes "fence")
+  pub staging : w.staging.now ≡ codes "0"
+
+-- ---- the answer
+
+-- status 2 where the options spell no settings; else the answer to the input in the form that they name
+pub data AuditsWithOptions (m : ArgMatches) (denied : Denied) (input : List ℕ) (a : AuditAnswer) : Type 0 where
+  spells_none : (w : SettingsWords) → AreAuditWords m w → GivesSettings w None → a.status ≡ 2 → AuditsWithOptions m denied input a
+  spells_settings :
+      (w : SettingsWords) (s : Limits) (format : AuditFormat) → AreAuditWords m w → GivesSettings w (Some s) →
+      IsFormat m format → AnswersInput (record { format = format; denied = denied }) input a →
+      AuditsWithOptions m denied input a
+
+-- status 2 where the option of what counts as an error names something else
+abbrev pub AuditsDenying : Option Denied → ArgMatches → List ℕ → AuditAnswer → Type 0
+AuditsDenying None m input a = a.status ≡ 2
+AuditsDenying (Some denied) m input a = AuditsWithOptions m denied input a
+
+abbrev pub AuditsInput : ArgMatches → List ℕ → AuditAnswer → Type 0
+AuditsInput m input a = AuditsDenying (denied_in m) m input a

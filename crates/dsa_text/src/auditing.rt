@@ -1,0 +1,180 @@
+//! `audit` of an input, with the options that were given.
+
+ghost use Rattle.std.specs.Prelude.{◌≡◌, IfOk, map};
+ghost use Rattle.std.specs.List.{count_by};
+ghost use Rattle.std.specs.Str.{bytes_eq};
+ghost use Rattle.dsa_text.specs.Audited.{AreAuditWords, AuditsInput, AuditsWithOptions, IsFormat, denied_by, denied_in};
+
+use crate::messages::message_with;
+use crate::numbers::parts_of;
+use crate::options::word;
+use crate::settings::{SettingsWords, settings_fault, settings_of};
+use crate::{batches, file, flag, value};
+use clap::{Arg, ArgAction, ArgMatches, Command};
+use dsa_calls::PlanFault;
+use dsa_recording::{AuditAnswer, AuditFormat, AuditOptions, Denied, audit};
+use std::alloc::{AllocError, Global};
+
+/// What the help of `audit` says of recordings and statuses.
+const RECORDINGS: &str =
+    "A recording has what was submitted, in order: entries of 64 bytes, and behind the descriptor of a batch its members.
+It is read as these bytes, as xxd, xxd -p and hexdump -v -C write them, or as lines that disassemble writes, with those
+of the members behind the line of their batch.
+
+The status is 0 where nothing is wrong, 1 where a fence is missing or what --deny names was found, and 2 where there is
+no recording, or it is too large to draw.
+Prices are in one unit of your choice. Numbers are decimal, or hexadecimal behind 0x.
+Example: dsa_text audit --deny needless,unseen recording.bin";
+
+/// The option of the findings that count as errors.
+fn deny<'a>(alloc: Global) -> Arg<'a> {
+    Arg::new(alloc, "deny")
+        .long("deny")
+        .value_name("needless,unseen")
+        .action(ArgAction::Set)
+        .help("take these findings for errors too")
+}
+
+/// The options of the prices.
+fn price_options<'a>(alloc: Global) -> Result<Vec<Arg<'a>>, AllocError> {
+    let batches = batches(alloc)?;
+    Ok(vec![in alloc;
+        value(
+            alloc,
+            "greatest-batch",
+            "32",
+            "most members of a batch that has a price, 2 to 1024"
+        ),
+        value(alloc, "lone", "10", "price of a lone descriptor"),
+        value(alloc, "batch", "14", "price of a batch"),
+        batches,
+        value(alloc, "fence", "3", "price of a fence in a batch"),
+    ]?)
+}
+
+/// The command `audit`.
+pub(crate) fn audit_command<'a>(alloc: Global) -> Result<Command<'a>, AllocError> {
+    let json = flag(alloc, "json", "write the report as JSON");
+    let svg = flag(alloc, "svg", "draw the submissions and their fences").conflicts_with("json")?;
+    let options = vec![in alloc; file(alloc), json, svg, deny(alloc)]?;
+    let prices = price_options(alloc)?;
+    Command::new(alloc, "audit")
+        .about("Reads a recording of what was submitted, and reports missing and needless fences")
+        .after_help(RECORDINGS)
+        .args(options)?
+        .args(prices)
+}
+
+/// How many of the words are this name.
+fn times_named(name: &str, words: &[&str]) -> usize
+    ensures { result ≡ count_by (λ word. bytes_eq word.now name.now) words.now }
+{
+    words.iter().filter(|word| **word == name).count()
+}
+
+/// The findings that these words name, if each names some.
+fn denied_by(words: &[&str]) -> Option<Denied>
+    ensures { result ≡ denied_by (map (λ word. word.now) words.now) }
+{
+    let needless = times_named("needless", words);
+    let unseen = times_named("unseen", words);
+    if needless.checked_add(unseen) != Some(words.len()) {
+        return None;
+    }
+    Some(Denied {
+        needless: needless > 0,
+        unseen: unseen > 0,
+    })
+}
+
+/// The findings that the option denies, if it names findings.
+fn denied_in(alloc: Global, matches: &ArgMatches<'_>) -> Result<Option<Denied>, AllocError>
+    ensures { IfOk result (λ denied. denied ≡ denied_in matches.now) }
+{
+    match matches.get_str("deny") {
+        None => Ok(Some(Denied {
+            needless: false,
+            unseen: false,
+        })),
+        Some(names) => Ok(denied_by(&parts_of(alloc, names)?)),
+    }
+}
+
+/// How the report is to be written.
+fn format_in(matches: &ArgMatches<'_>) -> AuditFormat
+    ensures { IsFormat matches.now result }
+{
+    let json = matches.get_flag("json");
+    let svg = matches.get_flag("svg");
+    if json {
+        return AuditFormat::Json;
+    }
+    if svg {
+        return AuditFormat::Picture;
+    }
+    AuditFormat::Text
+}
+
+/// The settings as the options spell them; no report needs those of the others.
+fn audit_words<'a>(matches: &ArgMatches<'a>) -> SettingsWords<'a>
+    ensures { AreAuditWords matches.now result }
+{
+    SettingsWords {
+        greatest_batch: word(matches, "greatest-batch"),
+        greatest_transfer: "8",
+        lone: word(matches, "lone"),
+        batch: word(matches, "batch"),
+        batches: matches.get_str("batches"),
+        fence: word(matches, "fence"),
+        staging: "0",
+    }
+}
+
+/// The answer where the options of `audit` are none.
+fn refusal(text: String) -> AuditAnswer
+    ensures { result.status ≡ 2 }
+{
+    AuditAnswer { text, status: 2 }
+}
+
+/// The answer where the options spell no settings.
+fn refused_settings(alloc: Global, words: &SettingsWords<'_>) -> Result<AuditAnswer, AllocError>
+    ensures { IfOk result (λ a. a.status ≡ 2) }
+{
+    let message = settings_fault(alloc, words)?;
+    Ok(refusal(message_with(alloc, PlanFault::Settings, &message)?))
+}
+
+/// What `audit` answers, with findings that count as errors.
+fn audit_denying(
+    alloc: Global,
+    matches: &ArgMatches<'_>,
+    denied: Denied,
+    input: &[u8],
+) -> Result<AuditAnswer, AllocError>
+    ensures { IfOk result (AuditsWithOptions matches.now denied input.now) }
+{
+    let format = format_in(matches);
+    let words = audit_words(matches);
+    match settings_of(alloc, &words)? {
+        Some(settings) => audit(alloc, input, &settings, AuditOptions { format, denied }),
+        None => refused_settings(alloc, &words),
+    }
+}
+
+/// What `audit` answers of an input and options.
+pub(crate) fn audit_input(
+    alloc: Global,
+    matches: &ArgMatches<'_>,
+    input: &[u8],
+) -> Result<AuditAnswer, AllocError>
+    ensures { IfOk result (AuditsInput matches.now input.now) }
+{
+    match denied_in(alloc, matches)? {
+        Some(denied) => audit_denying(alloc, matches, denied, input),
+        None => {
+            let reason = "error: --deny takes needless and unseen, with a comma between\n";
+            Ok(refusal(String::from_str(alloc, reason)?))
+        }
+    }
+}

@@ -10,6 +10,7 @@ import random
 import shutil
 import struct
 import subprocess
+import tempfile
 import time
 from pathlib import Path
 from xml.etree import ElementTree
@@ -480,6 +481,54 @@ def planned():
     common.expect(without > 10, f"only {without} fences were left out")
 
 
+def staged():
+    """A portal and its staging area have the report of their recording, whole or in parts that overlap, as bytes or as text,
+    and the entries of the portal as lines; and a batch of which no dump has all members is refused."""
+    batches = 0
+    with tempfile.TemporaryDirectory() as folder:
+        first, second = Path(folder, "first"), Path(folder, "second")
+        for path in sorted(Path("tests/jobs").glob("plan-*.job")) + sorted(Path("examples").glob("**/p*.job")):
+            answer = subprocess.run([program("dsa")], input=path.read_bytes(), capture_output=True).stdout
+            if answer.startswith(b"refused"):
+                continue
+            answer, address = json.loads(answer), json.loads(path.read_text())["settings"]["staging"]
+            portal, staging = bytes.fromhex(answer["portal"]), bytes.fromhex(answer["staging"])
+            wanted = audited(recorded(portal, staging, address))
+            heads = [portal[k : k + 64] for k in range(0, len(portal), 64) if portal[k + 7] == 1]
+            first.write_bytes(staging)
+            got = audited(portal, f"--staging {address}:{first}")
+            common.expect(got == wanted, f"{path}: another report of its portal and staging area")
+            got = audited(xxd(portal).encode(), f"--staging {address:#x}:{first}")
+            common.expect(got == wanted, f"{path}: another report of the text of its portal")
+            if not heads:
+                continue
+            # each batch lies in one of two dumps, of which the first is a text
+            batches += len(heads)
+            spans = [(int.from_bytes(it[16:24], "little") - address, 64 * int.from_bytes(it[32:36], "little")) for it in heads]
+            at = spans[len(spans) // 2][0]
+            first.write_text(xxd(staging[: sum(spans[len(spans) // 2])]))
+            second.write_bytes(staging[at:])
+            got = audited(portal, f"--staging {address}:{first} --staging {address + at}:{second}")
+            common.expect(got == wanted, f"{path}: another report with two dumps")
+            # a byte less, and the last batch is in no dump
+            last = max(range(len(heads)), key=lambda k: spans[k])
+            first.write_bytes(staging[: sum(spans[last]) - 1])
+            number = portal.index(heads[last]) // 64
+            ran = subprocess.run([TEXT, "audit", "--staging", f"{address}:{first}"], input=portal, capture_output=True)
+            size, place = spans[last][1] // 64, address + spans[last][0]
+            reason = f"entry {number}: error: no dump has the {size} members of this batch, at {place:#x}\n"
+            common.expect((ran.returncode, ran.stdout, ran.stderr.decode()) == (2, b"", reason), f"{path}: {ran}")
+    common.expect(batches > 10, f"only {batches} batches were staged")
+    for word, reason in [
+        ("0x10000", "error: --staging: '0x10000' is no ADDRESS:FILE\n"),
+        ("ten:file", "error: --staging: 'ten:file' is no ADDRESS:FILE\n"),
+        ("10:", "error: --staging: '10:' is no ADDRESS:FILE\n"),
+        ("10:none/here", "error: none/here can't be opened: there is no such file\n"),
+    ]:
+        ran = subprocess.run([TEXT, "audit", "--staging", word], input=b"", capture_output=True)
+        common.expect((ran.returncode, ran.stdout, ran.stderr.decode()) == (2, b"", reason), f"--staging {word}: {ran}")
+
+
 def disassembled(words, emitted):
     """The lines of a portal or of a staging area."""
     ran = subprocess.run([TEXT, "disassemble", *words.split()], input=emitted, capture_output=True, text=False)
@@ -615,7 +664,7 @@ def main(words):
     TEXT = program("dsa_text")
     numbers = [int(word) for word in words if word.isdigit()]
     COUNT = numbers[-1] if numbers else COUNT
-    parts = [brute_force, pictures, sizes, too_large, planned, lines, unseen, ends, forms, speed]
+    parts = [brute_force, pictures, sizes, too_large, planned, staged, lines, unseen, ends, forms, speed]
     for part in named(parts, [it for it in words if not it.isdigit()]):
         part()
 

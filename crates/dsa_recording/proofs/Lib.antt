@@ -12,3 +12,4 @@ pub mod Summed
 pub mod Inputs
 pub mod Begun
 pub mod Priced
+pub mod StreamOf

@@ -24,8 +24,11 @@ abbrev pub OneRecording : Type 0
 OneRecording =
     (input bytes other : List ℕ) → SpellsRecording input bytes → SpellsRecording input other → bytes ≡ other
 
--- the answer of an input: that of the bytes that it spells; or its status is 2, and it spells none
+-- the status is 2, and the input spells no recording
+abbrev pub IsRefused : List ℕ → AuditAnswer → Type 0
+IsRefused input answer = (answer.status ≡ 2) × ((bytes : List ℕ) → ¬ SpellsRecording input bytes)
+
+-- the answer of an input: that of the bytes that it spells; or it is refused
 abbrev pub AnswersInput : AuditOptions → List ℕ → AuditAnswer → Type 0
 AnswersInput options input answer =
-    ((bytes : List ℕ) × SpellsRecording input bytes × AnswersRecording options bytes answer)
-    ⊎ ((answer.status ≡ 2) × ((bytes : List ℕ) → ¬ SpellsRecording input bytes))
+    ((bytes : List ℕ) × SpellsRecording input bytes × AnswersRecording options bytes answer) ⊎ IsRefused input answer

@@ -9,6 +9,7 @@ pub mod Forms
 pub mod Words
 pub mod Answers
 pub mod Inputs
+pub mod Dumps
 pub mod Totals
 pub mod Costs
 pub mod Laws

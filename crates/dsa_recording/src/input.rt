@@ -1,9 +1,9 @@
 //! The answer to a recording as bytes or as text.
 
-ghost use Rattle.std.specs.Prelude.{◌≡◌, IfOk};
+ghost use Rattle.std.specs.Prelude.{◌≡◌, IfOk, MatchResult};
 ghost use Rattle.dsa_lines.specs.Texts.{lines_of};
 ghost use Rattle.dsa_recording.specs.Forms.{IsText};
-ghost use Rattle.dsa_recording.specs.Inputs.{AnswersInput, IsInLines, OneRecording};
+ghost use Rattle.dsa_recording.specs.Inputs.{AnswersInput, IsInLines, IsRefused, OneRecording, SpellsRecording};
 
 use crate::answer::{AuditAnswer, AuditOptions, audit_bytes};
 use crate::forms::{begins_with_digits, form_of, is_text};
@@ -13,7 +13,7 @@ use dsa_settings::Settings;
 use std::alloc::{AllocError, Global};
 
 /// The answer where there is no recording.
-fn refusal(text: String) -> AuditAnswer
+pub(crate) fn refusal(text: String) -> AuditAnswer
     ensures { result.status ≡ 2 }
 {
     AuditAnswer { text, status: 2 }
@@ -28,43 +28,37 @@ fn expected_words(expected: Expected) -> &'static str {
     }
 }
 
-/// The report on a recording that is written as lines.
-fn audit_lines(
-    alloc: Global,
-    text: &[u8],
-    settings: &Settings,
-    options: AuditOptions,
-) -> Result<AuditAnswer, AllocError>
+/// The bytes of a recording in lines, or its refusal.
+fn bytes_of_lines(alloc: Global, text: &[u8]) -> Result<Result<Vec<u8>, AuditAnswer>, AllocError>
     requires { IsInLines text.now }
-    ensures { IfOk result (AnswersInput options text.now) }
+    ensures { IfOk result
+        (λ read. MatchResult read
+        (λ bytes. SpellsRecording text.now bytes.items) (IsRefused text.now)) }
 {
     match assemble_recording(alloc, text) {
-        Ok(bytes) => audit_bytes(alloc, &bytes, settings, options),
+        Ok(bytes) => Ok(Ok(bytes)),
         Err(TextFault::Grammar(line, column, expected)) => {
             let words = expected_words(expected);
             let reason = format!(in alloc;
                 "line {line}, column {column}: error: expected {words}\n"
             )?;
-            Ok(refusal(reason))
+            Ok(Err(refusal(reason)))
         }
         // the lines of a recording are no list, so the first does not come
         Err(TextFault::List(_, _)) | Err(TextFault::Memory) => Err(AllocError),
     }
 }
 
-/// The report on a recording that is written in digits.
-fn audit_digits(
-    alloc: Global,
-    text: &[u8],
-    settings: &Settings,
-    options: AuditOptions,
-) -> Result<AuditAnswer, AllocError>
+/// The bytes of a recording in digits, or its refusal.
+fn bytes_of_digits(alloc: Global, text: &[u8]) -> Result<Result<Vec<u8>, AuditAnswer>, AllocError>
     requires text { IsText text.now }
     requires unlike { ¬ IsInLines text.now }
-    ensures { IfOk result (AnswersInput options text.now) }
+    ensures { IfOk result
+        (λ read. MatchResult read
+        (λ bytes. SpellsRecording text.now bytes.items) (IsRefused text.now)) }
 {
     match bytes_of_input(alloc, text) {
-        Ok(bytes) => audit_bytes(alloc, &bytes, settings, options),
+        Ok(bytes) => Ok(Ok(bytes)),
         Err(BytesFault::Memory) => Err(AllocError),
         Err(
             BytesFault::Digit {
@@ -74,9 +68,29 @@ fn audit_digits(
             },
         ) => {
             let words = fault.words();
-            Ok(refusal(format!(in alloc; "line {line}, column {column}: error: {words}\n")?))
+            let reason = format!(in alloc; "line {line}, column {column}: error: {words}\n")?;
+            Ok(Err(refusal(reason)))
         }
     }
+}
+
+/// The bytes of a recording that is a text, or its refusal.
+pub(crate) fn bytes_of_text_input(
+    alloc: Global,
+    text: &[u8],
+) -> Result<Result<Vec<u8>, AuditAnswer>, AllocError>
+    requires { IsText text.now }
+    ensures { IfOk result
+        (λ read. MatchResult read
+        (λ bytes. SpellsRecording text.now bytes.items) (IsRefused text.now)) }
+{
+    if form_of(text).is_some() {
+        return bytes_of_digits(alloc, text);
+    }
+    if begins_with_digits(text) {
+        return bytes_of_digits(alloc, text);
+    }
+    bytes_of_lines(alloc, text)
 }
 
 /// The report on a recording, as bytes or as a text: of bytes in hexadecimal, or of lines. The status is 0 where nothing
@@ -93,13 +107,10 @@ pub fn audit(
     if !is_text(input) {
         return audit_bytes(alloc, input, settings, options);
     }
-    if form_of(input).is_some() {
-        return audit_digits(alloc, input, settings, options);
+    match bytes_of_text_input(alloc, input)? {
+        Ok(bytes) => audit_bytes(alloc, &bytes, settings, options),
+        Err(refusal) => Ok(refusal),
     }
-    if begins_with_digits(input) {
-        return audit_digits(alloc, input, settings, options);
-    }
-    audit_lines(alloc, input, settings, options)
 }
 
 /// An input spells one recording at most.

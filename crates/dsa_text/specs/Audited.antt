@@ -1,5 +1,5 @@
 -- What `audit` answers of an input and options (this project's choice).
-use Rattle.std.specs.Prelude.{◌≡◌, ◌==◌, ◌+◌, nat_lt, ℕ, Bool, true, false, List, length, codes, Option, Some, None, option_map, if◌then◌else◌}
+use Rattle.std.specs.Prelude.{◌≡◌, ◌==◌, ◌+◌, nat_lt, ℕ, Bool, true, false, List, [], ◌∷◌, length, codes, Option, Some, None, option_map, if◌then◌else◌}
 use Rattle.std.specs.List.{count_by, slice_split}
 use Rattle.std.specs.Str.{bytes_eq}
 use Rattle.clap.specs.Words.{first_value, found_of}
@@ -9,6 +9,9 @@ use Rattle.dsa_recording.specs.declared.answer.AuditAnswer.{AuditAnswer}
 use Rattle.dsa_recording.specs.declared.answer.AuditFormat.{AuditFormat}
 use Rattle.dsa_recording.specs.declared.answer.AuditFormat.TheVariants.{Text, Json, Picture}
 use Rattle.dsa_recording.specs.declared.words.Denied.{Denied}
+use Rattle.dsa_recording.specs.declared.answer.AuditOptions.{AuditOptions}
+use Rattle.dsa_recording.specs.declared.dumps.Dump.{Dump}
+use Rattle.dsa_recording.specs.Dumps.{AnswersStaged}
 use Rattle.dsa_recording.specs.Inputs.{AnswersInput}
 use Rattle.dsa_text.specs.declared.settings.SettingsWords.{SettingsWords}
 use Rattle.dsa_text.specs.SettingsWords.{GivesSettings}
@@ -58,18 +61,24 @@ pub record AreAuditWords (m : ArgMatches) (w : SettingsWords) : Type 0 where
 
 -- ---- the answer
 
+-- that of a recording; or where there are dumps of memory, that of what was written to a portal
+abbrev pub AnswersWith : AuditOptions → List Dump → List ℕ → AuditAnswer → Type 0
+AnswersWith options [] input a = AnswersInput options input a
+AnswersWith options (d ∷ ds) input a = AnswersStaged options (d ∷ ds) input a
+
 -- status 2 where the options spell no settings; else the answer to the input in the form that they name
-pub data AuditsWithOptions (m : ArgMatches) (denied : Denied) (input : List ℕ) (a : AuditAnswer) : Type 0 where
-  spells_none : (w : SettingsWords) → AreAuditWords m w → GivesSettings w None → a.status ≡ 2 → AuditsWithOptions m denied input a
+pub data AuditsWithOptions (m : ArgMatches) (ds : List Dump) (denied : Denied) (input : List ℕ) (a : AuditAnswer) : Type 0 where
+  spells_none :
+      (w : SettingsWords) → AreAuditWords m w → GivesSettings w None → a.status ≡ 2 → AuditsWithOptions m ds denied input a
   spells_settings :
       (w : SettingsWords) (s : Limits) (format : AuditFormat) → AreAuditWords m w → GivesSettings w (Some s) →
-      IsFormat m format → AnswersInput (record { format = format; denied = denied }) input a →
-      AuditsWithOptions m denied input a
+      IsFormat m format → AnswersWith (record { format = format; denied = denied }) ds input a →
+      AuditsWithOptions m ds denied input a
 
 -- status 2 where the option of what counts as an error names something else
-abbrev pub AuditsDenying : Option Denied → ArgMatches → List ℕ → AuditAnswer → Type 0
-AuditsDenying None m input a = a.status ≡ 2
-AuditsDenying (Some denied) m input a = AuditsWithOptions m denied input a
+abbrev pub AuditsDenying : Option Denied → ArgMatches → List Dump → List ℕ → AuditAnswer → Type 0
+AuditsDenying None m ds input a = a.status ≡ 2
+AuditsDenying (Some denied) m ds input a = AuditsWithOptions m ds denied input a
 
-abbrev pub AuditsInput : ArgMatches → List ℕ → AuditAnswer → Type 0
-AuditsInput m input a = AuditsDenying (denied_in m) m input a
+abbrev pub AuditsInput : ArgMatches → List Dump → List ℕ → AuditAnswer → Type 0
+AuditsInput m ds input a = AuditsDenying (denied_in m) m ds input a

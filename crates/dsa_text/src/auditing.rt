@@ -3,7 +3,7 @@
 ghost use Rattle.std.specs.Prelude.{◌≡◌, IfOk, map};
 ghost use Rattle.std.specs.List.{count_by};
 ghost use Rattle.std.specs.Str.{bytes_eq};
-ghost use Rattle.dsa_text.specs.Audited.{AreAuditWords, AuditsInput, AuditsWithOptions, IsFormat, denied_by, denied_in};
+ghost use Rattle.dsa_text.specs.Audited.{AnswersWith, AreAuditWords, AuditsInput, AuditsWithOptions, IsFormat, denied_by, denied_in};
 
 use crate::messages::message_with;
 use crate::numbers::parts_of;
@@ -12,7 +12,8 @@ use crate::settings::{SettingsWords, settings_fault, settings_of};
 use crate::{batches, file, flag, value};
 use clap::{Arg, ArgAction, ArgMatches, Command};
 use dsa_calls::PlanFault;
-use dsa_recording::{AuditAnswer, AuditFormat, AuditOptions, Denied, audit};
+use dsa_plan::Settings;
+use dsa_recording::{AuditAnswer, AuditFormat, AuditOptions, Denied, Dump, audit, audit_staged};
 use std::alloc::{AllocError, Global};
 
 /// What the help of `audit` says of recordings and statuses.
@@ -20,6 +21,9 @@ const RECORDINGS: &str =
     "A recording has what was submitted, in order: entries of 64 bytes, and behind the descriptor of a batch its members.
 It is read as these bytes, as xxd, xxd -p and hexdump -v -C write them, or as lines that disassemble writes, with those
 of the members behind the line of their batch.
+
+With --staging it is read as what was written to a portal, with the members of each batch in the first dump that has them
+at the batch's list address. --staging may be given more than once.
 
 The status is 0 where nothing is wrong, 1 where a fence is missing or what --deny names was found, and 2 where there is
 no recording, or it is too large to draw.
@@ -33,6 +37,15 @@ fn deny<'a>(alloc: Global) -> Arg<'a> {
         .value_name("needless,unseen")
         .action(ArgAction::Set)
         .help("take these findings for errors too")
+}
+
+/// The option of dumps of memory.
+fn staging<'a>(alloc: Global) -> Arg<'a> {
+    Arg::new(alloc, "staging")
+        .long("staging")
+        .value_name("ADDRESS:FILE")
+        .action(ArgAction::Append)
+        .help("read a portal alone; members of batches are in this dump of memory")
 }
 
 /// The options of the prices.
@@ -56,7 +69,7 @@ fn price_options<'a>(alloc: Global) -> Result<Vec<Arg<'a>>, AllocError> {
 pub(crate) fn audit_command<'a>(alloc: Global) -> Result<Command<'a>, AllocError> {
     let json = flag(alloc, "json", "write the report as JSON");
     let svg = flag(alloc, "svg", "draw the submissions and their fences").conflicts_with("json")?;
-    let options = vec![in alloc; file(alloc), json, svg, deny(alloc)]?;
+    let options = vec![in alloc; file(alloc), json, svg, deny(alloc), staging(alloc)]?;
     let prices = price_options(alloc)?;
     Command::new(alloc, "audit")
         .about("Reads a recording of what was submitted, and reports missing and needless fences")
@@ -145,33 +158,54 @@ fn refused_settings(alloc: Global, words: &SettingsWords<'_>) -> Result<AuditAns
     Ok(refusal(message_with(alloc, PlanFault::Settings, &message)?))
 }
 
+/// The report on an input: a recording, or where there are dumps what was written to a portal.
+fn audit_with(
+    alloc: Global,
+    dumps: &[Dump],
+    input: &[u8],
+    settings: &Settings,
+    options: AuditOptions,
+) -> Result<AuditAnswer, AllocError>
+    ensures { IfOk result (AnswersWith options dumps.now input.now) }
+{
+    if dumps.is_empty() {
+        return audit(alloc, input, settings, options);
+    }
+    audit_staged(alloc, input, dumps, settings, options)
+}
+
 /// What `audit` answers, with findings that count as errors.
 fn audit_denying(
     alloc: Global,
     matches: &ArgMatches<'_>,
+    dumps: &[Dump],
     denied: Denied,
     input: &[u8],
 ) -> Result<AuditAnswer, AllocError>
-    ensures { IfOk result (AuditsWithOptions matches.now denied input.now) }
+    ensures { IfOk result (AuditsWithOptions matches.now dumps.now denied input.now) }
 {
     let format = format_in(matches);
     let words = audit_words(matches);
     match settings_of(alloc, &words)? {
-        Some(settings) => audit(alloc, input, &settings, AuditOptions { format, denied }),
+        Some(settings) => {
+            let options = AuditOptions { format, denied };
+            audit_with(alloc, dumps, input, &settings, options)
+        }
         None => refused_settings(alloc, &words),
     }
 }
 
-/// What `audit` answers of an input and options.
+/// What `audit` answers of an input, dumps of memory and options.
 pub(crate) fn audit_input(
     alloc: Global,
     matches: &ArgMatches<'_>,
+    dumps: &[Dump],
     input: &[u8],
 ) -> Result<AuditAnswer, AllocError>
-    ensures { IfOk result (AuditsInput matches.now input.now) }
+    ensures { IfOk result (AuditsInput matches.now dumps.now input.now) }
 {
     match denied_in(alloc, matches)? {
-        Some(denied) => audit_denying(alloc, matches, denied, input),
+        Some(denied) => audit_denying(alloc, matches, dumps, denied, input),
         None => {
             let reason = "error: --deny takes needless and unseen, with a comma between\n";
             Ok(refusal(String::from_str(alloc, reason)?))

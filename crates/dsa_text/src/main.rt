@@ -7,6 +7,7 @@ mod auditing;
 mod bytes;
 mod diagnosis;
 mod disassembling;
+mod dumps;
 mod explaining;
 mod form;
 mod inputs;
@@ -28,6 +29,7 @@ use crate::assembling::{assemble_job, assemble_list};
 use crate::auditing::{audit_command, audit_input};
 use crate::bytes::bytes_or_refusal;
 use crate::disassembling::{disassemble_list, disassemble_portal, disassemble_staging};
+use crate::dumps::dumps_in;
 use crate::inputs::{explain, refused_settings};
 use crate::messages::message_of;
 use crate::numbers::number_of;
@@ -373,10 +375,14 @@ fn run_command(rt: &HostRuntime, matches: &ArgMatches<'_>) -> Result<ExitCode, A
 
 /// Answers `audit`. Status 1 is that a fence is missing, so the report goes to standard output, and a refusal has status 2.
 fn audited(rt: &HostRuntime, matches: &ArgMatches<'_>) -> Result<ExitCode, AllocError> {
+    let dumps = match dumps_in(rt, matches)? {
+        Ok(dumps) => dumps,
+        Err(code) => return Ok(code),
+    };
     let file = matches.get_str("file");
     match input(rt, file) {
         Ok(text) => {
-            let answer = audit_input(rt.alloc(), matches, &text)?;
+            let answer = audit_input(rt.alloc(), matches, &dumps, &text)?;
             if answer.status == 2 {
                 Ok(failed(rt, &answer.text))
             } else {

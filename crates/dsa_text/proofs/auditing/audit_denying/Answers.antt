@@ -5,9 +5,9 @@ use Rattle.dsa_text.proofs.auditing.audit_denying.Goals as goal
 pub returns-in-Some : goal.returns-in-Some
 returns-in-Some c =
     let given = rw c.in-Some.is at c.in_ok-settings.ensures in
-    IfOk-weaker c.audit.result _ _
+    IfOk-weaker c.audit_with.result _ _
     (λ a h. spells_settings c.audit_words-words.result c.in-Some.settings c.format_in-format.result c.audit_words-words.ensures given c.format_in-format.ensures h)
-    c.audit.ensures
+    c.audit_with.ensures
 
 pub returns-in-None : goal.returns-in-None
 returns-in-None c =

@@ -1,0 +1,77 @@
+//! The dumps of memory that options name.
+
+use crate::bytes::bytes_or_refusal;
+use crate::messages::message_of;
+use crate::numbers::number_of;
+use crate::{NoText, failed, input, unread};
+use clap::ArgMatches;
+use dsa_recording::{Dump, is_text};
+use std::alloc::{AllocError, Global};
+use std::process::ExitCode;
+
+/// The address and the file of a word: a number, a colon and a name.
+fn address_and_file(word: &str) -> Option<(u64, &str)> {
+    let Some((number, file)) = word.split_once(':') else {
+        return None;
+    };
+    let Some(address) = number_of(number) else {
+        return None;
+    };
+    if file.is_empty() {
+        return None;
+    }
+    Some((address, file))
+}
+
+/// The bytes of a dump: as they stand, or as a text of digits spells them. Else the message that says why there are none.
+fn bytes_of_dump(
+    alloc: Global,
+    file: &str,
+    text: Vec<u8>,
+) -> Result<Result<Vec<u8>, String>, AllocError> {
+    if !is_text(&text) {
+        return Ok(Ok(text));
+    }
+    match bytes_or_refusal(alloc, &text)? {
+        Ok(bytes) => Ok(Ok(bytes)),
+        Err(refusal) => {
+            let message = refusal.text;
+            Ok(Err(format!(in alloc; "{file}: {message}")?))
+        }
+    }
+}
+
+/// The dump that a word names, or the status where there is none.
+fn read_dump(rt: &HostRuntime, word: &str) -> Result<Result<Dump, ExitCode>, AllocError> {
+    let alloc = rt.alloc();
+    let Some((address, file)) = address_and_file(word) else {
+        let message = format!(in alloc; "error: --staging: '{word}' is no ADDRESS:FILE\n")?;
+        return Ok(Err(failed(rt, &message)));
+    };
+    match input(rt, Some(file)) {
+        Ok(text) => match bytes_of_dump(alloc, file, text)? {
+            Ok(bytes) => Ok(Ok(Dump { address, bytes })),
+            Err(message) => Ok(Err(failed(rt, &message))),
+        },
+        Err(NoText::Refused(fault)) => Ok(Err(failed(rt, &message_of(alloc, fault)?))),
+        Err(NoText::Failed(what)) => Ok(Err(unread(rt, Some(file), what)?)),
+    }
+}
+
+/// The dumps that the options name, in their order, or the status where one is none.
+pub(crate) fn dumps_in(
+    rt: &HostRuntime,
+    matches: &ArgMatches<'_>,
+) -> Result<Result<Vec<Dump>, ExitCode>, AllocError> {
+    let mut dumps = Vec::new(rt.alloc());
+    let Some(words) = matches.get_strs("staging") else {
+        return Ok(Ok(dumps));
+    };
+    for word in words {
+        match read_dump(rt, *word)? {
+            Ok(dump) => dumps.push(dump)?,
+            Err(code) => return Ok(Err(code)),
+        }
+    }
+    Ok(Ok(dumps))
+}

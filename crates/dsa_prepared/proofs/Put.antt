@@ -1,7 +1,7 @@
 -- Entries that are written one after another, and words that have values.
-use Rattle.std.proofs.Common.{◌≡◌, ◌⊎◌, inl, inr, ℕ, ◌+◌, ◌*◌, ◌^◌, ◌<◌, ◌≤◌, List, [], ◌∷◌, ◌++◌, length, take, drop, get_or, refl, sym, ap, subst, ◌∙◌, arith}
+use Rattle.std.proofs.Common.{◌≡◌, ◌⊎◌, inl, inr, ℕ, ◌+◌, ◌*◌, ◌^◌, ◌<◌, ◌≤◌, List, [], ◌∷◌, ◌++◌, length, take, drop, get_or, set, ◌-◌, append_assoc, length-take, refl, sym, ap, subst, ◌∙◌, arith}
 use Rattle.std.specs.Prelude.{All, replicate}
-use Rattle.std.proofs.lemmas.List.{take_at, drop_at, drop-drop, take_more, take_all, append-nil, length-append, length-replicate}
+use Rattle.std.proofs.lemmas.List.{take_at, drop_at, drop-drop, take_more, take_all, append-nil, length-append, length-replicate, set-append_right, drop_more}
 use Rattle.std.proofs.lemmas.List.Concat.{flat_map-append}
 use Rattle.dsa_descriptor.specs.declared.span.Span.{Span}
 use Rattle.dsa_descriptor.specs.Spans.{Apart, span}
@@ -129,3 +129,22 @@ buffers_written t bases staging portal new_portal area mid new_area count batche
 pub beside_apart : (s t : Span) (bottom top : ℕ) → (top ≤ s.first) ⊎ (s.first + s.len ≤ bottom) → bottom ≤ t.first → t.first + t.len ≤ top → Apart s t
 beside_apart s t bottom top (inl above) low high address a b = omega (arith, above, high, a.0, b.1)
 beside_apart s t bottom top (inr below) low high address a b = omega (arith, below, low, a.1, b.0)
+
+-- one byte more of those that are written from a place on
+pub byte_more : (old bytes now : List ℕ) (place k : ℕ) (v : ℕ) → now ≡ take place old ++ (take k bytes ++ drop (place + k) old) → k < length bytes → place + k < length old → v ≡ get_or bytes k 0 →
+    set now (place + k) v ≡ take place old ++ (take (k + 1) bytes ++ drop (place + (k + 1)) old)
+byte_more old bytes now place k v was less room is =
+    let front : List ℕ = take place old ++ take k bytes in
+    let rest : List ℕ = drop (place + k + 1) old in
+    let long : length front ≡ place + k = omega (arith, length-append (take place old) (take k bytes), length-take place old, length-take k bytes, less, room) in
+    let none : (place + k) - (place + k) ≡ 0 = omega arith in
+    let joined : now ≡ front ++ drop (place + k) old = was ∙ sym (append_assoc (take place old) (take k bytes) (drop (place + k) old)) in
+    let step : place + k + 1 ≡ place + (k + 1) = omega arith in
+    ap (λ (xs : List ℕ). set xs (place + k) v) joined
+    ∙ set-append_right front (drop (place + k) old) (place + k) (place + k) v long (omega arith)
+    ∙ ap (λ (n : ℕ). front ++ set (drop (place + k) old) n v) none
+    ∙ ap (λ (xs : List ℕ). front ++ set xs 0 v) (drop_more old (place + k) v room)
+    ∙ append_assoc (take place old) (take k bytes) (v ∷ rest)
+    ∙ ap (λ (xs : List ℕ). take place old ++ xs) (sym (append_assoc (take k bytes) (v ∷ []) rest)
+    ∙ (λ i. (take k bytes ++ (is i ∷ [])) ++ drop (step i) old)
+    ∙ ap (λ (xs : List ℕ). xs ++ drop (place + (k + 1)) old) (sym (take_more bytes k 0 less)))

@@ -128,8 +128,8 @@ fn first_earlier(regions: &[Row], bases: &[u64], region: usize) -> Option<usize>
 /// Whether the region lies above or below all others, which lie from `bottom` to before `top`.
 #[inline(always)]
 fn is_beside(region: Span, bottom: u64, top: u128) -> bool
-    ensures { IsTrue result →
-        (top ≤ region.first) ⊎ (region.first + region.len ≤ bottom) }
+    ensures { IsTrue result ↔
+        ((top ≤ region.first) ⊎ (region.first + region.len ≤ bottom)) }
 {
     if u128::from(region.first) >= top {
         return true;
@@ -201,12 +201,16 @@ fn is_staging(staging: u64) -> bool
     staging <= 1 << 63 && staging % 64 == 0
 }
 
-/// Writes 64 bytes over those from the place on.
+/// Writes 64 bytes over those from the place on. A loop, which is compiled to eight stores of what was just made; a copy of
+/// the slice would store it twice.
+#[inline(always)]
 fn put_entry(buffer: &mut [u8], place: usize, bytes: &[u8; 64])
     requires { place + 64 ≤ length buffer.old }
     ensures { buffer.new ≡ take place buffer.old ++ bytes.now ++ drop (place + 64) buffer.old }
 {
-    buffer[place..place + 64].copy_from_slice(bytes);
+    for k in 0..64 {
+        buffer[place + k] = bytes[k];
+    }
 }
 
 /// Writes the bytes of the entries at the front of the buffer, and leaves the rest of it.

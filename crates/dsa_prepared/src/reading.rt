@@ -146,13 +146,10 @@ fn is_within(regions: &[Row], region: u64, offset: u64) -> bool
 fn word_lies(regions: &[Row], kind: u64, value: u64) -> bool
     ensures { IsTrue result ↔ IsWithin (map region_in regions.now) (word_in kind value) }
 {
-    if kind == 0 {
-        return true;
+    if kind >= 2 {
+        return is_within(regions, kind - 2, value);
     }
-    if kind == 1 {
-        return value < STAGING_END;
-    }
-    is_within(regions, kind - 2, value)
+    kind == 0 || value < STAGING_END
 }
 
 /// Whether each word of the entry does.

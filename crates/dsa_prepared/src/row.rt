@@ -26,13 +26,13 @@ fn value_in(kind: u64, value: u64, bases: &[u64], staging: u64) -> u64
     requires { HasValue bases.now staging (word_in kind value) }
     ensures { result ≡ word_value bases.now staging (word_in kind value) }
 {
-    if kind == 0 {
-        return value;
+    if kind >= 2 {
+        return bases[(kind - 2) as usize] + value;
     }
     if kind == 1 {
         return staging + value;
     }
-    bases[(kind - 2) as usize] + value
+    value
 }
 
 /// Writes eight bytes over those from the place on.

@@ -79,28 +79,20 @@ entries_have rs bases staging entries count fit low all k d lt =
 
 -- ---- one entry
 
--- eight bytes more, over zeros
-step : (front rest rest' part old new : List ℕ) (n : ℕ) → old ≡ front ++ rest → length front ≡ n → length part ≡ 8 → drop 8 rest ≡ rest' → new ≡ take n old ++ part ++ drop (n + 8) old → new ≡ front ++ part ++ rest'
-step front rest rest' part old new n was long size zeros put =
-    let first : take n old ≡ front = ap (take n) was ∙ take_at front rest n long in
-    let last : drop (n + 8) old ≡ rest' = sym (drop-drop 8 n old) ∙ ap (drop 8) (ap (drop n) was ∙ drop_at front rest n long) ∙ zeros in
-    put ∙ (λ i. first i ++ part ++ last i)
-
-pub entry_filled : (head a b c middle d p q r s t u : List ℕ) → length head ≡ 8 → length a ≡ 8 → length b ≡ 8 → length c ≡ 8 → length middle ≡ 8 → length d ≡ 8
-    → p ≡ take 0 (replicate 64 0) ++ head ++ drop (0 + 8) (replicate 64 0) → q ≡ take 8 p ++ a ++ drop (8 + 8) p → r ≡ take 16 q ++ b ++ drop (16 + 8) q
-    → s ≡ take 24 r ++ c ++ drop (24 + 8) r → t ≡ take 32 s ++ middle ++ drop (32 + 8) s → u ≡ take 40 t ++ d ++ drop (40 + 8) t
-    → u ≡ head ++ a ++ b ++ c ++ middle ++ d ++ replicate 16 0
-entry_filled head a b c middle d p q r s t u lh la lb lc lm ld h1 h2 h3 h4 h5 h6 =
-    let e1 : p ≡ head ++ replicate 56 0 = step [] (replicate 64 0) (replicate 56 0) head (replicate 64 0) p 0 refl refl lh refl h1 in
-    let e2 : q ≡ head ++ a ++ replicate 48 0 = step head (replicate 56 0) (replicate 48 0) a p q 8 e1 lh la refl h2 in
-    let l2 : length (head ++ a) ≡ 16 = omega (arith, length-append head a, lh, la) in
-    let e3 : r ≡ head ++ a ++ b ++ replicate 40 0 = step (head ++ a) (replicate 48 0) (replicate 40 0) b q r 16 e2 l2 lb refl h3 in
-    let l3 : length (head ++ a ++ b) ≡ 24 = omega (arith, length-append (head ++ a) b, l2, lb) in
-    let e4 : s ≡ head ++ a ++ b ++ c ++ replicate 32 0 = step (head ++ a ++ b) (replicate 40 0) (replicate 32 0) c r s 24 e3 l3 lc refl h4 in
-    let l4 : length (head ++ a ++ b ++ c) ≡ 32 = omega (arith, length-append (head ++ a ++ b) c, l3, lc) in
-    let e5 : t ≡ head ++ a ++ b ++ c ++ middle ++ replicate 24 0 = step (head ++ a ++ b ++ c) (replicate 32 0) (replicate 24 0) middle s t 32 e4 l4 lm refl h5 in
-    let l5 : length (head ++ a ++ b ++ c ++ middle) ≡ 40 = omega (arith, length-append (head ++ a ++ b ++ c) middle, l4, lm) in
-    step (head ++ a ++ b ++ c ++ middle) (replicate 24 0) (replicate 16 0) d t u 40 e5 l5 ld refl h6
+-- eight bytes more, behind those that were written from a place on
+pub word_more : (old now next done part : List ℕ) (place n at : ℕ) → now ≡ take place old ++ (done ++ drop (place + n) old) → length done ≡ n → at ≡ place + n → at + 8 ≤ length old →
+    next ≡ take at now ++ (part ++ drop (at + 8) now) → next ≡ take place old ++ ((done ++ part) ++ drop (place + (n + 8)) old)
+word_more old now next done part place n at was long is room put =
+    let front : List ℕ = take place old ++ done in
+    let joined : now ≡ front ++ drop (place + n) old = was ∙ sym (append_assoc (take place old) done (drop (place + n) old)) in
+    let size : length front ≡ at = omega (arith, length-append (take place old) done, length-take place old, long, is, room) in
+    let first : take at now ≡ front = ap (take at) joined ∙ take_at front (drop (place + n) old) at size in
+    let last : drop (at + 8) now ≡ drop (place + (n + 8)) old =
+    sym (drop-drop 8 at now) ∙ ap (drop 8) (ap (drop at) joined ∙ drop_at front (drop (place + n) old) at size) ∙ drop-drop 8 (place + n) old
+    ∙ ap (λ (k : ℕ). drop k old) (omega arith) in
+    put ∙ (λ i. first i ++ (part ++ last i))
+    ∙ append_assoc (take place old) done (part ++ drop (place + (n + 8)) old)
+    ∙ ap (λ (xs : List ℕ). take place old ++ xs) (sym (append_assoc done part (drop (place + (n + 8)) old)))
 
 -- ---- tests
 

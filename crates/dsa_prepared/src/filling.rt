@@ -201,18 +201,6 @@ fn is_staging(staging: u64) -> bool
     staging <= 1 << 63 && staging % 64 == 0
 }
 
-/// Writes 64 bytes over those from the place on. A loop, which is compiled to eight stores of what was just made; a copy of
-/// the slice would store it twice.
-#[inline(always)]
-fn put_entry(buffer: &mut [u8], place: usize, bytes: &[u8; 64])
-    requires { place + 64 ≤ length buffer.old }
-    ensures { buffer.new ≡ take place buffer.old ++ bytes.now ++ drop (place + 64) buffer.old }
-{
-    for k in 0..64 {
-        buffer[place + k] = bytes[k];
-    }
-}
-
 /// Writes the bytes of the entries at the front of the buffer, and leaves the rest of it.
 fn put_entries(buffer: &mut [u8], entries: &[Row], bases: &[u64], staging: u64)
     requires room { 64 * length entries.now ≤ length buffer.old }
@@ -221,7 +209,7 @@ fn put_entries(buffer: &mut [u8], entries: &[Row], bases: &[u64], staging: u64)
         buffer.old buffer.new }
 {
     for k in 0..entries.len() {
-        put_entry(buffer, 64 * k, &entries[k].fill(bases, staging));
+        entries[k].fill(bases, staging, buffer, 64 * k);
     }
 }
 

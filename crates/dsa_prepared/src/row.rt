@@ -35,14 +35,17 @@ fn value_in(kind: u64, value: u64, bases: &[u64], staging: u64) -> u64
     value
 }
 
-/// Writes eight bytes over those from the place on.
+/// Writes the number over the eight bytes from the place on. A loop, which is compiled to one store.
 #[inline(always)]
-fn put(bytes: &mut [u8; 64], place: usize, part: &[u8; 8])
-    requires { place ≤ 56 }
-    ensures written { bytes.new ≡ take place bytes.old ++ part.now ++ drop (place + 8) bytes.old }
-    ensures long { length part.now ≡ 8 }
+fn put(buffer: &mut [u8], place: usize, number: u64)
+    requires { place + 8 ≤ length buffer.old }
+    ensures { buffer.new ≡
+        take place buffer.old ++ (to_le_bytes w64 number ++ drop (place + 8) buffer.old) }
 {
-    bytes[place..place + 8].copy_from_slice(part);
+    let bytes = number.to_le_bytes();
+    for k in 0..8 {
+        buffer[place + k] = bytes[k];
+    }
 }
 
 /// The kind of the word.
@@ -99,26 +102,40 @@ impl Row {
         }
     }
 
-    /// The bytes of the entry that the row says, where the regions have these bases and the staging area this address.
+    /// Writes the bytes of the entry that the row says over those from the place on, where the regions have these bases and
+    /// the staging area this address.
     #[inline(always)]
-    pub(crate) fn fill(&self, bases: &[u64], staging: u64) -> [u8; 64]
-        requires { HasValues bases.now staging (entry_in self.now) }
-        ensures value { result ≡ filled_entry bases.now staging (entry_in self.now) }
-        ensures long { length result ≡ 64 }
+    pub(crate) fn fill(&self, bases: &[u64], staging: u64, buffer: &mut [u8], place: usize)
+        requires values { HasValues bases.now staging (entry_in self.now) }
+        requires room { place + 64 ≤ length buffer.old }
+        ensures { buffer.new ≡ take place buffer.old
+            ++ (filled_entry bases.now staging (entry_in self.now) ++ drop (place + 64) buffer.old) }
     {
         let words = &self.words;
-        let completion = value_in(words[2], words[3], bases, staging);
-        let first = value_in(words[4], words[5], bases, staging);
-        let second = value_in(words[6], words[7], bases, staging);
-        let own = value_in(words[8], words[9], bases, staging);
-        let mut bytes = [0; 64];
-        put(&mut bytes, 0, &words[0].to_le_bytes());
-        put(&mut bytes, 8, &completion.to_le_bytes());
-        put(&mut bytes, 16, &first.to_le_bytes());
-        put(&mut bytes, 24, &second.to_le_bytes());
-        put(&mut bytes, 32, &words[1].to_le_bytes());
-        put(&mut bytes, 40, &own.to_le_bytes());
-        bytes
+        put(buffer, place, words[0]);
+        put(
+            buffer,
+            place + 8,
+            value_in(words[2], words[3], bases, staging),
+        );
+        put(
+            buffer,
+            place + 16,
+            value_in(words[4], words[5], bases, staging),
+        );
+        put(
+            buffer,
+            place + 24,
+            value_in(words[6], words[7], bases, staging),
+        );
+        put(buffer, place + 32, words[1]);
+        put(
+            buffer,
+            place + 40,
+            value_in(words[8], words[9], bases, staging),
+        );
+        put(buffer, place + 48, 0);
+        put(buffer, place + 56, 0);
     }
 }
 

@@ -649,8 +649,10 @@ def speed():
         ("apart", lambda k: move(0x1000000 + 64 * k, 0x9000000 + 64 * k, record_at=0x20000000 + 32 * k)),
         ("fenced all", lambda k: move(0x1000000 + 64 * k, 0x9000000 + 64 * k, record_at=0x20000000 + 32 * k)),
         ("all conflict", lambda k: move(0x1000, 0x2000, record_at=0x20000000 + 32 * k)),
+        ("all conflict, fenced all", lambda k: move(0x1000, 0x2000, record_at=0x20000000 + 32 * k)),
+        ("first and last conflict", lambda k: move(0x1000000 + 64 * (k % 1022), 0x9000000 + 64 * (k % 1022), record_at=0x20000000 + 32 * k)),
     ]:
-        members = [member(k).bytes(fenced=name == "fenced all") for k in range(size)]
+        members = [member(k).bytes(fenced="fenced all" in name) for k in range(size)]
         recording = batch(*members) * count
         start = time.monotonic()
         report, _ = audited(recording)

@@ -149,7 +149,7 @@ from_report es r f there =
       there.submission,
       there.audited.members.items,
       record { submission = s_is; audited = there.audited; audited_is = a_is; members = refl },
-      record { member = inside.0; within = inside.1; kind = there.is_at.kind },
+      record { member = inside.0; within = inside.1; head = there.is_within.head; kind = there.is_at.kind },
     )
 
 pub report_placed : (bytes : List ℕ) (r : Report) → IsReport bytes r → AllByRecursion (IsPlaced (entries bytes) r) r.findings.items

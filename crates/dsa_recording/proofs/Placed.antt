@@ -1,5 +1,5 @@
 -- The detail of a finding, from that within its submission.
-use Rattle.std.proofs.Common.{◌≡◌, ℕ, List, Option, Some, None, slice_get, sym, ap, subst, ◌∙◌}
+use Rattle.std.proofs.Common.{◌≡◌, ℕ, ◌+◌, arith, List, Option, Some, None, slice_get, sym, ap, subst, ◌∙◌}
 use Rattle.std.specs.Prelude.{MatchOption}
 use Rattle.dsa_audit.specs.declared.member.Member.{Member}
 use Rattle.dsa_recording.specs.declared.stream.Submission.{Submission}
@@ -7,7 +7,9 @@ use Rattle.dsa_recording.specs.declared.submission.Audited.{Audited}
 use Rattle.dsa_recording.specs.declared.findings.Finding.{Finding}
 use Rattle.dsa_recording.specs.declared.detail.Detail.{Detail}
 use Rattle.dsa_recording.specs.declared.report.Report.{Report}
-use Rattle.dsa_recording.specs.Details.{HasEntry, Describes, IsPlaced, IsDetail}
+use Rattle.dsa_recording.specs.declared.detail.Cause.{Cause}
+use Rattle.dsa_recording.specs.declared.detail.Cause.TheVariants as cause
+use Rattle.dsa_recording.specs.Details.{IsBehind, HasEntry, Describes, IsPlaced, IsDetail}
 
 pub placed : (es : List (List ℕ)) (r : Report) (f : Finding) (s : Submission) (a : Audited) (ms : List Member) (o : Option Detail)
     → slice_get r.submissions.items f.submission ≡ Some s → slice_get r.audits.items f.submission ≡ Some a → a.members.items ≡ ms
@@ -20,3 +22,10 @@ placed es r f s a ms None i j e none = λ (t, ns, there, has).
     let other : there.audited ≡ a = cc in
     let same : ns ≡ ms = sym there.members ∙ (ap (λ (z : Audited). z.members.items) other ∙ e) in
     none (subst (λ (z : Submission). HasEntry es z ms f) one (subst (λ (z : List Member). HasEntry es t z f) same has))
+
+-- of entries what holds of members
+pub behind_entry : (first member entry : ℕ) (c : Cause) → entry ≡ first + member → IsBehind 0 member c → IsBehind first entry c
+behind_entry first member entry (cause.MissingFence earlier h) e lt = omega (arith, e, lt)
+behind_entry first member entry (cause.NotSeen why) e lt = tt
+behind_entry first member entry (cause.GuardingFence earlier) e lt = tt
+behind_entry first member entry cause.NeedlessFence e lt = tt

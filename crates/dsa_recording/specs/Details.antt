@@ -1,6 +1,7 @@
 -- What a finding says of its entry.
-use Rattle.std.specs.Prelude.{ℕ, ◌≡◌, ◌+◌, ◌<◌, List, [], length, slice_get, slice_index_or, Some}
-use Rattle.dsa_descriptor.specs.Places.{code_at}
+use Rattle.std.specs.Prelude.{ℕ, ◌≡◌, ◌+◌, ◌-◌, ◌<◌, ◌&&◌, ◌==◌, nat_le, nat_lt, bit_and, Bool, false, List, [], length, slice_get, slice_index_or, Some}
+use Rattle.dsa_descriptor.specs.Places.{u32_at, u64_at, flags_at, code_at}
+use Rattle.dsa_descriptor.specs.Profile.{required_flags}
 use Rattle.dsa_audit.specs.declared.member.Member.{Member}
 use Rattle.dsa_audit.specs.declared.missing.FencePlace.{FencePlace}
 use Rattle.dsa_audit.specs.declared.missing.FencePlace.TheVariants as fence_place
@@ -13,6 +14,8 @@ use Rattle.dsa_recording.specs.declared.findings.FindingKind.TheVariants.{NotSee
 use Rattle.dsa_recording.specs.declared.detail.Cause.{Cause}
 use Rattle.dsa_recording.specs.declared.detail.Cause.TheVariants as cause
 use Rattle.dsa_recording.specs.declared.detail.Detail.{Detail}
+use Rattle.dsa_recording.specs.declared.detail.Records.{Records}
+use Rattle.dsa_recording.specs.Submissions.{head_at}
 use Rattle.dsa_recording.specs.declared.report.Report.{Report}
 
 -- what is found of member k can be said of these members: where a fence is missing, the earlier member is known to
@@ -42,11 +45,27 @@ IsCause ms k NeedlessFence (cause.NotSeen why) = ⊥
 IsCause ms k NeedlessFence (cause.MissingFence other h) = ⊥
 IsCause ms k NeedlessFence (cause.GuardingFence other) = ⊥
 
+-- the entry requests a completion record that has the address
+abbrev pub is_in_record : ℕ → List ℕ → Bool
+is_in_record a e =
+    bit_and (flags_at e) required_flags == required_flags && (nat_le (u64_at 8 e) a && nat_lt (a - u64_at 8 e) 32)
+
+-- of a missing fence, whose completion record has the address: member 0 is entry `first`, and the later member entry `at`
+abbrev pub shared_records : List (List ℕ) → ℕ → ℕ → Cause → Records
+shared_records es first at (cause.MissingFence earlier h) = record {
+  earlier = is_in_record h.address (slice_index_or es (first + earlier) []);
+  later = is_in_record h.address (slice_index_or es at []);
+}
+shared_records es first at (cause.NotSeen why) = record { earlier = false; later = false }
+shared_records es first at (cause.GuardingFence earlier) = record { earlier = false; later = false }
+shared_records es first at cause.NeedlessFence = record { earlier = false; later = false }
+
 -- of a finding in a submission of these members: its member is one of the submission, and an entry, and what is found can
 -- be said of it
 pub record HasEntry (es : List (List ℕ)) (s : Submission) (ms : List Member) (f : Finding) : Type 0 where
   pub member : f.member < s.size
   pub within : s.first + f.member < length es
+  pub head : head_at s < length es
   pub kind : IsOf ms f.member f.kind
 
 -- the detail is of that entry
@@ -56,7 +75,10 @@ pub record Describes (es : List (List ℕ)) (s : Submission) (ms : List Member) 
   pub number : d.submission ≡ f.submission
   pub member : d.member ≡ f.member
   pub is_batch : d.is_batch ≡ s.is_batch
+  pub owner : d.owner ≡ u32_at 0 (slice_index_or es (s.first + f.member) [])
+  pub head_owner : d.head_owner ≡ u32_at 0 (slice_index_or es (head_at s) [])
   pub cause : IsCause ms f.member f.kind d.cause
+  pub records : d.records ≡ shared_records es s.first (s.first + f.member) d.cause
 
 -- the submission of the finding, and what is known of its members
 pub record IsIn (r : Report) (f : Finding) (s : Submission) (ms : List Member) : Type 0 where
@@ -80,3 +102,12 @@ abbrev pub IsRight : FencePlace → Type 0
 IsRight fence_place.NoFence = Unit
 IsRight fence_place.Given = Unit
 IsRight (fence_place.Missing earlier) = ⊥
+
+-- ---- for private clauses
+
+-- of a missing fence the earlier member stands before entry `at`
+abbrev pub IsBehind : ℕ → ℕ → Cause → Type 0
+IsBehind first at (cause.MissingFence earlier h) = first + earlier < at
+IsBehind first at (cause.NotSeen why) = Unit
+IsBehind first at (cause.GuardingFence earlier) = Unit
+IsBehind first at cause.NeedlessFence = Unit

@@ -1,5 +1,5 @@
 -- The words of a report on a recording (this project's choice): of each finding where it is, how severe, what, and why.
-use Rattle.std.specs.Prelude.{ℕ, Bool, true, false, List, [], ◌∷◌, ◌++◌, codes, decimal, if◌then◌else◌}
+use Rattle.std.specs.Prelude.{ℕ, ◌/◌, ◌%◌, ◌^◌, ◌==◌, Bool, true, false, List, [], ◌∷◌, ◌++◌, codes, decimal, if◌then◌else◌}
 use Rattle.dsa_audit.specs.declared.member.Unseen.{Unseen}
 use Rattle.dsa_audit.specs.declared.member.Unseen.TheVariants.{Operation, Nested, Owner, Empty, Wrap}
 use Rattle.dsa_ranges.specs.declared.hazards.HazardKind.{HazardKind}
@@ -68,8 +68,37 @@ cause_words complete code (MissingFence earlier hazard) = hazard_words hazard.ki
 cause_words complete code (GuardingFence earlier) = guarding_words earlier
 cause_words complete code NeedlessFence = needless_words complete
 
+-- of an owner, bytes 0 to 3 of an entry, bits 0 to 19 are the PASID, and bit 31 is the privilege (specification 341204)
+abbrev pub privilege_words : ℕ → List ℕ
+privilege_words owner = if owner / 2 ^ 31 == 1 then codes " privileged" else []
+
+-- of another owner than the batch's: which, and not which
+abbrev pub owners_words : Unseen → ℕ → ℕ → List ℕ
+owners_words Owner owner head =
+    codes ": PASID " ++ (decimal (owner % 2 ^ 20) ++ (privilege_words owner
+    ++ (codes ", not PASID " ++ (decimal (head % 2 ^ 20) ++ privilege_words head))))
+owners_words Operation owner head = []
+owners_words Nested owner head = []
+owners_words Empty owner head = []
+owners_words Wrap owner head = []
+
+-- whose completion record has the shared address
+abbrev pub record_words : Bool → Bool → ℕ → List ℕ
+record_words false false earlier = []
+record_words true false earlier = codes ", in the record of member " ++ decimal earlier
+record_words false true earlier = codes ", in its own record"
+record_words true true earlier = codes ", in its own record and that of member " ++ decimal earlier
+
+-- what is said behind the cause
+abbrev pub more_words : Detail → Cause → List ℕ
+more_words d (NotSeen why) = owners_words why d.owner d.head_owner
+more_words d (MissingFence earlier hazard) = record_words d.records.earlier d.records.later earlier
+more_words d (GuardingFence earlier) = []
+more_words d NeedlessFence = []
+
 -- ---- the line of a finding
 
 abbrev pub finding_words : Denied → Bool → Detail → List ℕ
 finding_words denied complete d =
-    place_words d ++ (severity_words (severity_of denied d.cause) ++ (cause_words complete d.code d.cause ++ 10 ∷ []))
+    place_words d
+    ++ (severity_words (severity_of denied d.cause) ++ (cause_words complete d.code d.cause ++ (more_words d d.cause ++ 10 ∷ [])))

@@ -1,15 +1,15 @@
 //! What a finding says of its entry.
 
-ghost use Rattle.std.specs.Prelude.{◌↔◌, IsTrue, MatchOption};
+ghost use Rattle.std.specs.Prelude.{◌≡◌, ◌↔◌, ◌<◌, length, IfSome, IsTrue, MatchOption};
 ghost use Rattle.std.specs.List.{AllByRecursion};
-ghost use Rattle.dsa_recording.specs.Details.{IsOf, IsCause, HasEntry, Describes, IsPlaced, IsDetail, IsRight};
+ghost use Rattle.dsa_recording.specs.Details.{is_in_record, shared_records, IsBehind, IsOf, IsCause, HasEntry, Describes, IsPlaced, IsDetail, IsRight};
 
 use crate::findings::{Finding, FindingKind};
 use crate::report::Report;
 use crate::stream::Submission;
-use crate::submission::Audited;
+use crate::submission::{Audited, head_at};
 use dsa_audit::{FencePlace, Member, Unseen, hazard_between};
-use dsa_descriptor::u32_at;
+use dsa_descriptor::{u32_at, u64_at};
 use dsa_ranges::Hazard;
 
 /// What is found of an entry.
@@ -25,6 +25,15 @@ pub enum Cause {
     NeedlessFence,
 }
 
+/// Whose completion record has the address of a conflict.
+#[derive(Clone, Copy, Debug, PartialEq, Eq)]
+pub struct Records {
+    /// That of the earlier member.
+    pub earlier: bool,
+    /// That of the later one.
+    pub later: bool,
+}
+
 /// A finding, and the entry that it is of.
 #[derive(Clone, Copy, Debug, PartialEq, Eq)]
 pub struct Detail {
@@ -38,14 +47,21 @@ pub struct Detail {
     pub member: usize,
     /// Whether the submission is a batch.
     pub is_batch: bool,
+    /// Bytes 0 to 3 of the entry: the PASID, and in bit 31 the privilege.
+    pub owner: u32,
+    /// Those of its submission's descriptor.
+    pub head_owner: u32,
     /// What is found.
     pub cause: Cause,
+    /// Of a missing fence, whose completion record has the address; else none has.
+    pub records: Records,
 }
 
 /// What is found of a member, with the hazard of a missing fence.
 fn cause_of(members: &[Member], member: usize, kind: FindingKind) -> Option<Cause>
-    ensures { MatchOption result (¬ IsOf members.now member kind)
+    ensures cause { MatchOption result (¬ IsOf members.now member kind)
         (IsCause members.now member kind) }
+    ensures behind { IfSome result (IsBehind 0 member) }
 {
     match kind {
         FindingKind::NotSeen(why) => Some(Cause::NotSeen(why)),
@@ -68,6 +84,36 @@ fn cause_of(members: &[Member], member: usize, kind: FindingKind) -> Option<Caus
     }
 }
 
+/// Whether the entry requests a completion record that has the address.
+fn is_in_record(entry: &[u8; 64], address: u64) -> bool
+    ensures { result ≡ is_in_record address entry.now }
+{
+    if u32_at(entry, 4) % (1 << 24) & 0x0c != 0x0c {
+        return false;
+    }
+    let record = u64_at(entry, 8);
+    record <= address && address - record < 32
+}
+
+/// Of a missing fence, whose completion record has the address: the submission's first member is entry `first`, and the
+/// later member is entry `at`.
+fn shared_records(all: &[[u8; 64]], first: usize, at: usize, cause: Cause) -> Records
+    requires within { at < length all.now }
+    requires earlier { IsBehind first at cause }
+    ensures { result ≡ shared_records all.now first at cause }
+{
+    match cause {
+        Cause::MissingFence(earlier, hazard) => Records {
+            earlier: is_in_record(&all[first + earlier], hazard.address),
+            later: is_in_record(&all[at], hazard.address),
+        },
+        Cause::NotSeen(_) | Cause::GuardingFence(_) | Cause::NeedlessFence => Records {
+            earlier: false,
+            later: false,
+        },
+    }
+}
+
 /// A finding of a submission of these entries and members, with all that can be said of its entry.
 fn described(
     all: &[[u8; 64]],
@@ -81,7 +127,8 @@ fn described(
     let Some(entry) = submission.first.checked_add(finding.member) else {
         return None;
     };
-    if finding.member >= submission.size || entry >= all.len() {
+    let head = head_at(submission);
+    if finding.member >= submission.size || entry >= all.len() || head >= all.len() {
         return None;
     }
     let code = u32_at(&all[entry], 4) >> 24;
@@ -94,7 +141,10 @@ fn described(
         submission: finding.submission,
         member: finding.member,
         is_batch: submission.is_batch,
+        owner: u32_at(&all[entry], 0),
+        head_owner: u32_at(&all[head], 0),
         cause,
+        records: shared_records(all, submission.first, entry, cause),
     })
 }
 

@@ -25,7 +25,7 @@ mod words;
 
 pub use answer::{AuditAnswer, AuditFormat, AuditOptions};
 pub use costs::{Costs, costs_of, costs_text};
-pub use detail::{Cause, Detail, detail_of, has_all_fences};
+pub use detail::{Cause, Detail, Records, detail_of, has_all_fences};
 pub use dumps::{Dump, StagingFault, stage};
 pub use failure::can_fail;
 pub use findings::{Finding, FindingKind, findings_of};

@@ -124,6 +124,30 @@ fn costs_json(alloc: Global, costs: &Costs) -> Result<Value, AllocError> {
     })
 }
 
+/// Writes the objects of all findings, one by one, since a value of all of them would take much memory.
+fn push_findings(
+    alloc: Global,
+    line: &mut String,
+    all: &[[u8; 64]],
+    report: &Report,
+    denied: Denied,
+) -> Result<(), AllocError> {
+    let complete = completeness(alloc, report)?;
+    let mut is_first = true;
+    for finding in &report.findings {
+        if let Some(detail) = detail_of(all, report, *finding) {
+            let known = is_complete(&complete, detail.submission);
+            let value = finding_json(alloc, &detail, known, denied)?;
+            if !is_first {
+                line.push_str(",")?;
+            }
+            line.push_str(&value.to_string(alloc)?)?;
+            is_first = false;
+        }
+    }
+    Ok(())
+}
+
 /// The report as one line of JSON.
 pub(crate) fn report_json(
     alloc: Global,
@@ -134,19 +158,14 @@ pub(crate) fn report_json(
 ) -> Result<String, AllocError>
     requires { HasSums report.now }
 {
-    let complete = completeness(alloc, report)?;
-    let mut findings = Vec::new(alloc);
-    for finding in &report.findings {
-        if let Some(detail) = detail_of(all, report, *finding) {
-            let known = is_complete(&complete, detail.submission);
-            findings.push(finding_json(alloc, &detail, known, denied)?)?;
-        }
-    }
-    let totals = totals_json(alloc, &totals_of(report))?;
-    let findings = Value::Array(findings);
+    let mut line = String::from_str(alloc, "{\"costs\":")?;
     let costs = costs_json(alloc, &costs_of(settings, report))?;
-    let value = json!(in alloc; {"findings": findings, "totals": totals, "costs": costs})?;
-    let mut line = value.to_string(alloc)?;
-    line.push_str("\n")?;
+    line.push_str(&costs.to_string(alloc)?)?;
+    line.push_str(",\"findings\":[")?;
+    push_findings(alloc, &mut line, all, report, denied)?;
+    line.push_str("],\"totals\":")?;
+    let totals = totals_json(alloc, &totals_of(report))?;
+    line.push_str(&totals.to_string(alloc)?)?;
+    line.push_str("}\n")?;
     Ok(line)
 }

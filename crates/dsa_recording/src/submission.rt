@@ -1,7 +1,7 @@
 //! The fences of a recorded submission.
 
 ghost use Rattle.std.specs.Prelude.{◌≡◌, All, map, IfOk};
-ghost use Rattle.dsa_recording.specs.Submissions.{is_fenced, IsWithin, AreMembers, IsAudited, AreAudited};
+ghost use Rattle.dsa_recording.specs.Submissions.{head_at, is_fenced, IsWithin, AreMembers, IsAudited, AreAudited};
 
 use crate::failure::fallible_of;
 use crate::member::member_of;
@@ -23,6 +23,17 @@ pub struct Audited {
     pub fallible: Vec<bool>,
     /// The missing and the needless fences.
     pub audit: Audit,
+}
+
+/// The entry of a submission's descriptor.
+pub(crate) fn head_at(submission: Submission) -> usize
+    ensures { result ≡ head_at submission }
+{
+    if submission.is_batch {
+        submission.first.saturating_sub(1)
+    } else {
+        submission.first
+    }
 }
 
 /// Whether the entry is fenced.
@@ -67,11 +78,7 @@ pub fn audit_submission(
     requires { IsWithin all.now submission }
     ensures { IfOk result (IsAudited all.now submission) }
 {
-    let at = if submission.is_batch {
-        submission.first.saturating_sub(1)
-    } else {
-        submission.first
-    };
+    let at = head_at(submission);
     let entries = &all[submission.first..submission.first + submission.size];
     let fences = fences_of(alloc, entries)?;
     let members = members_of(alloc, &all[at], entries)?;

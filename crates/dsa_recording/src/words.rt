@@ -2,9 +2,10 @@
 
 ghost use Rattle.std.specs.Prelude.{◌≡◌, ◌++◌, true, IfOk, OnOk, codes, string_bytes};
 ghost use Rattle.dsa_recording.specs.declared.detail.Detail.{Detail};
-ghost use Rattle.dsa_recording.specs.Words.{entry_words, member_words, place_words, severity_of, severity_words, unseen_words, hazard_words, guarding_words, needless_words, cause_words, finding_words};
+ghost use Rattle.dsa_recording.specs.Words.{entry_words, member_words, place_words, severity_of, severity_words, unseen_words, hazard_words, guarding_words, needless_words, cause_words, privilege_words, owners_words, record_words, more_words, finding_words};
+ghost use Rattle.dsa_audit.specs.declared.member.Unseen.TheVariants.{Owner};
 
-use crate::detail::{Cause, Detail};
+use crate::detail::{Cause, Detail, Records};
 use dsa_audit::Unseen;
 use dsa_ranges::{Hazard, HazardKind};
 use std::alloc::{AllocError, Global};
@@ -178,6 +179,57 @@ fn cause_text(alloc: Global, detail: &Detail, complete: bool) -> Result<String, 
     }
 }
 
+/// What is said of the privilege in bit 31 of an owner.
+fn privilege_text(owner: u32) -> &'static str
+    ensures { result.now ≡ privilege_words owner }
+{
+    if owner / (1 << 31) == 1 {
+        " privileged"
+    } else {
+        ""
+    }
+}
+
+/// The owner of an entry, which is not that of its batch.
+fn owners_text(alloc: Global, owner: u32, head: u32) -> Result<String, AllocError>
+    ensures { IfOk result (λ s. string_bytes s ≡ owners_words Owner owner head) }
+{
+    let (own, other) = (owner % (1 << 20), head % (1 << 20));
+    let (privilege, other_privilege) = (privilege_text(owner), privilege_text(head));
+    format!(in alloc; ": PASID {own}{privilege}, not PASID {other}{other_privilege}")
+}
+
+/// Whose completion record has the address of a conflict.
+fn record_text(alloc: Global, records: Records, earlier: usize) -> Result<String, AllocError>
+    ensures { IfOk result (λ s. string_bytes s ≡
+        record_words records.earlier records.later earlier) }
+{
+    match (records.earlier, records.later) {
+        (false, false) => Ok(String::new(alloc)),
+        (true, false) => format!(in alloc; ", in the record of member {earlier}"),
+        (false, true) => String::from_str(alloc, ", in its own record"),
+        (true, true) => format!(in alloc; ", in its own record and that of member {earlier}"),
+    }
+}
+
+/// Writes what is said behind the cause: two owners, or whose completion record has the address.
+fn push_more(alloc: Global, line: &mut String, detail: &Detail) -> Result<(), AllocError>
+    ensures { OnOk result (string_bytes line.new ≡ string_bytes line.old ++
+        more_words detail.now detail.now.cause) }
+{
+    match detail.cause {
+        Cause::NotSeen(Unseen::Owner) => {
+            line.push_str(&owners_text(alloc, detail.owner, detail.head_owner)?)
+        }
+        Cause::MissingFence(earlier, _) => {
+            line.push_str(&record_text(alloc, detail.records, earlier)?)
+        }
+        Cause::NotSeen(Unseen::Operation | Unseen::Nested | Unseen::Empty | Unseen::Wrap)
+        | Cause::GuardingFence(_)
+        | Cause::NeedlessFence => Ok(()),
+    }
+}
+
 /// The line of a finding: where it is, how severe, what, and why; `complete`: no fence of its submission is missing.
 pub fn finding_text(
     alloc: Global,
@@ -190,6 +242,7 @@ pub fn finding_text(
     let mut line = place_text(alloc, detail)?;
     push_severity(&mut line, severity_of(denied, detail.cause))?;
     line.push_str(&cause_text(alloc, detail, complete)?)?;
+    push_more(alloc, &mut line, detail)?;
     line.push_str("\n")?;
     Ok(line)
 }

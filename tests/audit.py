@@ -519,6 +519,14 @@ def staged():
             reason = f"entry {number}: error: no dump has the {size} members of this batch, at {place:#x}\n"
             common.expect((ran.returncode, ran.stdout, ran.stderr.decode()) == (2, b"", reason), f"{path}: {ran}")
     common.expect(batches > 10, f"only {batches} batches were staged")
+    # a dump that 65 batches share: the members of the 64th would make a recording of more than 64 MiB
+    with tempfile.TemporaryDirectory() as folder:
+        dump = Path(folder, "dump")
+        dump.write_bytes(bytes(1 << 20))
+        batch = bytes(7) + b"\x01" + bytes(24) + (1 << 14).to_bytes(4, "little") + bytes(28)
+        ran = subprocess.run([TEXT, "audit", "--staging", f"0:{dump}"], input=65 * batch, capture_output=True)
+        reason = "entry 63: error: with it the recording has more than 67108864 bytes\n"
+        common.expect((ran.returncode, ran.stdout, ran.stderr.decode()) == (2, b"", reason), f"65 batches: {ran}")
     for word, reason in [
         ("0x10000", "error: --staging: '0x10000' is no ADDRESS:FILE\n"),
         ("ten:file", "error: --staging: 'ten:file' is no ADDRESS:FILE\n"),

@@ -1,13 +1,13 @@
 -- Recordings of what was written to a portal alone, with dumps of the memory that holds the members of batches (this
 -- project's choice).
-use Rattle.std.specs.Prelude.{◌≡◌, ◌≢◌, ℕ, ◌+◌, ◌-◌, ◌*◌, ◌%◌, ◌<◌, ◌&&◌, ◌⊎◌, nat_le, Bool, List, [], ◌∷◌, ◌++◌, length, slice_range, slice_index_or, Option, Some, None, if◌then◌else◌, ◌==◌}
+use Rattle.std.specs.Prelude.{◌≡◌, ◌≢◌, ℕ, ◌+◌, ◌-◌, ◌*◌, ◌%◌, ◌<◌, ◌≤◌, ◌&&◌, ◌⊎◌, nat_le, Bool, List, [], ◌∷◌, ◌++◌, length, take, slice_range, slice_index_or, Option, Some, None, if◌then◌else◌, ◌==◌}
 use Rattle.dsa_descriptor.specs.Lists.{entries}
 use Rattle.dsa_descriptor.specs.Places.{u32_at, u64_at, code_at}
 use Rattle.dsa_recording.specs.declared.answer.AuditAnswer.{AuditAnswer}
 use Rattle.dsa_recording.specs.declared.answer.AuditOptions.{AuditOptions}
 use Rattle.dsa_recording.specs.declared.dumps.Dump.{Dump}
 use Rattle.dsa_recording.specs.declared.dumps.StagingFault.{StagingFault}
-use Rattle.dsa_recording.specs.declared.dumps.StagingFault.TheVariants.{Length, Unstaged, Memory}
+use Rattle.dsa_recording.specs.declared.dumps.StagingFault.TheVariants.{Length, Unstaged, TooLong, Memory}
 use Rattle.dsa_recording.specs.Answers.{AnswersRecording}
 use Rattle.dsa_recording.specs.Inputs.{IsRefused, SpellsRecording}
 
@@ -46,16 +46,38 @@ unfoldable pub stream_of : List Dump → List (List ℕ) → Option (List ℕ)
 stream_of ds [] = Some []
 stream_of ds (e ∷ es) = joined (with_members ds e) (stream_of ds es)
 
--- the portal is whole entries, and these are all its entries and their members
+-- the most bytes of a stream, as of a recording
+abbrev pub longest_stream : ℕ
+longest_stream = 67108864
+
+-- the portal is whole entries, and these are all its entries and their members, which are not too many
 pub record StagesStream (ds : List Dump) (portal stream : List ℕ) : Type 0 where
   pub whole : length portal % 64 ≡ 0
   pub all : stream_of ds (entries portal) ≡ Some stream
+  pub few : length stream ≤ longest_stream
 
--- why there is no stream: the portal is no whole entries; or no dump has the members of this batch
+-- these are the entries before this one and their members, which are not too many
+pub record StagesBefore (ds : List Dump) (es : List (List ℕ)) (at : ℕ) (front : List ℕ) : Type 0 where
+  pub inside : at < length es
+  pub all : stream_of ds (take at es) ≡ Some front
+  pub few : length front ≤ longest_stream
+
+-- the first entry for which there is no stream: no dump has the members of this batch, or the stream would be too long
+-- with this entry and its members
+abbrev pub IsFirstUnstaged : List Dump → List (List ℕ) → ℕ → Type 0
+IsFirstUnstaged ds es at =
+    (front : List ℕ) × StagesBefore ds es at front × (with_members ds (slice_index_or es at []) ≡ None)
+
+abbrev pub IsFirstTooLong : List Dump → List (List ℕ) → ℕ → Type 0
+IsFirstTooLong ds es at =
+    (front more : List ℕ) × StagesBefore ds es at front × (with_members ds (slice_index_or es at []) ≡ Some more)
+    × (longest_stream < length front + length more)
+
+-- why there is no stream: the portal is no whole entries; else the first entry for which there is none
 abbrev pub IsStagingFault : List Dump → List ℕ → StagingFault → Type 0
 IsStagingFault ds portal Length = length portal % 64 ≢ 0
-IsStagingFault ds portal (Unstaged at) =
-    (at < length (entries portal)) × (with_members ds (slice_index_or (entries portal) at []) ≡ None)
+IsStagingFault ds portal (Unstaged at) = (length portal % 64 ≡ 0) × IsFirstUnstaged ds (entries portal) at
+IsStagingFault ds portal (TooLong at) = (length portal % 64 ≡ 0) × IsFirstTooLong ds (entries portal) at
 IsStagingFault ds portal Memory = Unit
 
 -- ---- the answer
@@ -76,5 +98,6 @@ AnswersStaged options ds input answer =
 -- why reading entries ended early
 abbrev pub IsUnstaged : List Dump → List (List ℕ) → StagingFault → Type 0
 IsUnstaged ds es Length = ⊥
-IsUnstaged ds es (Unstaged at) = (at < length es) × (with_members ds (slice_index_or es at []) ≡ None)
+IsUnstaged ds es (Unstaged at) = IsFirstUnstaged ds es at
+IsUnstaged ds es (TooLong at) = IsFirstTooLong ds es at
 IsUnstaged ds es Memory = Unit

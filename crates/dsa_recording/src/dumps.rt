@@ -1,11 +1,14 @@
 //! The stream of what was written to a portal, with the members of its batches from dumps of memory.
 
-ghost use Rattle.std.specs.Prelude.{◌≡◌, ◌++◌, Some, None, Option, List, ℕ, option_map, length, if◌then◌else◌, IfOk, MatchOption, MatchResult};
+ghost use Rattle.std.specs.Prelude.{◌≡◌, ◌≤◌, ◌++◌, Some, None, Option, List, ℕ, option_map, length, if◌then◌else◌, IfOk, MatchOption, MatchResult};
 ghost use Rattle.dsa_recording.specs.declared.dumps.StagingFault.TheVariants.{Memory};
-ghost use Rattle.dsa_recording.specs.Dumps.{covers, part_of, bytes_at, with_members, stream_of, StagesStream, IsStagingFault, IsUnstaged};
+ghost use Rattle.dsa_recording.specs.Dumps.{covers, part_of, bytes_at, with_members, stream_of, longest_stream, StagesStream, IsStagingFault, IsUnstaged};
 
 use dsa_descriptor::{u32_at, u64_at};
 use std::alloc::{AllocError, Global};
+
+/// The most bytes of a recording with the members of its batches.
+pub const LONGEST_STREAM: usize = 67_108_864;
 
 /// A dump of memory.
 #[derive(Debug, Drop)]
@@ -23,6 +26,8 @@ pub enum StagingFault {
     Length,
     /// No dump has all members of the batch whose descriptor is this entry of the portal.
     Unstaged(usize),
+    /// With this entry of the portal and its members, the recording would be too long.
+    TooLong(usize),
     /// An allocation failed.
     Memory,
 }
@@ -75,9 +80,11 @@ fn members_of<'a>(dumps: &'a [Dump], entry: &[u8; 64]) -> Option<&'a [u8]>
     bytes_at(dumps, u64_at(entry, 16), 64 * u64::from(u32_at(entry, 32)))
 }
 
-/// The entries of a portal with their members, or the first batch of which no dump has them.
+/// The entries of a portal with their members, or the first entry for which there are none.
 fn staged_entries(alloc: Global, all: &[[u8; 64]], dumps: &[Dump]) -> Result<Vec<u8>, StagingFault>
-    ensures { MatchResult result (λ bytes. stream_of dumps.now all.now ≡ Some bytes.items)
+    ensures { MatchResult result
+        (λ bytes. (stream_of dumps.now all.now ≡ Some bytes.items)
+        × (length bytes.items ≤ longest_stream))
         (IsUnstaged dumps.now all.now) }
 {
     let mut bytes = Vec::new(alloc);
@@ -85,6 +92,9 @@ fn staged_entries(alloc: Global, all: &[[u8; 64]], dumps: &[Dump]) -> Result<Vec
         let Some(members) = members_of(dumps, &all[at]) else {
             return Err(StagingFault::Unstaged(at));
         };
+        if all[at].len() + members.len() > LONGEST_STREAM - bytes.len() {
+            return Err(StagingFault::TooLong(at));
+        }
         bytes.extend_from_slice(&all[at])?;
         bytes.extend_from_slice(members)?;
     }
@@ -95,8 +105,8 @@ fn staged_entries(alloc: Global, all: &[[u8; 64]], dumps: &[Dump]) -> Result<Vec
 /// has all of them at the batch's list address.
 ///
 /// # Errors
-/// [`StagingFault::Length`], else [`StagingFault::Unstaged`] with the first batch of which no dump has the members; or
-/// [`StagingFault::Memory`].
+/// [`StagingFault::Length`]; else for the first entry [`StagingFault::Unstaged`], a batch of which no dump has the members,
+/// or [`StagingFault::TooLong`], with which there are more than 67,108,864 bytes; or [`StagingFault::Memory`].
 pub fn stage(alloc: Global, portal: &[u8], dumps: &[Dump]) -> Result<Vec<u8>, StagingFault>
     ensures { MatchResult result (λ bytes. StagesStream dumps.now portal.now bytes.items)
         (IsStagingFault dumps.now portal.now) }

@@ -5,7 +5,7 @@ ghost use Rattle.dsa_recording.specs.declared.dumps.StagingFault.TheVariants.{Me
 ghost use Rattle.dsa_recording.specs.Dumps.{AnswersPortal, AnswersStaged};
 
 use crate::answer::{AuditAnswer, AuditOptions, audit_bytes};
-use crate::dumps::{Dump, StagingFault, stage};
+use crate::dumps::{Dump, LONGEST_STREAM, StagingFault, stage};
 use crate::forms::is_text;
 use crate::input::{bytes_of_text_input, refusal};
 use dsa_descriptor::{u32_at, u64_at};
@@ -33,6 +33,9 @@ fn staging_text(alloc: Global, portal: &[u8], fault: StagingFault) -> Result<Str
                 "entry {at}: error: no dump has the {size} members of this batch, at 0x{address:x}\n"
             )
         }
+        StagingFault::TooLong(at) => format!(in alloc;
+            "entry {at}: error: with it the recording has more than {LONGEST_STREAM} bytes\n"
+        ),
         StagingFault::Memory => Err(AllocError),
     }
 }

@@ -1,6 +1,6 @@
 //! Reading the rows of a prepared submission.
 
-ghost use Rattle.std.specs.Prelude.{◌≡◌, ◌+◌, ◌<◌, ◌≤◌, ◌↔◌, All, IsTrue, length, map};
+ghost use Rattle.std.specs.Prelude.{◌≡◌, ◌+◌, ◌^◌, ◌<◌, ◌≤◌, ◌↔◌, All, IsTrue, length, map};
 ghost use Rattle.dsa_descriptor.specs.Pieces.{most_pieces};
 ghost use Rattle.dsa_prepared.specs.Rows.{ArePrepared, HaveHeader, entry_in, header_word, portal_rows, region_in, region_rows, staging_at, staging_rows, tie_in, tie_rows, unit_in, word_in};
 ghost use Rattle.dsa_prepared.specs.Preparing.{region_at};
@@ -141,20 +141,23 @@ fn is_within(regions: &[Row], region: u64, offset: u64) -> bool
     offset < regions[region as usize].words[1]
 }
 
-/// Whether the word's offset lies in its region, or in the staging area.
+/// Whether the word's offset lies in its region, or in the staging area. One comparison tells the kinds of regions from the
+/// others, since 0 and 1 less 2 wrap to numbers that no region has.
 #[inline(always)]
 fn word_lies(regions: &[Row], kind: u64, value: u64) -> bool
+    requires { length regions.now + 1 < 2 ^ 64 }
     ensures { IsTrue result ↔ IsWithin (map region_in regions.now) (word_in kind value) }
 {
-    if kind >= 2 {
+    if kind.wrapping_sub(2) < regions.len() as u64 {
         return is_within(regions, kind - 2, value);
     }
-    kind == 0 || value < STAGING_END
+    kind == 0 || (kind == 1 && value < STAGING_END)
 }
 
 /// Whether each word of the entry does.
 #[inline(always)]
 fn entry_lies(regions: &[Row], entry: &Row) -> bool
+    requires { length regions.now + 1 < 2 ^ 64 }
     ensures { IsTrue result ↔ AreWithin (map region_in regions.now) (entry_in entry.now) }
 {
     if !word_lies(regions, entry.words[2], entry.words[3]) {
@@ -171,6 +174,7 @@ fn entry_lies(regions: &[Row], entry: &Row) -> bool
 
 /// Whether each entry does.
 fn entries_lie(regions: &[Row], entries: &[Row]) -> bool
+    requires { length regions.now + 1 < 2 ^ 64 }
     ensures { IsTrue result ↔
         All (AreWithin (map region_in regions.now)) (map entry_in entries.now) }
 {

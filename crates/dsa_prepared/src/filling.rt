@@ -201,7 +201,9 @@ fn is_staging(staging: u64) -> bool
     staging <= 1 << 63 && staging % 64 == 0
 }
 
-/// Writes the bytes of the entries at the front of the buffer, and leaves the rest of it.
+/// Writes the bytes of the entries at the front of the buffer, and leaves the rest of it. It stays a call, so that its loop
+/// has all registers: in the caller it would read the bases' place from the stack for each word.
+#[inline(never)]
 fn put_entries(buffer: &mut [u8], entries: &[Row], bases: &[u64], staging: u64)
     requires room { 64 * length entries.now ≤ length buffer.old }
     requires values { All (HasValues bases.now staging) (map entry_in entries.now) }

@@ -154,6 +154,18 @@ fn word_lies(regions: &[Row], kind: u64, value: u64) -> bool
     kind == 0 || (kind == 1 && value < STAGING_END)
 }
 
+/// The same of the operation's own word, which is most often a number: that is tested first.
+#[inline(always)]
+fn own_word_lies(regions: &[Row], kind: u64, value: u64) -> bool
+    requires { length regions.now + 1 < 2 ^ 64 }
+    ensures { IsTrue result ↔ IsWithin (map region_in regions.now) (word_in kind value) }
+{
+    if kind == 0 {
+        return true;
+    }
+    word_lies(regions, kind, value)
+}
+
 /// Whether each word of the entry does.
 #[inline(always)]
 fn entry_lies(regions: &[Row], entry: &Row) -> bool
@@ -169,7 +181,7 @@ fn entry_lies(regions: &[Row], entry: &Row) -> bool
     if !word_lies(regions, entry.words[6], entry.words[7]) {
         return false;
     }
-    word_lies(regions, entry.words[8], entry.words[9])
+    own_word_lies(regions, entry.words[8], entry.words[9])
 }
 
 /// Whether each entry does.

@@ -35,6 +35,18 @@ fn value_in(kind: u64, value: u64, bases: &[u64], staging: u64) -> u64
     value
 }
 
+/// The same for the operation's own word, which is most often a number: that is tested first.
+#[inline(always)]
+fn own_value_in(kind: u64, value: u64, bases: &[u64], staging: u64) -> u64
+    requires { HasValue bases.now staging (word_in kind value) }
+    ensures { result ≡ word_value bases.now staging (word_in kind value) }
+{
+    if kind == 0 {
+        return value;
+    }
+    value_in(kind, value, bases, staging)
+}
+
 /// Writes the number over the eight bytes from the place on. A loop, which is compiled to one store.
 #[inline(always)]
 fn put(buffer: &mut [u8], place: usize, number: u64)
@@ -132,7 +144,7 @@ impl Row {
         put(
             buffer,
             place + 40,
-            value_in(words[8], words[9], bases, staging),
+            own_value_in(words[8], words[9], bases, staging),
         );
         put(buffer, place + 48, 0);
         put(buffer, place + 56, 0);

@@ -16,7 +16,7 @@ returns c =
     let part2 : List ℕ = to_le_bytes w64 c.value_in-2.result in
     let part3 : List ℕ = to_le_bytes w64 c.value_in-3.result in
     let part4 : List ℕ = to_le_bytes w64 (get_or words 1 0) in
-    let part5 : List ℕ = to_le_bytes w64 c.value_in-4.result in
+    let part5 : List ℕ = to_le_bytes w64 c.own_value_in.result in
     let part6 : List ℕ = to_le_bytes w64 0 in
     let part7 : List ℕ = to_le_bytes w64 0 in
     let done0 : List ℕ = [] in
@@ -36,4 +36,4 @@ returns c =
     let seven : c.put-7.new.buffer ≡ take place old ++ ((done6 ++ part6) ++ drop (place + 56) old) = word_more old c.put-6.new.buffer c.put-7.new.buffer done6 part6 place 48 (place + 48) six refl refl (omega (arith, c.requires.room)) c.put-7.ensures in
     let eight : c.put-8.new.buffer ≡ take place old ++ ((done7 ++ part7) ++ drop (place + 64) old) = word_more old c.put-7.new.buffer c.put-8.new.buffer done7 part7 place 56 (place + 56) seven refl refl (omega (arith, c.requires.room)) c.put-8.ensures in
     eight ∙ (λ i. take place old ++ ((part0 ++ (to_le_bytes w64 (c.value_in.ensures i) ++ (to_le_bytes w64 (c.value_in-2.ensures i) ++ (to_le_bytes w64 (c.value_in-3.ensures i)
-    ++ (part4 ++ (to_le_bytes w64 (c.value_in-4.ensures i) ++ (part6 ++ part7))))))) ++ drop (place + 64) old))
+    ++ (part4 ++ (to_le_bytes w64 (c.own_value_in.ensures i) ++ (part6 ++ part7))))))) ++ drop (place + 64) old))

@@ -1,5 +1,4 @@
 use Rattle.std.proofs.Common.{List, subst, refl}
-use Rattle.std.specs.Prelude.{None}
 use Rattle.std.proofs.lemmas.Result.{IfOk-weaker}
 use Rattle.dsa_explain.specs.declared.words.Origin.{Origin}
 use Rattle.dsa_text.specs.declared.form.Form.TheVariants.{Json}

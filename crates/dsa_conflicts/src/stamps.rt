@@ -266,7 +266,8 @@ pub(crate) fn stamp_all(stamps: &mut Stamps, ranges: &[Range], stamp: u32)
     ensures most { AreAtMost stamp stamps.new }
     ensures count { places_of stamps.new ≡ places_of stamps.old }
     ensures stamped { Stamped (IsAmong ranges.now (length ranges.now)) stamp
-        (points_at stamps.old) (points_at stamps.new) (covers_at stamps.old) (covers_at stamps.new) }
+        (points_at stamps.old) (points_at stamps.new)
+        (covers_at stamps.old) (covers_at stamps.new) }
 {
     for range in ranges {
         if range.from < range.to {

@@ -37,7 +37,8 @@ fn new_region(regions: &[Row], bases: &[u64], region: usize) -> Span
 /// The first region that goes past 2^64 at its new base.
 fn first_wrap(regions: &[Row], bases: &[u64]) -> Option<usize>
     requires { length bases.now ≡ length regions.now }
-    ensures { MatchOption result (AllBelow (length regions.now) (FitsAt (map region_in regions.now) bases.now))
+    ensures { MatchOption result
+        (AllBelow (length regions.now) (FitsAt (map region_in regions.now) bases.now))
         (IsFirstNot (length regions.now) (FitsAt (map region_in regions.now) bases.now)) }
 {
     for i in 0..regions.len() {
@@ -232,7 +233,8 @@ fn buffer_fault(
     staging_len: usize,
 ) -> Option<FillFault>
     requires { ArePrepared rows.now }
-    ensures { MatchOption result (HasBuffers (template_in rows.now) bases.now portal_len staging_len)
+    ensures { MatchOption result
+        (HasBuffers (template_in rows.now) bases.now portal_len staging_len)
         (λ fault. (staging : ℕ) →
         IsFirstFillFault (template_in rows.now) bases.now staging portal_len staging_len fault) }
 {

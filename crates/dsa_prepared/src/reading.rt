@@ -131,7 +131,8 @@ fn are_units(regions: &[Row]) -> bool
 #[inline(always)]
 fn is_within(regions: &[Row], region: u64, offset: u64) -> bool
     ensures yes { IsTrue result →
-        (region < length regions.now) × (offset < (region_at (map region_in regions.now) region).len) }
+        (region < length regions.now)
+        × (offset < (region_at (map region_in regions.now) region).len) }
     ensures no { (region < length regions.now) →
         (offset < (region_at (map region_in regions.now) region).len) → IsTrue result }
 {

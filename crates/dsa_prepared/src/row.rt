@@ -121,7 +121,8 @@ impl Row {
         requires values { HasValues bases.now staging (entry_in self.now) }
         requires room { place + 64 ≤ length buffer.old }
         ensures { buffer.new ≡ take place buffer.old
-            ++ (filled_entry bases.now staging (entry_in self.now) ++ drop (place + 64) buffer.old) }
+            ++ (filled_entry bases.now staging (entry_in self.now)
+            ++ drop (place + 64) buffer.old) }
     {
         let words = &self.words;
         put(buffer, place, words[0]);

@@ -362,6 +362,29 @@ def bad_rust(manifest):
         refused("the crate over nothing", ["the package dsa-planner is not found", *what_to_do], *command, **places)
 
 
+# Two moves, the second of what the first wrote, prepared once and filled where all buffers lie elsewhere.
+FILLED = """
+from dsa_planner import Prepared, Refusal, Settings, plan_list, prepare
+
+def moves(*at):
+    words = [(0x0300000C << 32, at[3], at[0], at[1], 64), (0x0300000C << 32, at[3] + 32, at[1], at[2], 64)]
+    return b"".join(b"".join(word.to_bytes(8, "little") for word in it) + bytes(24) for it in words)
+
+def settings(staging):
+    return Settings(4, 4096, lone=10, batch=14, fence=3, staging=staging)
+
+old, new = (0x1000, 0x2000, 0x3000, 0x8000), (0x91040, 0x700, 0x5000, 0x60)
+prepared = prepare(settings(0x10000), moves(*old), [(first, 64) for first in old])
+planned = plan_list(settings(0x40000), moves(*new))
+same = [Prepared(bytes(it)).fill(new, 0x40000) == (planned.portal, planned.staging) for it in (prepared, bytes(prepared))]
+assert len(planned.portal) == 64
+try:
+    prepared.fill(new, 0x5000)
+except Refusal as refusal:
+    print(sum(same), "batches as planned, then", refusal.number)
+"""
+
+
 def python():
     """The module of the package, and what it says of bad libraries and of arguments that C would take otherwise."""
     if not has("python3"):
@@ -370,6 +393,8 @@ def python():
     tried("rows in Python", "python3", "-B", EXAMPLES / "rows.py", ROWS, printed=WANTED, PYTHONPATH=module)
     Path(FOLDER, "readme.py").write_text(block_after("README.md", "### From Python", "python"))
     tried("the Python lines of README.md", "python3", "-B", "readme.py", printed="cost 10\n", PYTHONPATH=module)
+    printed = "2 batches as planned, then 109\n"
+    tried("a list prepared in Python", "python3", "-B", "-c", FILLED, printed=printed, PYTHONPATH=module)
     Path(FOLDER, "none.c").write_text("int nothing;\n")
     Path(FOLDER, "old.c").write_text("unsigned dsa_planner_version(void) { return 901; }\n")
     Path(FOLDER, "next.c").write_text("unsigned dsa_planner_version(void) { return 20000; }\n")

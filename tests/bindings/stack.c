@@ -8,7 +8,7 @@
 
 #include <dsa_planner.h>
 
-enum { MOST = DSA_MOST_PIECES, STACK = 1 << 20, CALLS = 5 };
+enum { MOST = DSA_MOST_PIECES, STACK = 1 << 20, CALLS = 7 };
 
 static const struct dsa_settings settings = {1, 1024, 4096, 10, 14, 3, UINT64_C(1) << 40};
 static uint8_t list[64 * MOST], portal[64 * MOST], staging[80 * MOST], marks[MOST];
@@ -17,6 +17,10 @@ static struct dsa_pair pairs[MOST];
 static struct dsa_planned planned;
 static struct dsa_refusal refusal;
 static size_t len;
+static const struct dsa_region regions[2] = {{0, UINT64_C(0x80000000)}, {UINT64_C(0x80000000), 32 * MOST}};
+static const uint64_t bases[2] = {UINT64_C(0x100000000), UINT64_C(0x300000000)};
+static struct dsa_prepared_row rows[1 + 2 + 3 * MOST];
+static struct dsa_prepared_info prepared;
 
 /* Moves of 64 bytes, of which each third reads what the one before writes. */
 static void put_moves(uint64_t n)
@@ -53,8 +57,14 @@ static void *call(void *which)
         code = dsa_check(s, &s->batch, 0, portal, planned.portal_len, staging, planned.staging_len, 1, prices, n + 1,
                          pairs, n, &cost, &refusal);
         break;
-    default:
+    case 4:
         code = dsa_judge(s, &s->batch, 0, list, len, marks, n, &cost, &refusal);
+        break;
+    case 5:
+        code = dsa_prepare(s, &s->batch, 0, list, len, regions, 2, rows, DSA_PREPARED_ROOM(2, MOST), &prepared, &refusal);
+        break;
+    default:
+        code = dsa_fill(rows, prepared.rows, bases, 2, s->staging, portal, sizeof portal, staging, sizeof staging, &refusal);
     }
     return code == DSA_OK ? NULL : which;
 }
@@ -87,7 +97,8 @@ static size_t touched_by(void *(*run)(void *), int which)
 
 int main(int argc, char **argv)
 {
-    static const char *const names[CALLS] = {"count_pieces", "plan_list", "plan_list_certified", "check", "judge"};
+    static const char *const names[CALLS] = {
+        "count_pieces", "plan_list", "plan_list_certified", "check", "judge", "prepare", "fill"};
     static const uint64_t lengths[] = {2, 63, 65, 3000, MOST};
     size_t greatest[CALLS] = {0}, limits[2] = {0, 0};
     if (argc != 3)
@@ -105,7 +116,7 @@ int main(int argc, char **argv)
     int is_over = 0;
     for (int which = 0; which < CALLS; which++) {
         printf("%s: %zu bytes of stack\n", names[which], greatest[which]);
-        is_over |= greatest[which] > limits[which >= 3];
+        is_over |= greatest[which] > limits[which == 3 || which == 4];
     }
     return is_over;
 }

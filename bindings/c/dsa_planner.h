@@ -39,8 +39,8 @@
  *     threads at once where calls are.
  *   - nothing else writes to inputs or outputs, or reads outputs, during the call.
  *
- * Units:     lengths of byte arrays and `_len` of results are bytes; lengths of prices, pairs, marks and tables are
- *            items. Addresses are the device's. Prices and costs are in one unit of the caller's choice, for example
+ * Units:     lengths of byte arrays and `_len` of results are bytes; lengths of prices, pairs, marks, tables, regions,
+ *            bases and rows are items. Addresses are the device's. Prices and costs are in one unit of the caller's choice, for example
  *            nanoseconds. Numbers in descriptors are little-endian; numbers in structs are the machine's.
  */
 #ifndef DSA_PLANNER_H
@@ -189,7 +189,7 @@ enum dsa_number {
     DSA_REGIONS_MEET = 108,       /* the region, and an earlier one with which it would overlap */
     DSA_BASE_STAGING_MEETS = 109, /* it would overlap the staging area */
     DSA_STAGING = 110,            /* no index: the staging address is no multiple of 64, or above 2^63 */
-    DSA_NOT_PREPARED = 111        /* no index: the rows are no prepared list of this version, or were damaged */
+    DSA_NOT_PREPARED = 111        /* no index: the rows do not have the form of a prepared list of this version */
 };
 
 /*
@@ -293,7 +293,7 @@ struct dsa_prepared_info {
     uint64_t staging_len; /* bytes that dsa_fill writes to staging */
 };
 
-/* Rows that are enough for a list of n pieces over r regions. */
+/* How many rows are enough for a list of n pieces over r regions: a number of struct dsa_prepared_row, not of bytes. */
 #ifdef __cplusplus
 #define DSA_PREPARED_ROOM(r, n) (1 + static_cast<size_t>(r) + 3 * static_cast<size_t>(n))
 #else
@@ -304,6 +304,9 @@ struct dsa_prepared_info {
  * Plans a list once, for dsa_fill to write what submits it on any buffers. regions are the buffers at whose addresses the
  * list was made, in the order of their addresses and without overlap; each range of each operation, and the row of its
  * pieces' records, lies in one of them. settings->staging counts for planning alone: dsa_fill takes one of its own.
+ *
+ * Each address is looked for in the regions one after the other, so the time grows with operations times regions: 30 s for
+ * 65,536 moves over 196,608 regions.
  *
  * Returns 0: rows begins with the info->rows rows of the prepared list, and its rest is unchanged; refusal is not written.
  * Returns another number: refusal has it, and nothing else was written. What dsa_plan_list refuses comes first, then 100
@@ -323,8 +326,10 @@ uint32_t dsa_prepare(const struct dsa_settings *settings,
  *
  * Returns 0: portal and staging begin with info->portal_len and info->staging_len bytes, those that dsa_plan_list answers
  * for the list at its new addresses; the rest of each buffer is unchanged, and refusal is not written. Returns another
- * number: refusal has it, and nothing else was written. DSA_NOT_PREPARED comes first: rows are tested whole each time, so
- * that damaged ones lead to no address out of the regions and the staging area. Then come 103 to 110, in their order.
+ * number: refusal has it, and nothing else was written. DSA_NOT_PREPARED comes first: the form of the rows is tested each
+ * time, so that no rows, damaged or of another origin, make the call read or write out of its arrays. Damaged rows that
+ * keep the form are filled like any others, and what is written may then name any address: where rows can be damaged, for
+ * example in a file, keep a checksum beside them. Then come 103 to 110, in their order.
  */
 uint32_t dsa_fill(const struct dsa_prepared_row *rows, size_t rows_len,
                   const uint64_t *bases, size_t bases_len,

@@ -298,7 +298,7 @@ CAUSES: Dict[int, Tuple[str, str]] = {
     108: ("RegionsMeet", "at their new bases, region {0} and the earlier region {1} would overlap"),
     109: ("BaseStagingMeets", "at its new base, region {0} would overlap the staging area"),
     110: ("Staging", "the staging address is no multiple of 64, or above 2^63"),
-    111: ("NotPrepared", "the rows are no prepared list of this version, or were damaged"),
+    111: ("NotPrepared", "the rows do not have the form of a prepared list of this version"),
 }
 """The name and the sentence of each cause, by its number; {0} and {1} stand for the places that a refusal names."""
 

@@ -168,8 +168,8 @@ causes! {
     BaseStagingMeets = 109: "at its new base, region {0} would overlap the staging area",
     /// The staging address is no multiple of 64, or above 2^63.
     Staging = 110: "the staging address is no multiple of 64, or above 2^63",
-    /// The rows are no prepared list of this version, or were damaged.
-    NotPrepared = 111: "the rows are no prepared list of this version, or were damaged",
+    /// The rows do not have the form of a prepared list of this version.
+    NotPrepared = 111: "the rows do not have the form of a prepared list of this version",
 }
 
 impl fmt::Display for Cause {

@@ -83,7 +83,8 @@ pub fn prepare(settings: &Settings, list: &[u8], regions: &[Region]) -> Result<P
 
 impl Prepared {
     /// The list of these rows, which another one's [`as_rows`](Prepared::as_rows) were. [`fill`](Prepared::fill) refuses
-    /// rows that are no prepared list, or were damaged.
+    /// rows that do not have the form of a prepared list. Rows that were damaged and keep it are filled, and may name any
+    /// address: rows from a file want a checksum.
     #[must_use]
     pub fn from_rows(rows: Vec<Row>) -> Prepared {
         Prepared { rows }

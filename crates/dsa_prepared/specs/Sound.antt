@@ -24,7 +24,8 @@ pub record HasValues (bases : List ℕ) (staging : ℕ) (e : Entry) : Type 0 whe
   pub second : HasValue bases staging e.second
   pub own : HasValue bases staging e.own
 
--- the word's offset lies in its region, or in the staging area of the most pieces
+-- the word's offset lies in its region, or below 2^23, which no staging area reaches: that of 65,536 pieces has 6,291,456
+-- bytes
 abbrev pub IsWithin : List Span → Word → Type 0
 IsWithin rs (InRegion region offset) = (region < length rs) × (offset < (region_at rs region).len)
 IsWithin rs (InStaging offset) = offset < 2 ^ 23

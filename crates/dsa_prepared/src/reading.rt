@@ -221,8 +221,8 @@ fn ties_lie(regions: &[Row], ties: &[Row]) -> bool
     true
 }
 
-/// Whether the rows say a prepared submission that can be filled: all that filling rests on is tested, so that rows that
-/// were damaged lead to no address out of the regions.
+/// Whether the rows say a prepared submission that can be filled. The form is tested, on which filling rests: no damage
+/// makes it read or write outside its arrays. That the entries are those of one list is not.
 pub fn are_prepared(rows: &[Row]) -> bool
     ensures { IsTrue result ↔ ArePrepared rows.now }
 {

@@ -40,8 +40,9 @@
  *   - nothing else writes to inputs or outputs, or reads outputs, during the call.
  *
  * Units:     lengths of byte arrays and `_len` of results are bytes; lengths of prices, pairs, marks, tables, regions,
- *            bases and rows are items. Addresses are the device's. Prices and costs are in one unit of the caller's choice, for example
- *            nanoseconds. Numbers in descriptors are little-endian; numbers in structs are the machine's.
+ *            bases and rows are items. Addresses are the device's. Prices and costs are in one unit of the caller's
+ *            choice, for example nanoseconds. Numbers in descriptors are little-endian; numbers in structs are the
+ *            machine's.
  */
 #ifndef DSA_PLANNER_H
 #define DSA_PLANNER_H

@@ -17,6 +17,7 @@ pub mod Planned
 pub mod Put
 pub mod OneFault
 pub mod Placed
+pub mod Rising
 pub mod Outside
 pub mod SoundTemplates
 pub mod GroupEntries

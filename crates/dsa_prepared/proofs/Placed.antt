@@ -1,4 +1,4 @@
--- The loop that looks for the region of an address.
+-- Looking for the region of an address from the first on.
 use Rattle.std.proofs.Common.{◌≡◌, ℕ, suc, ◌+◌, ◌-◌, ◌<◌, ◌≤◌, inl, inr, List, [], ◌∷◌, length, drop, get_or, refl, sym, ap, ◌∙◌, arith}
 use Rattle.std.proofs.lemmas.List.{drop_more, drop_all}
 use Rattle.dsa_descriptor.specs.declared.span.Span.{Span}

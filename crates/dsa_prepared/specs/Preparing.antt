@@ -20,9 +20,13 @@ use Rattle.dsa_prepared.specs.Templates.{Template, template_of}
 abbrev pub region_at : List Span → ℕ → Span
 region_at rs i = slice_index_or rs i (span 0 0)
 
+-- where the region ends: the address behind its last
+abbrev pub end_of : Span → ℕ
+end_of r = r.first + r.len
+
 -- it begins where the region before it ends, or behind that
 abbrev pub FollowsAt : List Span → ℕ → Type 0
-FollowsAt rs i = (j : ℕ) → suc j ≡ i → (region_at rs j).first + (region_at rs j).len ≤ (region_at rs i).first
+FollowsAt rs i = (j : ℕ) → suc j ≡ i → end_of (region_at rs j) ≤ (region_at rs i).first
 
 -- and does not go past 2^64
 abbrev pub IsRegionAt : List Span → ℕ → Type 0

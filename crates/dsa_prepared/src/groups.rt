@@ -10,6 +10,7 @@ ghost use Rattle.dsa_plan.specs.Plan.{piece_count};
 ghost use Rattle.dsa_plan.specs.Emission.{batch_count, batched, batched_count, is_batch};
 ghost use Rattle.dsa_prepared.specs.declared.word.Word.TheVariants.{InStaging, Fixed};
 ghost use Rattle.dsa_prepared.specs.Entries.{fenced_entries};
+ghost use Rattle.dsa_prepared.specs.Preparing.{AreRegions};
 ghost use Rattle.dsa_prepared.specs.Sound.{AreNonempty};
 ghost use Rattle.dsa_prepared.specs.Templates.{group_entries, portal_entries, staging_entries};
 
@@ -91,6 +92,7 @@ fn group_entry(
     record_at: u64,
     list_at: u64,
 ) -> Entry
+    requires rising { AreRegions regions.now }
     requires nonempty { 0 < length group.now }
     requires within { start + length group.now ≤ length pieces.now }
     requires few { length pieces.now ≤ most_pieces }
@@ -112,6 +114,7 @@ pub(crate) fn portal_entries(
     groups: &[Group],
     pieces: &[Descriptor],
 ) -> Result<Vec<Entry>, AllocError>
+    requires rising { AreRegions regions.now }
     requires covers { piece_count groups.now ≡ length pieces.now }
     requires few { length pieces.now ≤ most_pieces }
     requires nonempty { AreNonempty groups.now }
@@ -139,7 +142,8 @@ fn stage_batch(
     group: &Group,
     pieces: &[Descriptor],
 ) -> Result<(), AllocError>
-    requires { length group.now ≤ length pieces.now }
+    requires rising { AreRegions regions.now }
+    requires within { length group.now ≤ length pieces.now }
     ensures { OnOk result (entries.new.items ≡
         entries.old.items ++ fenced_entries regions.now group.now (map fields pieces.now)) }
 {
@@ -158,7 +162,8 @@ fn stage_group(
     pieces: &[Descriptor],
     start: usize,
 ) -> Result<(), AllocError>
-    requires { start + length group.now ≤ length pieces.now }
+    requires rising { AreRegions regions.now }
+    requires within { start + length group.now ≤ length pieces.now }
     ensures { OnOk result (entries.new.items ≡ entries.old.items ++
         (if is_batch group.now
         then fenced_entries regions.now group.now (drop start (map fields pieces.now))
@@ -177,6 +182,7 @@ pub(crate) fn staging_entries(
     groups: &[Group],
     pieces: &[Descriptor],
 ) -> Result<Vec<Entry>, AllocError>
+    requires rising { AreRegions regions.now }
     requires covers { piece_count groups.now ≡ length pieces.now }
     requires few { length pieces.now ≤ most_pieces }
     ensures { IfOk result (λ entries.

@@ -1,14 +1,13 @@
 //! Regions, and where addresses lie in them.
 
-ghost use Rattle.std.specs.Prelude.{◌≡◌, ◌≤◌, ◌↔◌, All, map, IsTrue, MatchOption};
+ghost use Rattle.std.specs.Prelude.{◌≡◌, ℕ, ◌<◌, ◌≤◌, ◌↔◌, All, length, map, IsTrue, MatchOption};
 ghost use Rattle.std.specs.List.{AllByRecursion};
 ghost use Rattle.dsa_descriptor.specs.Descriptors.{fields};
-ghost use Rattle.dsa_descriptor.specs.Spans.{InSpan};
 ghost use Rattle.dsa_splitter.specs.Operations.{IsSplittable};
 ghost use Rattle.dsa_splitter.specs.Pieces.{row_span};
 ghost use Rattle.dsa_prepared.specs.Regions.{LiesIn, LiesInOne, LiesWhole};
 ghost use Rattle.dsa_prepared.specs.Entries.{place_in, word_at};
-ghost use Rattle.dsa_prepared.specs.Preparing.{AreRegions, IsFirstOutside, IsRegionFault};
+ghost use Rattle.dsa_prepared.specs.Preparing.{AreRegions, IsFirstOutside, IsRegionFault, end_of, region_at};
 
 use crate::fault::PrepareFault;
 use crate::word::Word;
@@ -17,32 +16,36 @@ use dsa_descriptor::{Descriptor, Span};
 /// The length of a completion record.
 const RECORD_LEN: u64 = 32;
 
-/// Whether the span has the address.
-fn has_address(span: Span, address: u64) -> bool
-    ensures { IsTrue result ↔ InSpan span address }
+/// How many regions end at the address or before it. Of all regions, only the next can have the address.
+fn ended_at(regions: &[Span], address: u64) -> usize
+    requires { AreRegions regions.now }
+    ensures bound { result ≤ length regions.now }
+    ensures ended { (j : ℕ) → j < result → end_of (region_at regions.now j) ≤ address }
+    ensures ahead { (j : ℕ) → result ≤ j → j < length regions.now →
+        address < end_of (region_at regions.now j) }
 {
-    if address < span.first {
-        return false;
-    }
-    address - span.first < span.len
+    regions.partition_point(|region| region.end() <= u128::from(address))
 }
 
-/// The number of the first region that has the address, and its offset there; else how many regions there are, and the
-/// address.
+/// The number of the region that has the address, and its offset there; else how many regions there are, and the address.
 pub(crate) fn place_in(regions: &[Span], address: u64) -> (usize, u64)
+    requires { AreRegions regions.now }
     ensures { result ≡ place_in regions.now address }
 {
-    for i in 0..regions.len() {
-        let region = regions[i];
-        if has_address(region, address) {
-            return (i, address - region.first);
-        }
+    let i = ended_at(regions, address);
+    if i == regions.len() {
+        return (i, address);
     }
-    (regions.len(), address)
+    let region = regions[i];
+    if address < region.first {
+        return (regions.len(), address);
+    }
+    (i, address - region.first)
 }
 
 /// The word that stands for the address.
 pub(crate) fn word_at(regions: &[Span], address: u64) -> Word
+    requires { AreRegions regions.now }
     ensures { result ≡ word_at regions.now address }
 {
     let (region, offset) = place_in(regions, address);
@@ -62,18 +65,19 @@ fn lies_in(region: Span, span: Span) -> bool
 
 /// Whether the span lies in one of the regions.
 fn lies_in_one(regions: &[Span], span: Span) -> bool
+    requires { AreRegions regions.now }
     ensures { IsTrue result ↔ LiesInOne regions.now span }
 {
-    for region in regions {
-        if lies_in(*region, span) {
-            return true;
-        }
+    let i = ended_at(regions, span.first);
+    if i == regions.len() {
+        return false;
     }
-    false
+    lies_in(regions[i], span)
 }
 
 /// Whether each of the spans does.
 fn lie_in_one(regions: &[Span], spans: &[Span]) -> bool
+    requires { AreRegions regions.now }
     ensures { IsTrue result ↔ AllByRecursion (LiesInOne regions.now) spans.now }
 {
     for span in spans {
@@ -98,6 +102,7 @@ fn row_of(d: &Descriptor, greatest: u64) -> Span
 
 /// Whether each range of the operation, and the row of its records, lies in one of the regions.
 fn lies_whole(d: &Descriptor, regions: &[Span], greatest: u64) -> bool
+    requires rising { AreRegions regions.now }
     requires least { 8 ≤ greatest }
     requires splittable { IsSplittable d.now.op d.now.size greatest }
     ensures { IsTrue result ↔ LiesWhole regions.now greatest (fields d.now) }
@@ -134,6 +139,7 @@ pub(crate) fn first_outside(
     regions: &[Span],
     greatest: u64,
 ) -> Option<usize>
+    requires rising { AreRegions regions.now }
     requires least { 8 ≤ greatest }
     requires splittable { All (λ d. IsSplittable d.op d.size greatest) operations.now }
     ensures { MatchOption result

@@ -6,6 +6,7 @@ ghost use Rattle.dsa_descriptor.specs.Pieces.{most_pieces};
 ghost use Rattle.dsa_descriptor.specs.Spelling.{spelling};
 ghost use Rattle.dsa_plan.specs.Plan.{piece_count};
 ghost use Rattle.dsa_plan.specs.Emission.{with_fence};
+ghost use Rattle.dsa_prepared.specs.Preparing.{AreRegions};
 ghost use Rattle.dsa_prepared.specs.Regions.{AllLieInOne};
 ghost use Rattle.dsa_prepared.specs.Entries.{entry_of, first_word, own_word, second_word};
 ghost use Rattle.dsa_prepared.specs.Sound.{AreNonempty};
@@ -51,6 +52,7 @@ fn middle_of(bytes: &[u8; 64]) -> [u8; 8]
 
 /// The entry of a piece, fenced or not.
 pub(crate) fn entry_of(regions: &[Span], fence: bool, piece: &Descriptor) -> Entry
+    requires { AreRegions regions.now }
     ensures { result ≡ entry_of regions.now fence (fields piece.now) }
 {
     let fenced = fenced_bytes(piece, fence);
@@ -69,6 +71,7 @@ pub(crate) fn entry_of(regions: &[Span], fence: bool, piece: &Descriptor) -> Ent
 
 /// What stands in bytes 16 to 23 of the operation.
 fn first_word(regions: &[Span], op: &Op) -> Word
+    requires { AreRegions regions.now }
     ensures { result ≡ first_word regions.now op.now }
 {
     match *op {
@@ -83,6 +86,7 @@ fn first_word(regions: &[Span], op: &Op) -> Word
 
 /// What stands in bytes 24 to 31 of the operation.
 fn second_word(regions: &[Span], op: &Op) -> Word
+    requires { AreRegions regions.now }
     ensures { result ≡ second_word regions.now op.now }
 {
     match *op {
@@ -97,6 +101,7 @@ fn second_word(regions: &[Span], op: &Op) -> Word
 
 /// What stands in bytes 40 to 47 of the operation.
 fn own_word(regions: &[Span], op: &Op) -> Word
+    requires { AreRegions regions.now }
     ensures { result ≡ own_word regions.now op.now }
 {
     match *op {
@@ -120,6 +125,7 @@ fn raise(units: &mut [u64], region: usize, unit: u64)
 
 /// Raises the units to what the operation asks of its regions.
 fn ask(units: &mut [u64], regions: &[Span], operation: &Descriptor)
+    requires { AreRegions regions.now }
     ensures { units.new ≡ asked regions.now units.old (fields operation.now) }
 {
     raise(units, place_in(regions, operation.record_at).0, 32);
@@ -139,6 +145,7 @@ fn units_of(
     regions: &[Span],
     operations: &[Descriptor],
 ) -> Result<Vec<u64>, AllocError>
+    requires { AreRegions regions.now }
     ensures { IfOk result (λ units.
         units.items ≡ units_of regions.now (map fields operations.now)) }
 {
@@ -155,6 +162,7 @@ fn ties_of(
     regions: &[Span],
     operations: &[Descriptor],
 ) -> Result<Vec<Tie>, AllocError>
+    requires { AreRegions regions.now }
     ensures { IfOk result (λ ties. ties.items ≡ ties_of regions.now (map fields operations.now)) }
 {
     let mut ties = Vec::new(alloc);
@@ -188,6 +196,7 @@ pub(crate) fn template_of(
     plan: &Plan,
     pieces: &[Descriptor],
 ) -> Result<Prepared, AllocError>
+    requires rising { AreRegions regions.now }
     requires operations_lie { AllLieInOne regions.now (map fields operations.now) }
     requires pieces_lie { AllLieInOne regions.now (map fields pieces.now) }
     requires covers { piece_count plan.now ≡ length pieces.now }

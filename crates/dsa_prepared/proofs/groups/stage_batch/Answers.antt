@@ -8,7 +8,7 @@ use Rattle.dsa_prepared.proofs.groups.stage_batch.Goals as goal
 
 pub loop-k-preserved : goal.loop-k-preserved
 loop-k-preserved c =
-    let within : c.loop-k.k < length c.args.pieces.now = omega (arith, c.loop-k-test.true, ap length c.fences-fences.ensures, c.requires) in
+    let within : c.loop-k.k < length c.args.pieces.now = omega (arith, c.loop-k-test.true, ap length c.fences-fences.ensures, c.requires.within) in
     let so_far : List Entry = fenced_entries c.args.regions.now (take c.loop-k.k c.fences-fences.result.now) (map fields c.args.pieces.now) in
     let more = fenced_more c.args.regions.now c.fences-fences.result.now c.args.pieces.now c.loop-k.k c.index-pieces-k.result c.loop-k-test.true within c.index-pieces-k.is in
     c.in_ok-push.ensures.items

@@ -9,8 +9,8 @@ use Rattle.dsa_prepared.specs.Templates.{group_staged}
 use Rattle.dsa_prepared.proofs.GroupEntries.{gathered_more, staged_here}
 use Rattle.dsa_prepared.proofs.groups.staging_entries.Goals as goal
 
-pub stage_group-requires : goal.stage_group-requires
-stage_group-requires c =
+pub stage_group-requires-clause-within : goal.stage_group-requires-clause-within
+stage_group-requires-clause-within c =
     let p = placed c.args.groups.now c.loop-group.group-index c.group-item.result c.loop-group-test.true c.group-item.is in
     omega (arith, p.room, c.requires.covers, c.loop-group.invariant.starts)
 

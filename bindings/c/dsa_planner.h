@@ -306,9 +306,6 @@ struct dsa_prepared_info {
  * list was made, in the order of their addresses and without overlap; each range of each operation, and the row of its
  * pieces' records, lies in one of them. settings->staging counts for planning alone: dsa_fill takes one of its own.
  *
- * Each address is looked for in the regions one after the other, so the time grows with operations times regions: 30 s for
- * 65,536 moves over 196,608 regions.
- *
  * Returns 0: rows begins with the info->rows rows of the prepared list, and its rest is unchanged; refusal is not written.
  * Returns another number: refusal has it, and nothing else was written. What dsa_plan_list refuses comes first, then 100
  * to 102, then DSA_NO_ROOM_FOR_ROWS: refusal.first is the number of rows that are needed.

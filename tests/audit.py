@@ -481,18 +481,23 @@ def planned():
     common.expect(without > 10, f"only {without} fences were left out")
 
 
+def planned_jobs():
+    """The jobs to plan of the tests and the examples that are answered: the file, the portal, the staging area, its address."""
+    for path in sorted(Path("tests/jobs").glob("plan-*.job")) + sorted(Path("examples").glob("**/p*.job")):
+        answer = subprocess.run([program("dsa")], input=path.read_bytes(), capture_output=True).stdout
+        if answer.startswith(b"refused"):
+            continue
+        answer, address = json.loads(answer), json.loads(path.read_text())["settings"]["staging"]
+        yield path, bytes.fromhex(answer["portal"]), bytes.fromhex(answer["staging"]), address
+
+
 def staged():
     """A portal and its staging area have the report of their recording, whole or in parts that overlap, as bytes or as text,
     and the entries of the portal as lines; and a batch of which no dump has all members is refused."""
     batches = 0
     with tempfile.TemporaryDirectory() as folder:
         first, second = Path(folder, "first"), Path(folder, "second")
-        for path in sorted(Path("tests/jobs").glob("plan-*.job")) + sorted(Path("examples").glob("**/p*.job")):
-            answer = subprocess.run([program("dsa")], input=path.read_bytes(), capture_output=True).stdout
-            if answer.startswith(b"refused"):
-                continue
-            answer, address = json.loads(answer), json.loads(path.read_text())["settings"]["staging"]
-            portal, staging = bytes.fromhex(answer["portal"]), bytes.fromhex(answer["staging"])
+        for path, portal, staging, address in planned_jobs():
             wanted = audited(recorded(portal, staging, address))
             heads = [portal[k : k + 64] for k in range(0, len(portal), 64) if portal[k + 7] == 1]
             first.write_bytes(staging)
@@ -548,12 +553,7 @@ def lines():
     """What the planner submits has the same report in lines: those of the portal, and behind that of each batch its members'.
     So it has without one of its fences, which is a word less in one of the lines."""
     fences = 0
-    for path in sorted(Path("tests/jobs").glob("plan-*.job")) + sorted(Path("examples").glob("**/p*.job")):
-        answer = subprocess.run([program("dsa")], input=path.read_bytes(), capture_output=True).stdout
-        if answer.startswith(b"refused"):
-            continue
-        answer, address = json.loads(answer), json.loads(path.read_text())["settings"]["staging"]
-        portal, staging = bytes.fromhex(answer["portal"]), bytes.fromhex(answer["staging"])
+    for path, portal, staging, address in planned_jobs():
         if not portal:
             continue
         members, text = disassembled(f"--staging --at {address}", staging) if staging else [], []

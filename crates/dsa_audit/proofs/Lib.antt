@@ -3,3 +3,4 @@ pub mod Scanned
 pub mod Guards
 pub mod Reducing
 pub mod Held
+pub mod LastConflicts

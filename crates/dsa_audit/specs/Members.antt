@@ -1,11 +1,26 @@
 -- What is known of the members of a batch, and which of them conflict.
-use Rattle.std.specs.Prelude.{ℕ, ◌≡◌, List, slice_get, Some}
+use Rattle.std.specs.Prelude.{ℕ, ◌≡◌, List, [], slice_get, Some}
+use Rattle.dsa_descriptor.specs.declared.span.Span.{Span}
 use Rattle.dsa_ranges.specs.Ranges.{SpansConflict}
 use Rattle.dsa_ranges.specs.declared.span.Touched.{Touched}
 use Rattle.dsa_ranges.specs.declared.hazards.Hazard.{Hazard}
 use Rattle.dsa_ranges.specs.Hazards.{IsHazard}
 use Rattle.dsa_audit.specs.declared.member.Member.{Member}
+use Rattle.dsa_audit.specs.declared.member.Unseen.{Unseen}
 use Rattle.dsa_audit.specs.declared.member.Member.TheVariants.{Known, Unknown}
+
+-- the spans that a member is known to read, and to write
+abbrev pub reads_of : Member → List Span
+reads_of (Known t) = t.reads.items
+reads_of (Unknown why) = []
+
+abbrev pub writes_of : Member → List Span
+writes_of (Known t) = t.writes.items
+writes_of (Unknown why) = []
+
+-- nothing is known of the member at this place
+abbrev pub IsUnknownAt : List Member → ℕ → Type 0
+IsUnknownAt ms a = (why : Unseen) × (slice_get ms a ≡ Some (Unknown why))
 
 -- two members of which it is known what they read and write conflict
 abbrev pub TouchedConflict : Touched → Touched → Type 0

@@ -1,11 +1,17 @@
--- One step of an audit, for private clauses. `epoch` is the member that the epoch of the fences so far begins with.
-use Rattle.std.specs.Prelude.{ℕ, ◌<◌, ◌≤◌, Bool, true, false, List, length}
+-- One step of an audit. `epoch` is the member that the epoch of the fences so far begins with.
+use Rattle.std.specs.Prelude.{ℕ, ◌≡◌, ◌<◌, ◌≤◌, Bool, true, false, List, length, Option, Some, slice_get}
+use Rattle.dsa_conflicts.specs.Access.{IsGreatest}
 use Rattle.dsa_settings.specs.Plan.{Group}
 use Rattle.dsa_audit.specs.declared.missing.FencePlace.{FencePlace}
 use Rattle.dsa_audit.specs.declared.missing.FencePlace.TheVariants as fence_place
 use Rattle.dsa_audit.specs.declared.needless.FenceUse.{FenceUse}
 use Rattle.dsa_audit.specs.declared.needless.FenceUse.TheVariants as fence_use
 use Rattle.dsa_audit.specs.Audits.{HasFence, IsSeparated, ShareEpoch, CanFail}
+
+-- for each of the first members, the last one before it that conflicts with it, or none
+abbrev pub AreLasts : (ℕ → ℕ → Type 0) → List (Option ℕ) → Type 0
+AreLasts C lasts =
+    (b : ℕ) (last : Option ℕ) → slice_get lasts b ≡ Some last → IsGreatest (λ a. (a < b) × C a b) last
 
 -- no member from `from` on and below `before` conflicts with `later`; member i is the last such one
 abbrev pub NoneFrom : (ℕ → ℕ → Type 0) → ℕ → ℕ → ℕ → Type 0

@@ -3,6 +3,7 @@
 ghost use Rattle.std.specs.Prelude.{◌≡◌, length, IfOk};
 ghost use Rattle.dsa_audit.specs.Laws.{IsAudit, AuditsHold, SeparatedIsLegal};
 
+use crate::lasts::{known_lasts, possible_lasts};
 use crate::member::Member;
 use crate::missing::{Corrected, add_missing};
 use crate::needless::{Reduced, drop_needless};
@@ -29,9 +30,11 @@ pub fn audit_fences(
     requires { length fences.now ≡ length members.now }
     ensures { IfOk result (λ a. IsAudit members.now fallible.now fences.now a) }
 {
-    let corrected = add_missing(alloc, fences, &KnownConflicts { members })?;
+    let known = known_lasts(alloc, members)?;
+    let corrected = add_missing(alloc, fences, &KnownConflicts { members }, &known)?;
+    let lasts = possible_lasts(alloc, members, &known)?;
     let possible = PossibleConflicts { members };
-    let reduced = drop_needless(alloc, &corrected.fences, &possible, fallible)?;
+    let reduced = drop_needless(alloc, &corrected.fences, &possible, &lasts, fallible)?;
     Ok(Audit { corrected, reduced })
 }
 

@@ -3,6 +3,7 @@
 
 mod audit;
 mod hazard;
+mod lasts;
 mod member;
 mod missing;
 mod needless;
@@ -10,6 +11,7 @@ mod relation;
 
 pub use audit::{Audit, audit_fences, audits_hold, separated_is_legal};
 pub use hazard::hazard_between;
+pub use lasts::known_lasts;
 pub use member::{Member, Unseen, are_known_to_conflict, can_conflict};
 pub use missing::{Corrected, FencePlace, add_missing};
 pub use needless::{FenceUse, Reduced, drop_needless};

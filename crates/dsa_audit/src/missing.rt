@@ -2,7 +2,7 @@
 
 ghost use Rattle.std.specs.Prelude.{◌≡◌, ◌<◌, length, IfOk};
 ghost use Rattle.dsa_audit.specs.Audits.{IsCorrected};
-ghost use Rattle.dsa_audit.specs.Steps.{IsNextPlace, has_fence, epoch_after};
+ghost use Rattle.dsa_audit.specs.Steps.{AreLasts, IsNextPlace, has_fence, epoch_after};
 
 use crate::relation::{Relation, last_conflict};
 use std::alloc::{AllocError, Global};
@@ -47,7 +47,14 @@ pub struct Corrected {
 }
 
 /// What stands before the member, where the epoch so far begins with the member `epoch`.
-fn place_of<R: Relation>(fences: &[bool], relation: &R, epoch: usize, at: usize) -> FencePlace
+fn place_of<R: Relation>(
+    fences: &[bool],
+    relation: &R,
+    lasts: &[Option<usize>],
+    epoch: usize,
+    at: usize,
+) -> FencePlace
+    requires lasts { AreLasts (R.conflict relation.now) lasts.now }
     requires known { length fences.now ≡ R.count relation.now }
     requires within { at < length fences.now }
     ensures { IsNextPlace (R.conflict relation.now) fences.now epoch at result }
@@ -55,19 +62,22 @@ fn place_of<R: Relation>(fences: &[bool], relation: &R, epoch: usize, at: usize)
     if fences[at] {
         return FencePlace::Given;
     }
-    match last_conflict(relation, epoch, at, at) {
+    match last_conflict(relation, lasts, epoch, at, at) {
         Some(earlier) => FencePlace::Missing(earlier),
         None => FencePlace::NoFence,
     }
 }
 
 /// The fewest fences that have to be added so that no two members of an epoch conflict, each with a conflict that it
-/// separates.
+/// separates. `lasts` has the last conflicts of the first members, as [`known_lasts`](crate::known_lasts) finds them; it may
+/// be empty, and the time then grows with the square of an epoch.
 pub fn add_missing<R: Relation>(
     alloc: Global,
     fences: &[bool],
     relation: &R,
+    lasts: &[Option<usize>],
 ) -> Result<Corrected, AllocError>
+    requires lasts { AreLasts (R.conflict relation.now) lasts.now }
     requires known { length fences.now ≡ R.count relation.now }
     ensures { IfOk result
         (λ m. IsCorrected (R.conflict relation.now) fences.now m.places.items m.fences.items) }
@@ -76,7 +86,7 @@ pub fn add_missing<R: Relation>(
     let mut corrected = Vec::new(alloc);
     let mut epoch = 0;
     for at in 0..fences.len() {
-        let place = place_of(fences, relation, epoch, at);
+        let place = place_of(fences, relation, lasts, epoch, at);
         places.push(place)?;
         corrected.push(place.is_fenced())?;
         epoch = place.epoch(epoch, at);

@@ -2,7 +2,7 @@
 
 ghost use Rattle.std.specs.Prelude.{◌≡◌, ◌<◌, ◌≤◌, ℕ, length, IfOk, MatchOption};
 ghost use Rattle.dsa_audit.specs.Audits.{HasFence, IsReduced};
-ghost use Rattle.dsa_audit.specs.Steps.{IsNextUse, IsSpareUse, NoneAcross, IsAcross, NoneFails, IsFirstToFail, IsUnfencedUpTo, is_kept, epoch_kept, given_after};
+ghost use Rattle.dsa_audit.specs.Steps.{AreLasts, IsNextUse, IsSpareUse, NoneAcross, IsAcross, NoneFails, IsFirstToFail, IsUnfencedUpTo, is_kept, epoch_kept, given_after};
 
 use crate::relation::{Relation, last_conflict};
 use std::alloc::{AllocError, Global};
@@ -76,13 +76,20 @@ fn next_fence(fences: &[bool], at: usize) -> usize
 }
 
 /// Two members that conflict, the earlier from `epoch` on and before `at`, the later from there on and before `end`.
-fn across<R: Relation>(relation: &R, epoch: usize, at: usize, end: usize) -> Option<(usize, usize)>
-    requires { end ≤ R.count relation.now }
+fn across<R: Relation>(
+    relation: &R,
+    lasts: &[Option<usize>],
+    epoch: usize,
+    at: usize,
+    end: usize,
+) -> Option<(usize, usize)>
+    requires lasts { AreLasts (R.conflict relation.now) lasts.now }
+    requires within { end ≤ R.count relation.now }
     ensures { MatchOption result (NoneAcross (R.conflict relation.now) epoch at end)
         (λ p. IsAcross (R.conflict relation.now) epoch at end p.0 p.1) }
 {
     for later in at..end {
-        if let Some(earlier) = last_conflict(relation, epoch, at, later) {
+        if let Some(earlier) = last_conflict(relation, lasts, epoch, at, later) {
             return Some((earlier, later));
         }
     }
@@ -117,11 +124,13 @@ fn spare_use(fallible: &[bool], given: usize, at: usize) -> FenceUse
 fn use_of<R: Relation>(
     fences: &[bool],
     relation: &R,
+    lasts: &[Option<usize>],
     fallible: &[bool],
     given: usize,
     epoch: usize,
     at: usize,
 ) -> FenceUse
+    requires lasts { AreLasts (R.conflict relation.now) lasts.now }
     requires known { length fences.now ≡ R.count relation.now }
     requires within { at < length fences.now }
     ensures { IsNextUse (R.conflict relation.now) fallible.now fences.now given epoch at result }
@@ -129,7 +138,7 @@ fn use_of<R: Relation>(
     if !fences[at] {
         return FenceUse::NoFence;
     }
-    match across(relation, epoch, at, next_fence(fences, at)) {
+    match across(relation, lasts, epoch, at, next_fence(fences, at)) {
         Some((earlier, later)) => FenceUse::Needed(earlier, later),
         None => spare_use(fallible, given, at),
     }
@@ -137,13 +146,15 @@ fn use_of<R: Relation>(
 
 /// The fewest fences of a batch that separate all conflicts that its fences separate, and behind which the same members are
 /// abandoned, whichever fail of those that can (`fallible`): each with a conflict that needs it, or with the first member
-/// that can fail of the epoch before it. The others may go, all at once.
+/// that can fail of the epoch before it. The others may go, all at once. `lasts` is as of [`add_missing`](crate::add_missing).
 pub fn drop_needless<R: Relation>(
     alloc: Global,
     fences: &[bool],
     relation: &R,
+    lasts: &[Option<usize>],
     fallible: &[bool],
 ) -> Result<Reduced, AllocError>
+    requires lasts { AreLasts (R.conflict relation.now) lasts.now }
     requires known { length fences.now ≡ R.count relation.now }
     ensures { IfOk result
         (λ t. IsReduced (R.conflict relation.now) fallible.now fences.now t.uses.items
@@ -154,7 +165,7 @@ pub fn drop_needless<R: Relation>(
     let mut epoch = 0;
     let mut given = 0;
     for at in 0..fences.len() {
-        let fence = use_of(fences, relation, fallible, given, epoch, at);
+        let fence = use_of(fences, relation, lasts, fallible, given, epoch, at);
         uses.push(fence)?;
         kept.push(fence.is_kept())?;
         epoch = fence.epoch(epoch, at);

@@ -2,7 +2,7 @@
 
 ghost use Rattle.std.specs.Prelude.{◌≡◌, ◌↔◌, ◌<◌, ◌≤◌, ℕ, IsTrue, MatchOption, length};
 ghost use Rattle.dsa_audit.specs.Members.{KnownConflict, PossibleConflict};
-ghost use Rattle.dsa_audit.specs.Steps.{NoneFrom, IsLastFrom};
+ghost use Rattle.dsa_audit.specs.Steps.{AreLasts, NoneFrom, IsLastFrom};
 
 use crate::member::{Member, are_known_to_conflict, can_conflict};
 
@@ -55,13 +55,8 @@ impl<'a> Relation for PossibleConflicts<'a> {
     }
 }
 
-/// Of the members from `from` on and before `before`, the last that conflicts with `later`.
-pub(crate) fn last_conflict<R: Relation>(
-    relation: &R,
-    from: usize,
-    before: usize,
-    later: usize,
-) -> Option<usize>
+/// Of the members from `from` on and before `before`, the last that conflicts with `later`, one by one.
+fn search_back<R: Relation>(relation: &R, from: usize, before: usize, later: usize) -> Option<usize>
     requires ordered { before ≤ later }
     requires within { later < R.count relation.now }
     ensures { MatchOption result (NoneFrom (R.conflict relation.now) from before later)
@@ -75,4 +70,34 @@ pub(crate) fn last_conflict<R: Relation>(
         }
     }
     None
+}
+
+/// Of the members from `from` on and before `before`, the last that conflicts with `later`. Where `lasts` says which is the
+/// last of all, it is searched for only if that is none of them and lies behind.
+pub(crate) fn last_conflict<R: Relation>(
+    relation: &R,
+    lasts: &[Option<usize>],
+    from: usize,
+    before: usize,
+    later: usize,
+) -> Option<usize>
+    requires ordered { before ≤ later }
+    requires within { later < R.count relation.now }
+    requires lasts { AreLasts (R.conflict relation.now) lasts.now }
+    ensures { MatchOption result (NoneFrom (R.conflict relation.now) from before later)
+        (λ i. IsLastFrom (R.conflict relation.now) from before later i) }
+{
+    if later >= lasts.len() {
+        return search_back(relation, from, before, later);
+    }
+    let Some(last) = lasts[later] else {
+        return None;
+    };
+    if last < from {
+        return None;
+    }
+    if last < before {
+        return Some(last);
+    }
+    search_back(relation, from, before, later)
 }

@@ -4,7 +4,7 @@ ghost use Rattle.std.specs.Prelude.{IfOk, string_bytes};
 ghost use Rattle.dsa_text.specs.Refusals.{NamesCause};
 
 use crate::messages::message_of;
-use dsa_audit::{FencePlace, KnownConflicts, Member, add_missing, hazard_between};
+use dsa_audit::{FencePlace, KnownConflicts, Member, add_missing, hazard_between, known_lasts};
 use dsa_calls::PlanFault;
 use dsa_descriptor::Descriptor;
 use dsa_explain::kind_text;
@@ -54,7 +54,8 @@ fn push_missing(
         return Ok(());
     }
     let relation = KnownConflicts { members: &members };
-    let corrected = add_missing(alloc, group.fences(), &relation)?;
+    let lasts = known_lasts(alloc, &members)?;
+    let corrected = add_missing(alloc, group.fences(), &relation, &lasts)?;
     for (at, place) in corrected.places.iter().enumerate() {
         if let FencePlace::Missing(earlier) = *place {
             push_conflict(alloc, text, &members, (earlier, at), start)?;

@@ -22,6 +22,7 @@ mod origins;
 mod sentences;
 mod settings;
 mod shown;
+mod unplanned;
 mod words;
 
 use crate::answer::Answer;
@@ -74,7 +75,8 @@ const EXPLAINED: &str = "The input is lines of operations, as docs/FORMATS.md ha
   fill 0x1000 with 0102030405060708, 64 bytes, record 0x8000
   compare 0x1000 with 0x2000, 64 bytes, expect 0, record 0x8000, check
 
-or a job, which begins with a brace and has settings of its own, so that the options from --greatest-batch on are refused:
+with lines that disassemble writes of a portal and a staging area, of which batches and fences are passed over, since a plan
+sets them anew; or a job, which begins with a brace and has settings of its own, so that the options from --greatest-batch on are refused:
 
   {\"do\":\"plan\",\"list\":..,\"settings\":..}               the plan of least cost
   {\"do\":\"judge\",\"list\":..,\"plan\":..,\"settings\":..}    a plan of one's own, and what the least plan costs
@@ -92,6 +94,9 @@ const LINES: &str = "A line is an operation, as docs/FORMATS.md has them:
   move 0x1000 -> 0x2000, 64 bytes, record 0x8000
   fill 0x1000 with 0102030405060708, 64 bytes, record 0x8000
   compare 0x1000 with 0x2000, 64 bytes, expect 0, record 0x8000, check
+
+Lines that disassemble writes of a portal and a staging area are read too, with the members of a batch behind its line. The
+lines of batches and the word fence are passed over, since a plan sets batches and fences anew.
 
 Sizes are in bytes, prices in one unit of your choice. Numbers are decimal, or hexadecimal behind 0x.
 Example: dsa_text assemble --job store.txt | dsa";

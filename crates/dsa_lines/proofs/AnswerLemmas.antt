@@ -8,9 +8,8 @@ use Rattle.std.proofs.lemmas.Option.{same_Some}
 use Rattle.dsa_descriptor.specs.Fields.{Fields}
 use Rattle.dsa_descriptor.specs.Spelling.{spelling}
 use Rattle.dsa_lines.specs.Words.{Word}
-use Rattle.dsa_lines.specs.Grammar.{fields_of}
 use Rattle.dsa_lines.specs.Texts.{all_fields, line_fields}
-use Rattle.dsa_lines.proofs.TextLemmas.{leaves_none, spelt_line}
+use Rattle.dsa_lines.proofs.TextLemmas.{leaves_none}
 use Rattle.dsa_descriptor.specs.Lists.{list_spelling, IsFirstListFault}
 use Rattle.dsa_lines.specs.declared.fault.TextFault.{TextFault}
 use Rattle.dsa_lines.specs.declared.fault.TextFault.TheVariants.{Grammar, List as Listed, Memory}
@@ -40,10 +39,10 @@ memory_told fault (Grammar line column what) e is = absurd is
 memory_told fault (Listed line listed) e is = absurd (is.1 e)
 memory_told fault Memory e is = λ i. Memory
 
-pub pushed : (before after entry : List ℕ) (number : ℕ) (words : List Word) (f : Fields) (result : Result Unit TextFault) → fields_of words ≡ Some f → entry ≡ spelling f
+pub pushed : (before after entry : List ℕ) (number : ℕ) (words : List Word) (f : Fields) (result : Result Unit TextFault) → line_fields words ≡ Some (f ∷ []) → entry ≡ spelling f
     → MatchResult result (λ done. after ≡ before ++ entry) (λ fault. fault ≡ Memory) → Pushes before after number (line_fields words) result
 pushed before after entry number words f (Ok done) e s m =
-    (f ∷ [], spelt_line words f e, m ∙ ap (λ (b : List ℕ). before ++ b) (s ∙ sym (append-nil (spelling f))))
+    (f ∷ [], e, m ∙ ap (λ (b : List ℕ). before ++ b) (s ∙ sym (append-nil (spelling f))))
 pushed before after entry number words f (Err fault) e s m = subst (StopsAt number (line_fields words)) (sym m) tt
 
 -- what stops a line stops the lines, of which it is the first that leaves the grammar

@@ -1,6 +1,7 @@
 -- The operations that a text spells are known by their bytes.
-use Rattle.std.proofs.Common.{◌≡◌, ℕ, Option, List, [], ◌∷◌, ◌++◌, length, Some, None, refl, sym, ap, subst, ◌∙◌, length-append, arith}
-use Rattle.std.specs.Prelude.{map, option_and_then}
+use Rattle.std.proofs.Common.{◌≡◌, ℕ, Bool, true, false, Option, List, [], ◌∷◌, ◌++◌, length, Some, None, refl, sym, ap, subst, ◌∙◌, length-append, arith}
+use Rattle.std.specs.Prelude.{codes, map, option_and_then, if◌then◌else◌}
+use Rattle.std.specs.Str.{bytes_eq}
 use Rattle.std.specs.List.{AllByRecursion}
 use Rattle.std.proofs.lemmas.Option.{same_Some}
 use Rattle.dsa_descriptor.specs.declared.descriptor.Descriptor.{Descriptor}
@@ -9,7 +10,8 @@ use Rattle.dsa_descriptor.specs.Descriptors.{fields}
 use Rattle.dsa_descriptor.specs.Lists.{list_spelling, HaveOneOwner}
 use Rattle.dsa_descriptor.specs.Spelling.{spelling}
 use Rattle.dsa_lines.specs.Words.{Word, words_of}
-use Rattle.dsa_lines.specs.Grammar.{fields_of}
+use Rattle.dsa_lines.specs.Grammar.{fields_of, ◌>>=◌}
+use Rattle.dsa_lines.specs.Recordings.{batch_at}
 use Rattle.dsa_lines.proofs.OneLine.{Fit, listed_fit, one_spelling, spelling_stands, words_fit}
 use Rattle.dsa_lines.specs.Assembled.{IsListing}
 use Rattle.dsa_lines.specs.Texts.{all_fields, line_fields, lines_of, with_fields, TextSpells}
@@ -28,11 +30,24 @@ all_append : (fs gs : List Fields) → AllByRecursion Fit fs → AllByRecursion 
 all_append [] gs p q = q
 all_append (f ∷ fs) gs p q = (p.0, all_append fs gs p.1 q)
 
+fields_fit : (words : List Word) (here : List Fields) → (fields_of words >>= λ f. Some (f ∷ [])) ≡ Some here → AllByRecursion Fit here
+fields_fit words here e =
+    let f = bound (fields_of words) _ here e in
+    subst (AllByRecursion Fit) (same_Some (f.0 ∷ []) here f.2) (words_fit words f.0 f.1, tt)
+
+line_fits_by : (batch fence : Bool) (w : Word) (ws : List Word) (here : List Fields)
+    → (if batch then (batch_at ws >>= λ b. Some []) else if fence then (fields_of ws >>= λ f. Some (f ∷ [])) else (fields_of (w ∷ ws) >>= λ f. Some (f ∷ []))) ≡ Some here
+    → AllByRecursion Fit here
+line_fits_by true fence w ws here e =
+    let b = bound (batch_at ws) _ here e in
+    subst (AllByRecursion Fit) (same_Some [] here b.2) tt
+line_fits_by false true w ws here e = fields_fit ws here e
+line_fits_by false false w ws here e = fields_fit (w ∷ ws) here e
+
 line_fits : (words : List Word) (here : List Fields) → line_fields words ≡ Some here → AllByRecursion Fit here
+unfolding line_fields
 line_fits [] here e = subst (AllByRecursion Fit) (same_Some [] here e) tt
-line_fits (w ∷ ws) here e =
-    let f = bound (fields_of (w ∷ ws)) _ here e in
-    subst (AllByRecursion Fit) (same_Some (f.0 ∷ []) here f.2) (words_fit (w ∷ ws) f.0 f.1, tt)
+line_fits (w ∷ ws) here e = line_fits_by (bytes_eq w (codes "batch")) (bytes_eq w (codes "fence")) w ws here e
 
 lines_fit : (lines : List (List ℕ)) (fs : List Fields) → all_fields lines ≡ Some fs → AllByRecursion Fit fs
 unfolding all_fields

@@ -1,6 +1,8 @@
 -- The lines of a text, and the operations of its lines.
 use Rattle.std.proofs.Common.{◌≡◌, ℕ, suc, ◌+◌, ◌-◌, ◌<◌, ◌≤◌, Bool, true, false, Option, Some, None, List, [], ◌∷◌, ◌++◌, length, get_or, take, drop, refl, sym, ap, ◌∙◌, append_assoc, arith}
-use Rattle.std.specs.Prelude.{map, not, ◌==◌, ◌&&◌}
+use Rattle.std.specs.Prelude.{codes, map, not, ◌==◌, ◌&&◌}
+use Rattle.std.specs.Str.{bytes_eq}
+use Rattle.std.proofs.lemmas.Bool.{eqb-true}
 use Rattle.std.specs.List.{AllByRecursion}
 use Rattle.std.proofs.Math.Seq.{take-length}
 use Rattle.std.proofs.lemmas.List.{append-nil, length-drop, length-take-le, map-append, take_more}
@@ -48,10 +50,35 @@ line_first (c ∷ cs) rest e = line_by (c == 10) c cs rest refl e (line_first cs
 
 -- ---- operations
 
+same_word : (w word : Word) → bytes_eq w word ≡ true → w ≡ word
+same_word [] [] e = refl
+same_word [] (d ∷ ds) e = absurd cc
+same_word (c ∷ cs) [] e = absurd cc
+same_word (c ∷ cs) (d ∷ ds) e =
+    let parts = both (c == d) (bytes_eq cs ds) e in
+    let first : c ≡ d = eqb-true c d parts.0 in
+    let rest : cs ≡ ds = same_word cs ds parts.1 in cc
+
+-- an operation does not begin with another word
+batch_spells_none : (w : Word) (ws : List Word) (f : Fields) → w ≡ codes "batch" → fields_of (w ∷ ws) ≡ Some f → ⊥
+unfolding fields_of op_at
+batch_spells_none w ws f same e = let no : None ≡ Some f = rw same at e in absurd cc
+
+fence_spells_none : (w : Word) (ws : List Word) (f : Fields) → w ≡ codes "fence" → fields_of (w ∷ ws) ≡ Some f → ⊥
+unfolding fields_of op_at
+fence_spells_none w ws f same e = let no : None ≡ Some f = rw same at e in absurd cc
+
+line_by_word : (batch fence : Bool) (w : Word) (ws : List Word) (f : Fields) → bytes_eq w (codes "batch") ≡ batch → bytes_eq w (codes "fence") ≡ fence
+    → fields_of (w ∷ ws) ≡ Some f → line_fields (w ∷ ws) ≡ Some (f ∷ [])
+unfolding line_fields
+line_by_word true fence w ws f p q e = absurd (batch_spells_none w ws f (same_word w (codes "batch") p) e)
+line_by_word false true w ws f p q e = absurd (fence_spells_none w ws f (same_word w (codes "fence") q) e)
+line_by_word false false w ws f p q e = rw (p, q, e) refl
+
 pub spelt_line : (words : List Word) (f : Fields) → fields_of words ≡ Some f → line_fields words ≡ Some (f ∷ [])
 unfolding fields_of op_at
 spelt_line [] f e = absurd cc
-spelt_line (w ∷ ws) f e = rw e refl
+spelt_line (w ∷ ws) f e = line_by_word (bytes_eq w (codes "batch")) (bytes_eq w (codes "fence")) w ws f refl refl e
 
 next_line : (f : Fields) (fs : List Fields) → IsListed f → all_fields (lines_of (list_text fs)) ≡ Some fs
     → all_fields (lines_of (line_text f ++ (10 ∷ list_text fs))) ≡ Some (f ∷ fs)
@@ -62,7 +89,7 @@ next_line f fs listed so_far =
 
 -- the canonical text of listed fields spells them
 pub text_spells : (fs : List Fields) → AllByRecursion IsListed fs → TextSpells (list_text fs) fs
-unfolding list_text lines_of all_fields words_in
+unfolding list_text lines_of all_fields words_in line_fields
 text_spells [] all = refl
 text_spells (f ∷ fs) all =
     ap (λ (t : List ℕ). all_fields (lines_of t)) (append_assoc (line_text f) (10 ∷ []) (list_text fs))

@@ -1,5 +1,5 @@
 -- What a reader of a line may answer.
-use Rattle.std.specs.Prelude.{◌≡◌, ◌≢◌, ⊤, ℕ, List, [], Option, Some, None, Result, Ok, Err}
+use Rattle.std.specs.Prelude.{◌≡◌, ◌≢◌, ⊤, ℕ, List, [], ◌∷◌, Option, Some, None, Result, Ok, Err}
 use Rattle.dsa_descriptor.specs.declared.descriptor.Descriptor.{Descriptor}
 use Rattle.dsa_descriptor.specs.Fields.{Fields}
 use Rattle.dsa_descriptor.specs.Descriptors.{fields}
@@ -10,6 +10,7 @@ use Rattle.dsa_lines.specs.declared.fault.LineFault.{LineFault}
 use Rattle.dsa_lines.specs.declared.fault.LineFault.TheVariants.{Grammar, Field}
 use Rattle.dsa_lines.specs.Words.{Word}
 use Rattle.dsa_lines.specs.Grammar.{fields_of}
+use Rattle.dsa_lines.specs.Texts.{line_fields}
 
 -- a place in the line where it spells no fields; else the descriptor of these fields, or the first
 -- fault of their bytes
@@ -26,3 +27,9 @@ abbrev pub SpellsLine : List Word → Result (Option (List ℕ)) (ℕ × Expecte
 SpellsLine words (Ok None) = words ≡ []
 SpellsLine words (Ok (Some bytes)) = (f : Fields) × (fields_of words ≡ Some f) × (bytes ≡ spelling f)
 SpellsLine words (Err place) = (words ≢ []) × (fields_of words ≡ None)
+
+-- no operation; else the bytes of the one that the line has, or why it leaves the grammar
+abbrev pub HasOperation : {E : Type 0} → List Word → Result (Option (List ℕ)) E → Type 0
+HasOperation words (Ok None) = line_fields words ≡ Some []
+HasOperation words (Ok (Some bytes)) = (f : Fields) × (line_fields words ≡ Some (f ∷ [])) × (bytes ≡ spelling f)
+HasOperation words (Err place) = line_fields words ≡ None

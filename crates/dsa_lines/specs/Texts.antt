@@ -1,9 +1,11 @@
 -- The operations that a text spells, and the canonical text of a list.
-use Rattle.std.specs.Prelude.{◌≡◌, ℕ, suc, ◌==◌, List, [], ◌∷◌, ◌++◌, Option, Some, None, if◌then◌else◌}
+use Rattle.std.specs.Prelude.{◌≡◌, ℕ, suc, ◌==◌, List, [], ◌∷◌, ◌++◌, codes, Option, Some, None, if◌then◌else◌}
+use Rattle.std.specs.Str.{bytes_eq}
 use Rattle.dsa_descriptor.specs.Fields.{Fields}
 use Rattle.dsa_lines.specs.Words.{Word, words_of}
 use Rattle.dsa_lines.specs.Grammar.{fields_of, ◌>>=◌}
 use Rattle.dsa_lines.specs.Text.{line_text}
+use Rattle.dsa_lines.specs.Recordings.{batch_at}
 
 abbrev pub with_byte : ℕ → List (List ℕ) → List (List ℕ)
 with_byte c [] = (c ∷ []) ∷ []
@@ -14,10 +16,14 @@ unfoldable pub lines_of : List ℕ → List (List ℕ)
 lines_of [] = [] ∷ []
 lines_of (c ∷ cs) = if c == 10 then [] ∷ lines_of cs else with_byte c (lines_of cs)
 
--- a line has one operation, or no words
-abbrev pub line_fields : List Word → Option (List Fields)
+-- the operation of a line: of one without words or of a batch none, else the one that it spells, behind `fence` where that
+-- stands first. A plan has batches and fences of its own, so those of the text are passed over
+unfoldable pub line_fields : List Word → Option (List Fields)
 line_fields [] = Some []
-line_fields (w ∷ ws) = fields_of (w ∷ ws) >>= λ f. Some (f ∷ [])
+line_fields (w ∷ ws) =
+    if bytes_eq w (codes "batch") then (batch_at ws >>= λ b. Some []) else
+    if bytes_eq w (codes "fence") then (fields_of ws >>= λ f. Some (f ∷ [])) else
+    (fields_of (w ∷ ws) >>= λ f. Some (f ∷ []))
 
 abbrev pub with_fields : List Fields → Option (List Fields) → Option (List Fields)
 with_fields fs None = None

@@ -11,7 +11,7 @@ ghost use Rattle.dsa_lines.specs.Assembled.{Assembles, Gathers, IsTextFault, Pus
 
 use crate::fault::TextFault;
 use crate::lines::line_len;
-use crate::reading::line_bytes;
+use crate::recording::operation_bytes;
 use dsa_descriptor::{Descriptor, ListFault, read_list};
 use std::alloc::Global;
 
@@ -26,12 +26,12 @@ pub(crate) fn push_entry(bytes: &mut Vec<u8>, entry: &[u8]) -> Result<(), TextFa
     }
 }
 
-/// Writes the bytes of the line's operation at the end, where the line has words.
+/// Writes the bytes of the line's operation at the end, where the line has one.
 fn push_line(bytes: &mut Vec<u8>, line: &[u8], number: usize) -> Result<(), TextFault>
     ensures { Pushes bytes.old.items bytes.new.items number
         (line_fields (words_of line.now)) result }
 {
-    match line_bytes(line) {
+    match operation_bytes(line) {
         Ok(None) => Ok(()),
         Ok(Some(entry)) => push_entry(bytes, &entry),
         Err((column, expected)) => Err(TextFault::Grammar(number, column, expected)),
@@ -63,7 +63,7 @@ fn line_of_operation(text: &[u8], index: usize) -> usize {
     let mut before: usize = 0;
     'lines: loop {
         let (line, behind) = rest.split_at(line_len(rest));
-        if let Ok(Some(_)) = line_bytes(line) {
+        if let Ok(Some(_)) = operation_bytes(line) {
             if before == index {
                 return number;
             }
@@ -90,7 +90,7 @@ fn text_fault(text: &[u8], fault: ListFault) -> TextFault
     }
 }
 
-/// The operations that a text spells, one for each of its lines that has words: the list that [`assemble`] answers in bytes.
+/// The operations that a text spells, one for each of its lines that names one: the list that [`assemble`] answers in bytes.
 ///
 /// # Errors
 /// Those of [`assemble`].
@@ -106,7 +106,8 @@ pub fn parse_operations(alloc: Global, text: &[u8]) -> Result<Vec<Descriptor>, T
     }
 }
 
-/// The bytes of the list that a text spells, 64 for each of its lines that has words.
+/// The bytes of the list that a text spells, 64 for each of its lines that names an operation. A plan has batches and fences of
+/// its own, so the line of a batch is passed over, and so is `fence` before an operation.
 ///
 /// # Errors
 /// The first line that leaves the grammar; else the first fault of the bytes as a list, as

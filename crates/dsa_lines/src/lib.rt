@@ -32,7 +32,7 @@ pub use laws::{
 pub use portal::disassemble_portal;
 pub use portal_laws::{one_portal_shown, one_portal_text};
 pub use reading::{line_bytes, parse_line};
-pub use recording::assemble_recording;
+pub use recording::{assemble_recording, operation_bytes};
 pub use staging::disassemble_staging;
 pub use staging_laws::{one_staging_shown, one_staging_text};
 pub use writing::{line_of, op_text};

@@ -1,6 +1,7 @@
-//! The bytes of a recording, from its lines.
+//! The bytes of a recording, from its lines; and those of an operation that a line of a list names.
 
 ghost use Rattle.std.specs.Prelude.{◌≡◌, ◌<◌, ◌^◌, ◌++◌, take, true, false, MatchResult};
+ghost use Rattle.dsa_lines.specs.Answers.{HasOperation};
 ghost use Rattle.dsa_lines.specs.Words.{words_of};
 ghost use Rattle.dsa_lines.specs.Grammar.{Gives};
 ghost use Rattle.dsa_lines.specs.Texts.{lines_of};
@@ -97,6 +98,40 @@ fn recorded_at(text: &[u8]) -> Result<Recorded, Stop>
     }
     let entry = entry_at(text)?;
     Ok(Recorded::Entry(entry))
+}
+
+/// The operation that a line names, in bytes; none of a line without words, and of a batch.
+#[tactic(auto, unfolding(crate::specs::Texts::line_fields))]
+fn operation_at(text: &[u8]) -> Result<Option<[u8; 64]>, Stop>
+    ensures { HasOperation (words_of text.now) result }
+{
+    let Some((word, rest)) = next_word(text) else {
+        return Ok(None);
+    };
+    if word == b"batch".as_slice() {
+        batch_at(rest)?;
+        return Ok(None);
+    }
+    if word == b"fence".as_slice() {
+        let line = read_line(rest)?;
+        return Ok(Some(line.bytes()));
+    }
+    let line = read_line(text)?;
+    Ok(Some(line.bytes()))
+}
+
+/// The 64 bytes of the operation that a line of a list names, which may be no listed descriptor. A line without words has
+/// none, nor has the line of a batch; `fence` before an operation is passed over. A text with a newline is no line.
+///
+/// # Errors
+/// The column, from 1 on, where the line leaves the grammar, and what was expected there.
+pub fn operation_bytes(text: &[u8]) -> Result<Option<[u8; 64]>, (usize, Expected)>
+    ensures { HasOperation (words_of text.now) result }
+{
+    match operation_at(text) {
+        Ok(found) => Ok(found),
+        Err(stop) => Err((stop.column(text), stop.expected)),
+    }
 }
 
 /// What a line says; nothing where it has no words.

@@ -19,6 +19,7 @@ use crate::answer::Answer;
 use crate::form::Form;
 use crate::origins::origins_of;
 use crate::shown::answer_plan;
+use crate::unplanned::{Source, unplanned};
 use dsa_calls::{PlanFault, Planned, check_plan, plan_operations};
 use dsa_cert::Certificate;
 use dsa_descriptor::{Descriptor, read_list};
@@ -56,6 +57,7 @@ fn explain_operations(
     operations: &[Descriptor],
     settings: &Settings,
     form: Form,
+    source: Source<'_>,
 ) -> Result<Answer, AllocError>
     requires { HaveOneOwner (map fields operations.now) }
     ensures { (list : List ℕ) → IsListOf list operations.now →
@@ -63,7 +65,7 @@ fn explain_operations(
 {
     match plan_operations(alloc, operations, settings) {
         Ok(planned) => answer_planned(alloc, operations, &planned, settings, form),
-        Err(fault) => Answer::fault(alloc, fault),
+        Err(fault) => unplanned(alloc, operations, settings, source, fault),
     }
 }
 
@@ -77,7 +79,7 @@ pub fn explain_list(
     ensures { IfOk result (ExplainsList list.now settings.now form) }
 {
     match read_list(alloc, list) {
-        Ok(operations) => explain_operations(alloc, &operations, settings, form),
+        Ok(operations) => explain_operations(alloc, &operations, settings, form, Source::Job),
         Err(fault) => Answer::fault(alloc, PlanFault::from(fault)),
     }
 }
@@ -92,7 +94,9 @@ pub fn explain_text(
     ensures { IfOk result (ExplainsText text.now settings.now form) }
 {
     match parse_operations(alloc, text) {
-        Ok(operations) => explain_operations(alloc, &operations, settings, form),
+        Ok(operations) => {
+            explain_operations(alloc, &operations, settings, form, Source::Text(text))
+        }
         Err(fault) => Answer::text_fault(alloc, text, fault),
     }
 }

@@ -22,6 +22,7 @@ mod origins;
 mod sentences;
 mod settings;
 mod shown;
+mod unplanned;
 mod words;
 
 use crate::answer::Answer;
@@ -56,9 +57,36 @@ const VERSION: &str = "1.0.0";
 /// What is said where memory was refused, which takes none.
 const NO_MEMORY: &str = "error: there was not enough memory [73 Memory]\n";
 
-/// What the help of each command says of numbers.
-const UNITS: &str =
-    "Sizes are in bytes, prices in one unit of your choice. Numbers are decimal, or hexadecimal behind 0x.";
+/// What is said where standard output can't be written.
+const UNWRITTEN: &str = "error: the answer can't be written\n";
+
+/// What the help of the program says of input and statuses.
+const PROGRAM: &str =
+    "Each command reads FILE, or standard input where FILE is - or missing. dsa_text COMMAND --help has an example of each.
+
+The status is 0 for an answer and 1 for a refusal, which is a line on standard error. It is 2 for arguments that the
+program does not know, and where a file can't be opened or read or the answer can't be written. Of audit it is 1 where a
+fence is missing, and 2 where there is no recording.";
+
+/// What the help of `explain` says of its input.
+const EXPLAINED: &str = "The input is lines of operations, as docs/FORMATS.md has them:
+
+  move 0x1000 -> 0x2000, 64 bytes, record 0x8000
+  fill 0x1000 with 0102030405060708, 64 bytes, record 0x8000
+  compare 0x1000 with 0x2000, 64 bytes, expect 0, record 0x8000, check
+
+with lines that disassemble writes of a portal and a staging area, of which batches and fences are passed over, since a plan
+sets them anew; or a job, which begins with a brace and has settings of its own, so that the options from --greatest-batch on are refused:
+
+  {\"do\":\"plan\",\"list\":..,\"settings\":..}               the plan of least cost
+  {\"do\":\"judge\",\"list\":..,\"plan\":..,\"settings\":..}    a plan of one's own, and what the least plan costs
+  {\"do\":\"check\",\"certificate\":..,\"portal\":..,\"settings\":..,\"staging\":..}
+
+Sizes are in bytes, prices in one unit of your choice. Numbers are decimal, or hexadecimal behind 0x.
+Examples:
+  dsa_text explain --lone 10 --batch 14 --fence 3 store.txt
+  dsa_text assemble --job store.txt | dsa_text explain -
+  dsa_text explain --svg judge.job > plan.svg";
 
 /// What the help of `assemble` says of lines.
 const LINES: &str = "A line is an operation, as docs/FORMATS.md has them:
@@ -66,6 +94,9 @@ const LINES: &str = "A line is an operation, as docs/FORMATS.md has them:
   move 0x1000 -> 0x2000, 64 bytes, record 0x8000
   fill 0x1000 with 0102030405060708, 64 bytes, record 0x8000
   compare 0x1000 with 0x2000, 64 bytes, expect 0, record 0x8000, check
+
+Lines that disassemble writes of a portal and a staging area are read too, with the members of a batch behind its line. The
+lines of batches and the word fence are passed over, since a plan sets batches and fences anew.
 
 Sizes are in bytes, prices in one unit of your choice. Numbers are decimal, or hexadecimal behind 0x.
 Example: dsa_text assemble --job store.txt | dsa";
@@ -93,7 +124,7 @@ pub(crate) fn file<'a>(alloc: Global) -> Arg<'a> {
     Arg::new(alloc, "file")
         .value_name("FILE")
         .action(ArgAction::Set)
-        .help("what to read; standard input where none is named")
+        .help("what to read; standard input where it is - or missing")
 }
 
 /// The option of a table of prices.
@@ -126,7 +157,12 @@ fn settings_options<'a>(alloc: Global) -> Result<Vec<Arg<'a>>, AllocError> {
         value(alloc, "batch", "14", "price of a batch"),
         batches,
         value(alloc, "fence", "3", "price of a fence in a batch"),
-        value(alloc, "staging", "0x10000", "address of the staging area"),
+        value(
+            alloc,
+            "staging",
+            "0x10000",
+            "address where the plan's staging area will be"
+        ),
     ]?)
 }
 
@@ -143,9 +179,14 @@ fn assemble_command<'a>(alloc: Global) -> Result<Command<'a>, AllocError> {
 
 /// The option of the staging area's address.
 fn at<'a>(alloc: Global) -> Result<Arg<'a>, AllocError> {
-    value(alloc, "at", "0x10000", "address of the staging area")
-        .requires_arg("staging")?
-        .conflicts_with("portal")
+    value(
+        alloc,
+        "at",
+        "0x10000",
+        "address of the staging area that is read",
+    )
+    .requires_arg("staging")?
+    .conflicts_with("portal")
 }
 
 /// The command `disassemble`.
@@ -153,7 +194,8 @@ fn disassemble_command<'a>(alloc: Global) -> Result<Command<'a>, AllocError> {
     let mut options = Vec::new(alloc);
     options.push(file(alloc))?;
     options.push(flag(alloc, "portal", "read the entries of a portal"))?;
-    options.push(flag(alloc, "staging", "read a staging area").conflicts_with("portal")?)?;
+    let staging = flag(alloc, "staging", "read the bytes of a staging area");
+    options.push(staging.conflicts_with("portal")?)?;
     options.push(at(alloc)?)?;
     Command::new(alloc, "disassemble")
         .about("Reads a list in hexadecimal or as bytes, and writes its lines")
@@ -168,7 +210,7 @@ fn explain_command<'a>(alloc: Global) -> Result<Command<'a>, AllocError> {
     let json = flag(alloc, "json", "write the explanation as JSON");
     Command::new(alloc, "explain")
         .about("Reads lines or a job to plan, judge or check, and tells what the plan does and why")
-        .after_help(UNITS)
+        .after_help(EXPLAINED)
         .arg(file(alloc))?
         .arg(flag(alloc, "svg", "draw the plan"))?
         .arg(json.conflicts_with("svg")?)?
@@ -192,6 +234,7 @@ fn commands<'a>(alloc: Global) -> Result<Command<'a>, AllocError> {
     Command::new(alloc, "dsa_text")
         .about("Descriptors of the data streaming accelerator as text")
         .version(VERSION)
+        .after_help(PROGRAM)
         .subcommand_required(true)
         .subcommands(subcommands)
 }
@@ -273,7 +316,7 @@ fn written(rt: &HostRuntime, text: &str, status: u8) -> ExitCode {
     if write_line(&mut io::writer(rt), text.as_bytes()) {
         ExitCode::from(status)
     } else {
-        failed(rt, "error: the answer can't be written\n")
+        failed(rt, UNWRITTEN)
     }
 }
 
@@ -293,7 +336,7 @@ fn show(rt: &HostRuntime, error: &clap::Error) -> Result<ExitCode, AllocError> {
     }
     match error.print(rt) {
         Ok(()) => Ok(ExitCode::from(error.exit_code() as u8)),
-        Err(_) => Ok(ExitCode::from(2)),
+        Err(_) => Ok(failed(rt, UNWRITTEN)),
     }
 }
 
@@ -340,13 +383,31 @@ fn unopened(kind: io::ErrorKind) -> NoText {
     }
 }
 
+/// The file that the arguments name; none where that is standard input, which `-` stands for.
+fn file_in<'a>(matches: &ArgMatches<'a>) -> Option<&'a str> {
+    match matches.get_str("file") {
+        Some("-") | None => None,
+        Some(path) => Some(path),
+    }
+}
+
+/// The text of an open file.
+fn text_of(rt: &HostRuntime, mut opened: File) -> Result<Vec<u8>, NoText> {
+    if let Ok(metadata) = opened.metadata() {
+        if metadata.is_dir() {
+            return Err(NoText::Failed("is a directory"));
+        }
+    }
+    text_or_reason(read_text(rt.alloc(), &mut opened))
+}
+
 /// The text of the file, or of standard input where none is named.
 fn input(rt: &HostRuntime, file: Option<&str>) -> Result<Vec<u8>, NoText> {
     let Some(path) = file else {
         return text_or_reason(read_text(rt.alloc(), &mut rt.reader()));
     };
     match File::open(rt, path) {
-        Ok(mut opened) => text_or_reason(read_text(rt.alloc(), &mut opened)),
+        Ok(opened) => text_of(rt, opened),
         Err(error) => Err(unopened(error.kind())),
     }
 }
@@ -362,7 +423,7 @@ fn unread(rt: &HostRuntime, file: Option<&str>, what: &str) -> Result<ExitCode, 
 fn run_command(rt: &HostRuntime, matches: &ArgMatches<'_>) -> Result<ExitCode, AllocError> {
     let file = matches
         .subcommand()
-        .and_then(|(_, options)| options.get_str("file"));
+        .and_then(|(_, options)| file_in(options));
     match input(rt, file) {
         Ok(text) => {
             let answer = answer_command(rt.alloc(), matches, &text)?;
@@ -379,7 +440,7 @@ fn audited(rt: &HostRuntime, matches: &ArgMatches<'_>) -> Result<ExitCode, Alloc
         Ok(dumps) => dumps,
         Err(code) => return Ok(code),
     };
-    let file = matches.get_str("file");
+    let file = file_in(matches);
     match input(rt, file) {
         Ok(text) => {
             let answer = audit_input(rt.alloc(), matches, &dumps, &text)?;

@@ -12,7 +12,7 @@ use std::alloc::{AllocError, Global};
 
 /// Into how many pieces an operation is split: one at each multiple of the greatest transfer.
 #[tactic(auto, unfolding(dsa_image::specs::Lines::quotient_up))]
-fn count_of(d: &Descriptor, settings: &Settings) -> usize
+pub(crate) fn count_of(d: &Descriptor, settings: &Settings) -> usize
     ensures { result ≡ piece_count (fields d.now) settings.now.greatest_transfer }
 {
     u64::from(d.size).div_ceil(settings.greatest_transfer()) as usize

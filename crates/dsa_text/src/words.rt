@@ -1,7 +1,7 @@
 //! The word at a place of a text, and what helps where another was expected.
 
 use dsa_descriptor::{FieldFault, ListFault};
-use dsa_lines::Expected;
+use dsa_lines::{Expected, operation_bytes};
 use std::alloc::{AllocError, Global};
 
 /// The most bytes of a word that a message shows.
@@ -20,6 +20,22 @@ fn line_at(text: &[u8], line: usize) -> &[u8] {
     text.split(|byte| *byte == b'\n')
         .nth(line.saturating_sub(1))
         .unwrap_or(&[])
+}
+
+/// The number of the line, from 1 on, that has the operation of this index.
+pub(crate) fn line_of_operation(text: &[u8], index: usize) -> usize {
+    let mut before: usize = 0;
+    let mut number: usize = 1;
+    for line in text.split(|byte| *byte == b'\n') {
+        if let Ok(Some(_)) = operation_bytes(line) {
+            if before == index {
+                return number;
+            }
+            before = before.saturating_add(1);
+        }
+        number = number.saturating_add(1);
+    }
+    number
 }
 
 /// What stands at a column of a line, both from 1 on: a word, a comma, or nothing at the end of the line.
@@ -105,6 +121,16 @@ fn hint_of_number(word: &[u8]) -> Option<&'static str> {
     }
 }
 
+/// What helps where an operation was expected.
+fn hint_of_operation(word: &[u8]) -> Option<&'static str> {
+    match word {
+        b"unknown" => Some(
+            "an entry of a portal that is no listed descriptor, so it can't be planned",
+        ),
+        _ => None,
+    }
+}
+
 /// What helps where something else was expected than this word.
 pub(crate) fn hint_of(word: &[u8], expected: Expected) -> Option<&'static str> {
     if word.starts_with(&MARK) {
@@ -118,8 +144,8 @@ pub(crate) fn hint_of(word: &[u8], expected: Expected) -> Option<&'static str> {
         Expected::Pattern => Some("byte 0 first, as 0102030405060708"),
         Expected::Bytes => Some("`bytes` stands behind each size, of 1 too"),
         Expected::Option => Some("each stands once"),
-        Expected::Operation
-        | Expected::Pasid
+        Expected::Operation => hint_of_operation(word),
+        Expected::Pasid
         | Expected::Handle
         | Expected::Flags
         | Expected::Bit

@@ -8,4 +8,4 @@ returns-in-Ok c = λ list listed.
 
 pub returns-in-Err : goal.returns-in-Err
 returns-in-Err c = λ list listed.
-    operations_refused list c.args.settings.now c.args.form c.args.operations.now c.in-Err.fault c.fault.result listed c.in-Err.ensures c.fault.ensures
+    operations_refused list c.args.settings.now c.args.form c.args.operations.now c.in-Err.fault c.unplanned.result listed c.in-Err.ensures c.unplanned.ensures

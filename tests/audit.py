@@ -104,11 +104,22 @@ def fewest(given, choice, pairs):
 # ---- the brute force
 
 
+def owner_of(entry):
+    """The PASID and the privilege of an entry."""
+    owner = struct.unpack_from("<I", entry)[0]
+    return {"pasid": owner % 2**20, "privileged": owner >> 31 == 1}
+
+
+def has_record(entry, address):
+    """Whether the entry asks for a completion record that has the address."""
+    return entry[4] & 0x0C == 0x0C and 0 <= address - struct.unpack_from("<Q", entry, 8)[0] < 32
+
+
 class Batch:
     """A recorded submission, and what the report says of it."""
 
     def __init__(self, number, head, entries, findings):
-        self.number, self.entries = number, entries
+        self.number, self.entries, self.head = number, entries, head
         owner = struct.unpack_from("<I", head)[0]
         self.known = [accesses(it, owner) for it in entries]
         self.fences = {k for k, it in enumerate(entries) if it[4] & 1}
@@ -152,6 +163,8 @@ class Batch:
         for k, what in self.found["unseen"].items():
             if what["operation"] != self.entries[k][7]:
                 yield f"member {k} has another operation"
+            if (what["owner"], what["submission_owner"]) != (owner_of(self.entries[k]), owner_of(self.head)):
+                yield f"member {k} has another owner"
 
     def missing_faults(self, what, later):
         """The two members conflict within an epoch, at this address, as this hazard says."""
@@ -168,6 +181,8 @@ class Batch:
         kind = next(name for name, shared in hazards.items() if shared)
         if what["hazard"] != kind or int(what["address"], 16) not in hazards[kind]:
             yield f"{earlier} and {later} have another hazard than {what}"
+        if what["records"] != [k for k in (earlier, later) if has_record(self.entries[k], int(what["address"], 16))]:
+            yield f"the address of {earlier} and {later} lies in other completion records than {what}"
 
     def needless_faults(self):
         if not set(self.found["needless"]) <= self.fences:
@@ -532,6 +547,9 @@ def staged():
         ran = subprocess.run([TEXT, "audit", "--staging", f"0:{dump}"], input=65 * batch, capture_output=True)
         reason = "entry 63: error: with it the recording has more than 67108864 bytes\n"
         common.expect((ran.returncode, ran.stdout, ran.stderr.decode()) == (2, b"", reason), f"65 batches: {ran}")
+        # a batch of no members needs no dump
+        empty = bytes(7) + b"\x01" + bytes(8) + (1 << 40).to_bytes(8, "little") + bytes(40)
+        common.expect(audited(empty, f"--staging 0:{dump}") == audited(empty), "a batch of no members in no dump")
     for word, reason in [
         ("0x10000", "error: --staging: '0x10000' is no ADDRESS:FILE\n"),
         ("ten:file", "error: --staging: 'ten:file' is no ADDRESS:FILE\n"),

@@ -1,6 +1,7 @@
 -- Bytes in dumps of memory, and the stream of a portal, step by step.
 use Rattle.std.proofs.Common.{ℕ, ◌≡◌, ◌≢◌, ◌+◌, ◌<◌, ◌≤◌, Bool, true, false, List, [], ◌∷◌, ◌++◌, Option, Some, None, length, get_or, drop, take, Result, Ok, Err, inl, refl, sym, ap, ◌∙◌, length-append, arith}
 use Rattle.std.specs.Prelude.{if◌then◌else◌, option_map, is_some, IfOk}
+use Rattle.std.proofs.Math.Dec.{eqb}
 use Rattle.std.proofs.lemmas.List.{append_assoc, append-nil, drop_all, drop_more, take_all, take_more, take-append-drop}
 use Rattle.dsa_recording.specs.declared.dumps.Dump.{Dump}
 use Rattle.dsa_recording.specs.Dumps.{covers, part_of, bytes_at, behind, with_members, joined, stream_of, StagesStream, IsStagingFault, AnswersPortal, AnswersStaged}
@@ -47,7 +48,7 @@ found_later f r ds i d at size lt is so_far e s =
     sym (not_here (covers at size d) f r (part_of at size d) (bytes_at at size (drop (i + 1) ds)) e s)
     ∙ sym (unfolded at size d (drop (i + 1) ds)) ∙ ap (bytes_at at size) (sym (first_of ds i d lt is)) ∙ so_far
 
-pub found_nowhere : (ds : List Dump) (i at size : ℕ) → length ds ≤ i → bytes_at at size (drop i ds) ≡ bytes_at at size ds → None ≡ bytes_at at size ds
+pub found_nowhere : (ds : List Dump) (i at size : ℕ) → length ds ≤ i → bytes_at at size (drop i ds) ≡ bytes_at at size ds → (if eqb size 0 then Some [] else None) ≡ bytes_at at size ds
 unfolding bytes_at
 found_nowhere ds i at size le so_far = sym (ap (bytes_at at size) (drop_all i ds le)) ∙ so_far
 

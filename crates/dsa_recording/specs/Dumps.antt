@@ -21,9 +21,9 @@ covers at size d = nat_le d.address at && nat_le (at - d.address + size) (length
 abbrev pub part_of : ℕ → ℕ → Dump → List ℕ
 part_of at size d = slice_range d.bytes.items (at - d.address) (at - d.address + size)
 
--- those of the first dump that has all of them
+-- those of the first dump that has all of them; no bytes are in no dump
 unfoldable pub bytes_at : ℕ → ℕ → List Dump → Option (List ℕ)
-bytes_at at size [] = None
+bytes_at at size [] = if size == 0 then Some [] else None
 bytes_at at size (d ∷ ds) = if covers at size d then Some (part_of at size d) else bytes_at at size ds
 
 -- ---- the stream

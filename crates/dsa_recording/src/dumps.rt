@@ -57,7 +57,7 @@ fn part_of(dump: &Dump, at: u64, size: u64) -> Option<&[u8]>
     Some(&dump.bytes[from..end])
 }
 
-/// The bytes at the address, of the first dump that has so many there.
+/// The bytes at the address, of the first dump that has so many there. No bytes need no dump.
 fn bytes_at(dumps: &[Dump], at: u64, size: u64) -> Option<&[u8]>
     ensures { option_map (λ part. part.now) result ≡ bytes_at at size dumps.now }
 {
@@ -67,7 +67,7 @@ fn bytes_at(dumps: &[Dump], at: u64, size: u64) -> Option<&[u8]>
             return part;
         }
     }
-    None
+    if size == 0 { Some(&[]) } else { None }
 }
 
 /// The members of an entry, none where it is no batch, if some dump has all of them.

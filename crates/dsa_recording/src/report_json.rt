@@ -43,22 +43,63 @@ fn hazard_name(kind: HazardKind) -> &'static str {
     }
 }
 
+/// The members in whose completion records the address of a conflict lies.
+fn records_json(alloc: Global, detail: &Detail, earlier: usize) -> Result<Value, AllocError> {
+    let mut members = Vec::new(alloc);
+    if detail.records.earlier {
+        members.push(Value::from(earlier as u64))?;
+    }
+    if detail.records.later {
+        members.push(Value::from(detail.member as u64))?;
+    }
+    Ok(Value::Array(members))
+}
+
 /// Why a fence is missing.
-fn hazard_json(alloc: Global, earlier: usize, hazard: Hazard) -> Result<Value, AllocError> {
+fn hazard_json(
+    alloc: Global,
+    detail: &Detail,
+    earlier: usize,
+    hazard: Hazard,
+) -> Result<Value, AllocError> {
+    let records = records_json(alloc, detail, earlier)?;
     let (name, address) = (hazard_name(hazard.kind), hazard.address);
     let address = format!(in alloc; "0x{address:x}")?;
     let earlier = earlier as u64;
-    json!(in alloc; {"kind": "missing", "earlier": earlier, "hazard": name, "address": address})
+    json!(in alloc; {
+        "kind": "missing",
+        "earlier": earlier,
+        "hazard": name,
+        "address": address,
+        "records": records
+    })
+}
+
+/// The object of an owner.
+fn owner_json(alloc: Global, owner: u32) -> Result<Value, AllocError> {
+    let (pasid, privileged) = (u64::from(owner % (1 << 20)), owner >> 31 == 1);
+    json!(in alloc; {"pasid": pasid, "privileged": privileged})
+}
+
+/// Why a member is not looked at.
+fn unseen_json(alloc: Global, detail: &Detail, why: Unseen) -> Result<Value, AllocError> {
+    let (why, operation) = (unseen_name(why), u64::from(detail.code));
+    let owner = owner_json(alloc, detail.owner)?;
+    let head_owner = owner_json(alloc, detail.head_owner)?;
+    json!(in alloc; {
+        "kind": "unseen",
+        "why": why,
+        "operation": operation,
+        "owner": owner,
+        "submission_owner": head_owner
+    })
 }
 
 /// What was found, and why; `complete`: no fence of its submission is missing.
 fn cause_json(alloc: Global, detail: &Detail, complete: bool) -> Result<Value, AllocError> {
     match detail.cause {
-        Cause::NotSeen(why) => {
-            let (why, operation) = (unseen_name(why), u64::from(detail.code));
-            json!(in alloc; {"kind": "unseen", "why": why, "operation": operation})
-        }
-        Cause::MissingFence(earlier, hazard) => hazard_json(alloc, earlier, hazard),
+        Cause::NotSeen(why) => unseen_json(alloc, detail, why),
+        Cause::MissingFence(earlier, hazard) => hazard_json(alloc, detail, earlier, hazard),
         Cause::GuardingFence(earlier) => {
             let earlier = earlier as u64;
             json!(in alloc; {"kind": "guarding", "earlier": earlier})

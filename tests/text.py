@@ -332,7 +332,7 @@ def large():
     expect("disassemble", listed, text.rstrip("\n"))
     expect("explain", f"{' ' * (1 << 20)}\n{PAIR} # behind a mebibyte of blanks",
            "group 0: lone submission, cost 10\n  0: move 0x1 -> 0x2, 3 bytes\n"
-           "cost 10; 1 lone submission cost 10, saved 0")
+           "cost 10; 1 lone submission costs 10, saved 0")
 
 
 def split():

@@ -3,6 +3,7 @@ allocation refused in turn, random lists beside the program. It uses valgrind an
 where they aren't; without a C compiler it is skipped. CC names the compiler, LISTS how many random lists (250), FILLED how many are prepared and filled (1,000).
 tests/package.py has the callers of the package. The words are names of parts."""
 
+import ast
 import os
 import re
 import shutil
@@ -118,6 +119,36 @@ def prepared():
     tried("the ring of docs/USING.md", [compiled(f"{WORK}/ring.c")], block_after("docs/USING.md", "It prints", ""))
 
 
+def sentences_of_bindings():
+    """The sentences of the Python module and of the Rust crate, by number."""
+    tree = ast.parse(Path("bindings/python/dsa_planner.py").read_text())
+    [table] = [node.value for node in tree.body if isinstance(node, ast.AnnAssign) and node.target.id == "CAUSES"]
+    of_python = {number: said for number, (_, said) in ast.literal_eval(table).items()}
+    source = Path("bindings/rust/src/cause.rs").read_text()
+    of_rust = {int(number): said for number, said in re.findall(r' = (\d+): "([^"]*)",', source)}
+    expect(of_python == of_rust, "the crate and the module have other sentences")
+    return of_python
+
+
+def texts():
+    """The text of each refusal is the sentence that Python and Rust say, whatever the room for it; no cause has none."""
+    said, most, wanted, asked = sentences_of_bindings(), 2**64 - 1, [], []
+    within = [(47, inner) for inner in (2, 10, 12, 13, 33, 37)] + [(60, inner) for inner in (40, 41, 42, 43)]
+    numbers = [(number, 0) for number in said] + within + [(0, 0), (14, 0), (112, 0), (2**32 - 1, 0), (0, 43), (60, 14)]
+    for number, inner in numbers:
+        for first, second in ((0, 0), (7, 65_535), (most, most)):
+            parts = [said[one] for one in (number, inner) if number in said and one in said]
+            text = ": ".join(parts).format(first, second)
+            for room in {512, len(text), max(0, len(text) - 1), 10, 0}:
+                asked.append(f"{number} {inner} {first} {second} {room}\n")
+                wanted.append(f"{len(text)} {text[:room].ljust(room + 1, '~')}\n")
+    caller = compiled("tests/bindings/texts.c")
+    ran = subprocess.run([caller], input="".join(asked), capture_output=True, text=True)
+    for one, got, right in zip(asked, ran.stdout.splitlines(True), wanted):
+        expect(got == right, f"the text of {one.strip()} is {got!r}, not {right!r}")
+    expect(ran.returncode == 0 and len(ran.stdout.splitlines()) == len(wanted), "not all texts were written")
+
+
 def speed():
     """How long short lists take from C: printed, not judged."""
     ran = subprocess.run([compiled("tests/bindings/speed.c"), "5"], stdout=subprocess.PIPE, text=True)
@@ -133,7 +164,7 @@ def main(words):
         sys.exit(0)
     make.need_proved("libdsa_c.a")
     with tempfile.TemporaryDirectory() as WORK:
-        for part in named([header, examples, calls, prepared, random_lists, speed], words):
+        for part in named([header, examples, calls, texts, prepared, random_lists, speed], words):
             part()
 
 

@@ -193,6 +193,21 @@ enum dsa_number {
     DSA_NOT_PREPARED = 111        /* no index: the rows do not have the form of a prepared list of this version */
 };
 
+/* The most bytes of the text of a refusal. */
+#define DSA_REFUSAL_TEXT_ROOM 512u
+
+/*
+ * Writes what a refusal means, for people to read: a sentence with the numbers that it names, and of DSA_ENTRY and DSA_PLAN
+ * the sentence of the inner number behind it. It stands at the front of text, without a zero byte at its end, cut where
+ * text_capacity ends; the rest of text is unchanged. DSA_REFUSAL_TEXT_ROOM bytes are always enough. It allocates nothing.
+ *
+ * Returns how many bytes the whole text has; 0, and text is unchanged, for a number that no cause has, such as DSA_OK.
+ *
+ *   char text[DSA_REFUSAL_TEXT_ROOM];
+ *   fprintf(stderr, "%.*s\n", (int)dsa_refusal_text(&refusal, text, sizeof text), text);
+ */
+uint64_t dsa_refusal_text(const struct dsa_refusal *refusal, char *text, size_t text_capacity);
+
 /*
  * How many pieces a list has, to size buffers before planning it: with n the result, DSA_PORTAL_ROOM(n) and
  * DSA_STAGING_ROOM(n) bytes are enough. It looks at sizes alone and allocates nothing. 65,537 for more pieces than may be
@@ -342,8 +357,8 @@ uint32_t dsa_fill(const struct dsa_prepared_row *rows, size_t rows_len,
  * and `at` the block, or `ok` is 0 and `at` some address that is not NULL. A block of size bytes is aligned to align,
  * which is a power of two, at most 16. A size of 0 wants a block too. rattle_realloc gives a block of size bytes that
  * begins as the old one did, and takes the old one back; where it fails, the old one stays as it is. The three are
- * called on the thread of the call, which has given every block back when it returns. dsa_count_pieces, dsa_fill and
- * dsa_planner_version call none of them.
+ * called on the thread of the call, which has given every block back when it returns. dsa_count_pieces, dsa_fill,
+ * dsa_refusal_text and dsa_planner_version call none of them.
  */
 struct rattle_block {
     uint64_t ok;

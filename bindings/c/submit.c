@@ -141,7 +141,8 @@ int main(int argc, char **argv)
     uint32_t code = dsa_plan_list(&settings, &settings.batch, 0, list, sizeof list, portal, sizeof portal, staging, 192,
                                   &planned, &refusal);
     if (code != DSA_OK) {
-        fprintf(stderr, "refused %" PRIu32 "\n", code);
+        char text[DSA_REFUSAL_TEXT_ROOM];
+        fprintf(stderr, "refused %" PRIu32 ": %.*s\n", code, (int)dsa_refusal_text(&refusal, text, sizeof text), text);
         return 1;
     }
     int failed = run(page, strcmp(argv[2], "shared") == 0, portal, planned.portal_len);

@@ -37,6 +37,8 @@ static void print_refusal(const char *name, uint32_t code, const struct dsa_refu
     if (r->inner != 0)
         printf(" for %" PRIu32, r->inner);
     printf(", first %" PRIu64 ", second %" PRIu64 "\n", r->first, r->second);
+    char text[DSA_REFUSAL_TEXT_ROOM];
+    printf("  %.*s\n", (int)dsa_refusal_text(r, text, sizeof text), text);
 }
 
 /* Plans with the certificate and the marks, prints them, checks the bytes, and judges two plans. */

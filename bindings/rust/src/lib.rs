@@ -118,7 +118,7 @@ impl<'a> Settings<'a> {
 /// let settings = Settings { greatest_batch: 4, greatest_transfer: 4096, lone, batch, fence, staging: 0x10000 };
 /// let refusal = judge(&settings, &[0; 65], &[]).unwrap_err();
 /// assert_eq!(refusal.cause, Cause::Length);
-/// assert_eq!(refusal.to_string(), "refused 1 Length: the length of the list is no multiple of 64 bytes");
+/// assert_eq!(refusal.to_string(), "refused 1 Length: the list's length is no multiple of 64");
 /// ```
 #[derive(Clone, Copy, Debug, PartialEq, Eq, Hash)]
 pub struct Refusal {

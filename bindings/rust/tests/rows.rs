@@ -176,7 +176,7 @@ fn refusals_leave_the_buffers() {
     assert_eq!((portal, staging), ([0xee; 64], [0xee; 159]));
     assert_eq!(
         refused(60, 43, 0, 1).to_string(),
-        "refused 60 Plan: the plan is not legal: 43 Unfenced: pieces 0 and 1 conflict, and no fence stands between them"
+        "refused 60 Plan: the plan is not legal: 43 Unfenced: pieces 0 and 1 of one group conflict without a fence between"
     );
 }
 
@@ -357,7 +357,7 @@ fn refusals_are_shown() {
         ),
         (
             refused(90, 0, 64, 160),
-            "90 NoRoom: portal needs 64 bytes and staging 160",
+            "90 NoRoom: a buffer is too small for the bytes to submit: portal needs 64 bytes and staging 160",
         ),
         (
             refused(47, 5, 7, 0),

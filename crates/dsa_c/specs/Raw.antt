@@ -6,6 +6,7 @@ use Rattle.dsa_descriptor.specs.Causes.{index_list}
 use Rattle.dsa_calls.specs.declared.fault.PlanFault.{PlanFault}
 use Rattle.dsa_calls.specs.declared.fault.InnerFault.{InnerFault}
 use Rattle.dsa_calls.specs.Fault.{fault_number, fault_indices, fault_inner, inner_number, inner_indices}
+use Rattle.dsa_sentences.specs.Texts.{refusal_text}
 use Rattle.dsa_c.specs.declared.settings.RawSettings.{RawSettings}
 use Rattle.dsa_c.specs.declared.refusal.RawRefusal.{RawRefusal}
 
@@ -60,3 +61,7 @@ no_room portal staging = record { number = 90; inner = 0; first = portal; second
 -- the refusal of arrays that are too small for a certificate: number 91, and the number of pieces (this project's choice)
 abbrev pub no_room_for_certificate : ℕ → RawRefusal
 no_room_for_certificate pieces = record { number = 91; inner = 0; first = pieces; second = 0 }
+
+-- the text of a refusal: the sentence of its cause and of the one within, with the numbers that they name
+abbrev pub text_of : RawRefusal → List ℕ
+text_of r = refusal_text r.number r.inner r.first r.second

@@ -14,6 +14,7 @@ mod planning;
 mod preparing;
 mod refusal;
 mod settings;
+mod texts;
 
 pub use certificate::RawPair;
 pub use certified::dsa_plan_list_certified;
@@ -26,3 +27,4 @@ pub use planning::{RawPlanned, dsa_plan_list};
 pub use preparing::{RawInfo, RawRegion, dsa_prepare};
 pub use refusal::RawRefusal;
 pub use settings::RawSettings;
+pub use texts::dsa_refusal_text;

@@ -113,14 +113,14 @@ abbrev pub saved_words : ℕ → ℕ → List ℕ
 saved_words cost lone =
     if nat_le cost lone then codes "saved " ++ decimal (lone - cost) else decimal (cost - lone) ++ codes " less"
 
--- how many lone submissions
+-- how many lone submissions cost
 unfoldable pub pieces_words : ℕ → List ℕ
-pieces_words pieces = decimal pieces ++ (codes " lone submission" ++ plural pieces)
+pieces_words pieces = decimal pieces ++ (if pieces == 1 then codes " lone submission costs" else codes " lone submissions cost")
 
 -- what the plan costs, what as many lone submissions would, and what is saved
 abbrev pub cost_words : Costs → ℕ → List ℕ
 cost_words costs pieces =
-    codes "cost " ++ (decimal costs.cost ++ (codes "; " ++ (pieces_words pieces ++ (codes " cost " ++ (decimal costs.lone ++ (codes ", " ++ saved_words costs.cost costs.lone))))))
+    codes "cost " ++ (decimal costs.cost ++ (codes "; " ++ (pieces_words pieces ++ (codes " " ++ (decimal costs.lone ++ (codes ", " ++ saved_words costs.cost costs.lone))))))
 
 -- ---- the lines
 

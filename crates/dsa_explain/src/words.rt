@@ -241,16 +241,18 @@ fn cost_front(alloc: Global, cost: u64) -> Result<String, AllocError>
     format!(in alloc; "cost {cost}; ")
 }
 
-/// How many lone submissions there would be.
+/// How many lone submissions cost what stands behind.
 #[tactic(auto, unfolding(crate::specs::Words::pieces_words))]
 fn pieces_text(alloc: Global, pieces: usize) -> Result<String, AllocError>
     ensures { IfOk result (λ s. string_bytes s ≡ pieces_words pieces) }
 {
-    let ends = plural(pieces as u128);
-    format!(in alloc; "{pieces} lone submission{ends}")
+    if pieces == 1 {
+        return format!(in alloc; "{pieces} lone submission costs");
+    }
+    format!(in alloc; "{pieces} lone submissions cost")
 }
 
-/// Writes how many lone submissions there would be.
+/// Writes how many lone submissions cost what stands behind.
 fn push_pieces(alloc: Global, text: &mut String, pieces: usize) -> Result<(), AllocError>
     ensures { OnOk result (string_bytes text.new ≡ string_bytes text.old ++ pieces_words pieces) }
 {
@@ -261,9 +263,9 @@ fn push_pieces(alloc: Global, text: &mut String, pieces: usize) -> Result<(), Al
 /// Writes what the lone submissions would cost.
 fn push_lone(alloc: Global, text: &mut String, lone: u64) -> Result<(), AllocError>
     ensures { OnOk result (string_bytes text.new ≡ string_bytes text.old ++
-        (codes " cost " ++ (decimal lone ++ codes ", "))) }
+        (codes " " ++ (decimal lone ++ codes ", "))) }
 {
-    let words = format!(in alloc; " cost {lone}, ")?;
+    let words = format!(in alloc; " {lone}, ")?;
     text.push_str(&words)
 }
 

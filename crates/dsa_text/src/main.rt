@@ -19,7 +19,6 @@ mod messages;
 mod numbers;
 mod options;
 mod origins;
-mod sentences;
 mod settings;
 mod shown;
 mod unplanned;

@@ -4,11 +4,11 @@ ghost use Rattle.std.specs.Prelude.{◌≡◌, ◌++◌, IfOk, OnOk, codes, stri
 ghost use Rattle.dsa_calls.specs.Fault.{indices_text, inner_text, list_cause, named_text, place_text};
 ghost use Rattle.dsa_text.specs.Refusals.{NamesCause, NamesGrammar, cause_words};
 
-use crate::sentences::sentence_of;
 use crate::words::{column_at_fault, hint_of, push_found, word_at};
 use dsa_calls::{InnerFault, PlanFault};
 use dsa_descriptor::{Indices, ListFault};
 use dsa_lines::Expected;
+use dsa_sentences::sentence_of;
 use std::alloc::{AllocError, Global};
 
 /// The index at this place of a sentence, from 0 on.
@@ -21,6 +21,23 @@ fn index_at(indices: Indices, place: usize) -> Option<u64> {
     }
 }
 
+/// What the cause of this number means. Which descriptor it is about stands before, as the place.
+fn sentence_without_place(number: u64) -> &'static str {
+    let sentence = sentence_of(number);
+    match sentence.strip_prefix("descriptor #: ") {
+        Some(rest) => rest,
+        None => sentence,
+    }
+}
+
+/// Writes an index, where there is one.
+fn push_index(alloc: Global, text: &mut String, index: Option<u64>) -> Result<(), AllocError> {
+    match index {
+        Some(index) => text.push_str(&format!(in alloc; "{index}")?),
+        None => Ok(()),
+    }
+}
+
 /// Writes the sentence of a cause with its indices.
 fn push_sentence(
     alloc: Global,
@@ -28,14 +45,12 @@ fn push_sentence(
     number: u64,
     indices: Indices,
 ) -> Result<(), AllocError> {
-    for (place, part) in sentence_of(number).split('#').enumerate() {
-        if let Some(index) = place
-            .checked_sub(1)
-            .and_then(|before| index_at(indices, before))
-        {
-            text.push_str(&format!(in alloc; "{index}")?)?;
+    for sign in sentence_without_place(number).chars() {
+        match sign {
+            '#' => push_index(alloc, text, index_at(indices, 0))?,
+            '$' => push_index(alloc, text, index_at(indices, 1))?,
+            _ => text.push(sign)?,
         }
-        text.push_str(part)?;
     }
     Ok(())
 }

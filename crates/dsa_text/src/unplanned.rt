@@ -139,12 +139,17 @@ fn push_staging(
 ) -> Result<(), AllocError> {
     let option = given.source.staging();
     let area = row(given.settings.staging(), 96, piece_total(given));
-    if let Some(Meeting { what, address }) = operation_meeting(d, count_of(d, given.settings), area)
-    {
+    if let Some(Meeting { what, address }) = operation_meeting(
+        d,
+        count_of(d, given.settings),
+        area,
+    ) {
         text.push_str(&format!(in alloc; "its {what} meets the staging area at 0x{address:x}; ")?)?;
     }
     let (first, last) = (area.first, last_of(area));
-    text.push_str(&format!(in alloc; "the area is 0x{first:x} to 0x{last:x}, 96 bytes for each ")?)?;
+    text.push_str(&format!(in alloc;
+        "the area is 0x{first:x} to 0x{last:x}, 96 bytes for each "
+    )?)?;
     text.push_str(&format!(in alloc; "piece: choose another {option}")?)
 }
 

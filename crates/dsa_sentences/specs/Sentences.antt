@@ -1,0 +1,111 @@
+-- What each cause of a refusal means (this project's choice): `#` stands for the first number that it names, `$` for the
+-- second. A number that no cause has means nothing.
+use Rattle.std.specs.Prelude.{ℕ, List, [], codes, ◌==◌, nat_lt, if◌then◌else◌}
+
+-- of a list
+unfoldable pub of_lists : ℕ → List ℕ
+of_lists n =
+    if n == 1 then codes "the list's length is no multiple of 64" else
+    if n == 2 then codes "descriptor #: the operation code is not one of a move, fill, compare, compare pattern, delta or dualcast" else
+    if n == 3 then codes "descriptor #: a flag is set that may not be, or missing that has to be; check result is for compares alone" else
+    if n == 4 then codes "descriptor #: a reserved bit or byte is not zero" else
+    if n == 5 then codes "descriptor #: the transfer size is 0" else
+    if n == 6 then codes "descriptor #: an address of its data or its record would be 2^64 or more" else
+    if n == 7 then codes "descriptor #: the record's address is no multiple of 32" else
+    if n == 8 then codes "descriptor #: the low twelve bits of a dualcast's destinations differ" else
+    if n == 9 then codes "descriptor #: two of a dualcast's regions meet, or a delta's record and its destination" else
+    if n == 10 then codes "descriptor #: a delta's size is no multiple of 8 or above 0x80000, its destination no multiple of 8, or its record's size no multiple of 10" else
+    if n == 11 then codes "descriptor #: the expected result of a compare or a compare pattern is above 1" else
+    if n == 12 then codes "descriptor #: its PASID or privilege is not the first operation's" else
+    if n == 13 then codes "descriptor #: the 32 bytes of the record meet a data range" else
+    []
+
+-- of an image, or of operations that are split
+unfoldable pub of_operations : ℕ → List ℕ
+of_operations n =
+    if n == 20 then codes "the image lacks an address of piece #" else
+    if n == 21 then codes "the image has more than 16 MiB, or an address of it would be 2^64 or more" else
+    if n == 30 then codes "operation # is a delta longer than the greatest transfer" else
+    if n == 31 then codes "operation # checks for a difference and needs more than one piece" else
+    if n == 32 then codes "there are more than 65,536 pieces" else
+    if n == 33 then codes "the staging area, 96 bytes for each piece, meets a range of piece #" else
+    if n == 34 then codes "the row of records of operation #'s pieces meets its own data" else
+    if n == 35 then codes "an address of the row of records of operation # would be 2^64 or more" else
+    if n == 37 then codes "descriptor # is longer than the greatest transfer" else
+    []
+
+-- of a plan, or of the bytes that submit it
+unfoldable pub of_plans : ℕ → List ℕ
+of_plans n =
+    if n == 40 then codes "the sizes of the groups do not add up to the number of pieces" else
+    if n == 41 then codes "group # is empty or larger than the greatest batch" else
+    if n == 42 then codes "the first of group # is fenced" else
+    if n == 43 then codes "pieces # and $ of one group conflict without a fence between" else
+    if n == 44 then codes "the portal's length is no multiple of 64" else
+    if n == 45 then codes "a byte of the batch entry of group # is not the one of its place" else
+    if n == 46 then codes "the staging's length is not 64 for each piece in a batch and 32 for each batch" else
+    if n == 47 then codes "piece # is refused" else
+    if n == 48 then codes "the first piece of group # is fenced" else
+    if n == 49 then codes "the 32 record bytes of batch # are not all zero" else
+    []
+
+-- of a certificate
+unfoldable pub of_certificates : ℕ → List ℕ
+of_certificates n =
+    if n == 50 then codes "the certificate is no document of a certificate" else
+    if n == 60 then codes "the plan is not legal" else
+    if n == 61 then codes "there are not n + 1 prices and n pairs for n pieces" else
+    if n == 62 then codes "the pair of piece # is not one of conflicting pieces from there on" else
+    if n == 63 then codes "one group from piece # on gives a lower price at $ (0 and 0: the first price is not 0)" else
+    if n == 64 then codes "the last price is not the plan's cost" else
+    if n == 65 then codes "the certificate is of another version than the settings" else
+    []
+
+-- of a run, or of a job
+unfoldable pub of_runs : ℕ → List ℕ
+of_runs n =
+    if n == 70 then codes "the gate of the engines refused" else
+    if n == 71 then codes "the work of a line was out of date when it came back" else
+    if n == 72 then codes "the room that the engines left is not over, or not of the caller's image, plan and pieces" else
+    if n == 73 then codes "there was not enough memory" else
+    if n == 75 then codes "a run could have more than 4,194,304 events" else
+    if n == 76 then codes "event # of the trace is no step" else
+    if n == 77 then codes "the trace is no complete run" else
+    if n == 80 then codes "the text is no JSON" else
+    if n == 81 then codes "a member is missing, of another kind, or not named for the job" else
+    if n == 82 then codes "`do` is missing or names no job" else
+    if n == 83 then codes "a setting is outside its limits" else
+    if n == 84 then codes "bytes are no hexadecimal text of even length" else
+    if n == 85 then codes "there are not 1 to 64 engines" else
+    if n == 86 then codes "the text has more than 67,108,864 bytes" else
+    []
+
+-- of arrays of a caller, and of prepared lists
+unfoldable pub of_buffers : ℕ → List ℕ
+of_buffers n =
+    if n == 90 then codes "a buffer is too small for the bytes to submit: portal needs # bytes and staging $" else
+    if n == 91 then codes "an array is too small for the prices, the pairs or the marks of # pieces" else
+    if n == 92 then codes "the array of rows is too small: # rows are needed" else
+    if n == 100 then codes "region # goes past 2^64" else
+    if n == 101 then codes "region # begins before the one before it has ended" else
+    if n == 102 then codes "a range of operation #, or the row of its records, lies in no one region" else
+    if n == 103 then codes "there are not as many bases as regions" else
+    if n == 104 then codes "a buffer is shorter than the bytes to submit" else
+    if n == 105 then codes "at its new base region # would go past 2^64" else
+    if n == 106 then codes "a completion record in region # would be no multiple of 32, or a delta's destination there no multiple of 8" else
+    if n == 107 then codes "the two destinations of a dualcast, in regions # and $, would differ in their low 12 bits" else
+    if n == 108 then codes "at their new bases region # and the earlier region $ share an address" else
+    if n == 109 then codes "at its new base region # has an address in the staging area, 96 bytes for each piece" else
+    if n == 110 then codes "the staging address is no multiple of 64, or above 2^63" else
+    if n == 111 then codes "the rows do not have the form of a prepared list" else
+    []
+
+-- of any number
+abbrev pub sentence : ℕ → List ℕ
+sentence n =
+    if nat_lt n 20 then of_lists n else
+    if nat_lt n 40 then of_operations n else
+    if nat_lt n 50 then of_plans n else
+    if nat_lt n 70 then of_certificates n else
+    if nat_lt n 90 then of_runs n else
+    of_buffers n

@@ -1,0 +1,8 @@
+//! What each cause of a refusal means, in a sentence: for programs that print it, and for callers in C. It takes no memory.
+#![tactic(auto)]
+
+mod sentences;
+mod text;
+
+pub use sentences::sentence_of;
+pub use text::{LONGEST_TEXT, refusal_text};

@@ -1,0 +1,172 @@
+//! What each cause of a refusal means, by its number: `#` stands for the first number that the refusal names, `$` for the
+//! second. docs/FORMATS.md has the same sentences.
+
+ghost use Rattle.std.specs.Prelude.{◌≡◌, ◌≤◌};
+ghost use Rattle.dsa_sentences.specs.Sentences.{sentence, of_buffers, of_certificates, of_lists, of_operations, of_plans, of_runs};
+ghost use Rattle.dsa_sentences.specs.Texts.{longest};
+
+/// The causes of a list.
+#[tactic(auto, unfolding(crate::specs::Sentences::of_lists))]
+fn of_lists(number: u64) -> &'static str
+    ensures value { result.now ≡ of_lists number }
+    ensures short { longest result.now ≤ 200 }
+{
+    match number {
+        1 => "the list's length is no multiple of 64",
+        2 =>
+            "descriptor #: the operation code is not one of a move, fill, compare, compare pattern, delta or dualcast",
+        3 =>
+            "descriptor #: a flag is set that may not be, or missing that has to be; check result is for compares alone",
+        4 => "descriptor #: a reserved bit or byte is not zero",
+        5 => "descriptor #: the transfer size is 0",
+        6 => "descriptor #: an address of its data or its record would be 2^64 or more",
+        7 => "descriptor #: the record's address is no multiple of 32",
+        8 => "descriptor #: the low twelve bits of a dualcast's destinations differ",
+        9 =>
+            "descriptor #: two of a dualcast's regions meet, or a delta's record and its destination",
+        10 =>
+            "descriptor #: a delta's size is no multiple of 8 or above 0x80000, its destination no multiple of 8, or its record's size no multiple of 10",
+        11 => "descriptor #: the expected result of a compare or a compare pattern is above 1",
+        12 => "descriptor #: its PASID or privilege is not the first operation's",
+        13 => "descriptor #: the 32 bytes of the record meet a data range",
+        _ => "",
+    }
+}
+
+/// The causes of an image, or of operations that are split.
+#[tactic(auto, unfolding(crate::specs::Sentences::of_operations))]
+fn of_operations(number: u64) -> &'static str
+    ensures value { result.now ≡ of_operations number }
+    ensures short { longest result.now ≤ 200 }
+{
+    match number {
+        20 => "the image lacks an address of piece #",
+        21 => "the image has more than 16 MiB, or an address of it would be 2^64 or more",
+        30 => "operation # is a delta longer than the greatest transfer",
+        31 => "operation # checks for a difference and needs more than one piece",
+        32 => "there are more than 65,536 pieces",
+        33 => "the staging area, 96 bytes for each piece, meets a range of piece #",
+        34 => "the row of records of operation #'s pieces meets its own data",
+        35 => "an address of the row of records of operation # would be 2^64 or more",
+        37 => "descriptor # is longer than the greatest transfer",
+        _ => "",
+    }
+}
+
+/// The causes of a plan, or of the bytes that submit it.
+#[tactic(auto, unfolding(crate::specs::Sentences::of_plans))]
+fn of_plans(number: u64) -> &'static str
+    ensures value { result.now ≡ of_plans number }
+    ensures short { longest result.now ≤ 200 }
+{
+    match number {
+        40 => "the sizes of the groups do not add up to the number of pieces",
+        41 => "group # is empty or larger than the greatest batch",
+        42 => "the first of group # is fenced",
+        43 => "pieces # and $ of one group conflict without a fence between",
+        44 => "the portal's length is no multiple of 64",
+        45 => "a byte of the batch entry of group # is not the one of its place",
+        46 => "the staging's length is not 64 for each piece in a batch and 32 for each batch",
+        47 => "piece # is refused",
+        48 => "the first piece of group # is fenced",
+        49 => "the 32 record bytes of batch # are not all zero",
+        _ => "",
+    }
+}
+
+/// The causes of a certificate.
+#[tactic(auto, unfolding(crate::specs::Sentences::of_certificates))]
+fn of_certificates(number: u64) -> &'static str
+    ensures value { result.now ≡ of_certificates number }
+    ensures short { longest result.now ≤ 200 }
+{
+    match number {
+        50 => "the certificate is no document of a certificate",
+        60 => "the plan is not legal",
+        61 => "there are not n + 1 prices and n pairs for n pieces",
+        62 => "the pair of piece # is not one of conflicting pieces from there on",
+        63 =>
+            "one group from piece # on gives a lower price at $ (0 and 0: the first price is not 0)",
+        64 => "the last price is not the plan's cost",
+        65 => "the certificate is of another version than the settings",
+        _ => "",
+    }
+}
+
+/// The causes of a run, or of a job.
+#[tactic(auto, unfolding(crate::specs::Sentences::of_runs))]
+fn of_runs(number: u64) -> &'static str
+    ensures value { result.now ≡ of_runs number }
+    ensures short { longest result.now ≤ 200 }
+{
+    match number {
+        70 => "the gate of the engines refused",
+        71 => "the work of a line was out of date when it came back",
+        72 =>
+            "the room that the engines left is not over, or not of the caller's image, plan and pieces",
+        73 => "there was not enough memory",
+        75 => "a run could have more than 4,194,304 events",
+        76 => "event # of the trace is no step",
+        77 => "the trace is no complete run",
+        80 => "the text is no JSON",
+        81 => "a member is missing, of another kind, or not named for the job",
+        82 => "`do` is missing or names no job",
+        83 => "a setting is outside its limits",
+        84 => "bytes are no hexadecimal text of even length",
+        85 => "there are not 1 to 64 engines",
+        86 => "the text has more than 67,108,864 bytes",
+        _ => "",
+    }
+}
+
+/// The causes of arrays of a caller, and of prepared lists.
+#[tactic(auto, unfolding(crate::specs::Sentences::of_buffers))]
+fn of_buffers(number: u64) -> &'static str
+    ensures value { result.now ≡ of_buffers number }
+    ensures short { longest result.now ≤ 200 }
+{
+    match number {
+        90 => "a buffer is too small for the bytes to submit: portal needs # bytes and staging $",
+        91 => "an array is too small for the prices, the pairs or the marks of # pieces",
+        92 => "the array of rows is too small: # rows are needed",
+        100 => "region # goes past 2^64",
+        101 => "region # begins before the one before it has ended",
+        102 => "a range of operation #, or the row of its records, lies in no one region",
+        103 => "there are not as many bases as regions",
+        104 => "a buffer is shorter than the bytes to submit",
+        105 => "at its new base region # would go past 2^64",
+        106 =>
+            "a completion record in region # would be no multiple of 32, or a delta's destination there no multiple of 8",
+        107 =>
+            "the two destinations of a dualcast, in regions # and $, would differ in their low 12 bits",
+        108 => "at their new bases region # and the earlier region $ share an address",
+        109 =>
+            "at its new base region # has an address in the staging area, 96 bytes for each piece",
+        110 => "the staging address is no multiple of 64, or above 2^63",
+        111 => "the rows do not have the form of a prepared list",
+        _ => "",
+    }
+}
+
+/// What the cause of this number means; nothing where no cause has the number.
+pub fn sentence_of(number: u64) -> &'static str
+    ensures value { result.now ≡ sentence number }
+    ensures short { longest result.now ≤ 200 }
+{
+    if number < 20 {
+        return of_lists(number);
+    }
+    if number < 40 {
+        return of_operations(number);
+    }
+    if number < 50 {
+        return of_plans(number);
+    }
+    if number < 70 {
+        return of_certificates(number);
+    }
+    if number < 90 {
+        return of_runs(number);
+    }
+    of_buffers(number)
+}

@@ -1,6 +1,8 @@
 -- What is known of the members of a batch, and which of them conflict.
 use Rattle.std.specs.Prelude.{ℕ, ◌≡◌, List, [], slice_get, Some}
+use Rattle.std.specs.List.{AllByRecursion}
 use Rattle.dsa_descriptor.specs.declared.span.Span.{Span}
+use Rattle.dsa_descriptor.specs.Spans.{IsAddressable}
 use Rattle.dsa_ranges.specs.Ranges.{SpansConflict}
 use Rattle.dsa_ranges.specs.declared.span.Touched.{Touched}
 use Rattle.dsa_ranges.specs.declared.hazards.Hazard.{Hazard}
@@ -17,6 +19,10 @@ reads_of (Unknown why) = []
 abbrev pub writes_of : Member → List Span
 writes_of (Known t) = t.writes.items
 writes_of (Unknown why) = []
+
+-- all that the member is known to read and write lies below 2 ^ 64
+abbrev pub FitsMemory : Member → Type 0
+FitsMemory m = AllByRecursion IsAddressable (reads_of m) × AllByRecursion IsAddressable (writes_of m)
 
 -- nothing is known of the member at this place
 abbrev pub IsUnknownAt : List Member → ℕ → Type 0

@@ -1,11 +1,11 @@
 //! The last conflict of each member of a batch.
 
-ghost use Rattle.std.specs.Prelude.{◌≡◌, ◌+◌, ◌^◌, ◌<◌, ◌≤◌, ◌↔◌, IfOk, IfSome, IsTrue, length};
+ghost use Rattle.std.specs.Prelude.{◌≡◌, ◌+◌, ◌-◌, ◌^◌, ◌<◌, ◌≤◌, ◌↔◌, All, IfOk, IfSome, IsTrue, length};
 ghost use Rattle.std.specs.List.{AllByRecursion};
 ghost use Rattle.dsa_descriptor.specs.Spans.{InSome, IsAddressable};
 ghost use Rattle.dsa_conflicts.specs.Access.{IsGreatest, later};
 ghost use Rattle.dsa_conflicts.specs.Sweep.{BecomesLast, SpansStandAgainst, last_reader, last_writer};
-ghost use Rattle.dsa_audit.specs.Members.{IsUnknownAt, KnownConflict, PossibleConflict, reads_of, writes_of};
+ghost use Rattle.dsa_audit.specs.Members.{FitsMemory, IsUnknownAt, KnownConflict, PossibleConflict, reads_of, writes_of};
 ghost use Rattle.dsa_audit.specs.Steps.{AreLasts};
 
 use crate::member::Member;
@@ -23,9 +23,7 @@ const TOO_MANY: usize = 0xffff_ffff;
 
 /// Whether all that is known of the member lies below 2^64.
 fn is_addressable(member: &Member) -> bool
-    ensures { IsTrue result ↔
-        (AllByRecursion IsAddressable (reads_of member.now)
-        × AllByRecursion IsAddressable (writes_of member.now)) }
+    ensures { IsTrue result ↔ FitsMemory member.now }
 {
     match member {
         Member::Known(touched) => {
@@ -68,11 +66,14 @@ fn widened(index: Option<u32>) -> Option<usize>
     }
 }
 
-/// For each of the first members the last one before it that is known to conflict with it. They are all members, in time
-/// that grows with their number and its logarithm; none where they are few, and those before one that goes past 2^64.
+/// For each of the first members the last one before it that is known to conflict with it, in time that grows with their
+/// number and its logarithm. They are all members, but none where there are at most 64, or 2^32 - 1 or more, and those before
+/// the first that goes past 2^64.
 pub fn known_lasts(alloc: Global, members: &[Member]) -> Result<Vec<Option<usize>>, AllocError>
     ensures lasts { IfOk result (λ lasts. AreLasts (KnownConflict members.now) lasts.items) }
     ensures count { IfOk result (λ lasts. length lasts.items ≤ length members.now) }
+    ensures all { IfOk result (λ lasts. 64 < length members.now → length members.now < 2 ^ 32 - 1 →
+        All FitsMemory members.now → length lasts.items ≡ length members.now) }
 {
     let mut lasts = Vec::new(alloc);
     if members.len() <= FEW || members.len() >= TOO_MANY {

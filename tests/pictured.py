@@ -52,6 +52,8 @@ def drawn_piece(found, x, y, shaded):
 def picture_of(words):
     """The picture of a plan that is explained in these words."""
     parts, costs = [], next(line for line in words.splitlines() if line.startswith("cost "))
+    if found := re.search(r"^least (\d+): this plan costs ", words, re.M):
+        costs += f"; least {found[1]}"
     top, height, end, column, shaded, widest = 10, 48, 10, 0, False, 8
     for line in words.splitlines():
         x, y = 100 + 50 * (column % LINE), top + column // LINE * height

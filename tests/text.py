@@ -415,6 +415,15 @@ def pictures():
         lines = (f"move {a} -> {b + (a == b) * 64}, 64 bytes, record {0x1000_0000 + 32 * k}" for k, (a, b) in enumerate(places))
         words = ["explain", "--svg", "--greatest-batch", "1024", "--staging", "0x70000000"]
         asked.append((f"{count} moves", words, "\n".join(lines).encode(), None))
+    # plans of one's own, of which the first costs more than the least
+    moves = [(0x1000, 0x2000), (0x3000, 0x4000)]
+    for plan, costs in [
+        ([[False], [False]], "cost 20; 2 lone submissions cost 20, saved 0; least 14</title>"),
+        ([[False, False]], "cost 14; 2 lone submissions cost 20, saved 6</title>"),
+    ]:
+        own = explained(moves, plan)
+        common.expect(f"<title>{costs}" in written("explain --svg", own), f"no picture of {plan} says {costs}")
+        asked.append((f"the plan {plan}", ["explain", "--svg"], own.encode(), None))
     for place, words, text, wanted in asked:
         told = [subprocess.run([TEXT, *less], input=text, capture_output=True).stdout.decode()
                 for less in (words, [word for word in words if word != "--svg"])]

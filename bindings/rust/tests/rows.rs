@@ -349,11 +349,11 @@ fn refusals_are_shown() {
     for (refusal, shown) in [
         (
             refused(83, 0, 0, 0),
-            "83 Settings: a setting is outside its limits, or the table of prices has a wrong length",
+            "83 Settings: a setting is outside its limits",
         ),
         (
             refused(63, 0, 4, 9),
-            "63 Price: the certificate's price at 9 is higher than one group from 4 on allows",
+            "63 Price: one group from piece 4 on gives a lower price at 9 (0 and 0: the first price is not 0)",
         ),
         (
             refused(90, 0, 64, 160),
@@ -361,7 +361,7 @@ fn refusals_are_shown() {
         ),
         (
             refused(47, 5, 7, 0),
-            "47 Entry: piece 7 is refused: 5 SizeZero: the transfer size of descriptor 7 is 0",
+            "47 Entry: piece 7 is refused: 5 SizeZero: descriptor 7: the transfer size is 0",
         ),
         (
             refused(99, 0, 1, 2),

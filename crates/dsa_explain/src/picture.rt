@@ -14,7 +14,7 @@ use dsa_drawing::{
     Spot, Square, lines_of, op_name, push_bar, push_box, push_conflict, push_head, push_text,
     spot_in, svg_of,
 };
-use dsa_plan::{GroupCost, Settings};
+use dsa_plan::{Costs, GroupCost, Settings};
 use std::alloc::{AllocError, Global};
 
 /// What stands under the bar of a fence.
@@ -231,6 +231,22 @@ fn push_cells(
     Ok(())
 }
 
+/// The words of the costs in a picture, and of the least cost where that is below the plan's.
+fn costs_drawn(
+    alloc: Global,
+    costs: &Costs,
+    pieces: usize,
+    least: Option<u64>,
+) -> Result<String, AllocError> {
+    let mut words = cost_text(alloc, costs, pieces)?;
+    if let Some(least) = least {
+        if least < costs.cost {
+            words.push_str(&format!(in alloc; "; least {least}")?)?;
+        }
+    }
+    Ok(words)
+}
+
 /// What stands in a picture behind its first word.
 fn picture_body(
     alloc: Global,
@@ -238,11 +254,12 @@ fn picture_body(
     pieces: &[Descriptor],
     origins: &[Origin],
     greatest: u64,
+    least: Option<u64>,
 ) -> Result<String, AllocError> {
     let mut svg = String::new(alloc);
     let groups = &explanation.costs.groups;
     let (width, height) = (picture_width(groups), picture_height(groups));
-    let costs = cost_text(alloc, &explanation.costs, pieces.len())?;
+    let costs = costs_drawn(alloc, &explanation.costs, pieces.len(), least)?;
     push_head(alloc, &mut svg, width, height, &costs)?;
     push_cells(alloc, &mut svg, explanation, pieces, origins, greatest)?;
     push_total(alloc, &mut svg, explanation, &costs)?;
@@ -254,8 +271,8 @@ fn picture_body(
 
 /// The picture of a plan as SVG, in black, white and grey and without scripts. A group has 16 boxes to a line, its cost at
 /// the left, and epochs that are white and grey by turns. Under the bar of a fence stand the two pieces that it separates,
-/// the kind of their conflict and how many more it alone separates; the costs stand at the end, and where there are fences
-/// a legend of what stands under them. A browser shows the words
+/// the kind of their conflict and how many more it alone separates; the costs stand at the end, with the least cost where
+/// that is given and below the plan's, and where there are fences a legend of what stands under them. A browser shows the words
 /// of each row, box and bar under the pointer.
 pub fn draw(
     alloc: Global,
@@ -263,10 +280,11 @@ pub fn draw(
     pieces: &[Descriptor],
     origins: &[Origin],
     settings: &Settings,
+    least: Option<u64>,
 ) -> Result<String, AllocError>
     ensures { IfOk result (λ s. IsPicture (string_bytes s)) }
 {
     let greatest = settings.greatest_batch();
-    let body = picture_body(alloc, explanation, pieces, origins, greatest)?;
+    let body = picture_body(alloc, explanation, pieces, origins, greatest, least)?;
     svg_of(alloc, &body)
 }

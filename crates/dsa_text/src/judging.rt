@@ -89,7 +89,7 @@ fn judged_words(
     Ok(Answer::done(text))
 }
 
-/// A judged plan as a picture.
+/// A judged plan as a picture, with what the least plan costs.
 fn judged_picture(
     alloc: Global,
     plan: &Plan,
@@ -97,10 +97,12 @@ fn judged_picture(
     settings: &Settings,
     cost: u64,
 ) -> Result<Answer, AllocError>
+    requires { HaveOneOwner (map fields pieces.now) }
     ensures { IfOk result (AnswersJudged settings.now plan.now pieces.now cost Picture) }
 {
+    let least = least_cost(alloc, pieces, settings)?;
     let none = [].as_slice();
-    answer_plan(alloc, plan, pieces, none, settings, None, Form::Picture)
+    answer_plan(alloc, plan, pieces, none, settings, least, Form::Picture)
 }
 
 /// A judged plan as JSON, with what the least plan costs.

@@ -122,7 +122,8 @@ fn answer_picture(
     if groups > MOST_ROWS {
         return too_many_groups(alloc, groups);
     }
-    Ok(Answer::done(draw(alloc, &explanation, pieces, origins, settings)?))
+    let picture = draw(alloc, &explanation, pieces, origins, settings, least)?;
+    Ok(Answer::done(picture))
 }
 
 /// The answer of a plan of pieces in a form; `least` is what the least plan costs, where that is known.

@@ -310,6 +310,33 @@ def brute_force():
     common.expect(all(sums[name] > COUNT // 10 for name in ("missing", "needless", "guarding", "unseen")), f"too few findings: {sums}")
 
 
+def padded():
+    """A batch has the same findings with 70 more members that touch nothing else, behind it or before it: above 64 members
+    the last conflicts come from a sweep, else each two are compared."""
+    found = 0
+    idle = [move(0x10000000 + 64 * k, 0x20000000 + 64 * k, record_at=0x30000000 + 32 * k).bytes() for k in range(70)]
+    for seed in range(COUNT // 10):
+        recording = Maker(seed).recording()
+        for it, is_batch in submissions(recording, {"findings": []}):
+            if not is_batch or not it.entries:
+                continue
+            wanted = audited(batch(*it.entries))[0]["findings"]
+            found += len(wanted)
+            got = audited(batch(*it.entries, *idle))[0]["findings"]
+            common.expect(got == wanted, f"seed {seed}, {it.number}: {got} with members behind, and not {wanted}")
+            if 0 in it.fences:
+                continue
+            for finding in wanted:
+                finding["entry"], finding["member"] = finding["entry"] + 70, finding["member"] + 70
+                if "earlier" in finding["what"]:
+                    finding["what"]["earlier"] += 70
+                if "records" in finding["what"]:
+                    finding["what"]["records"] = [k + 70 for k in finding["what"]["records"]]
+            got = audited(batch(*idle, *it.entries))[0]["findings"]
+            common.expect(got == wanted, f"seed {seed}, {it.number}: {got} with members before, and not {wanted}")
+    common.expect(found > COUNT // 10, f"only {found} findings")
+
+
 # ---- pictures
 
 NAMES = {0: "no-op", MOVE: "move", FILL: "fill", COMPARE: "cmp", PATTERN: "pat", DELTA: "delta", DUALCAST: "dual"}
@@ -669,8 +696,7 @@ def forms():
 
 
 def speed():
-    """65,536 entries in batches of 1,024 members. What it takes is printed; more than ten seconds is a fault."""
-    count, size = 64, 1023
+    """65,472 members in batches of 1,023, and in one batch. What it takes is printed; more than ten seconds is a fault."""
     for name, member in [
         ("apart", lambda k: move(0x1000000 + 64 * k, 0x9000000 + 64 * k, record_at=0x20000000 + 32 * k)),
         ("fenced all", lambda k: move(0x1000000 + 64 * k, 0x9000000 + 64 * k, record_at=0x20000000 + 32 * k)),
@@ -678,13 +704,14 @@ def speed():
         ("all conflict, fenced all", lambda k: move(0x1000, 0x2000, record_at=0x20000000 + 32 * k)),
         ("first and last conflict", lambda k: move(0x1000000 + 64 * (k % 1022), 0x9000000 + 64 * (k % 1022), record_at=0x20000000 + 32 * k)),
     ]:
-        members = [member(k).bytes(fenced="fenced all" in name) for k in range(size)]
-        recording = batch(*members) * count
-        start = time.monotonic()
-        report, _ = audited(recording)
-        took = time.monotonic() - start
-        print(f"{count} batches of {size}, {name}: {took:.2f} s, {len(report['findings'])} findings")
-        common.expect(took < 10, f"{name}: {took:.1f} s")
+        for count, size in [(64, 1023), (1, 64 * 1023)]:
+            members = [member(k).bytes(fenced="fenced all" in name) for k in range(size)]
+            recording = batch(*members) * count
+            start = time.monotonic()
+            report, _ = audited(recording)
+            took = time.monotonic() - start
+            print(f"{counted(count, 'batch', 'batches')} of {size}, {name}: {took:.2f} s, {len(report['findings'])} findings")
+            common.expect(took < 10, f"{name}: {took:.1f} s")
 
 
 def main(words):
@@ -692,7 +719,7 @@ def main(words):
     TEXT = program("dsa_text")
     numbers = [int(word) for word in words if word.isdigit()]
     COUNT = numbers[-1] if numbers else COUNT
-    parts = [brute_force, pictures, sizes, too_large, planned, staged, lines, unseen, ends, forms, speed]
+    parts = [brute_force, padded, pictures, sizes, too_large, planned, staged, lines, unseen, ends, forms, speed]
     for part in named(parts, [it for it in words if not it.isdigit()]):
         part()
 

@@ -66,9 +66,9 @@ fn widened(index: Option<u32>) -> Option<usize>
     }
 }
 
-/// For each of the first members the last one before it that is known to conflict with it, in time that grows with their
-/// number and its logarithm. They are all members, but none where there are at most 64, or 2^32 - 1 or more, and those before
-/// the first that goes past 2^64.
+/// For each of the first members the last one before it that is known to conflict with it. They are all members, but none
+/// where there are at most 64, or 2^32 - 1 or more, and those before the first that goes past 2^64. The time grows with
+/// n log n, and with the number of ranges of others that each member covers.
 pub fn known_lasts(alloc: Global, members: &[Member]) -> Result<Vec<Option<usize>>, AllocError>
     ensures lasts { IfOk result (λ lasts. AreLasts (KnownConflict members.now) lasts.items) }
     ensures count { IfOk result (λ lasts. length lasts.items ≤ length members.now) }

@@ -371,7 +371,7 @@ def picture():
     wanted = [("21", "group 0"), ("34", "batch of 40"), ("47", "cost 29")]
     wanted += [("231", "group 1"), ("244", "batch of 12"), ("257", "cost 14")]
     wanted += [("285", "group 2"), ("298", "lone"), ("311", "cost 10")]
-    wanted += [("339", "total cost 53; 53 lone submissions cost 530, saved 477")]
+    wanted += [("339", "total cost 53; 53 lone submissions cost 530, saved 477; least 28")]  # two batches
     wanted += [("355", "bar: fence; 2←1: piece 2 waits for piece 1; +N: N more conflicts")]
     wanted += [("370", "RAW: read after write; WAR: write after read; WAW: write after write")]
     common.expect(left == wanted, f"at the left stand {left}")

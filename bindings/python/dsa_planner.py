@@ -284,7 +284,7 @@ CAUSES: Dict[int, Tuple[str, str]] = {
     64: ("Total", "the last price is not the plan's cost"),
     65: ("Version", "the certificate is of another version than the settings"),
     73: ("Memory", "there was not enough memory"),
-    83: ("Settings", "a setting is outside its limits"),
+    83: ("Settings", "a setting is outside its limits, or the table of prices has a wrong length"),
     90: ("NoRoom", "a buffer is too small for the bytes to submit: portal needs {0} bytes and staging {1}"),
     91: ("NoRoomForCertificate", "an array is too small for the prices, the pairs or the marks of {0} pieces"),
     92: ("NoRoomForRows", "the array of rows is too small: {0} rows are needed"),

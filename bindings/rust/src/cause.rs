@@ -139,7 +139,7 @@ causes! {
     /// An allocation failed.
     Memory = 73: "there was not enough memory",
     /// A setting is outside its limits, or the table of prices has a wrong length.
-    Settings = 83: "a setting is outside its limits",
+    Settings = 83: "a setting is outside its limits, or the table of prices has a wrong length",
     /// Portal needs `first` bytes and staging `second`.
     NoRoom = 90: "a buffer is too small for the bytes to submit: portal needs {0} bytes and staging {1}",
     /// The arrays of the certificate need room for `first` pieces.

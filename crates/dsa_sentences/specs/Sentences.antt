@@ -74,7 +74,7 @@ of_runs n =
     if n == 80 then codes "the text is no JSON" else
     if n == 81 then codes "a member is missing, of another kind, or not named for the job" else
     if n == 82 then codes "`do` is missing or names no job" else
-    if n == 83 then codes "a setting is outside its limits" else
+    if n == 83 then codes "a setting is outside its limits, or the table of prices has a wrong length" else
     if n == 84 then codes "bytes are no hexadecimal text of even length" else
     if n == 85 then codes "there are not 1 to 64 engines" else
     if n == 86 then codes "the text has more than 67,108,864 bytes" else

@@ -111,7 +111,7 @@ fn of_runs(number: u64) -> &'static str
         80 => "the text is no JSON",
         81 => "a member is missing, of another kind, or not named for the job",
         82 => "`do` is missing or names no job",
-        83 => "a setting is outside its limits",
+        83 => "a setting is outside its limits, or the table of prices has a wrong length",
         84 => "bytes are no hexadecimal text of even length",
         85 => "there are not 1 to 64 engines",
         86 => "the text has more than 67,108,864 bytes",

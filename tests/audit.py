@@ -628,8 +628,9 @@ def unseen():
     for code in range(256):
         if code == 1:
             continue
-        report, status = audited(entry(code, 0, first=0x1000, second=0x2000, size=8))
-        what = {"kind": "unseen", "operation": code, "why": "operation"}
+        report, status = audited(entry(code, 0, first=0x1000, second=0x2000, size=8, owner=1 << 31 | 5))
+        owner = {"pasid": 5, "privileged": True}
+        what = {"kind": "unseen", "operation": code, "owner": owner, "submission_owner": owner, "why": "operation"}
         place = {"entry": 0, "member": None, "severity": "warning", "submission": 0, "what": what}
         common.expect(report["findings"] == ([] if code in listed else [place]), f"operation {code}: {report}")
         common.expect(status == 0, f"operation {code}: status {status}")

@@ -1,8 +1,8 @@
 """Runs `dsa_text audit` on recordings. Random ones, which a seed makes, are judged by brute force: every set of fences of
 each batch is tried, addresses are sets of bytes, and nothing is shared with the program. Pictures of them have what a
 model takes from their reports. Recordings of what the planner submits have no finding, and lack a fence where one is left
-out. Every operation code, recordings that end early, and how long large recordings take. The words are names of parts; a
-number is how many random recordings are judged, 200 without one."""
+out. Recordings as lists to plan. Every operation code, recordings that end early, and how long large recordings take. The
+words are names of parts; a number is how many random recordings are judged, 200 without one."""
 
 import itertools
 import json
@@ -51,8 +51,8 @@ def span(first, size):
     return range(first, first + size)
 
 
-def accesses(it, owner):
-    """The bytes that an entry reads and those that it writes; or why nothing is known of it."""
+def spans_of(it, owner):
+    """The spans that an entry reads and those that it writes; or why nothing is known of it."""
     its, word, record, first, second, size = struct.unpack_from("<IIQQQI", it)
     code, own = word >> 24, int.from_bytes(it[40:48], "little")
     if code not in (0, 1, MOVE, FILL, COMPARE, PATTERN, DELTA, DUALCAST):
@@ -70,7 +70,13 @@ def accesses(it, owner):
     writes = [span(*it) for it in op.targets()] + ([span(record, 32)] if word & 0x0C == 0x0C else [])
     if any(it.stop > WRAP for it in reads + writes):
         return "wrap"
-    return set().union(*reads), set().union(*writes)
+    return reads, writes
+
+
+def accesses(it, owner):
+    """The bytes that an entry reads and those that it writes; or why nothing is known of it."""
+    known = spans_of(it, owner)
+    return known if isinstance(known, str) else tuple(set().union(*spans) for spans in known)
 
 
 def can_fail(it, known):
@@ -619,6 +625,84 @@ def lines():
     common.expect(fences > 10, f"only {fences} fences were left out")
 
 
+# ---- a recording as a list to plan
+
+WHY = {
+    "nested": "a batch in a batch",
+    "owner": "another PASID or privilege than its batch",
+    "empty": "size 0",
+    "wrap": "data or completion record past the last address",
+}
+ADDED = 1 << 62
+
+
+def operation_line(it, number):
+    """The line of an entry in the list of its recording, as docs/FORMATS.md has the grammar."""
+    owner, word, record, first, second, size = struct.unpack_from("<IIQQQI", it)
+    own, digits = int.from_bytes(it[40:48], "little"), it[16:24].hex()
+    front = {
+        MOVE: f"move {first:#x} -> {second:#x}, {size} bytes",
+        FILL: f"fill {second:#x} with {digits}, {size} bytes",
+        COMPARE: f"compare {first:#x} with {second:#x}, {size} bytes, expect {it[40]}",
+        PATTERN: f"compare {first:#x} with pattern {it[24:32].hex()}, {size} bytes, expect {it[40]}",
+        DELTA: f"delta {first:#x}, {own & 0xFFFFFFFF} bytes -> {second:#x}, {size} bytes",
+        DUALCAST: f"dualcast {first:#x} -> {second:#x} and {own:#x}, {size} bytes",
+    }[word >> 24]
+    at = record if word & 0x0C == 0x0C else ADDED + 32 * number
+    pasid = f", pasid {owner % 2**20}" if owner % 2**20 else ""
+    return f"{front}, record {at:#x}{pasid}{', privileged' if owner >> 31 else ''} # entry {number}"
+
+
+def listed_line(it, owner, number, count):
+    """The line of an entry, or the comment in its place."""
+    known, code = spans_of(it, owner), it[7]
+    if isinstance(known, str):
+        return f"# entry {number}, not looked at: " + (f"operation {code:#x}" if known == "operation" else WHY[known])
+    if code == 0:
+        return f"# entry {number}, left out: a no-op"
+    if not all(it.stop <= ADDED or ADDED + 32 * count <= it.start for it in known[0] + known[1]):
+        return f"# entry {number}, left out: it touches addresses that this list gives to records"
+    return operation_line(it, number)
+
+
+def wanted_list(recording):
+    """The list of a recording, a line for each entry but those of batches."""
+    entries = [recording[at : at + 64] for at in range(0, len(recording), 64)]
+    lines, left, head = [], 0, b""
+    for number, it in enumerate(entries):
+        if left == 0 and it[7] == 1:
+            left, head = struct.unpack_from("<I", it, 32)[0], it
+            continue
+        lone = left == 0
+        left -= 0 if lone else 1
+        owner = struct.unpack_from("<I", it if lone else head)[0]
+        lines.append(listed_line(it, owner, number, len(entries)))
+    return "".join(line + "\n" for line in lines)
+
+
+def as_list(recording):
+    """What `audit --list` writes."""
+    ran = subprocess.run([TEXT, "audit", "--list"], input=recording, capture_output=True)
+    common.expect(ran.returncode == 0 and not ran.stderr, f"audit --list ends with {ran.returncode}: {ran.stderr[:300]}")
+    return ran.stdout.decode()
+
+
+def lists():
+    """Random recordings as lists, and entries around the records that a list adds. What the planner submits has a line for
+    each piece."""
+    for seed in range(COUNT):
+        recording = Maker(seed).recording()
+        common.expect(as_list(recording) == wanted_list(recording), f"seed {seed}: another list")
+    for first in (ADDED - 65, ADDED - 64, ADDED - 63, ADDED, ADDED + 95, ADDED + 96, WRAP - 64):
+        recording = b"".join(entry(MOVE, 0, 0, first, 0x2000 + 64 * k, 64) for k in range(3))
+        common.expect(as_list(recording) == wanted_list(recording), f"a source at {first:#x}: another list")
+    for path, portal, staging, address in planned_jobs():
+        recording = recorded(portal, staging, address)
+        text = as_list(recording)
+        common.expect(text == wanted_list(recording), f"{path}: another list")
+        common.expect(text.count("\n") == text.count(" # entry "), f"{path}: a piece was left out")
+
+
 # ---- recordings made by hand
 
 
@@ -720,7 +804,7 @@ def main(words):
     TEXT = program("dsa_text")
     numbers = [int(word) for word in words if word.isdigit()]
     COUNT = numbers[-1] if numbers else COUNT
-    parts = [brute_force, padded, pictures, sizes, too_large, planned, staged, lines, unseen, ends, forms, speed]
+    parts = [brute_force, padded, pictures, sizes, too_large, planned, staged, lines, lists, unseen, ends, forms, speed]
     for part in named(parts, [it for it in words if not it.isdigit()]):
         part()
 

@@ -32,7 +32,7 @@ TEXTS = [
     ("pages.job", ("explain",), "pages.explain"),
 ]
 
-# a batch of two moves that conflict and of one whose operation is not looked at, and the end of its report
+# a batch of two moves that conflict and of one whose operation is not looked at; the end of its report, and its status
 RECORDING = bytes.fromhex(
     "00000000 0c000001 0070000000000000 0000010000000000 0000000000000000 03000000" + "00" * 28
     + "00000000 0c000003 0080000000000000 0010000000000000 0020000000000000 40000000" + "00" * 28
@@ -40,8 +40,9 @@ RECORDING = bytes.fromhex(
     + "00000000 0d000010 4080000000000000 0020000000000000 0030000000000000 40000000" + "00" * 28
 )
 AUDITS = [
-    (("audit",), "3 descriptors in 1 batch and 0 lone submissions, 1 not looked at\n1 fence, 1 missing, 0 needless, 0 guarding\ncost 17 as submitted, 20 with the missing fences\n"),
-    (("audit", "--json"), '"missing":1,"needless":0,"unseen":1}}\n'),
+    (("audit",), "3 descriptors in 1 batch and 0 lone submissions, 1 not looked at\n1 fence, 1 missing, 0 needless, 0 guarding\ncost 17 as submitted, 20 with the missing fences\n", 1),
+    (("audit", "--json"), '"missing":1,"needless":0,"unseen":1}}\n', 1),
+    (("audit", "--list"), "# entry 3, not looked at: operation 0x10\n", 0),
 ]
 NO_MEMORY = (("error: there was not enough memory [73 Memory]\n", 2),)
 
@@ -169,9 +170,9 @@ def runs(of_jobs, of_texts):
     for name, words, said in TEXTS:
         with open(f"examples/text/{name}", "rb") as file, open(f"examples/text/{said}") as answer:
             yield Run(f"dsa_text {' '.join(words)} of {name}", of_texts, file.read(), answer.read(), words)
-    for words, said in AUDITS:
+    for words, said, status in AUDITS:
         # status 1 would say that a fence is missing; the program knows no command before it has read its arguments
-        yield Run(f"dsa_text {' '.join(words)}", of_texts, RECORDING, said, words, NO_MEMORY, status=1)
+        yield Run(f"dsa_text {' '.join(words)}", of_texts, RECORDING, said, words, NO_MEMORY, status)
     yield HaltedRun("run of many pieces", of_jobs, run_of_many(), "")
 
 

@@ -35,4 +35,4 @@ pub use reading::{line_bytes, parse_line};
 pub use recording::{assemble_recording, operation_bytes};
 pub use staging::disassemble_staging;
 pub use staging_laws::{one_staging_shown, one_staging_text};
-pub use writing::{line_of, op_text};
+pub use writing::{line_of, op_text, operation_line};

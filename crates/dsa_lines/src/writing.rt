@@ -3,6 +3,7 @@
 ghost use Rattle.std.specs.Prelude.{◌≡◌, ◌++◌, ◌∷◌, ℕ, IfOk, OnOk, codes, decimal, string_bytes};
 ghost use Rattle.dsa_descriptor.specs.declared.op.Op.TheVariants.{Move, Fill, Compare, ComparePattern, ApplyDelta, Dualcast};
 ghost use Rattle.dsa_descriptor.specs.Descriptors.{fields};
+ghost use Rattle.dsa_descriptor.specs.Profile.{required_flags};
 ghost use Rattle.dsa_lines.specs.Numbers.{hex, pattern_word};
 ghost use Rattle.dsa_lines.specs.Options.{carried_flags, checks_result};
 ghost use Rattle.dsa_lines.specs.Text.{text_of, tail_text, spaced, op_words, number_option, name_option, line_text};
@@ -236,6 +237,27 @@ fn push_name(alloc: Global, line: &mut String, name: &str, stands: bool) -> Resu
     }
     let text = format!(in alloc; ", {name}")?;
     line.push_str(&text)
+}
+
+/// The canonical line of an operation with the flags that a list requires and no interrupt handle, with no newline. The
+/// fields need not be those of a listed descriptor.
+pub fn operation_line(
+    alloc: Global,
+    op: &Op,
+    size: u32,
+    record_at: u64,
+    pasid: u32,
+    privileged: bool,
+) -> Result<String, AllocError>
+    ensures { IfOk result (λ s. string_bytes s ≡ line_text (record { pasid = pasid;
+        privileged = privileged; flags = required_flags; record_at = record_at; size = size;
+        int_handle = 0; op = op.now })) }
+{
+    let mut line = op_text(alloc, op, size)?;
+    push_record(alloc, &mut line, record_at)?;
+    push_number(alloc, &mut line, "pasid", pasid)?;
+    push_name(alloc, &mut line, "privileged", privileged)?;
+    Ok(line)
 }
 
 /// The canonical line of a descriptor, with no newline.

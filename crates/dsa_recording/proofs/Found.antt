@@ -132,7 +132,7 @@ found_from es number (s ∷ ss) [] within all = absurd all
 
 -- ---- in a report
 
-entry_within : (es : List (List ℕ)) (s : Submission) (a : Audited) (k : ℕ) → IsWithin es s → IsAudited es s a → k < length a.members.items → (k < s.size) × (s.first + k < length es)
+pub entry_within : (es : List (List ℕ)) (s : Submission) (a : Audited) (k : ℕ) → IsWithin es s → IsAudited es s a → k < length a.members.items → (k < s.size) × (s.first + k < length es)
 entry_within es s a k within is lt =
     let rest : length (drop s.first es) ≡ length es - s.first = length-drop s.first es in
     let size : length (members_in es s) ≡ min (end_of s - s.first) (length (drop s.first es)) = length-take (end_of s - s.first) (drop s.first es) in

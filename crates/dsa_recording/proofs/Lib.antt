@@ -13,3 +13,5 @@ pub mod Inputs
 pub mod Begun
 pub mod Priced
 pub mod StreamOf
+pub mod ListingLines
+pub mod StandIns

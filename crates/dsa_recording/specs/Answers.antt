@@ -5,7 +5,7 @@ use Rattle.dsa_descriptor.specs.Lists.{entries}
 use Rattle.dsa_drawing.specs.Pictures.{IsPicture}
 use Rattle.dsa_recording.specs.declared.answer.AuditAnswer.{AuditAnswer}
 use Rattle.dsa_recording.specs.declared.answer.AuditFormat.{AuditFormat}
-use Rattle.dsa_recording.specs.declared.answer.AuditFormat.TheVariants.{Text, Json, Picture}
+use Rattle.dsa_recording.specs.declared.answer.AuditFormat.TheVariants.{Text, Json, Picture, List as Listed}
 use Rattle.dsa_recording.specs.declared.answer.AuditOptions.{AuditOptions}
 use Rattle.dsa_recording.specs.declared.findings.Finding.{Finding}
 use Rattle.dsa_recording.specs.declared.findings.FindingKind.{FindingKind}
@@ -14,6 +14,7 @@ use Rattle.dsa_recording.specs.declared.report.Report.{Report}
 use Rattle.dsa_recording.specs.declared.stream.Submission.{Submission}
 use Rattle.dsa_recording.specs.Streams.{ReadsStream}
 use Rattle.dsa_recording.specs.Reports.{IsReport}
+use Rattle.dsa_recording.specs.Listings.{listing_text}
 use Rattle.dsa_recording.specs.declared.words.Denied.{Denied}
 
 -- it is neither a missing fence nor denied
@@ -41,11 +42,17 @@ pub record Draws (es : List (List ℕ)) (r : Report) (denied : Denied) (answer :
   pub picture : IsPicture (string_bytes answer.text)
   pub status : IsStatusOf denied r.findings.items answer.status
 
+-- the answer is the operations as a list to plan; its status says nothing of findings
+pub record Lists (es : List (List ℕ)) (r : Report) (answer : AuditAnswer) : Type 0 where
+  pub text : string_bytes answer.text ≡ listing_text es r.submissions.items r.audits.items
+  pub status : answer.status ≡ 0
+
 -- the answer of a report: its status is that of the findings; or, of pictures alone, it is 2, and the report has none
 abbrev pub AnswersFormat : AuditFormat → List (List ℕ) → Report → Denied → AuditAnswer → Type 0
 AnswersFormat Text es r denied answer = IsStatusOf denied r.findings.items answer.status
 AnswersFormat Json es r denied answer = IsStatusOf denied r.findings.items answer.status
 AnswersFormat Picture es r denied answer = Draws es r denied answer ⊎ ((answer.status ≡ 2) × IsTooLarge es r)
+AnswersFormat Listed es r denied answer = Lists es r answer
 
 abbrev pub AnswersReport : AuditOptions → List (List ℕ) → Report → AuditAnswer → Type 0
 AnswersReport options es r answer = AnswersFormat options.format es r options.denied answer

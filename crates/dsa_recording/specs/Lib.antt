@@ -12,4 +12,5 @@ pub mod Inputs
 pub mod Dumps
 pub mod Totals
 pub mod Costs
+pub mod Listings
 pub mod Laws

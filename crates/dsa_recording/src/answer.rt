@@ -1,14 +1,16 @@
 //! The answer to a recording: which fences of its submissions are missing, and which are needless.
 
-ghost use Rattle.dsa_recording.specs.declared.answer.AuditFormat.TheVariants.{Picture};
-ghost use Rattle.std.specs.Prelude.{◌≡◌, ◌≢◌, ◌↔◌, IfOk, IsTrue};
+ghost use Rattle.dsa_recording.specs.declared.answer.AuditFormat.TheVariants.{Picture, List as Listed};
+ghost use Rattle.std.specs.Prelude.{◌≡◌, ◌≢◌, ◌≤◌, ◌^◌, ◌↔◌, length, IfOk, IsTrue};
 ghost use Rattle.dsa_recording.specs.declared.stream.StreamFault.TheVariants.{Memory};
 ghost use Rattle.dsa_recording.specs.Answers.{is_harmless, AnswersFormat, AnswersRecording, AnswersReport, AreHarmless, IsStatusOf};
+ghost use Rattle.dsa_recording.specs.Listings.{AreEntries};
 ghost use Rattle.dsa_recording.specs.Totals.{HasSums};
 
 use crate::costs::{costs_of, costs_text};
 use crate::detail::{detail_of, has_all_fences};
 use crate::findings::{Finding, FindingKind};
+use crate::listing::listing_text;
 use crate::picture::{draw_report, is_too_large, too_large_text};
 use crate::report::{Report, audit_recording};
 use crate::report_json::report_json;
@@ -28,6 +30,8 @@ pub enum AuditFormat {
     Json,
     /// A picture, as SVG.
     Picture,
+    /// The operations, as a list to plan.
+    List,
 }
 
 /// How an audit is written, and what it denies.
@@ -45,7 +49,7 @@ pub struct AuditAnswer {
     /// The report, or why there is none.
     pub text: String,
     /// 0 where nothing is wrong, 1 where a fence is missing or what is denied was found, 2 where there is no recording or
-    /// it is too large for a picture.
+    /// it is too large for a picture. Of a list it is 0 or 2.
     pub status: u8,
 }
 
@@ -141,6 +145,21 @@ fn answer_picture(
     Ok(written(denied, report, draw_report(alloc, all, report)?))
 }
 
+/// The answer of a report as a list to plan.
+fn answer_list(
+    alloc: Global,
+    all: &[[u8; 64]],
+    report: &Report,
+    denied: Denied,
+) -> Result<AuditAnswer, AllocError>
+    requires entries { AreEntries all.now report.now.submissions.items report.now.audits.items }
+    requires few { length all.now ≤ 2 ^ 58 }
+    ensures { IfOk result (AnswersFormat Listed all.now report.now denied) }
+{
+    let text = listing_text(alloc, all, report)?;
+    Ok(AuditAnswer { text, status: 0 })
+}
+
 /// The answer of a report.
 fn answer_report(
     alloc: Global,
@@ -149,7 +168,9 @@ fn answer_report(
     settings: &Settings,
     options: AuditOptions,
 ) -> Result<AuditAnswer, AllocError>
-    requires { HasSums report.now }
+    requires sums { HasSums report.now }
+    requires entries { AreEntries all.now report.now.submissions.items report.now.audits.items }
+    requires few { length all.now ≤ 2 ^ 58 }
     ensures { IfOk result (AnswersReport options all.now report.now) }
 {
     let denied = options.denied;
@@ -163,6 +184,7 @@ fn answer_report(
             Ok(written(denied, report, line))
         }
         AuditFormat::Picture => answer_picture(alloc, all, report, denied),
+        AuditFormat::List => answer_list(alloc, all, report, denied),
     }
 }
 

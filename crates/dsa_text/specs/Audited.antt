@@ -7,7 +7,7 @@ use Rattle.clap.specs.declared.parser.matches.ArgMatches.{ArgMatches}
 use Rattle.dsa_plan.specs.Settings.{Limits}
 use Rattle.dsa_recording.specs.declared.answer.AuditAnswer.{AuditAnswer}
 use Rattle.dsa_recording.specs.declared.answer.AuditFormat.{AuditFormat}
-use Rattle.dsa_recording.specs.declared.answer.AuditFormat.TheVariants.{Text, Json, Picture}
+use Rattle.dsa_recording.specs.declared.answer.AuditFormat.TheVariants.{Text, Json, Picture, List as Listed}
 use Rattle.dsa_recording.specs.declared.words.Denied.{Denied}
 use Rattle.dsa_recording.specs.declared.answer.AuditOptions.{AuditOptions}
 use Rattle.dsa_recording.specs.declared.dumps.Dump.{Dump}
@@ -43,11 +43,11 @@ denied_in m = denied_of (first_value (found_of m) (codes "deny"))
 
 -- ---- the form of the report, and the settings
 
--- as JSON or as a picture where that option was given; else as text
+-- as JSON, as a picture or as a list where that option was given; else as text
 abbrev pub IsFormat : ArgMatches → AuditFormat → Type 0
 IsFormat m format =
-    (json svg : Bool) × IsFlag m (codes "json") json × IsFlag m (codes "svg") svg
-    × (format ≡ (if json then Json else (if svg then Picture else Text)))
+    (json svg list : Bool) × IsFlag m (codes "json") json × IsFlag m (codes "svg") svg × IsFlag m (codes "list") list
+    × (format ≡ (if json then Json else (if svg then Picture else (if list then Listed else Text))))
 
 -- each word is the value of the option of its name; an audit has no option of transfers and of the staging area
 pub record AreAuditWords (m : ArgMatches) (w : SettingsWords) : Type 0 where

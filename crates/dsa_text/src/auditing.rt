@@ -25,8 +25,12 @@ of the members behind the line of their batch.
 With --staging it is read as what was written to a portal, with the members of each batch in the first dump that has them
 at the batch's list address. --staging may be given more than once.
 
+With --list it writes the operations of the recording as lines that explain and assemble read, so that
+  dsa_text audit --list recording.bin | dsa_text explain
+tells what the least plan of the same operations costs. What has no line is named in a comment.
+
 The status is 0 where nothing is wrong, 1 where a fence is missing or what --deny names was found, and 2 where there is
-no recording, or it is too large to draw.
+no recording, or it is too large to draw. Of a list it is 0 or 2.
 Prices are in one unit of your choice. Numbers are decimal, or hexadecimal behind 0x.
 Example: dsa_text audit --deny needless,unseen recording.bin";
 
@@ -69,7 +73,10 @@ fn price_options<'a>(alloc: Global) -> Result<Vec<Arg<'a>>, AllocError> {
 pub(crate) fn audit_command<'a>(alloc: Global) -> Result<Command<'a>, AllocError> {
     let json = flag(alloc, "json", "write the report as JSON");
     let svg = flag(alloc, "svg", "draw the submissions and their fences").conflicts_with("json")?;
-    let options = vec![in alloc; file(alloc), json, svg, deny(alloc), staging(alloc)]?;
+    let list = flag(alloc, "list", "write the operations as a list to plan")
+        .conflicts_with("json")?
+        .conflicts_with("svg")?;
+    let options = vec![in alloc; file(alloc), json, svg, list, deny(alloc), staging(alloc)]?;
     let prices = price_options(alloc)?;
     Command::new(alloc, "audit")
         .about("Reads a recording of what was submitted, and reports missing and needless fences")
@@ -119,11 +126,15 @@ fn format_in(matches: &ArgMatches<'_>) -> AuditFormat
 {
     let json = matches.get_flag("json");
     let svg = matches.get_flag("svg");
+    let list = matches.get_flag("list");
     if json {
         return AuditFormat::Json;
     }
     if svg {
         return AuditFormat::Picture;
+    }
+    if list {
+        return AuditFormat::List;
     }
     AuditFormat::Text
 }

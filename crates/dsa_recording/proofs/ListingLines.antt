@@ -1,0 +1,85 @@
+-- The lines of submissions, one after another.
+use Rattle.std.proofs.Common.{◌≡◌, ℕ, zero, suc, ◌+◌, ◌<◌, ◌≤◌, List, [], ◌∷◌, ◌++◌, length, get_or, take, drop, refl, sym, ap, subst, ◌∙◌, arith}
+use Rattle.std.proofs.lemmas.List.{append_assoc, append-nil}
+use Rattle.std.specs.List.{AllByRecursion}
+use Rattle.dsa_descriptor.specs.Lists.{entries}
+use Rattle.dsa_recording.specs.declared.stream.Submission.{Submission}
+use Rattle.dsa_recording.specs.declared.submission.Audited.{Audited}
+use Rattle.dsa_recording.specs.declared.report.Report.{Report}
+use Rattle.dsa_recording.specs.Submissions.{IsWithin, IsAudited, AreAudited}
+use Rattle.dsa_recording.specs.Reports.{IsReport}
+use Rattle.std.specs.Prelude.{slice_index_or}
+use Rattle.dsa_audit.specs.declared.member.Member.{Member}
+use Rattle.dsa_recording.specs.Listings.{member_line, member_lines, listing_text, AreEntries}
+use Rattle.dsa_recording.proofs.Within.{each_within}
+use Rattle.dsa_recording.proofs.Found.{entry_within}
+
+-- the line of one member more
+pub lines_more : (es : List (List ℕ)) (first : ℕ) (ms : List Member) (k : ℕ) (m : Member) → k < length ms
+    → member_lines es first (take (suc k) ms)
+    ≡ member_lines es first (take k ms) ++ (member_line (length es) (first + k) (slice_index_or es (first + k) []) (get_or ms k m) ++ 10 ∷ [])
+unfolding member_lines
+lines_more es first [] k m lt = absurd (omega (arith, lt))
+lines_more es first (x ∷ ms) zero m lt =
+    let at : first + 0 ≡ first = omega arith in
+    append-nil (member_line (length es) first (slice_index_or es first []) x ++ 10 ∷ [])
+    ∙ ap (λ (n : ℕ). member_line (length es) n (slice_index_or es n []) x ++ 10 ∷ []) (sym at)
+lines_more es first (x ∷ ms) (suc k) m lt =
+    let here : List ℕ = member_line (length es) first (slice_index_or es first []) x ++ 10 ∷ [] in
+    let at : suc first + k ≡ first + suc k = omega arith in
+    ap (λ (l : List ℕ). here ++ l) (lines_more es (suc first) ms k m (omega (arith, lt)))
+    ∙ sym (append_assoc here (member_lines es (suc first) (take k ms)) (member_line (length es) (suc first + k) (slice_index_or es (suc first + k) []) (get_or ms k m) ++ 10 ∷ []))
+    ∙ ap (λ (n : ℕ). (here ++ member_lines es (suc first) (take k ms)) ++ (member_line (length es) n (slice_index_or es n []) (get_or ms k m) ++ 10 ∷ [])) at
+
+-- there are as many submissions as audits
+pub same_count : (es : List (List ℕ)) (ss : List Submission) (audits : List Audited) → AreEntries es ss audits → length ss ≡ length audits
+same_count es [] [] all = refl
+same_count es (s ∷ ss) (a ∷ audits) all = ap suc (same_count es ss audits all.1)
+same_count es [] (a ∷ audits) all = absurd all
+same_count es (s ∷ ss) [] all = absurd all
+
+-- the members of submission k are entries
+pub within_at : (es : List (List ℕ)) (ss : List Submission) (audits : List Audited) (k : ℕ) (s : Submission) (a : Audited) → AreEntries es ss audits
+    → k < length audits → (get_or ss k s).first + length (get_or audits k a).members.items ≤ length es
+within_at es [] [] k s a all lt = absurd (omega (arith, lt))
+within_at es (t ∷ ss) (b ∷ audits) zero s a all lt = all.0
+within_at es (t ∷ ss) (b ∷ audits) (suc k) s a all lt = within_at es ss audits k s a all.1 (omega (arith, lt))
+within_at es [] (b ∷ audits) k s a all lt = absurd all
+within_at es (t ∷ ss) [] k s a all lt = absurd all
+
+-- the lines of one submission more
+pub listing_more : (es : List (List ℕ)) (ss : List Submission) (audits : List Audited) (k : ℕ) (s : Submission) (a : Audited) → AreEntries es ss audits
+    → k < length audits
+    → listing_text es (take (suc k) ss) (take (suc k) audits)
+    ≡ listing_text es (take k ss) (take k audits) ++ member_lines es (get_or ss k s).first (get_or audits k a).members.items
+unfolding listing_text
+listing_more es [] [] k s a all lt = absurd (omega (arith, lt))
+listing_more es (t ∷ ss) (b ∷ audits) zero s a all lt = append-nil (member_lines es t.first b.members.items)
+listing_more es (t ∷ ss) (b ∷ audits) (suc k) s a all lt =
+    ap (λ (l : List ℕ). member_lines es t.first b.members.items ++ l) (listing_more es ss audits k s a all.1 (omega (arith, lt)))
+    ∙ sym (append_assoc (member_lines es t.first b.members.items) (listing_text es (take k ss) (take k audits)) (member_lines es (get_or ss k s).first (get_or audits k a).members.items))
+listing_more es [] (b ∷ audits) k s a all lt = absurd all
+listing_more es (t ∷ ss) [] k s a all lt = absurd all
+
+-- ---- of a report
+
+inside : (es : List (List ℕ)) (s : Submission) (a : Audited) → IsWithin es s → IsAudited es s a → (n : ℕ) → length a.members.items ≡ n → s.first + n ≤ length es
+inside es s a within is zero count =
+    let ends : s.first + s.size ≤ length es = within.members in
+    omega (arith, ends)
+inside es s a within is (suc n) count =
+    let last = entry_within es s a n within is (omega (arith, count)) in
+    omega (arith, last.1)
+
+each_inside : (es : List (List ℕ)) (ss : List Submission) (audits : List Audited) → AllByRecursion (IsWithin es) ss → AreAudited es ss audits → AreEntries es ss audits
+each_inside es [] [] within all = tt
+each_inside es (s ∷ ss) (a ∷ audits) (first, within) (is, all) =
+    (inside es s a first is (length a.members.items) refl, each_inside es ss audits within all)
+each_inside es [] (a ∷ audits) within all = absurd all
+each_inside es (s ∷ ss) [] within all = absurd all
+
+pub report_entries : (bytes : List ℕ) (es : List (List ℕ)) (r : Report) → es ≡ entries bytes → IsReport bytes r → AreEntries es r.submissions.items r.audits.items
+report_entries bytes es r same is =
+    let within = each_within (entries bytes) 0 (length (entries bytes)) r.submissions.items is.submissions.all in
+    subst (λ (z : List (List ℕ)). AreEntries z r.submissions.items r.audits.items) (sym same)
+    (each_inside (entries bytes) r.submissions.items r.audits.items within is.audits)

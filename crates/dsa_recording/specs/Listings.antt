@@ -1,0 +1,109 @@
+-- A recording as a list of operations to plan (this project's choice): a line for each member, in the order of the entries.
+use Rattle.std.specs.Prelude.{ℕ, suc, ◌≡◌, ◌≢◌, ◌+◌, ◌*◌, ◌^◌, ◌<◌, ◌≤◌, ◌&&◌, ◌||◌, ◌==◌, ◌↔◌, nat_le, bit_and, Bool, true, List, [], ◌∷◌, ◌++◌, length, slice_index_or, codes, decimal, Option, Some, None, if◌then◌else◌}
+use Rattle.std.specs.List.{list_all}
+use Rattle.dsa_descriptor.specs.declared.op.Op.{Op}
+use Rattle.dsa_descriptor.specs.declared.span.Span.{Span}
+use Rattle.dsa_descriptor.specs.Fields.{Fields}
+use Rattle.dsa_descriptor.specs.Places.{u32_at, u64_at, flags_at, code_at, op_at, pasid_at, privileged_at}
+use Rattle.dsa_descriptor.specs.Profile.{required_flags}
+use Rattle.dsa_ranges.specs.declared.span.Touched.{Touched}
+use Rattle.dsa_ranges.specs.Ranges.{Conflicts}
+use Rattle.dsa_audit.specs.declared.member.Member.{Member}
+use Rattle.dsa_audit.specs.declared.member.Member.TheVariants.{Known, Unknown}
+use Rattle.dsa_audit.specs.Members.{TouchedConflict}
+use Rattle.dsa_lines.specs.Text.{line_text}
+use Rattle.dsa_recording.specs.declared.stream.Submission.{Submission}
+use Rattle.dsa_recording.specs.declared.submission.Audited.{Audited}
+use Rattle.dsa_recording.specs.Entries.{entry_reads, entry_writes}
+use Rattle.dsa_recording.specs.Words.{unseen_words}
+
+-- ---- the operation of an entry
+
+-- each operation of a list has a completion record. Where an entry requests none, it gets one from this address on, which
+-- lies between the addresses of programs and those of a kernel
+abbrev pub records_from : ℕ
+records_from = 2 ^ 62
+
+abbrev pub record_in_list : ℕ → List ℕ → ℕ
+record_in_list number e =
+    if bit_and (flags_at e) required_flags == required_flags then u64_at 8 e else records_from + 32 * number
+
+-- what stands in the list for the entry of this number: its operation, size and owner, with that record, and with no other
+-- flags than a list requires
+abbrev pub stand_in : ℕ → List ℕ → Op → Fields
+stand_in number e op =
+    record {
+      pasid = pasid_at e;
+      privileged = privileged_at e;
+      flags = required_flags;
+      record_at = record_in_list number e;
+      size = u32_at 32 e;
+      int_handle = 0;
+      op = op;
+    }
+
+-- the span lies below the records that so many entries might get, or behind them
+abbrev pub is_clear : ℕ → Span → Bool
+is_clear count s = nat_le (s.first + s.len) records_from || nat_le (records_from + 32 * count) s.first
+
+-- so does all that is read and written
+abbrev pub is_apart_from_added : ℕ → Touched → Bool
+is_apart_from_added count t = list_all (is_clear count) t.reads.items && list_all (is_clear count) t.writes.items
+
+-- ---- its line
+
+-- a comment in place of an operation
+abbrev pub left_out : ℕ → List ℕ → List ℕ
+left_out number why = codes "# entry " ++ (decimal number ++ (codes ", " ++ why))
+
+-- an operation, and behind it the number of its entry
+abbrev pub operation_line : ℕ → List ℕ → Op → List ℕ
+operation_line number e op = line_text (stand_in number e op) ++ (codes " # entry " ++ decimal number)
+
+-- an entry that is looked at, of so many, has the line of its operation, where it has one and is apart from added records
+abbrev pub known_line : ℕ → ℕ → List ℕ → Touched → Option Op → List ℕ
+known_line count number e t None = left_out number (codes "left out: a no-op")
+known_line count number e t (Some op) =
+    if is_apart_from_added count t
+    then operation_line number e op
+    else left_out number (codes "left out: it touches addresses that this list gives to records")
+
+abbrev pub member_line : ℕ → ℕ → List ℕ → Member → List ℕ
+member_line count number e (Known t) = known_line count number e t (op_at e)
+member_line count number e (Unknown why) = left_out number (unseen_words why (code_at e))
+
+-- ---- the list
+
+-- the lines of members, of which the first is entry `at`
+unfoldable pub member_lines : List (List ℕ) → ℕ → List Member → List ℕ
+member_lines es at [] = []
+member_lines es at (m ∷ ms) = (member_line (length es) at (slice_index_or es at []) m ++ 10 ∷ []) ++ member_lines es (suc at) ms
+
+-- those of all submissions
+unfoldable pub listing_text : List (List ℕ) → List Submission → List Audited → List ℕ
+listing_text es [] audits = []
+listing_text es (s ∷ ss) [] = []
+listing_text es (s ∷ ss) (a ∷ audits) = member_lines es s.first a.members.items ++ listing_text es ss audits
+
+-- ---- law
+
+-- an entry reads and writes just this
+pub record Does (e : List ℕ) (t : Touched) : Type 0 where
+  pub reads : t.reads.items ≡ entry_reads e
+  pub writes : t.writes.items ≡ entry_writes e
+
+-- two operations of the list conflict just where their entries do
+abbrev pub StandInsConflict : Type 0
+StandInsConflict =
+    (count m n : ℕ) (d e : List ℕ) (t u : Touched) (o p : Op) → m ≢ n → m < count → n < count →
+    Does d t → Does e u → op_at d ≡ Some o → op_at e ≡ Some p → is_apart_from_added count t ≡ true → is_apart_from_added count u ≡ true →
+    Conflicts (stand_in m d o) (stand_in n e p) ↔ TouchedConflict t u
+
+-- ---- for private clauses
+
+-- the members of each submission are entries
+abbrev pub AreEntries : List (List ℕ) → List Submission → List Audited → Type 0
+AreEntries es [] [] = Unit
+AreEntries es (s ∷ ss) (a ∷ audits) = (s.first + length a.members.items ≤ length es) × AreEntries es ss audits
+AreEntries es [] (a ∷ audits) = ⊥
+AreEntries es (s ∷ ss) [] = ⊥

@@ -1,0 +1,190 @@
+//! A recording as a list of operations to plan.
+
+ghost use Rattle.std.specs.Prelude.{◌≡◌, ◌≤◌, ◌<◌, ◌^◌, ◌+◌, ◌*◌, ◌++◌, ◌∷◌, [], length, IfOk, OnOk, codes, decimal, string_bytes};
+ghost use Rattle.std.specs.List.{list_all};
+ghost use Rattle.dsa_descriptor.specs.Places.{op_at, pasid_at, privileged_at};
+ghost use Rattle.dsa_lines.specs.Text.{line_text};
+ghost use Rattle.dsa_recording.specs.Listings.{record_in_list, stand_in, is_clear, is_apart_from_added, left_out, operation_line, known_line, member_line, member_lines, listing_text, AreEntries, StandInsConflict};
+
+use crate::report::Report;
+use crate::words::unseen_text;
+use dsa_audit::Member;
+use dsa_descriptor::{Op, Span, op_at, u32_at, u64_at};
+use dsa_ranges::Touched;
+use std::alloc::{AllocError, Global};
+
+/// The address of the first record that an entry gets which requests none.
+const RECORDS: u64 = 1 << 62;
+
+/// The completion record of an entry in a list.
+fn record_in_list(entry: &[u8; 64], number: usize) -> u64
+    requires { number < 2 ^ 58 }
+    ensures { result ≡ record_in_list number entry.now }
+{
+    if u32_at(entry, 4) % (1 << 24) & 0x0c == 0x0c {
+        return u64_at(entry, 8);
+    }
+    RECORDS + 32 * number as u64
+}
+
+/// Whether the span lies below the records that so many entries might get, or behind them.
+fn is_clear(count: usize, span: Span) -> bool
+    requires { count ≤ 2 ^ 58 }
+    ensures { result ≡ is_clear count span }
+{
+    span.end() <= u128::from(RECORDS) || RECORDS + 32 * count as u64 <= span.first
+}
+
+/// Whether all of these spans do.
+fn are_clear(count: usize, spans: &[Span]) -> bool
+    requires { count ≤ 2 ^ 58 }
+    ensures { result ≡ list_all (is_clear count) spans.now }
+{
+    spans.iter().all(|span| is_clear(count, *span))
+}
+
+/// Whether none of these records is touched.
+fn is_apart_from_added(count: usize, touched: &Touched) -> bool
+    requires { count ≤ 2 ^ 58 }
+    ensures { result ≡ is_apart_from_added count touched.now }
+{
+    are_clear(count, &touched.reads) && are_clear(count, &touched.writes)
+}
+
+/// A comment in place of the operation of an entry.
+fn left_out(alloc: Global, number: usize, why: &str) -> Result<String, AllocError>
+    ensures { IfOk result (λ line. string_bytes line ≡ left_out number why.now) }
+{
+    format!(in alloc; "# entry {number}, {why}")
+}
+
+/// The number of the entry behind an operation.
+fn entry_text(alloc: Global, number: usize) -> Result<String, AllocError>
+    ensures { IfOk result (λ text. string_bytes text ≡ codes " # entry " ++ decimal number) }
+{
+    format!(in alloc; " # entry {number}")
+}
+
+/// The operation that stands for an entry, as a line.
+fn stand_in_text(
+    alloc: Global,
+    number: usize,
+    entry: &[u8; 64],
+    op: &Op,
+) -> Result<String, AllocError>
+    requires { number < 2 ^ 58 }
+    ensures { IfOk result (λ line. string_bytes line ≡
+        line_text (stand_in number entry.now op.now)) }
+{
+    let owner = u32_at(entry, 0);
+    let record_at = record_in_list(entry, number);
+    let (pasid, privileged) = (owner % (1 << 20), owner >> 31 == 1);
+    dsa_lines::operation_line(alloc, op, u32_at(entry, 32), record_at, pasid, privileged)
+}
+
+/// The line of the operation of an entry, with the entry's number.
+fn operation_line(
+    alloc: Global,
+    number: usize,
+    entry: &[u8; 64],
+    op: &Op,
+) -> Result<String, AllocError>
+    requires { number < 2 ^ 58 }
+    ensures { IfOk result (λ line. string_bytes line ≡ operation_line number entry.now op.now) }
+{
+    let mut line = stand_in_text(alloc, number, entry, op)?;
+    line.push_str(&entry_text(alloc, number)?)?;
+    Ok(line)
+}
+
+/// The line of an entry that is looked at.
+fn known_line(
+    alloc: Global,
+    count: usize,
+    number: usize,
+    entry: &[u8; 64],
+    touched: &Touched,
+) -> Result<String, AllocError>
+    requires within { number < count }
+    requires few { count ≤ 2 ^ 58 }
+    ensures { IfOk result (λ line. string_bytes line ≡
+        known_line count number entry.now touched.now (op_at entry.now)) }
+{
+    let Some(op) = op_at(entry) else {
+        return left_out(alloc, number, "left out: a no-op");
+    };
+    if is_apart_from_added(count, touched) {
+        return operation_line(alloc, number, entry, &op);
+    }
+    let why = "left out: it touches addresses that this list gives to records";
+    left_out(alloc, number, why)
+}
+
+/// The line of a member, which is the entry of that number, of so many.
+fn member_line(
+    alloc: Global,
+    count: usize,
+    number: usize,
+    entry: &[u8; 64],
+    member: &Member,
+) -> Result<String, AllocError>
+    requires within { number < count }
+    requires few { count ≤ 2 ^ 58 }
+    ensures { IfOk result (λ line. string_bytes line ≡
+        member_line count number entry.now member.now) }
+{
+    match member {
+        Member::Known(touched) => known_line(alloc, count, number, entry, touched),
+        Member::Unknown(why) => {
+            let code = u32_at(entry, 4) >> 24;
+            let words = unseen_text(alloc, *why, code as u8)?;
+            left_out(alloc, number, &words)
+        }
+    }
+}
+
+/// Writes the lines of members, of which the first is entry `first`.
+fn push_members(
+    alloc: Global,
+    text: &mut String,
+    all: &[[u8; 64]],
+    first: usize,
+    members: &[Member],
+) -> Result<(), AllocError>
+    requires within { first + length members.now ≤ length all.now }
+    requires few { length all.now ≤ 2 ^ 58 }
+    ensures { OnOk result (string_bytes text.new ≡
+        string_bytes text.old ++ member_lines all.now first members.now) }
+{
+    for member in 0..members.len() {
+        let number = first + member;
+        let line = member_line(alloc, all.len(), number, &all[number], &members[member])?;
+        text.push_str(&line)?;
+        text.push_str("\n")?;
+    }
+    Ok(())
+}
+
+/// The operations of a report on these entries, as a list to plan.
+pub(crate) fn listing_text(
+    alloc: Global,
+    all: &[[u8; 64]],
+    report: &Report,
+) -> Result<String, AllocError>
+    requires entries { AreEntries all.now report.now.submissions.items report.now.audits.items }
+    requires few { length all.now ≤ 2 ^ 58 }
+    ensures { IfOk result (λ text. string_bytes text ≡
+        listing_text all.now report.now.submissions.items report.now.audits.items) }
+{
+    let mut text = String::new(alloc);
+    for number in 0..report.audits.len() {
+        let first = report.submissions[number].first;
+        push_members(alloc, &mut text, all, first, &report.audits[number].members)?;
+    }
+    Ok(text)
+}
+
+/// Two operations of the list of a recording conflict just where their entries do.
+pub fn stand_ins_conflict()
+    ensures { StandInsConflict }
+{}

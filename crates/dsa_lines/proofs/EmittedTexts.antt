@@ -1,11 +1,11 @@
 -- The bytes that submit a plan are a portal and a staging area.
-use Rattle.std.proofs.Common.{◌≡◌, ℕ, zero, suc, ◌+◌, ◌*◌, ◌/◌, ◌^◌, ◌<◌, ◌≤◌, cond, eqb, inl, inr, List, [], ◌∷◌, ◌++◌, length, get_or, take, drop, refl, sym, ap, subst, ◌∙◌, length-append, arith}
+use Rattle.std.proofs.Common.{◌≡◌, ℕ, zero, suc, ◌+◌, ◌*◌, ◌/◌, ◌^◌, ◌<◌, ◌≤◌, eqb, inl, inr, List, [], ◌∷◌, ◌++◌, length, get_or, take, drop, refl, sym, ap, subst, ◌∙◌, arith}
 use Rattle.std.specs.Prelude.{map, replicate}
-use Rattle.std.specs.List.{AllZip, flat_map}
+use Rattle.std.specs.List.{AllByRecursion, AllZip, concat, flat_map}
 use Rattle.std.proofs.lemmas.Bool.{cases_lt}
-use Rattle.std.proofs.lemmas.List.{get_or_default, length-drop, length-map, length-replicate}
+use Rattle.std.proofs.lemmas.List.{get_or_default, length-drop, length-map, length-replicate, replicate-append-replicate}
 use Rattle.std.proofs.lemmas.List.Concat.{flat_map-append}
-use Rattle.std.proofs.lemmas.List.Sums.{sum_by-cons}
+use Rattle.std.proofs.lemmas.List.Elements.{All-take, All-drop, All-replicate}
 use Rattle.std.proofs.lemmas.Nat.{from_le_bytes-to_le_bytes_8}
 use Rattle.dsa_descriptor.specs.declared.descriptor.Descriptor.{Descriptor}
 use Rattle.dsa_descriptor.specs.Descriptors.{fields}
@@ -17,15 +17,16 @@ use Rattle.dsa_descriptor.proofs.Entries.{length-chunks}
 use Rattle.dsa_settings.specs.Plan.{Group, Plan}
 use Rattle.dsa_settings.specs.Settings.{Limits, AreInLimits}
 use Rattle.dsa_emission.specs.declared.place.Place.{Place}
-use Rattle.dsa_emission.specs.Emission.{is_batch, batched, batch_count, batched_count, place_of, with_fence, batch_spelling, portal_entry, fenced_spelling, staged, joined, portal_bytes, staging_bytes, CanBeEmitted}
+use Rattle.dsa_emission.specs.Emission.{batched, batch_count, batched_count, place_of, with_fence, batch_spelling, portal_entry, fenced_spelling, staged, joined, portal_bytes, staging_bytes, CanBeEmitted}
 use Rattle.dsa_emission.specs.EmissionLaws.{StandsAtPlaces}
 use Rattle.dsa_emission.proofs.AtPlaces.{emission_at_places}
 use Rattle.dsa_emission.proofs.Places.{batch_yes, batch_no, lone_staged, counts_within, placed}
 use Rattle.dsa_emission.proofs.Told.{Fits, batch_entry_is, lone_entry_is, batch_code_told, count_told, group_at, is_group_at, fits_at, staged_at, staged_batch}
 use Rattle.dsa_lines.specs.Portals.{Submission, IsBatchOf, Submits, IsPortal}
 use Rattle.dsa_lines.specs.Portals.Submission.{Batch, Lone}
-use Rattle.dsa_lines.specs.Stagings.{StagedPiece, IsStaging, staged_bytes}
-use Rattle.dsa_lines.proofs.StagingLemmas.{long_pieces}
+use Rattle.dsa_lines.specs.Stagings.{StagedPiece, BeginsRecord, IsEntry, IsRecord, IsStaging, staged_bytes, entry_bytes}
+use Rattle.dsa_lines.specs.Stagings.StagedEntry.{Piece}
+use Rattle.dsa_lines.proofs.StagingLemmas.{piece_or_record}
 
 -- ---- the portal
 
@@ -121,49 +122,55 @@ joined_pieces part (suc n) each =
     let here = each n (omega arith) in
     (before.0 ++ here.0, (λ i. before.1 i ++ here.1 i) ∙ sym (flat_map-append staged_bytes before.0 here.0))
 
--- each batch of a plan has two pieces at least, and no other piece is staged
-batch_sizes : (g : Group) → (2 * cond (is_batch g) 1 0 ≤ batched g) × (0 < batched g → 0 < cond (is_batch g) 1 0)
-batch_sizes g =
-    elim (cases_lt 1 (length g)) [
-      | inl more ↦ rw (batch_yes g more) (omega arith, λ some. omega arith)
-      | inr few ↦ rw (batch_no g (λ more. absurd (omega arith))) (omega arith, λ some. some)
-    ]
+-- pieces are entries, and zeros are records
+piece_entries : (ps : List StagedPiece) → flat_map staged_bytes ps ≡ flat_map entry_bytes (map Piece ps)
+piece_entries [] = refl
+piece_entries (p ∷ ps) = ap (λ (b : List ℕ). staged_bytes p ++ b) (piece_entries ps)
 
-plan_sizes : (plan : Plan) → (2 * batch_count plan ≤ batched_count plan) × (0 < batched_count plan → 0 < batch_count plan)
-plan_sizes [] = (omega arith, λ some. some)
-plan_sizes (g ∷ plan) =
-    let here = batch_sizes g in
-    let later = plan_sizes plan in
-    let batches : batch_count (g ∷ plan) ≡ cond (is_batch g) 1 0 + batch_count plan = sum_by-cons (λ (x : Group). cond (is_batch x) 1 0) g plan in
-    let pieces : batched_count (g ∷ plan) ≡ batched g + batched_count plan = sum_by-cons batched g plan in (
-      omega (arith, here.0, later.0),
-      λ some. elim (cases_lt 0 (batched g)) [
-        | inl more ↦ omega (arith, here.1 more)
-        | inr none ↦ omega (arith, later.1 (omega arith))
-      ],
-    )
+are_entries : (ps : List StagedPiece) → AllByRecursion IsEntry (map Piece ps)
+are_entries [] = tt
+are_entries (p ∷ ps) = (record { shown = refl; no_record = piece_or_record p }, are_entries ps)
 
-staging_there : (s : Limits) (plan : Plan) (ds : List Descriptor) → CanBeEmitted s plan (map fields ds) → StandsAtPlaces s plan ds (portal_bytes s plan (map fields ds)) (staging_bytes plan (map fields ds))
-    → (ps : List StagedPiece) × (batches : ℕ) × IsStaging (staging_bytes plan (map fields ds)) ps batches
-staging_there s plan ds can stands =
+zeros_at : (n i : ℕ) → get_or {A = ℕ} (replicate n 0) i 0 < 256
+zeros_at zero i = omega arith
+zeros_at (suc n) zero = omega arith
+zeros_at (suc n) (suc i) = zeros_at n i
+
+zero_bytes : (n : ℕ) → replicate (32 * n) 0 ≡ concat (replicate n (replicate 32 0))
+zero_bytes zero = refl
+zero_bytes (suc n) =
+    let step : 32 * suc n ≡ 32 + 32 * n = omega arith in
+    ap (λ (k : ℕ). replicate {A = ℕ} k 0) step ∙ sym (replicate-append-replicate {A = ℕ} 32 (32 * n) 0) ∙ ap (λ (b : List ℕ). replicate 32 0 ++ b) (zero_bytes n)
+
+zero_records : (n : ℕ) → AllByRecursion IsRecord (replicate n (replicate 32 0))
+zero_records zero = tt
+zero_records (suc n) = (record { whole = length-replicate {A = ℕ} 32 0; are_bytes = zeros_at 32 }, zero_records n)
+
+zeros_begin : (n : ℕ) → BeginsRecord (concat (replicate n (replicate 32 0)))
+zeros_begin n =
+    subst (λ (b : List ℕ). BeginsRecord b) (zero_bytes n)
+    (All-take (λ byte. byte ≡ 0) 25 (drop 7 (replicate (32 * n) 0)) (All-drop (λ byte. byte ≡ 0) 7 (replicate (32 * n) 0) (All-replicate (λ byte. byte ≡ 0) (32 * n) 0 refl)))
+
+staging_there : (s : Limits) (plan : Plan) (ds : List Descriptor) → CanBeEmitted s plan (map fields ds)
+    → (ps : List StagedPiece) × (batches : ℕ) × IsStaging (staging_bytes plan (map fields ds)) (map Piece ps) (replicate batches (replicate 32 0))
+staging_there s plan ds can =
     let all = joined_pieces (staged_at plan ds) (length plan)
     (λ k lt. let here = group_pieces (place_of plan k) (group_at plan k) ds (fits_at s plan ds can k lt) in (here.0, here.1)) in
-    let whole : staging_bytes plan (map fields ds) ≡ flat_map staged_bytes all.0 ++ replicate (32 * batch_count plan) 0 =
-    ap (λ (b : List ℕ). b ++ replicate (32 * batch_count plan) 0) all.1 in
-    let long : length all.0 ≡ batched_count plan =
-    omega (arith, ap length whole, length-append (flat_map staged_bytes all.0) (replicate (32 * batch_count plan) 0), long_pieces all.0, length-replicate {A = ℕ} (32 * batch_count plan) 0, stands.staging_length) in
-    let sizes = plan_sizes plan in (
+    let entries : joined (staged_at plan ds) (length plan) ≡ flat_map entry_bytes (map Piece all.0) = all.1 ∙ piece_entries all.0 in
+    let records = zero_bytes (batch_count plan) in (
       all.0,
       batch_count plan,
       record {
-        bytes_are = whole;
-        sizes = record { some = λ some. sizes.1 (omega arith); two_each = omega (arith, sizes.0) };
+        bytes_are = λ i. entries i ++ records i;
+        each_entry = are_entries all.0;
+        each_record = zero_records (batch_count plan);
+        first_record = λ two. zeros_begin (batch_count plan);
       },
     )
 
 pub emissions_have_texts : (s : Limits) (plan : Plan) (ds : List Descriptor) → AreInLimits s → CanBeEmitted s plan (map fields ds)
-    → ((ts : List Submission) × IsPortal (portal_bytes s plan (map fields ds)) ts) × ((ps : List StagedPiece) × (batches : ℕ) × IsStaging (staging_bytes plan (map fields ds)) ps batches)
+    → ((ts : List Submission) × IsPortal (portal_bytes s plan (map fields ds)) ts) × ((ps : List StagedPiece) × (batches : ℕ) × IsStaging (staging_bytes plan (map fields ds)) (map Piece ps) (replicate batches (replicate 32 0)))
 emissions_have_texts s plan ds limits can =
     let stands : StandsAtPlaces s plan ds (portal_bytes s plan (map fields ds)) (staging_bytes plan (map fields ds)) =
     (emission_at_places s plan ds (portal_bytes s plan (map fields ds)) (staging_bytes plan (map fields ds)) can).0 (refl, refl) in
-    (portal_there s plan ds (portal_bytes s plan (map fields ds)) (staging_bytes plan (map fields ds)) limits can stands, staging_there s plan ds can stands)
+    (portal_there s plan ds (portal_bytes s plan (map fields ds)) (staging_bytes plan (map fields ds)) limits can stands, staging_there s plan ds can)

@@ -11,5 +11,6 @@ pub mod OneText
 pub mod EmittedLemmas
 pub mod PortalLemmas
 pub mod StagingLemmas
-pub mod StagingFaults
+pub mod StagingTexts
+pub mod StagingAnswers
 pub mod EmittedTexts

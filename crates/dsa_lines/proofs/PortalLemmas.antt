@@ -20,10 +20,11 @@ use Rattle.dsa_descriptor.specs.Lists.{entries}
 use Rattle.dsa_descriptor.specs.Spelling.{spelling}
 use Rattle.dsa_descriptor.proofs.Rules.{first_is_one}
 use Rattle.dsa_descriptor.proofs.Same.{one_spelling, same_descriptor, fault_only}
+use Rattle.dsa_emission.specs.declared.emission_fault.EmissionFault.TheVariants.{PortalLength}
 use Rattle.dsa_emission.specs.EmissionFaults.{is_batch_entry}
 use Rattle.dsa_emission.proofs.Told.{code_told}
 use Rattle.dsa_lines.specs.declared.fault.EmittedFault.{EmittedFault}
-use Rattle.dsa_lines.specs.declared.fault.EmittedFault.TheVariants.{Field, Emission, Memory}
+use Rattle.dsa_lines.specs.declared.fault.EmittedFault.TheVariants.{Memory}
 use Rattle.dsa_lines.specs.Words.{Word, words_of}
 use Rattle.dsa_lines.specs.Numbers.{hex, number_of}
 use Rattle.dsa_lines.specs.Text.{op_words, spaced, text_of, line_text}
@@ -34,7 +35,7 @@ use Rattle.dsa_lines.proofs.WordLemmas.{AreWords, is_word, text_words, both}
 use Rattle.dsa_lines.proofs.NumberLemmas.{hex_word, decimal_word, hex_again, decimal_again, spaced_decimal, digits_word, spaced_digits}
 use Rattle.dsa_lines.proofs.LineLemmas.{is_line, words_line, canonical_is_line}
 use Rattle.dsa_lines.proofs.RoundTrip.{line_spells}
-use Rattle.dsa_lines.proofs.EmittedLemmas.{only_memory, fault_or_memory}
+use Rattle.dsa_lines.proofs.EmittedLemmas.{only_memory, refused_for_length, whole_or_fault}
 
 -- ---- what an entry submits
 
@@ -84,6 +85,13 @@ pub one_portal : (bytes : List ℕ) (ss ts : List Submission) → IsPortal bytes
 one_portal bytes ss ts p q = one_each (entries bytes) ss ts p.each q.each
 
 -- ---- lines
+
+-- bytes of the same digits are the same
+pub one_encoding : (b c : List ℕ) → IsBytes b → IsBytes c → encode_lower b ≡ encode_lower c → b ≡ c
+one_encoding b c b_bytes c_bytes digits =
+    let decoded : ◌≡◌ {A = Result (List ℕ) FromHexError} (Ok b) (Ok c) =
+    sym (decode_of-encode_lower b b_bytes) ∙ ap decode_of digits ∙ decode_of-encode_lower c c_bytes in
+    cc
 
 batch_words_are : (c l r : ℕ) → c < 2 ^ 64 → l < 2 ^ 64 → r < 2 ^ 64 → AreWords (batch_words c l r)
 batch_words_are c l r a b d = (refl, (refl, (decimal_word c a, (refl, (hex_word l b, (refl, (refl, (hex_word r d, tt))))))))
@@ -160,11 +168,14 @@ same_line d e same =
     same_descriptor d e (same_Some (fields d) (fields e)
     (sym (line_spells (fields d) d.listed) ∙ ap (λ (t : List ℕ). fields_of (words_of t)) same ∙ line_spells (fields e) e.listed))
 
+pub other_line : (bytes : List ℕ) (fault : FieldFault) → length bytes ≡ 64 → IsBytes bytes → is_line (text_of (other_words bytes fault)) ≡ true
+other_line bytes fault long are = words_line (other_words bytes fault) (other_words_are bytes fault long are)
+
 submission_line : (bytes : List ℕ) (s : Submission) → Submits bytes s → is_line (submission_text s) ≡ true
 submission_line bytes (Batch c l r) p =
     words_line (batch_words c l r) (batch_words_are c l r (omega (arith, p.count_fits)) p.list_fits p.record_fits)
 submission_line bytes (Lone d) p = canonical_is_line (fields d) d.listed
-submission_line bytes (Other b f) p = words_line (other_words b f) (other_words_are b f p.1.whole p.1.are_bytes)
+submission_line bytes (Other b f) p = other_line b f p.1.whole p.1.are_bytes
 
 -- no canonical line begins as that of other bytes does
 op_known : (op : Op) (size : ℕ) (more : List Word) → get_or (text_of (op_words op size ++ more)) 0 0 ≡ 117 → ⊥
@@ -175,7 +186,7 @@ op_known (ComparePattern src pattern expected) size more = λ e. (let no : ◌�
 op_known (ApplyDelta delta dst record_size) size more = λ e. (let no : ◌≡◌ {A = ℕ} 100 117 = e in absurd (omega arith))
 op_known (Dualcast src dst dst2) size more = λ e. (let no : ◌≡◌ {A = ℕ} 100 117 = e in absurd (omega arith))
 
-no_unknown : (f : Fields) → get_or (line_text f) 0 0 ≡ 117 → ⊥
+pub no_unknown : (f : Fields) → get_or (line_text f) 0 0 ≡ 117 → ⊥
 unfolding line_text
 no_unknown f = op_known f.op f.size _
 
@@ -184,6 +195,12 @@ other_begins b fault t e = ap (λ (x : List ℕ). get_or x 0 0) (sym e)
 
 batch_begins : (c l r : ℕ) (t : List ℕ) → text_of (batch_words c l r) ≡ t → get_or t 0 0 ≡ 98
 batch_begins c l r t e = ap (λ (b : List ℕ). get_or b 0 0) (sym e)
+
+-- other bytes of one line are the same
+pub same_other_bytes : (b c : List ℕ) (f g : FieldFault) → length b ≡ 64 → length c ≡ 64 → IsBytes b → IsBytes c → text_of (other_words b f) ≡ text_of (other_words c g) → b ≡ c
+same_other_bytes b c f g b_long c_long b_bytes c_bytes e =
+    let words : other_words b f ≡ other_words c g = sym (other_read b f b_long b_bytes) ∙ ap words_of e ∙ other_read c g c_long c_bytes in
+    one_encoding b c b_bytes c_bytes (ap (λ (ws : List Word). get_or ws 6 []) words)
 
 same_submission : (bytes other : List ℕ) (s t : Submission) → Submits bytes s → Submits other t → submission_text s ≡ submission_text t → s ≡ t
 same_submission bytes other (Batch c l r) (Batch c' l' r') p q e =
@@ -205,12 +222,7 @@ same_submission bytes other (Other b f) (Batch c l r) p q e =
 same_submission bytes other (Lone d) (Other b f) p q e = absurd (no_unknown (fields d) (other_begins b f (line_text (fields d)) (sym e)))
 same_submission bytes other (Other b f) (Lone d) p q e = absurd (no_unknown (fields d) (other_begins b f (line_text (fields d)) e))
 same_submission bytes other (Other b f) (Other c g) p q e =
-    let words : other_words b f ≡ other_words c g = sym (other_read b f p.1.whole p.1.are_bytes) ∙ ap words_of e ∙ other_read c g q.1.whole q.1.are_bytes in
-    let digits : encode_lower b ≡ encode_lower c = ap (λ (ws : List Word). get_or ws 6 []) words in
-    let decoded : ◌≡◌ {A = Result (List ℕ) FromHexError} (Ok b) (Ok c) =
-    sym (decode_of-encode_lower b p.1.are_bytes) ∙ ap decode_of digits ∙ decode_of-encode_lower c q.1.are_bytes in
-    let same : b ≡ c = cc in
-    same_other b c f g same p.1 q.1
+    same_other b c f g (same_other_bytes b c f g p.1.whole q.1.whole p.1.are_bytes q.1.are_bytes e) p.1 q.1
 
 -- ---- texts
 
@@ -270,19 +282,7 @@ unfolding portal_text
 portal_text_more [] s = append-nil (submission_text s ++ 10 ∷ [])
 portal_text_more (t ∷ ss) s = ap (λ (x : List ℕ). (submission_text t ++ 10 ∷ []) ++ x) (portal_text_more ss s) ∙ sym (append_assoc (submission_text t ++ 10 ∷ []) (portal_text ss) (submission_text s ++ 10 ∷ []))
 
--- ---- faults
-
-portal_or_fault : (bytes : List ℕ) (ss : List Submission) (fault : EmittedFault) → IsPortal bytes ss → fault ≢ Memory → IsFirstPortalFault bytes fault → ⊥
-portal_or_fault bytes ss (Field i fault) p other first = first
-portal_or_fault bytes ss (Emission fault) p other first = first.1 p.whole
-portal_or_fault bytes ss Memory p other first = other refl
-
-one_fault : (bytes : List ℕ) (f g : EmittedFault) → f ≢ Memory → g ≢ Memory → IsFirstPortalFault bytes f → IsFirstPortalFault bytes g → f ≡ g
-one_fault bytes Memory g nf ng p q = absurd (nf refl)
-one_fault bytes (Field i f) g nf ng p q = absurd p
-one_fault bytes (Emission f) Memory nf ng p q = absurd (ng refl)
-one_fault bytes (Emission f) (Emission g) nf ng p q = ap Emission (p.0 ∙ sym q.0)
-one_fault bytes (Emission f) (Field j g) nf ng p q = absurd q
+-- ---- the answer
 
 -- what follows of what was answered
 module _ (A : Type 0) (shown : A → List ℕ) (bytes : List ℕ) where
@@ -291,9 +291,9 @@ module _ (A : Type 0) (shown : A → List ℕ) (bytes : List ℕ) where
 
   pub only_text : (r : Result A EmittedFault) → Answered r → (ss : List Submission) → IsPortal bytes ss → MatchResult r (λ text. shown text ≡ portal_text ss) (λ fault. fault ≡ Memory)
   only_text (Ok text) h ss p = h.0.2 ∙ ap portal_text (one_portal bytes h.0.0 ss h.0.1 p)
-  only_text (Err fault) h ss p = only_memory (IsFirstPortalFault bytes) fault (λ f other first. portal_or_fault bytes ss f p other first) h.1
+  only_text (Err fault) h ss p = only_memory 64 PortalLength bytes fault p.whole h.1
 
   pub refused_text : (r : Result A EmittedFault) → Answered r → (fault : EmittedFault) → fault ≢ Memory → IsFirstPortalFault bytes fault
       → MatchResult r (λ _. ⊥) (λ other. (other ≡ fault) ⊎ (other ≡ Memory))
-  refused_text (Ok text) h fault other first = portal_or_fault bytes h.0.0 fault h.0.1 other first
-  refused_text (Err told) h fault other first = fault_or_memory (IsFirstPortalFault bytes) told fault (one_fault bytes) other h.1 first
+  refused_text (Ok text) h fault other first = whole_or_fault 64 PortalLength bytes fault h.0.1.whole other first
+  refused_text (Err told) h fault other first = refused_for_length 64 PortalLength bytes told fault other h.1 first

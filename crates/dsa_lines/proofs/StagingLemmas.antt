@@ -1,33 +1,32 @@
--- What stands in a staging area, and its text.
-use Rattle.std.proofs.Common.{◌≡◌, ℕ, zero, suc, ◌+◌, ◌*◌, ◌^◌, ◌<◌, Bool, true, false, cond, List, [], ◌∷◌, ◌++◌, length, get_or, take, drop, refl, sym, ap, ◌∙◌, bit_or, append_assoc, length-append, ⊎_elim, arith}
-use Rattle.std.specs.Prelude.{replicate, codes}
-use Rattle.std.specs.List.{flat_map}
-use Rattle.std.proofs.lemmas.Bool.{cases_order}
-use Rattle.std.proofs.lemmas.List.{append-nil, take_at, drop_at, get_or_append_left, get_or-set_other, length-replicate}
+-- What stands in a staging area is determined.
+use Rattle.std.proofs.Common.{◌≡◌, ℕ, ◌*◌, ◌%◌, ◌^◌, ◌<◌, ◌≤◌, Bool, true, false, List, [], ◌∷◌, ◌++◌, length, get_or, take, drop, refl, sym, ap, subst, ◌∙◌, bit_or, append_assoc, length-append, arith}
+use Rattle.std.specs.Prelude.{slice_range}
+use Rattle.std.specs.List.{AllByRecursion, concat, flat_map}
+use Rattle.std.proofs.lemmas.List.{take_at, drop_at, get_or-drop, get_or-take, get_or-set_other, length-take, length-drop, take-append-le, drop-append-le}
 use Rattle.dsa_descriptor.specs.declared.descriptor.Descriptor.{Descriptor}
+use Rattle.dsa_descriptor.specs.declared.fault.FieldFault.{FieldFault}
 use Rattle.dsa_descriptor.specs.declared.op.Op.{Op}
 use Rattle.dsa_descriptor.specs.declared.op.Op.TheVariants.{Move, Fill, Compare, ComparePattern, ApplyDelta, Dualcast}
 use Rattle.dsa_descriptor.specs.Descriptors.{fields}
+use Rattle.dsa_descriptor.specs.Faults.{AreZero, IsFirstFault}
 use Rattle.dsa_descriptor.specs.Fields.{Fields}
 use Rattle.dsa_descriptor.specs.Operands.{code_of}
 use Rattle.dsa_descriptor.specs.Profile.{IsListed}
 use Rattle.dsa_descriptor.specs.Spelling.{spelling}
+use Rattle.dsa_descriptor.proofs.Rules.{first_is_one}
+use Rattle.dsa_descriptor.proofs.Same.{fault_only}
 use Rattle.dsa_emission.specs.Emission.{with_fence}
+use Rattle.dsa_emission.specs.EmissionFaults.{unfenced}
 use Rattle.dsa_emission.proofs.Emitted.{fenced_spelling_set}
+use Rattle.dsa_emission.proofs.Spelt.{told_piece}
 use Rattle.dsa_emission.proofs.Told.{length-fenced_one, one_fenced, unfenced_same}
-use Rattle.dsa_lines.specs.Text.{line_text}
-use Rattle.dsa_lines.specs.Stagings.{StagedPiece, IsStaging, staged_bytes, piece_text, pieces_text, record_text, records_text, staging_text}
-use Rattle.dsa_lines.proofs.LineLemmas.{is_line, line_append, canonical_is_line}
-use Rattle.dsa_lines.proofs.PortalLemmas.{first_line, line_begins, same_line}
+use Rattle.dsa_lines.specs.Stagings.{StagedPiece, StagedEntry, IsNoPiece, Shows, BeginsRecord, IsEntry, IsRecord, IsStaging, staged_bytes, entry_bytes}
+use Rattle.dsa_lines.specs.Stagings.StagedEntry.{Piece, Other}
 
 -- ---- the bytes of a piece
 
 pub long_piece : (p : StagedPiece) → length (staged_bytes p) ≡ 64
 long_piece p = length-fenced_one (fields p.piece) p.fence p.piece.listed
-
-pub long_pieces : (ps : List StagedPiece) → length (flat_map staged_bytes ps) ≡ 64 * length ps
-long_pieces [] = refl
-long_pieces (p ∷ ps) = omega (arith, length-append (staged_bytes p) (flat_map staged_bytes ps), long_piece p, long_pieces ps)
 
 one_piece : (p q : StagedPiece) → staged_bytes p ≡ staged_bytes q → p ≡ q
 one_piece p q e =
@@ -63,129 +62,116 @@ fenced_code true d e =
 pub piece_code : (p : StagedPiece) → get_or (staged_bytes p) 7 0 ≡ 0 → ⊥
 piece_code p e = fenced_code p.fence p.piece e
 
-front_code : (p : StagedPiece) (rest : List ℕ) → get_or (staged_bytes p ++ rest) 7 0 ≡ 0 → ⊥
-front_code p rest e = piece_code p (sym (get_or_append_left (staged_bytes p) rest 0 7 (omega (arith, long_piece p))) ∙ e)
+-- ---- where records begin
 
-zeros_at : (n i : ℕ) → get_or {A = ℕ} (replicate n 0) i 0 ≡ 0
-zeros_at zero i = refl
-zeros_at (suc n) zero = refl
-zeros_at (suc n) (suc i) = zeros_at n i
+-- it is seen by 32 bytes
+begins_front : (a b : List ℕ) → 32 ≤ length a → slice_range (a ++ b) 7 32 ≡ slice_range a 7 32
+begins_front a b long =
+    ap (take 25) (drop-append-le 7 a b (omega arith)) ∙ take-append-le 25 (drop 7 a) b (omega (arith, length-drop 7 a))
+
+pub begins_there : (a b : List ℕ) → 32 ≤ length a → BeginsRecord (a ++ b) → BeginsRecord a
+begins_there a b long h = subst AreZero (begins_front a b long) h
+
+pub begins_before : (a b : List ℕ) → 32 ≤ length a → BeginsRecord a → BeginsRecord (a ++ b)
+begins_before a b long h = subst AreZero (sym (begins_front a b long)) h
+
+-- no piece begins a record
+pub piece_or_record : (p : StagedPiece) → BeginsRecord (staged_bytes p) → ⊥
+piece_or_record p zeros =
+    let bytes = staged_bytes p in
+    let inside : 0 < length (take 25 (drop 7 bytes)) = omega (arith, length-take 25 (drop 7 bytes), length-drop 7 bytes, long_piece p) in
+    piece_code p (sym (get_or-drop 7 bytes 0 0) ∙ sym (get_or-take 25 (drop 7 bytes) 0 0 (omega arith)) ∙ zeros 0 0 inside)
+
+-- ---- entries
+
+pub long_entry : (e : StagedEntry) → IsEntry e → length (entry_bytes e) ≡ 64
+long_entry (Piece p) h = long_piece p
+long_entry (Other bytes fault) h = h.shown.1.whole
+
+pub long_entries : (es : List StagedEntry) → AllByRecursion IsEntry es → length (flat_map entry_bytes es) ≡ 64 * length es
+long_entries [] all = refl
+long_entries (e ∷ es) all = omega (arith, length-append (entry_bytes e) (flat_map entry_bytes es), long_entry e all.0, long_entries es all.1)
+
+-- a piece is no other bytes
+piece_or_other : (p : StagedPiece) (bytes : List ℕ) (fault : FieldFault) → bytes ≡ staged_bytes p → IsNoPiece bytes fault → ⊥
+piece_or_other p bytes fault e none = fault_only (unfenced bytes) fault p.piece none.fault_is (told_piece bytes p.fence p.piece e).1
+
+pub same_other : (b c : List ℕ) (f g : FieldFault) → b ≡ c → IsNoPiece b f → IsNoPiece c g → Other b f ≡ Other c g
+same_other b c f g e p q =
+    let fault : f ≡ g = first_is_one (unfenced b) f g p.fault_is (subst (λ (x : List ℕ). IsFirstFault (unfenced x) g) (sym e) q.fault_is) in
+    λ i. Other (e i) (fault i)
+
+one_entry : (e f : StagedEntry) → IsEntry e → IsEntry f → entry_bytes e ≡ entry_bytes f → e ≡ f
+one_entry (Piece p) (Piece q) h k same = ap Piece (one_piece p q same)
+one_entry (Piece p) (Other c g) h k same = absurd (piece_or_other p c g (sym same) k.shown.1)
+one_entry (Other b f) (Piece q) h k same = absurd (piece_or_other q b f same h.shown.1)
+one_entry (Other b f) (Other c g) h k same = same_other b c f g same h.shown.1 k.shown.1
+
+-- ---- records
+
+pub long_records : (rs : List (List ℕ)) → AllByRecursion IsRecord rs → length (concat rs) ≡ 32 * length rs
+long_records [] all = refl
+long_records (r ∷ rs) all = omega (arith, length-append r (concat rs), all.0.whole, long_records rs all.1)
+
+same_records : (rs ts : List (List ℕ)) → AllByRecursion IsRecord rs → AllByRecursion IsRecord ts → concat rs ≡ concat ts → rs ≡ ts
+same_records [] [] p q e = refl
+same_records [] (t ∷ ts) p q e = absurd (omega (arith, ap length e, long_records (t ∷ ts) q))
+same_records (r ∷ rs) [] p q e = absurd (omega (arith, ap length e, long_records (r ∷ rs) p))
+same_records (r ∷ rs) (t ∷ ts) p q e =
+    let front : r ≡ t = sym (take_at r (concat rs) 32 p.0.whole) ∙ ap (take 32) e ∙ take_at t (concat ts) 32 q.0.whole in
+    let back : concat rs ≡ concat ts = sym (drop_at r (concat rs) 32 p.0.whole) ∙ ap (drop 32) e ∙ drop_at t (concat ts) 32 q.0.whole in
+    let rest : rs ≡ ts = same_records rs ts p.1 q.1 back in
+    λ i. front i ∷ rest i
 
 -- ---- one staging area
 
-no_zeros : (p : StagedPiece) (ps : List StagedPiece) (m n : ℕ) → replicate (32 * m) 0 ≡ flat_map staged_bytes (p ∷ ps) ++ replicate (32 * n) 0 → ⊥
-no_zeros p ps m n e =
-    front_code p (flat_map staged_bytes ps ++ replicate (32 * n) 0)
-    (ap (λ (b : List ℕ). get_or b 7 0) (sym (e ∙ append_assoc (staged_bytes p) (flat_map staged_bytes ps) (replicate (32 * n) 0))) ∙ zeros_at (32 * m) 7)
+-- records are no bytes that begin with an entry
+entry_or_records : (e : StagedEntry) (es : List StagedEntry) (rs : List (List ℕ)) (rest : List ℕ) → IsEntry e → AllByRecursion IsRecord rs → (2 ≤ length rs → BeginsRecord (concat rs))
+    → concat rs ≡ flat_map entry_bytes (e ∷ es) ++ rest → ⊥
+entry_or_records e es rs rest h all begins same =
+    let behind : List ℕ = flat_map entry_bytes es ++ rest in
+    let whole : concat rs ≡ entry_bytes e ++ behind = same ∙ append_assoc (entry_bytes e) (flat_map entry_bytes es) rest in
+    let long = long_entry e h in
+    let two : 2 ≤ length rs = omega (arith, ap length whole, length-append (entry_bytes e) behind, long_records rs all) in
+    h.no_record (begins_there (entry_bytes e) behind (omega arith) (subst BeginsRecord whole (begins two)))
 
-same_staging : (ps qs : List StagedPiece) (m n : ℕ) → flat_map staged_bytes ps ++ replicate (32 * m) 0 ≡ flat_map staged_bytes qs ++ replicate (32 * n) 0 → (ps ≡ qs) × (m ≡ n)
-same_staging [] [] m n e = (refl, omega (arith, ap length e, length-replicate {A = ℕ} (32 * m) 0, length-replicate {A = ℕ} (32 * n) 0))
-same_staging [] (q ∷ qs) m n e = absurd (no_zeros q qs m n e)
-same_staging (p ∷ ps) [] m n e = absurd (no_zeros p ps n m (sym e))
-same_staging (p ∷ ps) (q ∷ qs) m n e =
-    let left : List ℕ = flat_map staged_bytes ps ++ replicate (32 * m) 0 in
-    let right : List ℕ = flat_map staged_bytes qs ++ replicate (32 * n) 0 in
-    let whole : staged_bytes p ++ left ≡ staged_bytes q ++ right =
-    sym (append_assoc (staged_bytes p) (flat_map staged_bytes ps) (replicate (32 * m) 0)) ∙ e ∙ append_assoc (staged_bytes q) (flat_map staged_bytes qs) (replicate (32 * n) 0) in
-    let front : staged_bytes p ≡ staged_bytes q = sym (take_at (staged_bytes p) left 64 (long_piece p)) ∙ ap (take 64) whole ∙ take_at (staged_bytes q) right 64 (long_piece q) in
-    let back : left ≡ right = sym (drop_at (staged_bytes p) left 64 (long_piece p)) ∙ ap (drop 64) whole ∙ drop_at (staged_bytes q) right 64 (long_piece q) in
-    let here : p ≡ q = one_piece p q front in
-    let rest = same_staging ps qs m n back in
-    let later : ps ≡ qs = rest.0 in
+same_staging : (es fs : List StagedEntry) (rs ts : List (List ℕ)) → AllByRecursion IsEntry es → AllByRecursion IsEntry fs → AllByRecursion IsRecord rs → AllByRecursion IsRecord ts
+    → (2 ≤ length rs → BeginsRecord (concat rs)) → (2 ≤ length ts → BeginsRecord (concat ts))
+    → flat_map entry_bytes es ++ concat rs ≡ flat_map entry_bytes fs ++ concat ts → (es ≡ fs) × (rs ≡ ts)
+same_staging [] [] rs ts h k p q r t e = (refl, same_records rs ts p q e)
+same_staging [] (f ∷ fs) rs ts h k p q r t e = absurd (entry_or_records f fs rs (concat ts) k.0 p r e)
+same_staging (x ∷ es) [] rs ts h k p q r t e = absurd (entry_or_records x es ts (concat rs) h.0 q t (sym e))
+same_staging (x ∷ es) (y ∷ fs) rs ts h k p q r t e =
+    let left : List ℕ = flat_map entry_bytes es ++ concat rs in
+    let right : List ℕ = flat_map entry_bytes fs ++ concat ts in
+    let whole : entry_bytes x ++ left ≡ entry_bytes y ++ right =
+    sym (append_assoc (entry_bytes x) (flat_map entry_bytes es) (concat rs)) ∙ e ∙ append_assoc (entry_bytes y) (flat_map entry_bytes fs) (concat ts) in
+    let front : entry_bytes x ≡ entry_bytes y = sym (take_at (entry_bytes x) left 64 (long_entry x h.0)) ∙ ap (take 64) whole ∙ take_at (entry_bytes y) right 64 (long_entry y k.0) in
+    let back : left ≡ right = sym (drop_at (entry_bytes x) left 64 (long_entry x h.0)) ∙ ap (drop 64) whole ∙ drop_at (entry_bytes y) right 64 (long_entry y k.0) in
+    let here : x ≡ y = one_entry x y h.0 k.0 front in
+    let rest = same_staging es fs rs ts h.1 k.1 p q r t back in
+    let later : es ≡ fs = rest.0 in
     (λ i. here i ∷ later i, rest.1)
 
-pub one_staging : (bytes : List ℕ) (ps qs : List StagedPiece) (m n : ℕ) → IsStaging bytes ps m → IsStaging bytes qs n → (ps ≡ qs) × (m ≡ n)
-one_staging bytes ps qs m n p q = same_staging ps qs m n (sym p.bytes_are ∙ q.bytes_are)
+pub one_staging : (bytes : List ℕ) (es fs : List StagedEntry) (rs ts : List (List ℕ)) → IsStaging bytes es rs → IsStaging bytes fs ts → (es ≡ fs) × (rs ≡ ts)
+one_staging bytes es fs rs ts p q =
+    same_staging es fs rs ts p.each_entry q.each_entry p.each_record q.each_record p.first_record q.first_record (sym p.bytes_are ∙ q.bytes_are)
 
--- ---- the line of a piece
+-- a staging area has whole records
+pub whole_staging : (bytes : List ℕ) (es : List StagedEntry) (rs : List (List ℕ)) → IsStaging bytes es rs → length bytes % 32 ≡ 0
+whole_staging bytes es rs h =
+    omega (arith, ap length h.bytes_are, length-append (flat_map entry_bytes es) (concat rs), long_entries es h.each_entry, long_records rs h.each_record)
 
-fenced_line : (fence : Bool) (d : Descriptor) → is_line (cond fence (codes "fence ") [] ++ line_text (fields d)) ≡ true
-fenced_line true d = line_append (codes "fence ") (line_text (fields d)) refl (canonical_is_line (fields d) d.listed)
-fenced_line false d = canonical_is_line (fields d) d.listed
+-- ---- for the loop
 
-fenced_begins : (fence : Bool) (d : Descriptor) → get_or (cond fence (codes "fence ") [] ++ line_text (fields d)) 0 35 ≡ 35 → ⊥
-fenced_begins true d e = let no : ◌≡◌ {A = ℕ} 102 35 = e in absurd (omega arith)
-fenced_begins false d e = (line_begins (fields d)).1 e
+pub all_more : (P : StagedEntry → Type 0) (es : List StagedEntry) (e : StagedEntry) → AllByRecursion P es → P e → AllByRecursion P (es ++ e ∷ [])
+all_more P [] e all here = (here, tt)
+all_more P (f ∷ es) e all here = (all.0, all_more P es e all.1 here)
 
-same_fenced : (a b : Bool) (d e : Descriptor) → cond a (codes "fence ") [] ++ line_text (fields d) ≡ cond b (codes "fence ") [] ++ line_text (fields e) → (a ≡ b) × (d ≡ e)
-same_fenced true true d e same = (refl, same_line d e (ap (drop 6) same))
-same_fenced true false d e same = absurd ((line_begins (fields e)).2 (ap (λ (t : List ℕ). get_or t 3 0) (sym same)))
-same_fenced false true d e same = absurd ((line_begins (fields d)).2 (ap (λ (t : List ℕ). get_or t 3 0) same))
-same_fenced false false d e same = (refl, same_line d e same)
+pub entry_of : (bytes : List ℕ) (e : StagedEntry) → Shows bytes e → bytes ≡ entry_bytes e
+entry_of bytes (Piece p) h = h
+entry_of bytes (Other others fault) h = h.0
 
-same_piece : (p q : StagedPiece) → piece_text p ≡ piece_text q → p ≡ q
-same_piece p q e =
-    let both = same_fenced p.fence q.fence p.piece q.piece e in
-    let fences : p.fence ≡ q.fence = both.0 in
-    let pieces : p.piece ≡ q.piece = both.1 in
-    λ i. record { fence = fences i; piece = pieces i }
-
--- ---- the lines of pieces, with what stands behind them: nothing, or what begins with `#`
-
-begins_more : (a b : List ℕ) → (get_or a 0 35 ≡ 35 → ⊥) → get_or (a ++ b) 0 35 ≡ 35 → ⊥
-begins_more [] b plain e = plain refl
-begins_more (c ∷ cs) b plain e = plain e
-
-no_pieces_there : (q : StagedPiece) (qs : List StagedPiece) (r t : List ℕ) → get_or r 0 35 ≡ 35 → r ≡ pieces_text (q ∷ qs) ++ t → ⊥
-unfolding pieces_text
-no_pieces_there q qs r t mark e =
-    begins_more ((piece_text q ++ 10 ∷ []) ++ pieces_text qs) t
-    (begins_more (piece_text q ++ 10 ∷ []) (pieces_text qs) (begins_more (piece_text q) (10 ∷ []) (fenced_begins q.fence q.piece)))
-    (ap (λ (b : List ℕ). get_or b 0 35) (sym e) ∙ mark)
-
-same_pieces : (ps qs : List StagedPiece) (r t : List ℕ) → get_or r 0 35 ≡ 35 → get_or t 0 35 ≡ 35 → pieces_text ps ++ r ≡ pieces_text qs ++ t → (ps ≡ qs) × (r ≡ t)
-unfolding pieces_text
-same_pieces [] [] r t m n e = (refl, e)
-same_pieces [] (q ∷ qs) r t m n e = absurd (no_pieces_there q qs r t m e)
-same_pieces (p ∷ ps) [] r t m n e = absurd (no_pieces_there p ps t r n (sym e))
-same_pieces (p ∷ ps) (q ∷ qs) r t m n e =
-    let parts = first_line (piece_text p) (piece_text q) (pieces_text ps ++ r) (pieces_text qs ++ t) (fenced_line p.fence p.piece) (fenced_line q.fence q.piece)
-    (sym (append_assoc (piece_text p ++ 10 ∷ []) (pieces_text ps) r) ∙ e ∙ append_assoc (piece_text q ++ 10 ∷ []) (pieces_text qs) t) in
-    let here : p ≡ q = same_piece p q parts.0 in
-    let rest = same_pieces ps qs r t m n parts.1 in
-    let later : ps ≡ qs = rest.0 in
-    (λ i. here i ∷ later i, rest.1)
-
--- ---- the lines of records
-
-mark_append : (a b : List ℕ) → get_or a 0 35 ≡ 35 → get_or b 0 35 ≡ 35 → get_or (a ++ b) 0 35 ≡ 35
-mark_append [] b p q = q
-mark_append (c ∷ cs) b p q = p
-
-mark : (first n : ℕ) → get_or (records_text first n) 0 35 ≡ 35
-mark first zero = refl
-mark first (suc n) = mark_append (records_text first n) (record_text n (first + 32 * n) ++ 10 ∷ []) (mark first n) refl
-
-longer : (first m n : ℕ) → m < n → length (records_text first m) < length (records_text first n)
-longer first m zero lt = absurd (omega arith)
-longer first m (suc n) lt =
-    let all = length-append (records_text first n) (record_text n (first + 32 * n) ++ 10 ∷ []) in
-    let last = length-append (record_text n (first + 32 * n)) (10 ∷ []) in
-    ⊎_elim (λ (e : m ≡ n). let same : length (records_text first m) ≡ length (records_text first n) = ap (λ (k : ℕ). length (records_text first k)) e in omega (arith, all, last, same))
-    (⊎_elim (λ (less : m < n). omega (arith, all, last, longer first m n less)) (λ (more : n < m). absurd (omega arith)))
-    (cases_order m n)
-
-same_records : (first m n : ℕ) → records_text first m ≡ records_text first n → m ≡ n
-same_records first m n e =
-    ⊎_elim (λ (same : m ≡ n). same)
-    (⊎_elim (λ (less : m < n). absurd (omega (arith, longer first m n less, ap length e))) (λ (more : n < m). absurd (omega (arith, longer first n m more, ap length e))))
-    (cases_order m n)
-
-pub one_staging_text : (at : ℕ) (bytes other : List ℕ) (ps qs : List StagedPiece) (m n : ℕ) → IsStaging bytes ps m → IsStaging other qs n → staging_text at ps m ≡ staging_text at qs n
-    → (ps ≡ qs) × (m ≡ n) × (bytes ≡ other)
-one_staging_text at bytes other ps qs m n p q e =
-    let both = same_pieces ps qs (records_text (at + 64 * length ps) m) (records_text (at + 64 * length qs) n) (mark (at + 64 * length ps) m) (mark (at + 64 * length qs) n) e in
-    let pieces : ps ≡ qs = both.0 in
-    let batches : m ≡ n = same_records (at + 64 * length ps) m n (both.1 ∙ ap (λ (rs : List StagedPiece). records_text (at + 64 * length rs) n) (sym pieces)) in
-    (pieces, batches, p.bytes_are ∙ (λ i. flat_map staged_bytes (pieces i) ++ replicate (32 * batches i) 0) ∙ sym q.bytes_are)
-
--- ---- for the loops
-
-pub no_pieces : pieces_text [] ≡ []
-unfolding pieces_text
-no_pieces = refl
-
-pub pieces_more : (ps : List StagedPiece) (p : StagedPiece) → pieces_text (ps ++ p ∷ []) ≡ pieces_text ps ++ (piece_text p ++ 10 ∷ [])
-unfolding pieces_text
-pieces_more [] p = append-nil (piece_text p ++ 10 ∷ [])
-pieces_more (q ∷ ps) p = ap (λ (x : List ℕ). (piece_text q ++ 10 ∷ []) ++ x) (pieces_more ps p) ∙ sym (append_assoc (piece_text q ++ 10 ∷ []) (pieces_text ps) (piece_text p ++ 10 ∷ []))
+pub entry_is_one : (bytes : List ℕ) (e : StagedEntry) → Shows bytes e → (BeginsRecord bytes → ⊥) → IsEntry e
+entry_is_one bytes (Piece p) h none = record { shown = refl; no_record = piece_or_record p }
+entry_is_one bytes (Other others fault) h none = record { shown = (refl, h.1); no_record = λ begins. none (subst BeginsRecord (sym h.0) begins) }

@@ -10,10 +10,11 @@ use Rattle.dsa_descriptor.specs.Faults.{IsFirstFault}
 use Rattle.dsa_descriptor.specs.Lists.{entries}
 use Rattle.dsa_descriptor.specs.Places.{u32_at, u64_at}
 use Rattle.dsa_descriptor.specs.Spelling.{spelling}
+use Rattle.dsa_emission.specs.declared.emission_fault.EmissionFault.{EmissionFault}
 use Rattle.dsa_emission.specs.declared.emission_fault.EmissionFault.TheVariants.{PortalLength}
 use Rattle.dsa_emission.specs.EmissionFaults.{is_batch_entry}
 use Rattle.dsa_lines.specs.declared.fault.EmittedFault.{EmittedFault}
-use Rattle.dsa_lines.specs.declared.fault.EmittedFault.TheVariants.{Field, Emission, Memory}
+use Rattle.dsa_lines.specs.declared.fault.EmittedFault.TheVariants.{Emission, Memory}
 use Rattle.dsa_lines.specs.Words.{Word}
 use Rattle.dsa_lines.specs.Numbers.{hex}
 use Rattle.dsa_lines.specs.Text.{text_of, line_text}
@@ -84,11 +85,13 @@ portal_text (s ∷ ss) = (submission_text s ++ 10 ∷ []) ++ portal_text ss
 
 -- ---- why bytes are no portal
 
--- the only fault: the length. Out of memory is reported once the length is right (this project's choice)
+-- the only fault: the length is no multiple of this. Out of memory is reported once it is (this project's choice)
+abbrev pub IsFirstLengthFault : ℕ → EmissionFault → List ℕ → EmittedFault → Type 0
+IsFirstLengthFault unit wrong bytes (Emission fault) = (fault ≡ wrong) × (length bytes % unit ≢ 0)
+IsFirstLengthFault unit wrong bytes Memory = length bytes % unit ≡ 0
+
 abbrev pub IsFirstPortalFault : List ℕ → EmittedFault → Type 0
-IsFirstPortalFault bytes (Field i fault) = ⊥
-IsFirstPortalFault bytes (Emission fault) = (fault ≡ PortalLength) × (length bytes % 64 ≢ 0)
-IsFirstPortalFault bytes Memory = length bytes % 64 ≡ 0
+IsFirstPortalFault bytes fault = IsFirstLengthFault 64 PortalLength bytes fault
 
 -- ---- laws
 

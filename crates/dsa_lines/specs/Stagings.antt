@@ -1,22 +1,26 @@
--- The text of a staging area.
-use Rattle.std.specs.Prelude.{◌≡◌, ⊤, ℕ, ◌+◌, ◌*◌, ◌%◌, ◌/◌, ◌<◌, ◌≤◌, ◌⊎◌, Bool, List, [], ◌∷◌, ◌++◌, length, take, drop, replicate, codes, decimal, if◌then◌else◌}
-use Rattle.std.specs.List.{flat_map}
+-- The text of a staging area, before a run and after it.
+use Rattle.std.specs.Prelude.{◌≡◌, ℕ, ◌+◌, ◌*◌, ◌/◌, ◌<◌, ◌≤◌, Bool, List, [], ◌∷◌, ◌++◌, length, take, drop, replicate, slice_index, slice_range, codes, decimal, if◌then◌else◌}
+use Rattle.std.specs.List.{AllByRecursion, concat, flat_map}
+use Rattle.std.specs.Simd.{first_chunks}
+use Rattle.std.specs.Str.{bytes_eq}
+use Rattle.hex.specs.Hex.{IsBytes, encode_lower}
 use Rattle.dsa_descriptor.specs.declared.descriptor.Descriptor.{Descriptor}
 use Rattle.dsa_descriptor.specs.declared.fault.FieldFault.{FieldFault}
 use Rattle.dsa_descriptor.specs.Descriptors.{fields}
 use Rattle.dsa_descriptor.specs.Faults.{AreZero, IsFirstFault}
-use Rattle.dsa_descriptor.specs.Lists.{entry}
+use Rattle.dsa_descriptor.specs.Places.{u32_at}
+use Rattle.dsa_descriptor.specs.Records.{layout}
 use Rattle.dsa_descriptor.specs.Spelling.{spelling}
-use Rattle.dsa_emission.specs.declared.emission_fault.EmissionFault.{EmissionFault}
-use Rattle.dsa_emission.specs.declared.emission_fault.EmissionFault.TheVariants.{PortalLength, StagingLength, BatchFields, EntryFence, Entry, RecordBytes, Memory as EmissionMemory}
-use Rattle.dsa_emission.specs.Emission.{with_fence, joined}
-use Rattle.dsa_emission.specs.EmissionFaults.{unfenced, HasZeroRecord}
+use Rattle.dsa_emission.specs.declared.emission_fault.EmissionFault.TheVariants.{StagingLength}
+use Rattle.dsa_emission.specs.Emission.{with_fence}
+use Rattle.dsa_emission.specs.EmissionFaults.{unfenced}
 use Rattle.dsa_lines.specs.declared.fault.EmittedFault.{EmittedFault}
-use Rattle.dsa_lines.specs.declared.fault.EmittedFault.TheVariants.{Field, Emission, Memory}
+use Rattle.dsa_lines.specs.Words.{Word}
 use Rattle.dsa_lines.specs.Numbers.{hex}
-use Rattle.dsa_lines.specs.Text.{line_text}
+use Rattle.dsa_lines.specs.Text.{text_of, line_text}
+use Rattle.dsa_lines.specs.Portals.{IsFirstLengthFault, other_words}
 
--- ---- what stands in a staging area
+-- ---- what stands in a staging area: entries of 64 bytes, and behind them records of 32
 
 -- a piece of a batch: whether it is fenced, and its descriptor
 pub record StagedPiece : Type 0 where
@@ -26,15 +30,50 @@ pub record StagedPiece : Type 0 where
 abbrev pub staged_bytes : StagedPiece → List ℕ
 staged_bytes p = spelling (with_fence p.fence (fields p.piece))
 
--- so many pieces may be those of so many batches: each batch has two at least
-pub record AreBatches (pieces batches : ℕ) : Type 0 where
-  pub some : 0 < pieces → 0 < batches
-  pub two_each : 2 * batches ≤ pieces
+-- an entry: a piece; or other bytes, with the first fault for which they are none
+pub data StagedEntry : Type 0 where
+  Piece : (p : StagedPiece) → StagedEntry
+  Other : (bytes : List ℕ) (fault : FieldFault) → StagedEntry
 
--- the bytes are these pieces, and behind them 32 zero bytes for the record of each batch
-pub record IsStaging (bytes : List ℕ) (pieces : List StagedPiece) (batches : ℕ) : Type 0 where
-  pub bytes_are : bytes ≡ flat_map staged_bytes pieces ++ replicate (32 * batches) 0
-  pub sizes : AreBatches (length pieces) batches
+abbrev pub entry_bytes : StagedEntry → List ℕ
+entry_bytes (Piece p) = staged_bytes p
+entry_bytes (Other bytes fault) = bytes
+
+-- these 64 bytes are no piece: without their fence they are no descriptor, for this fault
+pub record IsNoPiece (bytes : List ℕ) (fault : FieldFault) : Type 0 where
+  pub fault_is : IsFirstFault (unfenced bytes) fault
+  pub whole : length bytes ≡ 64
+  pub are_bytes : IsBytes bytes
+
+-- the 64 bytes are those of the piece, or these others
+abbrev pub Shows : List ℕ → StagedEntry → Type 0
+Shows bytes (Piece p) = bytes ≡ staged_bytes p
+Shows bytes (Other others fault) = (bytes ≡ others) × IsNoPiece others fault
+
+-- The records begin where bytes 7 to 31 are zero, since nothing says how many entries there are (this project's choice). Byte 7
+-- of an entry is its operation code: that of a piece is not 0, and that of a no-op is, which has an address in bytes 8 to 15
+-- where it has a record. Byte 7 of a record is 0 where fewer than 2^24 descriptors have finished. So a no-op without record or
+-- further bytes is taken for a record, and a record with the address of a fault, in bytes 8 to 15, for an entry
+abbrev pub BeginsRecord : List ℕ → Type 0
+BeginsRecord bytes = AreZero (slice_range bytes 7 32)
+
+-- an entry shows what stands there, and begins no record
+pub record IsEntry (e : StagedEntry) : Type 0 where
+  pub shown : Shows (entry_bytes e) e
+  pub no_record : ¬ BeginsRecord (entry_bytes e)
+
+-- the record of a batch is any 32 bytes
+pub record IsRecord (bytes : List ℕ) : Type 0 where
+  pub whole : length bytes ≡ 32
+  pub are_bytes : IsBytes bytes
+
+-- The bytes are these entries, and behind them these records. The first record is known as one, unless it stands alone: then
+-- it is no entry, since fewer than 64 bytes are left
+pub record IsStaging (bytes : List ℕ) (entries : List StagedEntry) (records : List (List ℕ)) : Type 0 where
+  pub bytes_are : bytes ≡ flat_map entry_bytes entries ++ concat records
+  pub each_entry : AllByRecursion IsEntry entries
+  pub each_record : AllByRecursion IsRecord records
+  pub first_record : 2 ≤ length records → BeginsRecord (concat records)
 
 -- ---- its text
 
@@ -42,101 +81,90 @@ pub record IsStaging (bytes : List ℕ) (pieces : List StagedPiece) (batches : �
 abbrev pub piece_text : StagedPiece → List ℕ
 piece_text p = (if p.fence then codes "fence " else []) ++ line_text (fields p.piece)
 
-unfoldable pub pieces_text : List StagedPiece → List ℕ
-pieces_text [] = []
-pieces_text (p ∷ ps) = (piece_text p ++ 10 ∷ []) ++ pieces_text ps
+-- other bytes have the line that they have in a portal
+abbrev pub entry_text : StagedEntry → List ℕ
+entry_text (Piece p) = piece_text p
+entry_text (Other bytes fault) = text_of (other_words bytes fault)
 
--- the line of the record of a batch, which stands at this address
-abbrev pub record_text : ℕ → ℕ → List ℕ
-record_text batch address = codes "# record " ++ (decimal batch ++ (codes " at " ++ hex address))
+-- a line for each entry
+unfoldable pub entries_text : List StagedEntry → List ℕ
+entries_text [] = []
+entries_text (e ∷ es) = (entry_text e ++ 10 ∷ []) ++ entries_text es
 
--- the lines of the records of so many batches, of which the first stands at this address
-abbrev pub records_text : ℕ → ℕ → List ℕ
-records_text first batches = joined (λ batch. record_text batch (first + 32 * batch) ++ 10 ∷ []) batches
+-- the record that the device writes for a batch: its status, and how many of its descriptors have finished (linux/idxd.h,
+-- struct dsa_completion_record: status in byte 0, descs_completed in bytes 4 to 7); other bytes are 0
+abbrev pub written_record : ℕ → ℕ → List ℕ
+written_record status finished = layout (record { status = status; result = 0; bytes_completed = finished })
 
--- the text of a staging area at this address: its pieces, and then its records
-abbrev pub staging_text : ℕ → List StagedPiece → ℕ → List ℕ
-staging_text at pieces batches = pieces_text pieces ++ records_text (at + 64 * length pieces) batches
+abbrev pub status_at : List ℕ → ℕ
+status_at bytes = slice_index bytes 0
+
+abbrev pub finished_at : List ℕ → ℕ
+finished_at bytes = u32_at 4 bytes
+
+-- a record has its status and how many have finished, and nothing else
+abbrev pub is_plain : List ℕ → Bool
+is_plain bytes = bytes_eq bytes (written_record (status_at bytes) (finished_at bytes))
+
+-- all bytes of a record, where it has more than its status and how many have finished
+abbrev pub more_words : List ℕ → List Word
+more_words bytes = if is_plain bytes then [] else codes "," ∷ codes "32" ∷ codes "bytes" ∷ encode_lower bytes ∷ []
+
+-- what stands in a record that was written
+abbrev pub written_words : List ℕ → List Word
+written_words bytes =
+    codes ":" ∷ codes "status" ∷ decimal (status_at bytes) ∷ codes "," ∷ decimal (finished_at bytes) ∷ codes "finished" ∷ more_words bytes
+
+-- nothing of a record that is all zero, as it is before a run
+abbrev pub written_text : List ℕ → List ℕ
+written_text bytes = if bytes_eq bytes (replicate 32 0) then [] else text_of (written_words bytes)
+
+-- the batch of a record, and the address of the record
+abbrev pub record_place : ℕ → ℕ → List ℕ
+record_place batch address = codes "# record " ++ (decimal batch ++ (codes " at " ++ hex address))
+
+-- the line of the record of a batch
+abbrev pub record_text : ℕ → ℕ → List ℕ → List ℕ
+record_text batch address bytes = record_place batch address ++ written_text bytes
+
+-- a line for each record, of which the first is that of this batch and stands at this address
+unfoldable pub records_text : ℕ → ℕ → List (List ℕ) → List ℕ
+records_text batch address [] = []
+records_text batch address (r ∷ rs) = (record_text batch address r ++ 10 ∷ []) ++ records_text (batch + 1) (address + 32) rs
+
+-- the text of a staging area at this address: its entries, and then its records
+abbrev pub staging_text : ℕ → List StagedEntry → List (List ℕ) → List ℕ
+staging_text at entries records = entries_text entries ++ records_text 0 (at + 64 * length entries) records
 
 -- ---- why bytes are no staging area
 
--- an entry that begins so is no piece, but the record of the first batch (this project's choice)
-abbrev pub BeginsRecord : List ℕ → Type 0
-BeginsRecord bytes = AreZero (take 32 bytes)
-
-abbrev pub IsPiece : List ℕ → Type 0
-IsPiece bytes = (p : StagedPiece) × (bytes ≡ staged_bytes p)
-
--- so many entries are pieces, and behind them begins a record, or no entry is left
-pub record PiecesEndAt (bytes : List ℕ) (number : ℕ) : Type 0 where
-  pub inside : number ≤ length bytes / 64
-  pub before : (i : ℕ) → i < number → IsPiece (entry bytes i)
-  pub ends : number < length bytes / 64 → BeginsRecord (entry bytes number)
-
--- entry i is the first that is no piece, for this fault of what it is without its fence, though no record begins there
-pub record IsFirstWrongPiece (bytes : List ℕ) (i : ℕ) (fault : FieldFault) : Type 0 where
-  pub inside : i < length bytes / 64
-  pub before : (j : ℕ) → j < i → IsPiece (entry bytes j)
-  pub no_record : ¬ BeginsRecord (entry bytes i)
-  pub fault_is : IsFirstFault (unfenced (entry bytes i)) fault
-
--- there are whole records behind the pieces
-abbrev pub AreWhole : List ℕ → Type 0
-AreWhole records = length records % 32 ≡ 0
-
--- the first fault of what stands behind so many pieces: no whole records, the first record that isn't zero, and how many
--- they are
-abbrev pub IsFirstRecordsFault : ℕ → List ℕ → EmissionFault → Type 0
-IsFirstRecordsFault pieces records PortalLength = ⊥
-IsFirstRecordsFault pieces records StagingLength =
-    ¬ AreWhole records
-    ⊎ (AreWhole records × ((k : ℕ) → k < length records / 32 → HasZeroRecord records k) × ¬ AreBatches pieces (length records / 32))
-IsFirstRecordsFault pieces records (BatchFields group) = ⊥
-IsFirstRecordsFault pieces records (EntryFence group) = ⊥
-IsFirstRecordsFault pieces records (Entry index cause) = ⊥
-IsFirstRecordsFault pieces records (RecordBytes batch) =
-    AreWhole records × (batch < length records / 32) × ((k : ℕ) → k < batch → HasZeroRecord records k)
-    × ¬ HasZeroRecord records batch
-IsFirstRecordsFault pieces records EmissionMemory = ⊥
-
--- the first fault: the first wrong piece, else that of what stands behind the pieces. Out of memory may be reported
--- before either (this project's choice)
 abbrev pub IsFirstStagingFault : List ℕ → EmittedFault → Type 0
-IsFirstStagingFault bytes (Field i fault) = IsFirstWrongPiece bytes i fault
-IsFirstStagingFault bytes (Emission fault) =
-    (pieces : ℕ) × PiecesEndAt bytes pieces × IsFirstRecordsFault pieces (drop (64 * pieces) bytes) fault
-IsFirstStagingFault bytes Memory = ⊤
+IsFirstStagingFault bytes fault = IsFirstLengthFault 32 StagingLength bytes fault
 
 -- ---- laws
 
 -- what stands in a staging area is determined, so it has one text at each address
 abbrev pub OneStagingShown : Type 0
 OneStagingShown =
-    (bytes : List ℕ) (ps qs : List StagedPiece) (m n : ℕ) → IsStaging bytes ps m → IsStaging bytes qs n →
-    (ps ≡ qs) × (m ≡ n)
+    (bytes : List ℕ) (es fs : List StagedEntry) (rs ts : List (List ℕ)) → IsStaging bytes es rs → IsStaging bytes fs ts →
+    (es ≡ fs) × (rs ≡ ts)
 
--- at one address, staging areas of one text have the same pieces and batches, and so the same bytes
+-- at one address, staging areas of one text have the same entries and records, and so the same bytes
 abbrev pub OneStagingText : Type 0
 OneStagingText =
-    (at : ℕ) (bytes other : List ℕ) (ps qs : List StagedPiece) (m n : ℕ) → IsStaging bytes ps m → IsStaging other qs n →
-    staging_text at ps m ≡ staging_text at qs n → (ps ≡ qs) × (m ≡ n) × (bytes ≡ other)
+    (at : ℕ) (bytes other : List ℕ) (es fs : List StagedEntry) (rs ts : List (List ℕ)) → IsStaging bytes es rs →
+    IsStaging other fs ts → staging_text at es rs ≡ staging_text at fs ts → (es ≡ fs) × (rs ≡ ts) × (bytes ≡ other)
 
 -- ---- for private clauses
 
--- why an entry of this number has no line
-abbrev pub StopsPiece : ℕ → List ℕ → EmittedFault → Type 0
-StopsPiece number bytes (Field i fault) = (i ≡ number) × IsFirstFault (unfenced bytes) fault
-StopsPiece number bytes (Emission fault) = ⊥
-StopsPiece number bytes Memory = ⊤
+-- the records that the bytes hold
+abbrev pub records_of : List ℕ → List (List ℕ)
+records_of bytes = first_chunks 32 (length bytes / 32) bytes
 
--- why no pieces are written
-abbrev pub StopsPieces : List ℕ → EmittedFault → Type 0
-StopsPieces bytes (Field i fault) = IsFirstWrongPiece bytes i fault
-StopsPieces bytes (Emission fault) = ⊥
-StopsPieces bytes Memory = ⊤
-
--- so many entries are these pieces, which end there
-pub record ArePieces (bytes : List ℕ) (number : ℕ) (pieces : List StagedPiece) : Type 0 where
-  pub count : length pieces ≡ number
-  pub bytes_are : take (64 * number) bytes ≡ flat_map staged_bytes pieces
-  pub ends : PiecesEndAt bytes number
+-- so many entries are these, and behind them the records begin, or no entry is left
+pub record AreEntries (bytes : List ℕ) (number : ℕ) (entries : List StagedEntry) : Type 0 where
+  pub count : length entries ≡ number
+  pub inside : number ≤ length bytes / 64
+  pub bytes_are : take (64 * number) bytes ≡ flat_map entry_bytes entries
+  pub each : AllByRecursion IsEntry entries
+  pub ends : number < length bytes / 64 → BeginsRecord (drop (64 * number) bytes)

@@ -111,12 +111,10 @@ impl From<AllocError> for TextFault {
     }
 }
 
-/// Why bytes are no portal, or no staging area. Entries and batches are numbered from 0.
+/// Why bytes are no portal, or no staging area.
 #[derive(Clone, Copy, Debug, PartialEq, Eq)]
 pub enum EmittedFault {
-    /// The entry of this number is no listed descriptor.
-    Field(usize, FieldFault),
-    /// The length of a portal, or what stands behind the pieces of a staging area.
+    /// The length of a portal or a staging area.
     Emission(EmissionFault),
     /// A growth of memory was refused.
     Memory,

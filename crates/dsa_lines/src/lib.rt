@@ -16,6 +16,7 @@ mod portal;
 mod portal_laws;
 mod reading;
 mod recording;
+mod staged_record;
 mod staging;
 mod staging_laws;
 mod words;

@@ -45,7 +45,11 @@ fn other_front(alloc: Global, code: u8, fault: FieldFault) -> Result<String, All
 }
 
 /// The line of other bytes.
-fn other_text(alloc: Global, entry: &[u8; 64], fault: FieldFault) -> Result<String, AllocError>
+pub(crate) fn other_text(
+    alloc: Global,
+    entry: &[u8; 64],
+    fault: FieldFault,
+) -> Result<String, AllocError>
     ensures { IfOk result (λ line. string_bytes line ≡ text_of (other_words entry.now fault)) }
 {
     let mut line = other_front(alloc, entry[7], fault)?;

@@ -2,14 +2,14 @@
 
 ghost use Rattle.dsa_lines.specs.Stagings.{OneStagingShown, OneStagingText};
 
-/// The pieces and batches of a staging area are determined, so it has one text at each address.
+/// The entries and records of a staging area are determined, so it has one text at each address.
 #[tactic(auto, using(crate::proofs::StagingLemmas::one_staging))]
 pub fn one_staging_shown()
     ensures { OneStagingShown }
 {}
 
-/// At one address, staging areas of one text have the same pieces and batches, and so the same bytes.
-#[tactic(auto, using(crate::proofs::StagingLemmas::one_staging_text))]
+/// At one address, staging areas of one text have the same entries and records, and so the same bytes.
+#[tactic(auto, using(crate::proofs::StagingTexts::one_staging_text))]
 pub fn one_staging_text()
     ensures { OneStagingText }
 {}

@@ -2,7 +2,6 @@
 
 use crate::answer::Answer;
 use dsa_calls::PlanFault;
-use dsa_descriptor::ListFault;
 use dsa_lines::EmittedFault;
 use std::alloc::{AllocError, Global};
 
@@ -17,7 +16,6 @@ pub fn disassemble_list(alloc: Global, list: &[u8]) -> Result<Answer, AllocError
 /// The cause why bytes are no portal or no staging area.
 fn cause_of(fault: EmittedFault) -> PlanFault {
     match fault {
-        EmittedFault::Field(number, fault) => PlanFault::List(ListFault::Field(number, fault)),
         EmittedFault::Emission(fault) => PlanFault::Emission(fault),
         EmittedFault::Memory => PlanFault::Memory,
     }
@@ -36,7 +34,7 @@ pub fn disassemble_portal(alloc: Global, portal: &[u8]) -> Result<Answer, AllocE
     answer_of(alloc, dsa_lines::disassemble_portal(alloc, portal))
 }
 
-/// The text of a staging area at an address: a line for each piece and each record. The address is a multiple of 64 and at
+/// The text of a staging area at an address: a line for each entry and each record. The address is a multiple of 64 and at
 /// most 2^63, as that of settings is.
 pub fn disassemble_staging(alloc: Global, staging: &[u8], at: u64) -> Result<Answer, AllocError> {
     if at % 64 != 0 || at > 1 << 63 {

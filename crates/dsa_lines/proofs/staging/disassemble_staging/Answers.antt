@@ -1,5 +1,5 @@
 use Rattle.std.specs.Prelude.{string_bytes}
-use Rattle.dsa_lines.proofs.StagingFaults.{only_text, refused_text}
+use Rattle.dsa_lines.proofs.StagingAnswers.{only_text, refused_text}
 use Rattle.dsa_lines.proofs.staging.disassemble_staging.Goals as goal
 
 pub returns-clause-only : goal.returns-clause-only

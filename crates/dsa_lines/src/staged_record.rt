@@ -1,0 +1,117 @@
+//! The text of the records behind the entries of a staging area.
+
+ghost use Rattle.std.specs.Prelude.{◌≡◌, ◌+◌, ◌^◌, ◌<◌, ◌++◌, ◌∷◌, [], length, replicate, IfOk, OnOk, codes, decimal, string_bytes};
+ghost use Rattle.std.specs.Str.{bytes_eq};
+ghost use Rattle.dsa_lines.specs.Stagings.{finished_at, is_plain, record_place, record_text, records_of, records_text, written_words};
+ghost use Rattle.dsa_lines.specs.Text.{text_of};
+
+use crate::portal::push_line;
+use dsa_descriptor::Record;
+use std::alloc::{AllocError, Global};
+
+/// Whether the record is all zero.
+fn is_zero(bytes: &[u8; 32]) -> bool
+    ensures { result ≡ bytes_eq bytes.now (replicate 32 0) }
+{
+    *bytes == [0; 32]
+}
+
+/// How many descriptors of the batch have finished.
+#[tactic(auto, unfolding(dsa_descriptor::specs::Places::u32_at))]
+fn finished_at(bytes: &[u8; 32]) -> u32
+    ensures { result ≡ finished_at bytes.now }
+{
+    u32::from_le_bytes([bytes[4], bytes[5], bytes[6], bytes[7]])
+}
+
+/// Whether the record has its status and how many have finished, and nothing else.
+fn is_plain(bytes: &[u8; 32]) -> bool
+    ensures { result ≡ is_plain bytes.now }
+{
+    let plain = Record {
+        status: bytes[0],
+        result: 0,
+        bytes_completed: finished_at(bytes),
+    };
+    *bytes == plain.bytes()
+}
+
+/// The batch of a record, and the address of the record.
+fn record_place(alloc: Global, batch: usize, address: u64) -> Result<String, AllocError>
+    ensures { IfOk result (λ line. string_bytes line ≡ record_place batch address) }
+{
+    format!(in alloc; "# record {batch} at 0x{address:x}")
+}
+
+/// The status of a record, and how many have finished.
+fn status_text(alloc: Global, status: u8, finished: u32) -> Result<String, AllocError>
+    ensures { IfOk result (λ text. string_bytes text ≡ codes ": status " ++
+        (decimal status ++ (codes ", " ++ (decimal finished ++ codes " finished")))) }
+{
+    format!(in alloc; ": status {status}, {finished} finished")
+}
+
+/// What stands in a record that was written.
+fn written_text(alloc: Global, bytes: &[u8; 32]) -> Result<String, AllocError>
+    ensures { IfOk result (λ text. string_bytes text ≡ text_of (written_words bytes.now)) }
+{
+    let mut text = status_text(alloc, bytes[0], finished_at(bytes))?;
+    if is_plain(bytes) {
+        return Ok(text);
+    }
+    let digits = hex::encode(alloc, *bytes)?;
+    text.push_str(", 32 bytes ")?;
+    text.push_str(&digits)?;
+    Ok(text)
+}
+
+/// The line of the record of a batch.
+fn record_text(
+    alloc: Global,
+    batch: usize,
+    address: u64,
+    bytes: &[u8; 32],
+) -> Result<String, AllocError>
+    ensures { IfOk result (λ line. string_bytes line ≡ record_text batch address bytes.now) }
+{
+    let mut line = record_place(alloc, batch, address)?;
+    if is_zero(bytes) {
+        return Ok(line);
+    }
+    let written = written_text(alloc, bytes)?;
+    line.push_str(&written)?;
+    Ok(line)
+}
+
+/// Writes the line of the record of a batch at the end.
+fn push_record(
+    alloc: Global,
+    text: &mut String,
+    batch: usize,
+    address: u64,
+    bytes: &[u8; 32],
+) -> Result<(), AllocError>
+    ensures { OnOk result (string_bytes text.new ≡
+        string_bytes text.old ++ (record_text batch address bytes.now ++ 10 ∷ [])) }
+{
+    let line = record_text(alloc, batch, address, bytes)?;
+    push_line(text, &line)
+}
+
+/// Writes the lines of the records at the end, of which the first stands at this address.
+pub(crate) fn push_records(
+    alloc: Global,
+    text: &mut String,
+    records: &[u8],
+    first: u64,
+) -> Result<(), AllocError>
+    requires { first + length records.now < 2 ^ 64 }
+    ensures { OnOk result (string_bytes text.new ≡
+        string_bytes text.old ++ records_text 0 first (records_of records.now)) }
+{
+    let (all, _) = records.as_chunks::<32>();
+    for (batch, bytes) in all.iter().enumerate() {
+        push_record(alloc, text, batch, first + 32 * batch as u64, bytes)?;
+    }
+    Ok(())
+}

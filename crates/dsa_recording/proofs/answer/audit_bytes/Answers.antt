@@ -4,11 +4,11 @@ use Rattle.dsa_recording.proofs.Status.{reported}
 use Rattle.dsa_recording.proofs.Summed.{has_sums}
 use Rattle.dsa_recording.proofs.answer.audit_bytes.Goals as goal
 
-pub answer_report-requires-sums : goal.answer_report-requires-sums
-answer_report-requires-sums c = has_sums c.args.bytes.now c.in-Ok.report c.in-Ok.ensures.answer (omega arith)
+pub answer_report-requires-clause-sums : goal.answer_report-requires-clause-sums
+answer_report-requires-clause-sums c = has_sums c.args.bytes.now c.in-Ok.report c.in-Ok.ensures.answer (omega arith)
 
-pub answer_report-requires-entries : goal.answer_report-requires-entries
-answer_report-requires-entries c = report_entries c.args.bytes.now c.as_chunks.result.0.now c.in-Ok.report c.as_chunks.ensures.front c.in-Ok.ensures.answer
+pub answer_report-requires-clause-entries : goal.answer_report-requires-clause-entries
+answer_report-requires-clause-entries c = report_entries c.args.bytes.now c.as_chunks.result.0.now c.in-Ok.report c.as_chunks.ensures.front c.in-Ok.ensures.answer
 
 pub returns-in-Ok : goal.returns-in-Ok
 returns-in-Ok c =

@@ -14,3 +14,4 @@ pub mod StagingLemmas
 pub mod StagingTexts
 pub mod StagingAnswers
 pub mod EmittedTexts
+pub mod ReadAgain

@@ -96,7 +96,7 @@ one_encoding b c b_bytes c_bytes digits =
 batch_words_are : (c l r : ℕ) → c < 2 ^ 64 → l < 2 ^ 64 → r < 2 ^ 64 → AreWords (batch_words c l r)
 batch_words_are c l r a b d = (refl, (refl, (decimal_word c a, (refl, (hex_word l b, (refl, (refl, (hex_word r d, tt))))))))
 
-batch_read : (c l r : ℕ) → c < 2 ^ 64 → l < 2 ^ 64 → r < 2 ^ 64 → words_of (text_of (batch_words c l r)) ≡ batch_words c l r
+pub batch_read : (c l r : ℕ) → c < 2 ^ 64 → l < 2 ^ 64 → r < 2 ^ 64 → words_of (text_of (batch_words c l r)) ≡ batch_words c l r
 batch_read c l r a b d =
     let are = batch_words_are c l r a b d in
     text_words 98 (codes "atch") (codes "of" ∷ decimal c ∷ codes "at" ∷ hex l ∷ codes "," ∷ codes "record" ∷ hex r ∷ []) refl are.1
@@ -171,7 +171,7 @@ same_line d e same =
 pub other_line : (bytes : List ℕ) (fault : FieldFault) → length bytes ≡ 64 → IsBytes bytes → is_line (text_of (other_words bytes fault)) ≡ true
 other_line bytes fault long are = words_line (other_words bytes fault) (other_words_are bytes fault long are)
 
-submission_line : (bytes : List ℕ) (s : Submission) → Submits bytes s → is_line (submission_text s) ≡ true
+pub submission_line : (bytes : List ℕ) (s : Submission) → Submits bytes s → is_line (submission_text s) ≡ true
 submission_line bytes (Batch c l r) p =
     words_line (batch_words c l r) (batch_words_are c l r (omega (arith, p.count_fits)) p.list_fits p.record_fits)
 submission_line bytes (Lone d) p = canonical_is_line (fields d) d.listed

@@ -19,10 +19,10 @@ use Rattle.dsa_lines.proofs.FlagLemmas.{flags_again, carried_again, carried_fit}
 
 -- ---- numbers and operations
 
-hex_at : (n most : ℕ) (ws : List Word) → n < 2 ^ 64 → n ≤ most → number_at most (hex n ∷ ws) ≡ Some (n, ws)
+pub hex_at : (n most : ℕ) (ws : List Word) → n < 2 ^ 64 → n ≤ most → number_at most (hex n ∷ ws) ≡ Some (n, ws)
 hex_at n most ws lt le = rw (hex_again n lt, le-leb _ _ le) refl
 
-decimal_at : (n most : ℕ) (ws : List Word) → n < 2 ^ 64 → n ≤ most → number_at most (decimal n ∷ ws) ≡ Some (n, ws)
+pub decimal_at : (n most : ℕ) (ws : List Word) → n < 2 ^ 64 → n ≤ most → number_at most (decimal n ∷ ws) ≡ Some (n, ws)
 decimal_at n most ws lt le = rw (decimal_again n lt, le-leb _ _ le) refl
 
 pattern_here : (n : ℕ) (ws : List Word) → n < 2 ^ 64 → pattern_at (pattern_word n ∷ ws) ≡ Some (n, ws)

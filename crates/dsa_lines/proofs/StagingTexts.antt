@@ -25,7 +25,7 @@ use Rattle.dsa_lines.proofs.StagingLemmas.{same_other}
 
 -- ---- the line of an entry
 
-fenced_line : (fence : Bool) (d : Descriptor) → is_line (cond fence (codes "fence ") [] ++ line_text (fields d)) ≡ true
+pub fenced_line : (fence : Bool) (d : Descriptor) → is_line (cond fence (codes "fence ") [] ++ line_text (fields d)) ≡ true
 fenced_line true d = line_append (codes "fence ") (line_text (fields d)) refl (canonical_is_line (fields d) d.listed)
 fenced_line false d = canonical_is_line (fields d) d.listed
 
@@ -146,7 +146,7 @@ same_written true false r t p q x y e = absurd cc
 same_written false true r t p q x y e = absurd cc
 same_written false false r t p q x y e = same_words r t p q (sym (written_read r p) ∙ ap words_of e ∙ written_read t q)
 
-written_line : (b : Bool) (r : List ℕ) → IsRecord r → is_line (cond b [] (text_of (written_words r))) ≡ true
+pub written_line : (b : Bool) (r : List ℕ) → IsRecord r → is_line (cond b [] (text_of (written_words r))) ≡ true
 written_line true r h = refl
 written_line false r h = words_line (written_words r) (written_are r h)
 

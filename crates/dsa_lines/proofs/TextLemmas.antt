@@ -43,7 +43,7 @@ line_by true c cs rest e p so_far = let no : false ≡ true = rw e at p in absur
 line_by false c cs rest e p so_far = rw e (ap (with_byte c) so_far)
 
 -- a line and a newline stand first
-line_first : (line rest : List ℕ) → is_line line ≡ true → lines_of (line ++ (10 ∷ rest)) ≡ line ∷ lines_of rest
+pub line_first : (line rest : List ℕ) → is_line line ≡ true → lines_of (line ++ (10 ∷ rest)) ≡ line ∷ lines_of rest
 unfolding lines_of
 line_first [] rest e = refl
 line_first (c ∷ cs) rest e = line_by (c == 10) c cs rest refl e (line_first cs rest (both (not (c == 10)) (is_line cs) e).1)

@@ -104,7 +104,7 @@ both true d e = (refl, e)
 both false d e = absurd cc
 
 -- a word ends where its bytes do
-word_then : (c : ℕ) (cs rest : List ℕ) → is_in_word c ≡ true → all_in cs ≡ true → goes_on rest ≡ false → words_of (c ∷ (cs ++ rest)) ≡ (c ∷ cs) ∷ words_of rest
+pub word_then : (c : ℕ) (cs rest : List ℕ) → is_in_word c ≡ true → all_in cs ≡ true → goes_on rest ≡ false → words_of (c ∷ (cs ++ rest)) ≡ (c ∷ cs) ∷ words_of rest
 word_then c [] rest e all ends = word_byte c rest e ∙ rw ends refl
 word_then c (d ∷ ds) rest e all ends =
     let p = both (is_in_word d) (all_in ds) all in
@@ -123,7 +123,7 @@ comma_then : (rest : List ℕ) → words_of (44 ∷ rest) ≡ (44 ∷ []) ∷ wo
 unfolding words_in
 comma_then rest = refl
 
-blank_then : (rest : List ℕ) → words_of (32 ∷ rest) ≡ words_of rest
+pub blank_then : (rest : List ℕ) → words_of (32 ∷ rest) ≡ words_of rest
 unfolding words_in
 blank_then rest = refl
 

@@ -11,3 +11,4 @@ pub mod Recordings
 pub mod Portals
 pub mod Stagings
 pub mod EmittedTexts
+pub mod ReadAgain

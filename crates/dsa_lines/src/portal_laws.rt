@@ -1,6 +1,7 @@
 //! Laws of the texts of portals. Each function is a law: its body is empty, and its clause is what the proof shows.
 
 ghost use Rattle.dsa_lines.specs.Portals.{OnePortalShown, OnePortalText};
+ghost use Rattle.dsa_lines.specs.ReadAgain.{PortalTextIsRead};
 
 /// What a portal submits is determined, so it has one text.
 #[tactic(auto, using(crate::proofs::PortalLemmas::one_portal))]
@@ -12,4 +13,10 @@ pub fn one_portal_shown()
 #[tactic(auto, using(crate::proofs::PortalLemmas::one_text))]
 pub fn one_portal_text()
     ensures { OnePortalText }
+{}
+
+/// The text of a portal is read again as its lone descriptors, where each entry is a batch or a descriptor.
+#[tactic(auto, using(crate::proofs::ReadAgain::portal_is_read))]
+pub fn portal_text_is_read()
+    ensures { PortalTextIsRead }
 {}

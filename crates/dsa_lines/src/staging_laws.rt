@@ -1,5 +1,6 @@
 //! Laws of the texts of staging areas. Each function is a law: its body is empty, and its clause is what the proof shows.
 
+ghost use Rattle.dsa_lines.specs.ReadAgain.{StagingTextIsRead};
 ghost use Rattle.dsa_lines.specs.Stagings.{OneStagingShown, OneStagingText};
 
 /// The entries and records of a staging area are determined, so it has one text at each address.
@@ -12,4 +13,10 @@ pub fn one_staging_shown()
 #[tactic(auto, using(crate::proofs::StagingTexts::one_staging_text))]
 pub fn one_staging_text()
     ensures { OneStagingText }
+{}
+
+/// The text of a staging area is read again as its pieces, where each entry is one.
+#[tactic(auto, using(crate::proofs::ReadAgain::staging_is_read))]
+pub fn staging_text_is_read()
+    ensures { StagingTextIsRead }
 {}

@@ -1,21 +1,20 @@
 -- The operations of a list conflict just where their entries do.
-use Rattle.std.proofs.Common.{◌≡◌, ◌≢◌, ℕ, ◌+◌, ◌*◌, ◌^◌, ◌<◌, ◌≤◌, ◌⊎◌, inl, inr, Bool, true, false, List, [], ◌∷◌, ◌++◌, Option, Some, None, refl, sym, ap, subst, ◌∙◌, arith}
-use Rattle.std.specs.Prelude.{◌↔◌, ◌&&◌, ◌||◌, ◌==◌, nat_le, bit_and, if◌then◌else◌}
+use Rattle.std.proofs.Common.{◌≡◌, ◌≢◌, ℕ, ◌+◌, ◌*◌, ◌<◌, ◌⊎◌, inl, inr, Bool, true, false, List, [], ◌∷◌, ◌++◌, Option, Some, refl, sym, ap, subst, ◌∙◌, arith}
+use Rattle.std.specs.Prelude.{◌↔◌, ◌&&◌, ◌||◌, ◌==◌, bit_and, if◌then◌else◌}
 use Rattle.std.specs.List.{list_all}
 use Rattle.std.proofs.Math.Dec.{leb}
 use Rattle.std.proofs.lemmas.Bool.{leb-true}
 use Rattle.dsa_descriptor.specs.declared.op.Op.{Op}
 use Rattle.dsa_descriptor.specs.declared.span.Span.{Span}
-use Rattle.dsa_descriptor.specs.Data.{sources, targets, record_span}
-use Rattle.dsa_descriptor.specs.Fields.{Fields}
+use Rattle.dsa_descriptor.specs.Data.{targets, record_span}
 use Rattle.dsa_descriptor.specs.Places.{u32_at, u64_at, flags_at, op_at}
 use Rattle.dsa_descriptor.specs.Profile.{required_flags}
 use Rattle.dsa_descriptor.specs.Spans.{InSpan, InSome}
 use Rattle.dsa_ranges.specs.declared.span.Touched.{Touched}
-use Rattle.dsa_ranges.specs.Ranges.{SpansConflict, WritesInto, Conflicts, read_spans, written_spans}
+use Rattle.dsa_ranges.specs.Ranges.{SpansConflict, WritesInto, read_spans, written_spans}
 use Rattle.dsa_audit.specs.Members.{TouchedConflict}
-use Rattle.dsa_recording.specs.Entries.{sources_of, targets_of, records_of, entry_reads, entry_writes}
-use Rattle.dsa_recording.specs.Listings.{records_from, record_in_list, stand_in, is_clear, is_apart_from_added, Does, StandInsConflict}
+use Rattle.dsa_recording.specs.Entries.{sources_of, targets_of, records_of}
+use Rattle.dsa_recording.specs.Listings.{records_from, stand_in, is_clear, Does, StandInsConflict}
 
 -- ---- spans that are clear of the added records
 

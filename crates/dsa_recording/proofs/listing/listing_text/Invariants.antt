@@ -1,4 +1,4 @@
-use Rattle.std.proofs.Common.{ℕ, ◌≡◌, take}
+use Rattle.std.proofs.Common.{◌≡◌, take}
 use Rattle.std.specs.Prelude.{string_bytes}
 use Rattle.dsa_recording.specs.Listings.{listing_text}
 use Rattle.dsa_recording.proofs.listing.listing_text.Given as goal

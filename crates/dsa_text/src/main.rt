@@ -193,7 +193,11 @@ fn disassemble_command<'a>(alloc: Global) -> Result<Command<'a>, AllocError> {
     let mut options = Vec::new(alloc);
     options.push(file(alloc))?;
     options.push(flag(alloc, "portal", "read the entries of a portal"))?;
-    let staging = flag(alloc, "staging", "read the bytes of a staging area, before a run or after it");
+    let staging = flag(
+        alloc,
+        "staging",
+        "read the bytes of a staging area, before a run or after it",
+    );
     options.push(staging.conflicts_with("portal")?)?;
     options.push(at(alloc)?)?;
     Command::new(alloc, "disassemble")

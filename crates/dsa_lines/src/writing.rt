@@ -249,9 +249,15 @@ pub fn operation_line(
     pasid: u32,
     privileged: bool,
 ) -> Result<String, AllocError>
-    ensures { IfOk result (λ s. string_bytes s ≡ line_text (record { pasid = pasid;
-        privileged = privileged; flags = required_flags; record_at = record_at; size = size;
-        int_handle = 0; op = op.now })) }
+    ensures { IfOk result (λ s. string_bytes s ≡ line_text (record {
+      pasid = pasid;
+      privileged = privileged;
+      flags = required_flags;
+      record_at = record_at;
+      size = size;
+      int_handle = 0;
+      op = op.now;
+    })) }
 {
     let mut line = op_text(alloc, op, size)?;
     push_record(alloc, &mut line, record_at)?;

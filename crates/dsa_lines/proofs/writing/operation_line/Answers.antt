@@ -20,5 +20,5 @@ returns c =
       op = c.args.op.now;
     } in
     rw (c.in_ok-push_name.ensures, c.in_ok-push_number.ensures, c.in_ok-push_record.ensures, c.in_ok-line.ensures) (
-      sym (line_is f ∙ without_options _)
+    sym (line_is f ∙ without_options _)
     )

@@ -123,8 +123,7 @@ stand_ins_conflict count m n d e t u o p unlike lt lt' first second o_is p_is t_
     subst (λ (r : List Span). SpansConflict r (written_spans (stand_in m d o)) (read_spans (stand_in n e p)) (written_spans (stand_in n e p)) ↔ TouchedConflict t u)
     (sym (reads m d t o first o_is))
     (subst (λ (s : List Span). SpansConflict t.reads.items (written_spans (stand_in m d o)) s (written_spans (stand_in n e p)) ↔ TouchedConflict t u)
-    (sym (reads n e u p second p_is))
-    (
+    (sym (reads n e u p second p_is)) (
       fewer count m n t.reads.items t.writes.items (written_spans (stand_in m d o)) u.reads.items u.writes.items (written_spans (stand_in n e p)) unlike lt lt'
           (writes m d t o first o_is) (writes n e u p second p_is) t_all.0 t_all.1 u_all.0 u_all.1,
       more m n t.reads.items t.writes.items (written_spans (stand_in m d o)) u.reads.items u.writes.items (written_spans (stand_in n e p))

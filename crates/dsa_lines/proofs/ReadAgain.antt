@@ -10,7 +10,8 @@ use Rattle.dsa_descriptor.specs.declared.descriptor.Descriptor.{Descriptor}
 use Rattle.dsa_descriptor.specs.Descriptors.{fields}
 use Rattle.dsa_descriptor.specs.Fields.{Fields}
 use Rattle.dsa_descriptor.specs.Lists.{entries}
-use Rattle.dsa_lines.specs.Words.{Word, words_in, words_of}
+use Rattle.dsa_descriptor.specs.Profile.{IsListed}
+use Rattle.dsa_lines.specs.Words.{Word, goes_on, words_in, words_of}
 use Rattle.dsa_lines.specs.Numbers.{hex}
 use Rattle.dsa_lines.specs.Grammar.{greatest, fields_of}
 use Rattle.dsa_lines.specs.Recordings.{batch_at}
@@ -31,7 +32,7 @@ use Rattle.dsa_lines.proofs.StagingTexts.{fenced_line, written_line}
 -- ---- lines
 
 -- a line stands before others
-line_before : (line rest : List ℕ) (here more : List Fields) → is_line line ≡ true → line_fields (words_of line) ≡ Some here → all_fields (lines_of rest) ≡ Some more
+pub line_before : (line rest : List ℕ) (here more : List Fields) → is_line line ≡ true → line_fields (words_of line) ≡ Some here → all_fields (lines_of rest) ≡ Some more
     → all_fields (lines_of ((line ++ 10 ∷ []) ++ rest)) ≡ Some (here ++ more)
 unfolding all_fields
 line_before line rest here more is e f =
@@ -39,7 +40,7 @@ line_before line rest here more is e f =
     ∙ ap all_fields (line_first line rest is)
     ∙ rw (e, f) refl
 
-nothing : all_fields (lines_of []) ≡ Some []
+pub nothing : all_fields (lines_of []) ≡ Some []
 unfolding lines_of all_fields words_in line_fields
 nothing = refl
 
@@ -102,7 +103,7 @@ pieces_read (p ∷ ps) rest e =
     ap (λ (t : List ℕ). all_fields (lines_of t)) (append_assoc (piece_text p ++ 10 ∷ []) (entries_text (map Piece ps)) rest)
     ∙ line_before (piece_text p) (entries_text (map Piece ps) ++ rest) (fields p.piece ∷ []) (map (λ q. fields q.piece) ps) (fenced_line p.fence p.piece) (piece_read p.fence p.piece) (pieces_read ps rest e)
 
--- ---- the line of a record is a comment
+-- ---- lines of digits
 
 glyph_by : (b : Bool) (d : ℕ) → d < 16 → cond b (48 + d) (87 + d) ≡ 10 → ⊥
 glyph_by true d lt e = absurd (omega arith)
@@ -123,15 +124,11 @@ digits_line_onto (suc k) base n acc some le e =
     digits_by (n / base == 0) (digit_glyph false (n % base) ∷ acc) (digits_onto k base false (n / base) (digit_glyph false (n % base) ∷ acc)) here
     (digits_line_onto k base (n / base) (digit_glyph false (n % base) ∷ acc) some le here)
 
-digits_line : (base n : ℕ) → 0 < base → base ≤ 16 → is_line (digits base false n) ≡ true
+pub digits_line : (base n : ℕ) → 0 < base → base ≤ 16 → is_line (digits base false n) ≡ true
 unfolding digits
 digits_line base n some le = digits_line_onto 64 base n [] some le refl
 
-place_line : (batch address : ℕ) → is_line (record_place batch address) ≡ true
-place_line batch address =
-    line_append (codes "# record ") (decimal batch ++ (codes " at " ++ hex address)) refl
-    (line_append (decimal batch) (codes " at " ++ hex address) (digits_line 10 batch (omega arith) (omega arith))
-    (line_append (codes " at 0x") (digits 16 false address) refl (digits_line 16 address (omega arith) (omega arith))))
+-- ---- a line that is a comment
 
 comment_by : (b : Bool) (c : ℕ) (cs : List ℕ) → (c == 10) ≡ b → (not (c == 10) && is_line cs) ≡ true → words_in true cs ≡ [] → words_in true (c ∷ cs) ≡ []
 unfolding words_in
@@ -144,9 +141,39 @@ unfolding words_in
 comment [] e = refl
 comment (c ∷ cs) e = comment_by (c == 10) c cs refl e (comment cs (both (not (c == 10)) (is_line cs) e).1)
 
-comment_read : (text : List ℕ) → is_line text ≡ true → line_fields (words_of (35 ∷ text)) ≡ Some []
+pub comment_read : (text : List ℕ) → is_line text ≡ true → line_fields (words_of (35 ∷ text)) ≡ Some []
 unfolding words_in line_fields
 comment_read text e = rw (comment text e) refl
+
+-- ---- a comment behind a line
+
+goes_on_same : (line text : List ℕ) → goes_on (line ++ (32 ∷ text)) ≡ goes_on line
+goes_on_same [] text = refl
+goes_on_same (c ∷ cs) text = refl
+
+-- it adds no words, whether the line begins in a comment or not
+comment_behind_in : (comments : Bool) (line text : List ℕ) → words_in true text ≡ [] → words_in comments (line ++ (32 ∷ 35 ∷ text)) ≡ words_in comments line
+unfolding words_in
+comment_behind_in true [] text e = e
+comment_behind_in false [] text e = e
+comment_behind_in true (c ∷ cs) text e = rw (comment_behind_in true cs text e, comment_behind_in false cs text e) refl
+comment_behind_in false (c ∷ cs) text e =
+    rw (comment_behind_in true cs text e, comment_behind_in false cs text e, goes_on_same cs (35 ∷ text)) refl
+
+pub comment_behind : (line text : List ℕ) → is_line text ≡ true → words_of (line ++ (32 ∷ 35 ∷ text)) ≡ words_of line
+comment_behind line text e = comment_behind_in false line text (comment text e)
+
+-- a canonical line with a comment behind it spells its fields
+pub commented_read : (f : Fields) (text : List ℕ) → IsListed f → is_line text ≡ true → line_fields (words_of (line_text f ++ (32 ∷ 35 ∷ text))) ≡ Some (f ∷ [])
+commented_read f text listed e = ap line_fields (comment_behind (line_text f) text e) ∙ spelt_line (words_of (line_text f)) f (line_spells f listed)
+
+-- ---- the lines of records
+
+place_line : (batch address : ℕ) → is_line (record_place batch address) ≡ true
+place_line batch address =
+    line_append (codes "# record ") (decimal batch ++ (codes " at " ++ hex address)) refl
+    (line_append (decimal batch) (codes " at " ++ hex address) (digits_line 10 batch (omega arith) (omega arith))
+    (line_append (codes " at 0x") (digits 16 false address) refl (digits_line 16 address (omega arith) (omega arith))))
 
 record_line : (batch address : ℕ) (r : List ℕ) → IsRecord r → is_line (record_text batch address r) ≡ true
 record_line batch address r h = line_append (record_place batch address) (written_text r) (place_line batch address) (written_line (bytes_eq r (replicate 32 0)) r h)

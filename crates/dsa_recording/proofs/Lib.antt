@@ -15,3 +15,4 @@ pub mod Priced
 pub mod StreamOf
 pub mod ListingLines
 pub mod StandIns
+pub mod ListingRead

@@ -1,8 +1,10 @@
 -- A recording as a list of operations to plan (this project's choice): a line for each member, in the order of the entries.
-use Rattle.std.specs.Prelude.{ℕ, suc, ◌≡◌, ◌≢◌, ◌+◌, ◌*◌, ◌^◌, ◌<◌, ◌≤◌, ◌&&◌, ◌||◌, ◌==◌, ◌↔◌, nat_le, bit_and, Bool, true, List, [], ◌∷◌, ◌++◌, length, slice_index_or, codes, decimal, Option, Some, None, if◌then◌else◌}
+use Rattle.std.specs.Prelude.{ℕ, suc, ◌≡◌, ◌≢◌, ◌+◌, ◌*◌, ◌^◌, ◌<◌, ◌≤◌, ◌&&◌, ◌||◌, ◌==◌, ◌↔◌, nat_le, bit_and, Bool, true, List, [], ◌∷◌, ◌++◌, length, slice_index_or, codes, decimal, map, Option, Some, None, if◌then◌else◌}
 use Rattle.std.specs.List.{list_all}
 use Rattle.dsa_descriptor.specs.declared.op.Op.{Op}
 use Rattle.dsa_descriptor.specs.declared.span.Span.{Span}
+use Rattle.dsa_descriptor.specs.declared.descriptor.Descriptor.{Descriptor}
+use Rattle.dsa_descriptor.specs.Descriptors.{fields}
 use Rattle.dsa_descriptor.specs.Fields.{Fields}
 use Rattle.dsa_descriptor.specs.Places.{u32_at, u64_at, flags_at, code_at, op_at, pasid_at, privileged_at}
 use Rattle.dsa_descriptor.specs.Profile.{required_flags}
@@ -12,6 +14,7 @@ use Rattle.dsa_audit.specs.declared.member.Member.{Member}
 use Rattle.dsa_audit.specs.declared.member.Member.TheVariants.{Known, Unknown}
 use Rattle.dsa_audit.specs.Members.{TouchedConflict}
 use Rattle.dsa_lines.specs.Text.{line_text}
+use Rattle.dsa_lines.specs.Texts.{TextSpells}
 use Rattle.dsa_recording.specs.declared.stream.Submission.{Submission}
 use Rattle.dsa_recording.specs.declared.submission.Audited.{Audited}
 use Rattle.dsa_recording.specs.Entries.{entry_reads, entry_writes}
@@ -85,7 +88,29 @@ listing_text es [] audits = []
 listing_text es (s ∷ ss) [] = []
 listing_text es (s ∷ ss) (a ∷ audits) = member_lines es s.first a.members.items ++ listing_text es ss audits
 
--- ---- law
+-- ---- its operations
+
+-- that of an entry that is looked at stands in the list where it has one and is apart from added records
+abbrev pub known_operation : ℕ → ℕ → List ℕ → Touched → Option Op → List Fields
+known_operation count number e t None = []
+known_operation count number e t (Some op) = if is_apart_from_added count t then stand_in number e op ∷ [] else []
+
+abbrev pub member_operation : ℕ → ℕ → List ℕ → Member → List Fields
+member_operation count number e (Known t) = known_operation count number e t (op_at e)
+member_operation count number e (Unknown why) = []
+
+-- those of members, of which the first is entry `at`
+unfoldable pub member_operations : List (List ℕ) → ℕ → List Member → List Fields
+member_operations es at [] = []
+member_operations es at (m ∷ ms) = member_operation (length es) at (slice_index_or es at []) m ++ member_operations es (suc at) ms
+
+-- those of all submissions
+unfoldable pub listed_operations : List (List ℕ) → List Submission → List Audited → List Fields
+listed_operations es [] audits = []
+listed_operations es (s ∷ ss) [] = []
+listed_operations es (s ∷ ss) (a ∷ audits) = member_operations es s.first a.members.items ++ listed_operations es ss audits
+
+-- ---- laws
 
 -- an entry reads and writes just this
 pub record Does (e : List ℕ) (t : Touched) : Type 0 where
@@ -98,6 +123,13 @@ StandInsConflict =
     (count m n : ℕ) (d e : List ℕ) (t u : Touched) (o p : Op) → m ≢ n → m < count → n < count →
     Does d t → Does e u → op_at d ≡ Some o → op_at e ≡ Some p → is_apart_from_added count t ≡ true → is_apart_from_added count u ≡ true →
     Conflicts (stand_in m d o) (stand_in n e p) ↔ TouchedConflict t u
+
+-- the list spells its operations, if each is that of a descriptor: an entry may have one outside the grammar, as a
+-- comparison that expects 7
+abbrev pub ListingIsRead : Type 0
+ListingIsRead =
+    (es : List (List ℕ)) (ss : List Submission) (audits : List Audited) (ds : List Descriptor) →
+    listed_operations es ss audits ≡ map fields ds → TextSpells (listing_text es ss audits) (listed_operations es ss audits)
 
 -- ---- for private clauses
 

@@ -33,7 +33,7 @@ pub use findings::{Finding, FindingKind, findings_of};
 pub use forms::{Form, Part, bytes_of_text, first_part, form_of, is_passed, is_text, next_part};
 pub use input::{audit, one_recording};
 pub use laws::{findings_are_placed, listed_are_known};
-pub use listing::stand_ins_conflict;
+pub use listing::{listing_is_read, stand_ins_conflict};
 pub use member::{member_of, unseen_reason};
 pub use picture::MOST_ENTRIES;
 pub use places::{BytesFault, DigitFault, bytes_of_input};

@@ -4,7 +4,7 @@ ghost use Rattle.std.specs.Prelude.{◌≡◌, ◌≤◌, ◌<◌, ◌^◌, ◌+
 ghost use Rattle.std.specs.List.{list_all};
 ghost use Rattle.dsa_descriptor.specs.Places.{op_at, pasid_at, privileged_at};
 ghost use Rattle.dsa_lines.specs.Text.{line_text};
-ghost use Rattle.dsa_recording.specs.Listings.{record_in_list, stand_in, is_clear, is_apart_from_added, left_out, operation_line, known_line, member_line, member_lines, listing_text, AreEntries, StandInsConflict};
+ghost use Rattle.dsa_recording.specs.Listings.{record_in_list, stand_in, is_clear, is_apart_from_added, left_out, operation_line, known_line, member_line, member_lines, listing_text, AreEntries, StandInsConflict, ListingIsRead};
 
 use crate::report::Report;
 use crate::words::unseen_text;
@@ -187,4 +187,10 @@ pub(crate) fn listing_text(
 /// Two operations of the list of a recording conflict just where their entries do.
 pub fn stand_ins_conflict()
     ensures { StandInsConflict }
+{}
+
+/// The list of a recording is read as its operations, if each is one of a descriptor.
+#[tactic(auto, using(crate::proofs::ListingRead::listing_is_read))]
+pub fn listing_is_read()
+    ensures { ListingIsRead }
 {}

@@ -1,0 +1,112 @@
+-- The list of a recording spells its operations.
+use Rattle.std.proofs.Common.{◌≡◌, ℕ, suc, Bool, true, false, cond, Option, Some, None, List, [], ◌∷◌, ◌++◌, length, refl, sym, ap, subst, ◌∙◌, append_assoc, arith}
+use Rattle.std.specs.Prelude.{codes, decimal, map, slice_index_or}
+use Rattle.std.specs.Fmt.{digits}
+use Rattle.std.specs.List.{AllByRecursion}
+use Rattle.dsa_audit.specs.declared.member.Member.{Member}
+use Rattle.dsa_audit.specs.declared.member.Member.TheVariants.{Known, Unknown}
+use Rattle.dsa_audit.specs.declared.member.Unseen.{Unseen}
+use Rattle.dsa_audit.specs.declared.member.Unseen.TheVariants.{Operation, Nested, Owner, Empty, Wrap}
+use Rattle.dsa_descriptor.specs.declared.descriptor.Descriptor.{Descriptor}
+use Rattle.dsa_descriptor.specs.declared.op.Op.{Op}
+use Rattle.dsa_descriptor.specs.Descriptors.{fields}
+use Rattle.dsa_descriptor.specs.Fields.{Fields}
+use Rattle.dsa_descriptor.specs.Places.{code_at, op_at}
+use Rattle.dsa_descriptor.specs.Profile.{IsListed}
+use Rattle.dsa_lines.specs.Text.{line_text}
+use Rattle.dsa_lines.specs.Texts.{lines_of, line_fields, all_fields, TextSpells}
+use Rattle.dsa_lines.specs.Words.{words_of}
+use Rattle.dsa_lines.proofs.LineLemmas.{is_line, line_append, canonical_is_line}
+use Rattle.dsa_lines.proofs.ReadAgain.{line_before, nothing, digits_line, comment_read, commented_read}
+use Rattle.dsa_lines.proofs.TextLemmas.{all_listed}
+use Rattle.dsa_ranges.specs.declared.span.Touched.{Touched}
+use Rattle.dsa_recording.specs.declared.stream.Submission.{Submission}
+use Rattle.dsa_recording.specs.declared.submission.Audited.{Audited}
+use Rattle.dsa_recording.specs.Listings.{stand_in, is_apart_from_added, left_out, operation_line, known_line, member_line, member_lines, listing_text, known_operation, member_operation, member_operations, listed_operations}
+use Rattle.dsa_recording.specs.Words.{unseen_words}
+
+-- ---- a line
+
+-- the line is one, and spells these operations
+record Reads (line : List ℕ) (here : List Fields) : Type 0 where
+  is : is_line line ≡ true
+  spells : line_fields (words_of line) ≡ Some here
+
+decimal_line : (n : ℕ) → is_line (decimal n) ≡ true
+decimal_line n = digits_line 10 n (omega arith) (omega arith)
+
+unseen_line : (why : Unseen) (code : ℕ) → is_line (unseen_words why code) ≡ true
+unseen_line Operation code =
+    line_append (codes "not looked at: operation 0x") (digits 16 false code) refl (digits_line 16 code (omega arith) (omega arith))
+unseen_line Nested code = refl
+unseen_line Owner code = refl
+unseen_line Empty code = refl
+unseen_line Wrap code = refl
+
+left_out_reads : (number : ℕ) (why : List ℕ) → is_line why ≡ true → Reads (left_out number why) []
+left_out_reads number why e =
+    let behind : is_line (codes ", " ++ why) ≡ true = line_append (codes ", ") why refl e in
+    let place : is_line (decimal number ++ (codes ", " ++ why)) ≡ true = line_append (decimal number) (codes ", " ++ why) (decimal_line number) behind in
+    let comment : is_line (codes " entry " ++ (decimal number ++ (codes ", " ++ why))) ≡ true = line_append (codes " entry ") (decimal number ++ (codes ", " ++ why)) refl place in
+    record { is = comment; spells = comment_read (codes " entry " ++ (decimal number ++ (codes ", " ++ why))) comment }
+
+operation_reads : (number : ℕ) (e : List ℕ) (op : Op) → IsListed (stand_in number e op) → Reads (operation_line number e op) (stand_in number e op ∷ [])
+operation_reads number e op listed =
+    let f : Fields = stand_in number e op in
+    let comment : is_line (codes " entry " ++ decimal number) ≡ true = line_append (codes " entry ") (decimal number) refl (decimal_line number) in
+    record {
+      is = line_append (line_text f) (codes " # entry " ++ decimal number) (canonical_is_line f listed) comment;
+      spells = commented_read f (codes " entry " ++ decimal number) listed comment;
+    }
+
+apart_reads : (apart : Bool) (number : ℕ) (e : List ℕ) (op : Op) → AllByRecursion IsListed (cond apart (stand_in number e op ∷ []) [])
+    → Reads
+    (cond apart (operation_line number e op) (left_out number (codes "left out: it touches addresses that this list gives to records")))
+    (cond apart (stand_in number e op ∷ []) [])
+apart_reads true number e op all = operation_reads number e op all.0
+apart_reads false number e op all = left_out_reads number (codes "left out: it touches addresses that this list gives to records") refl
+
+known_reads : (count number : ℕ) (e : List ℕ) (t : Touched) (op : Option Op) → AllByRecursion IsListed (known_operation count number e t op)
+    → Reads (known_line count number e t op) (known_operation count number e t op)
+known_reads count number e t None all = left_out_reads number (codes "left out: a no-op") refl
+known_reads count number e t (Some op) all = apart_reads (is_apart_from_added count t) number e op all
+
+member_reads : (count number : ℕ) (e : List ℕ) (m : Member) → AllByRecursion IsListed (member_operation count number e m)
+    → Reads (member_line count number e m) (member_operation count number e m)
+member_reads count number e (Known t) all = known_reads count number e t (op_at e) all
+member_reads count number e (Unknown why) all = left_out_reads number (unseen_words why (code_at e)) (unseen_line why (code_at e))
+
+-- ---- lines
+
+listed_parts : (fs gs : List Fields) → AllByRecursion IsListed (fs ++ gs) → AllByRecursion IsListed fs × AllByRecursion IsListed gs
+listed_parts [] gs all = (tt, all)
+listed_parts (f ∷ fs) gs all = let rest = listed_parts fs gs all.1 in ((all.0, rest.0), rest.1)
+
+-- the lines of members stand before others
+members_read : (es : List (List ℕ)) (at : ℕ) (ms : List Member) (rest : List ℕ) (more : List Fields) → AllByRecursion IsListed (member_operations es at ms)
+    → TextSpells rest more → TextSpells (member_lines es at ms ++ rest) (member_operations es at ms ++ more)
+unfolding member_lines member_operations
+members_read es at [] rest more all e = e
+members_read es at (m ∷ ms) rest more all e =
+    let entry : List ℕ = slice_index_or es at [] in
+    let line : List ℕ = member_line (length es) at entry m in
+    let here : List Fields = member_operation (length es) at entry m in
+    let parts = listed_parts here (member_operations es (suc at) ms) all in
+    let reads : Reads line here = member_reads (length es) at entry m parts.0 in
+    ap (λ (t : List ℕ). all_fields (lines_of t)) (append_assoc (line ++ 10 ∷ []) (member_lines es (suc at) ms) rest)
+    ∙ line_before line (member_lines es (suc at) ms ++ rest) here (member_operations es (suc at) ms ++ more) reads.is reads.spells
+    (members_read es (suc at) ms rest more parts.1 e)
+    ∙ ap Some (sym (append_assoc here (member_operations es (suc at) ms) more))
+
+listed_reads : (es : List (List ℕ)) (ss : List Submission) (audits : List Audited) → AllByRecursion IsListed (listed_operations es ss audits)
+    → TextSpells (listing_text es ss audits) (listed_operations es ss audits)
+unfolding listing_text listed_operations
+listed_reads es [] audits all = nothing
+listed_reads es (s ∷ ss) [] all = nothing
+listed_reads es (s ∷ ss) (a ∷ audits) all =
+    let parts = listed_parts (member_operations es s.first a.members.items) (listed_operations es ss audits) all in
+    members_read es s.first a.members.items (listing_text es ss audits) (listed_operations es ss audits) parts.0 (listed_reads es ss audits parts.1)
+
+pub listing_is_read : (es : List (List ℕ)) (ss : List Submission) (audits : List Audited) (ds : List Descriptor) → listed_operations es ss audits ≡ map fields ds
+    → TextSpells (listing_text es ss audits) (listed_operations es ss audits)
+listing_is_read es ss audits ds e = listed_reads es ss audits (subst (AllByRecursion IsListed) (sym e) (all_listed ds))

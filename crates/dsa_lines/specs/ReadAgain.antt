@@ -28,8 +28,9 @@ PortalTextIsRead =
     (bytes : List ℕ) (ss : List Submission) → IsPortal bytes ss → AllByRecursion IsKnown ss →
     TextSpells (portal_text ss) (lone_fields ss)
 
--- the text of a staging area without other bytes spells its pieces, without their fences, whatever its records are
+-- the text of a staging area without other bytes spells its pieces but for their fences, whatever its records are
 abbrev pub StagingTextIsRead : Type 0
 StagingTextIsRead =
-    (at : ℕ) (bytes : List ℕ) (ps : List StagedPiece) (records : List (List ℕ)) → IsStaging bytes (map Piece ps) records →
+    (at : ℕ) (bytes : List ℕ) (ps : List StagedPiece) (records : List (List ℕ)) →
+    IsStaging bytes (map Piece ps) records →
     TextSpells (staging_text at (map Piece ps) records) (map (λ p. fields p.piece) ps)

@@ -15,3 +15,4 @@ pub mod StagingTexts
 pub mod StagingAnswers
 pub mod EmittedTexts
 pub mod ReadAgain
+pub mod RecordedAgain

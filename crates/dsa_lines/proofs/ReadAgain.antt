@@ -45,7 +45,7 @@ unfolding lines_of all_fields words_in line_fields
 nothing = refl
 
 -- the line of a batch names no operation
-batch_again : (c l r : ℕ) → c < 2 ^ 32 → l < 2 ^ 64 → r < 2 ^ 64
+pub batch_again : (c l r : ℕ) → c < 2 ^ 32 → l < 2 ^ 64 → r < 2 ^ 64
     → batch_at (codes "of" ∷ decimal c ∷ codes "at" ∷ hex l ∷ codes "," ∷ codes "record" ∷ hex r ∷ []) ≡ Some (record { count = c; list_at = l; record_at = r })
 unfolding batch_at
 batch_again c l r a b d =
@@ -85,7 +85,7 @@ portal_is_read bytes ss p known = portal_read (entries bytes) ss p.each known
 
 -- ---- the line of a piece
 
-fence_front : (line : List ℕ) → words_of (codes "fence " ++ line) ≡ codes "fence" ∷ words_of line
+pub fence_front : (line : List ℕ) → words_of (codes "fence " ++ line) ≡ codes "fence" ∷ words_of line
 fence_front line = word_then 102 (codes "ence") (32 ∷ line) refl refl refl ∙ ap (λ (ws : List Word). codes "fence" ∷ ws) (blank_then line)
 
 fence_read : (words : List Word) (f : Fields) → fields_of words ≡ Some f → line_fields (codes "fence" ∷ words) ≡ Some (f ∷ [])
@@ -136,7 +136,7 @@ comment_by true c cs k h so_far = let no : false ≡ true = rw k at h in cc
 comment_by false c cs k h so_far = rw k so_far
 
 -- it has no words
-comment : (text : List ℕ) → is_line text ≡ true → words_in true text ≡ []
+pub comment : (text : List ℕ) → is_line text ≡ true → words_in true text ≡ []
 unfolding words_in
 comment [] e = refl
 comment (c ∷ cs) e = comment_by (c == 10) c cs refl e (comment cs (both (not (c == 10)) (is_line cs) e).1)
@@ -175,7 +175,7 @@ place_line batch address =
     (line_append (decimal batch) (codes " at " ++ hex address) (digits_line 10 batch (omega arith) (omega arith))
     (line_append (codes " at 0x") (digits 16 false address) refl (digits_line 16 address (omega arith) (omega arith))))
 
-record_line : (batch address : ℕ) (r : List ℕ) → IsRecord r → is_line (record_text batch address r) ≡ true
+pub record_line : (batch address : ℕ) (r : List ℕ) → IsRecord r → is_line (record_text batch address r) ≡ true
 record_line batch address r h = line_append (record_place batch address) (written_text r) (place_line batch address) (written_line (bytes_eq r (replicate 32 0)) r h)
 
 records_read : (batch address : ℕ) (rs : List (List ℕ)) → AllByRecursion IsRecord rs → all_fields (lines_of (records_text batch address rs)) ≡ Some []

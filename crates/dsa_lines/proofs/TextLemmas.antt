@@ -50,7 +50,7 @@ line_first (c ∷ cs) rest e = line_by (c == 10) c cs rest refl e (line_first cs
 
 -- ---- operations
 
-same_word : (w word : Word) → bytes_eq w word ≡ true → w ≡ word
+pub same_word : (w word : Word) → bytes_eq w word ≡ true → w ≡ word
 same_word [] [] e = refl
 same_word [] (d ∷ ds) e = absurd cc
 same_word (c ∷ cs) [] e = absurd cc
@@ -60,11 +60,11 @@ same_word (c ∷ cs) (d ∷ ds) e =
     let rest : cs ≡ ds = same_word cs ds parts.1 in cc
 
 -- an operation does not begin with another word
-batch_spells_none : (w : Word) (ws : List Word) (f : Fields) → w ≡ codes "batch" → fields_of (w ∷ ws) ≡ Some f → ⊥
+pub batch_spells_none : (w : Word) (ws : List Word) (f : Fields) → w ≡ codes "batch" → fields_of (w ∷ ws) ≡ Some f → ⊥
 unfolding fields_of op_at
 batch_spells_none w ws f same e = let no : None ≡ Some f = rw same at e in absurd cc
 
-fence_spells_none : (w : Word) (ws : List Word) (f : Fields) → w ≡ codes "fence" → fields_of (w ∷ ws) ≡ Some f → ⊥
+pub fence_spells_none : (w : Word) (ws : List Word) (f : Fields) → w ≡ codes "fence" → fields_of (w ∷ ws) ≡ Some f → ⊥
 unfolding fields_of op_at
 fence_spells_none w ws f same e = let no : None ≡ Some f = rw same at e in absurd cc
 

@@ -1,12 +1,16 @@
 -- What is written of a portal or a staging area is read again.
-use Rattle.std.specs.Prelude.{⊤, ℕ, List, [], ◌∷◌, map}
-use Rattle.std.specs.List.{AllByRecursion}
+use Rattle.std.specs.Prelude.{◌≡◌, ⊤, ℕ, List, [], ◌∷◌, map, Some}
+use Rattle.std.specs.List.{AllByRecursion, flat_map}
 use Rattle.dsa_descriptor.specs.Descriptors.{fields}
 use Rattle.dsa_descriptor.specs.Fields.{Fields}
-use Rattle.dsa_lines.specs.Texts.{TextSpells}
+use Rattle.dsa_descriptor.specs.Spelling.{spelling}
+use Rattle.dsa_lines.specs.declared.recording.Recorded.{Recorded}
+use Rattle.dsa_lines.specs.declared.recording.Recorded.TheVariants.{Batch as BatchSaid, Entry as EntrySaid}
+use Rattle.dsa_lines.specs.Texts.{lines_of, TextSpells}
+use Rattle.dsa_lines.specs.Recordings.{all_recorded, LinesSpell}
 use Rattle.dsa_lines.specs.Portals.{Submission, IsPortal, portal_text}
 use Rattle.dsa_lines.specs.Portals.Submission.{Batch, Lone, Other}
-use Rattle.dsa_lines.specs.Stagings.{StagedPiece, IsStaging, staging_text}
+use Rattle.dsa_lines.specs.Stagings.{StagedPiece, IsStaging, staged_bytes, staging_text}
 use Rattle.dsa_lines.specs.Stagings.StagedEntry.{Piece}
 
 -- it is no other bytes
@@ -28,8 +32,32 @@ PortalTextIsRead =
     (bytes : List ℕ) (ss : List Submission) → IsPortal bytes ss → AllByRecursion IsKnown ss →
     TextSpells (portal_text ss) (lone_fields ss)
 
--- the text of a staging area without other bytes spells its pieces, without their fences, whatever its records are
+-- the text of a staging area without other bytes spells its pieces but for their fences, whatever its records are
 abbrev pub StagingTextIsRead : Type 0
 StagingTextIsRead =
-    (at : ℕ) (bytes : List ℕ) (ps : List StagedPiece) (records : List (List ℕ)) → IsStaging bytes (map Piece ps) records →
+    (at : ℕ) (bytes : List ℕ) (ps : List StagedPiece) (records : List (List ℕ)) →
+    IsStaging bytes (map Piece ps) records →
     TextSpells (staging_text at (map Piece ps) records) (map (λ p. fields p.piece) ps)
+
+-- ---- as a recording
+
+-- what the entries of a portal say: each batch, and the bytes of each lone descriptor
+abbrev pub said_by : List Submission → List Recorded
+said_by [] = []
+said_by (Batch count list_at record_at ∷ ss) =
+    BatchSaid (record { count = count; list_at = list_at; record_at = record_at }) ∷ said_by ss
+said_by (Lone d ∷ ss) = EntrySaid (spelling (fields d)) ∷ said_by ss
+said_by (Other bytes fault ∷ ss) = said_by ss
+
+-- as a recording the text of a portal without other bytes says its batches and its lone descriptors
+abbrev pub PortalTextIsRecorded : Type 0
+PortalTextIsRecorded =
+    (bytes : List ℕ) (ss : List Submission) → IsPortal bytes ss → AllByRecursion IsKnown ss →
+    all_recorded (lines_of (portal_text ss)) ≡ Some (said_by ss)
+
+-- as a recording the text of a staging area without other bytes spells the bytes of its pieces, with their fences
+abbrev pub StagingTextIsRecorded : Type 0
+StagingTextIsRecorded =
+    (at : ℕ) (bytes : List ℕ) (ps : List StagedPiece) (records : List (List ℕ)) →
+    IsStaging bytes (map Piece ps) records →
+    LinesSpell (lines_of (staging_text at (map Piece ps) records)) (flat_map staged_bytes ps)

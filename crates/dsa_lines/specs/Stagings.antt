@@ -50,10 +50,11 @@ abbrev pub Shows : List ℕ → StagedEntry → Type 0
 Shows bytes (Piece p) = bytes ≡ staged_bytes p
 Shows bytes (Other others fault) = (bytes ≡ others) × IsNoPiece others fault
 
--- The records begin where bytes 7 to 31 are zero, since nothing says how many entries there are (this project's choice). Byte 7
--- of an entry is its operation code: that of a piece is not 0, and that of a no-op is, which has an address in bytes 8 to 15
--- where it has a record. Byte 7 of a record is 0 where fewer than 2^24 descriptors have finished. So a no-op without record or
--- further bytes is taken for a record, and a record with the address of a fault, in bytes 8 to 15, for an entry
+-- The records begin at the first entry whose bytes 7 to 31 are zero (this project's choice, since no byte says how many
+-- entries there are). Byte 7 of an entry is its operation code: that of a piece is not 0. That of a no-op is, and bytes 8 to 15
+-- are the address of its record, where it has one. Byte 7 of a record belongs to how many descriptors finished, which are
+-- fewer than 2^24. So a no-op without a record is taken for a record, if bytes 16 to 31 are zero too, and a record with the
+-- address of a fault, which stands in bytes 8 to 15, for an entry
 abbrev pub BeginsRecord : List ℕ → Type 0
 BeginsRecord bytes = AreZero (slice_range bytes 7 32)
 
@@ -67,8 +68,8 @@ pub record IsRecord (bytes : List ℕ) : Type 0 where
   pub whole : length bytes ≡ 32
   pub are_bytes : IsBytes bytes
 
--- The bytes are these entries, and behind them these records. The first record is known as one, unless it stands alone: then
--- it is no entry, since fewer than 64 bytes are left
+-- The bytes are these entries, and behind them these records. The first record begins as one does where 64 bytes or more are
+-- left, which could be an entry; where it stands alone it may be any
 pub record IsStaging (bytes : List ℕ) (entries : List StagedEntry) (records : List (List ℕ)) : Type 0 where
   pub bytes_are : bytes ≡ flat_map entry_bytes entries ++ concat records
   pub each_entry : AllByRecursion IsEntry entries
@@ -91,8 +92,8 @@ unfoldable pub entries_text : List StagedEntry → List ℕ
 entries_text [] = []
 entries_text (e ∷ es) = (entry_text e ++ 10 ∷ []) ++ entries_text es
 
--- the record that the device writes for a batch: its status, and how many of its descriptors have finished (linux/idxd.h,
--- struct dsa_completion_record: status in byte 0, descs_completed in bytes 4 to 7); other bytes are 0
+-- a record with this status, of a batch of which so many descriptors have finished, and nothing else (linux/idxd.h, struct
+-- dsa_completion_record: status in byte 0, descs_completed in bytes 4 to 7)
 abbrev pub written_record : ℕ → ℕ → List ℕ
 written_record status finished = layout (record { status = status; result = 0; bytes_completed = finished })
 
@@ -102,18 +103,20 @@ status_at bytes = slice_index bytes 0
 abbrev pub finished_at : List ℕ → ℕ
 finished_at bytes = u32_at 4 bytes
 
--- a record has its status and how many have finished, and nothing else
+-- the record has nothing but its status and how many have finished
 abbrev pub is_plain : List ℕ → Bool
 is_plain bytes = bytes_eq bytes (written_record (status_at bytes) (finished_at bytes))
 
 -- all bytes of a record, where it has more than its status and how many have finished
 abbrev pub more_words : List ℕ → List Word
-more_words bytes = if is_plain bytes then [] else codes "," ∷ codes "32" ∷ codes "bytes" ∷ encode_lower bytes ∷ []
+more_words bytes =
+    if is_plain bytes then [] else codes "," ∷ codes "32" ∷ codes "bytes" ∷ encode_lower bytes ∷ []
 
 -- what stands in a record that was written
 abbrev pub written_words : List ℕ → List Word
 written_words bytes =
-    codes ":" ∷ codes "status" ∷ decimal (status_at bytes) ∷ codes "," ∷ decimal (finished_at bytes) ∷ codes "finished" ∷ more_words bytes
+    codes ":" ∷ codes "status" ∷ decimal (status_at bytes) ∷
+    codes "," ∷ decimal (finished_at bytes) ∷ codes "finished" ∷ more_words bytes
 
 -- nothing of a record that is all zero, as it is before a run
 abbrev pub written_text : List ℕ → List ℕ
@@ -130,7 +133,8 @@ record_text batch address bytes = record_place batch address ++ written_text byt
 -- a line for each record, of which the first is that of this batch and stands at this address
 unfoldable pub records_text : ℕ → ℕ → List (List ℕ) → List ℕ
 records_text batch address [] = []
-records_text batch address (r ∷ rs) = (record_text batch address r ++ 10 ∷ []) ++ records_text (batch + 1) (address + 32) rs
+records_text batch address (r ∷ rs) =
+    (record_text batch address r ++ 10 ∷ []) ++ records_text (batch + 1) (address + 32) rs
 
 -- the text of a staging area at this address: its entries, and then its records
 abbrev pub staging_text : ℕ → List StagedEntry → List (List ℕ) → List ℕ

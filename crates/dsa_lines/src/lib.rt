@@ -31,9 +31,13 @@ pub use laws::{
     one_text_one_list, spells_one, text_spells_one,
 };
 pub use portal::disassemble_portal;
-pub use portal_laws::{one_portal_shown, one_portal_text, portal_text_is_read};
+pub use portal_laws::{
+    one_portal_shown, one_portal_text, portal_text_is_read, portal_text_is_recorded,
+};
 pub use reading::{line_bytes, parse_line};
 pub use recording::{assemble_recording, operation_bytes};
 pub use staging::disassemble_staging;
-pub use staging_laws::{one_staging_shown, one_staging_text, staging_text_is_read};
+pub use staging_laws::{
+    one_staging_shown, one_staging_text, staging_text_is_read, staging_text_is_recorded,
+};
 pub use writing::{line_of, op_text, operation_line};

@@ -1,7 +1,7 @@
 //! Laws of the texts of portals. Each function is a law: its body is empty, and its clause is what the proof shows.
 
 ghost use Rattle.dsa_lines.specs.Portals.{OnePortalShown, OnePortalText};
-ghost use Rattle.dsa_lines.specs.ReadAgain.{PortalTextIsRead};
+ghost use Rattle.dsa_lines.specs.ReadAgain.{PortalTextIsRead, PortalTextIsRecorded};
 
 /// What a portal submits is determined, so it has one text.
 #[tactic(auto, using(crate::proofs::PortalLemmas::one_portal))]
@@ -19,4 +19,10 @@ pub fn one_portal_text()
 #[tactic(auto, using(crate::proofs::ReadAgain::portal_is_read))]
 pub fn portal_text_is_read()
     ensures { PortalTextIsRead }
+{}
+
+/// As a recording the text of a portal says its batches and its lone descriptors, where each entry is one of these.
+#[tactic(auto, using(crate::proofs::RecordedAgain::portal_is_recorded))]
+pub fn portal_text_is_recorded()
+    ensures { PortalTextIsRecorded }
 {}

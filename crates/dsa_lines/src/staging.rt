@@ -113,13 +113,13 @@ fn text_of_staging(alloc: Global, bytes: &[u8], at: u64) -> Result<String, Emitt
     Ok(text)
 }
 
-/// The text of a staging area at an address, before a run or after it: a line for each entry, and then one for the record
-/// of each batch.
+/// The text of a staging area at an address, before a run or after it: a line for each entry of 64 bytes, and then one for
+/// the record of each batch, 32 bytes.
 ///
-/// The line of an entry is the canonical line of a piece, `fence` before it where it is fenced, or that of other bytes as
-/// in a portal, `unknown CODE (FAULT), 64 bytes DIGITS`. The entries end at the first whose bytes 7 to 31 are zero, or
-/// where fewer than 64 bytes are left. A record has the line `# record K at ADDRESS`, and behind it where it isn't all zero
-/// `: status S, N finished`, and where it has other bytes besides `, 32 bytes DIGITS`.
+/// The line of an entry is the canonical line of a piece, `fence` before it where it is fenced, or that of other bytes as in
+/// a portal, `unknown CODE (FAULT), 64 bytes DIGITS`. The entries end at the first whose bytes 7 to 31 are zero, or where
+/// fewer than 64 bytes are left. A record has the line `# record K at ADDRESS`. Behind it stands `: status S, N finished`
+/// where it is not all zero, and behind that `, 32 bytes DIGITS` where it has more.
 ///
 /// # Errors
 /// [`EmissionFault::StagingLength`] where the length is no multiple of 32; else [`EmittedFault::Memory`] at the first

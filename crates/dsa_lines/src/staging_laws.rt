@@ -1,6 +1,6 @@
 //! Laws of the texts of staging areas. Each function is a law: its body is empty, and its clause is what the proof shows.
 
-ghost use Rattle.dsa_lines.specs.ReadAgain.{StagingTextIsRead};
+ghost use Rattle.dsa_lines.specs.ReadAgain.{StagingTextIsRead, StagingTextIsRecorded};
 ghost use Rattle.dsa_lines.specs.Stagings.{OneStagingShown, OneStagingText};
 
 /// The entries and records of a staging area are determined, so it has one text at each address.
@@ -19,4 +19,9 @@ pub fn one_staging_text()
 #[tactic(auto, using(crate::proofs::ReadAgain::staging_is_read))]
 pub fn staging_text_is_read()
     ensures { StagingTextIsRead }
+{}
+
+/// As a recording the text of a staging area spells the bytes of its pieces, where each entry is one.
+pub fn staging_text_is_recorded()
+    ensures { StagingTextIsRecorded }
 {}

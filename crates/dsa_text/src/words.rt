@@ -125,7 +125,7 @@ fn hint_of_number(word: &[u8]) -> Option<&'static str> {
 fn hint_of_operation(word: &[u8]) -> Option<&'static str> {
     match word {
         b"unknown" => Some(
-            "an entry of a portal that is no listed descriptor, so it can't be planned",
+            "an entry that is no listed descriptor, so it can't be planned",
         ),
         _ => None,
     }

@@ -124,9 +124,7 @@ fn hint_of_number(word: &[u8]) -> Option<&'static str> {
 /// What helps where an operation was expected.
 fn hint_of_operation(word: &[u8]) -> Option<&'static str> {
     match word {
-        b"unknown" => Some(
-            "an entry that is no listed descriptor, so it can't be planned",
-        ),
+        b"unknown" => Some("an entry that is no listed descriptor, so it can't be planned"),
         _ => None,
     }
 }

@@ -5,16 +5,19 @@ ghost use Rattle.serde_json.specs.View.{view};
 ghost use Rattle.serde_json.specs.Written.{has_float};
 ghost use Rattle.dsa_report.specs.Answer.{line_of};
 ghost use Rattle.dsa_report.specs.Calls.{cost_value};
+ghost use Rattle.dsa_report.specs.Line.{line_bytes};
 
+use crate::answer_line::AnswerLine;
 use serde_json::{Value, json};
 use std::alloc::{AllocError, Global};
 
 /// The line of a cost.
-pub(crate) fn cost_line(alloc: Global, cost: u64) -> Result<Vec<u8>, AllocError>
-    ensures { IfOk result (λ line. line.items ≡ line_of (Ok (cost_value cost))) }
+pub(crate) fn cost_line(alloc: Global, cost: u64) -> Result<AnswerLine, AllocError>
+    ensures { IfOk result (λ line. line_bytes line ≡ line_of (Ok (cost_value cost))) }
 {
     let value = cost_json(alloc, cost)?;
-    line_of_value(alloc, &value)
+    let text = line_of_value(alloc, &value)?;
+    Ok(AnswerLine::of_text(alloc, text))
 }
 
 /// The object of a cost.

@@ -8,6 +8,7 @@ ghost use Rattle.dsa_report.specs.Gives.{GivesLine};
 ghost use Rattle.dsa_report.specs.Job.{HasMembers, HasName, NamesJob, member_name, members_of, name_text};
 ghost use Rattle.dsa_report.specs.Read.{IsJob, ReadsJob, ReadsJobText};
 
+use crate::answer_line::AnswerLine;
 use crate::check_job::{CheckJob, check_line, check_of};
 use crate::judge_job::{JudgeJob, judge_line, judge_of};
 use crate::plan_job::{PlanJob, plan_job_of, plan_line};
@@ -173,27 +174,18 @@ fn json_fault(e: &Error) -> PlanFault
 }
 
 /// The line that answers a job. A job to run starts its engines by the handle.
-// The job has all that is used of the text. Its memory serves a long line: memory that is new costs more than writing
-// to it. Where the line is short, the text is dropped at once.
 pub(crate) fn job_line<H: Threads + Wait + Sync>(
     rt: &H,
     alloc: Global,
     job: &Job,
-    text: Vec<u8>,
-) -> Result<Vec<u8>, PlanFault>
+) -> Result<AnswerLine, PlanFault>
     ensures { GivesLine (AnswersRead job.now) result }
 {
     match job {
-        Job::Judge(job) => {
-            drop(text);
-            judge_line(alloc, job)
-        }
-        Job::Plan(job) => plan_line(alloc, job, text),
-        Job::Check(job) => {
-            drop(text);
-            check_line(alloc, job)
-        }
-        Job::Replay(job) => replay_line(alloc, job, text),
-        Job::Run(job) => run_line(rt, alloc, job, text),
+        Job::Judge(job) => judge_line(alloc, job),
+        Job::Plan(job) => plan_line(alloc, job),
+        Job::Check(job) => check_line(alloc, job),
+        Job::Replay(job) => replay_line(alloc, job),
+        Job::Run(job) => run_line(rt, alloc, job),
     }
 }

@@ -1,9 +1,5 @@
-use Rattle.std.proofs.Common.{◌≡◌, ◌++◌, ◌<◌, ℕ, List, length, take, Bool, true, false, Option, subst, sym, ap, ◌∙◌}
-use Rattle.std.specs.Bool.{OnTrue, OnFalse}
-use Rattle.std.specs.Io.KnownBytes.{Appends}
-use Rattle.std.proofs.KnownBytes.{Appends-trans}
 use Rattle.hex.specs.Hex.{encode_lower}
-use Rattle.dsa_report.proofs.Written.{WritesPart, part_behind, part_between, part_last}
+use Rattle.dsa_report.proofs.Written.{part_behind, part_between, part_last}
 use Rattle.dsa_report.proofs.answer_line.write_answer.Goals as goal
 
 pub returns-then-not-write_digits-clause-prefix : goal.returns-then-not-write_digits-clause-prefix

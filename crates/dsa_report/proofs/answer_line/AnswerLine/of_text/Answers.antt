@@ -1,4 +1,3 @@
-use Rattle.std.proofs.Common.{refl}
 use Rattle.dsa_report.proofs.Kept.{text_alone}
 use Rattle.dsa_report.proofs.answer_line.AnswerLine.of_text.Goals as goal
 

@@ -62,7 +62,7 @@ impl AnswerLine {
         })
     }
 
-    /// The same, with a member more before the end.
+    /// The same, where the last two members are strings of digits: those of the portal, and those of the staging area.
     pub(crate) fn with_emission(
         text: Vec<u8>,
         portal: Vec<u8>,

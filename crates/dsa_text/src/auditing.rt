@@ -25,9 +25,9 @@ of the members behind the line of their batch.
 With --staging it is read as what was written to a portal, with the members of each batch in the first dump that has them
 at the batch's list address. --staging may be given more than once.
 
-With --list it writes the operations of the recording as lines that explain and assemble read, so that
-  dsa_text audit --list recording.bin | dsa_text explain
-tells what the least plan of the same operations costs. What has no line is named in a comment.
+With --list it writes the operations of the recording as lines that explain reads, which says what their least plan costs:
+  dsa_text audit --list recording.bin > list.txt && dsa_text explain --greatest-transfer 2048M list.txt
+A member without a line is named in a comment: the plan knows nothing of it. The list is for prices, not for submission.
 
 The status is 0 where nothing is wrong, 1 where a fence is missing or what --deny names was found, and 2 where there is
 no recording, or it is too large to draw. Of a list it is 0 or 2.
@@ -75,7 +75,8 @@ pub(crate) fn audit_command<'a>(alloc: Global) -> Result<Command<'a>, AllocError
     let svg = flag(alloc, "svg", "draw the submissions and their fences").conflicts_with("json")?;
     let list = flag(alloc, "list", "write the operations as a list to plan")
         .conflicts_with("json")?
-        .conflicts_with("svg")?;
+        .conflicts_with("svg")?
+        .conflicts_with("deny")?;
     let options = vec![in alloc; file(alloc), json, svg, list, deny(alloc), staging(alloc)]?;
     let prices = price_options(alloc)?;
     Command::new(alloc, "audit")

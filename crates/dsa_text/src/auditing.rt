@@ -3,7 +3,7 @@
 ghost use Rattle.std.specs.Prelude.{◌≡◌, IfOk, map};
 ghost use Rattle.std.specs.List.{count_by};
 ghost use Rattle.std.specs.Str.{bytes_eq};
-ghost use Rattle.dsa_text.specs.Audited.{AnswersWith, AreAuditWords, AuditsInput, AuditsWithOptions, IsFormat, denied_by, denied_in};
+ghost use Rattle.dsa_text.specs.Audited.{AnswersWith, AreAuditWords, AuditsInput, AuditsWithOptions, IsFormat, denied_by, denied_in, format_of};
 
 use crate::messages::message_with;
 use crate::numbers::parts_of;
@@ -121,13 +121,10 @@ fn denied_in(alloc: Global, matches: &ArgMatches<'_>) -> Result<Option<Denied>, 
     }
 }
 
-/// How the report is to be written.
-fn format_in(matches: &ArgMatches<'_>) -> AuditFormat
-    ensures { IsFormat matches.now result }
+/// The format that flags ask for.
+fn format_of(json: bool, svg: bool, list: bool) -> AuditFormat
+    ensures { result ≡ format_of json svg list }
 {
-    let json = matches.get_flag("json");
-    let svg = matches.get_flag("svg");
-    let list = matches.get_flag("list");
     if json {
         return AuditFormat::Json;
     }
@@ -138,6 +135,16 @@ fn format_in(matches: &ArgMatches<'_>) -> AuditFormat
         return AuditFormat::List;
     }
     AuditFormat::Text
+}
+
+/// How the report is to be written.
+fn format_in(matches: &ArgMatches<'_>) -> AuditFormat
+    ensures { IsFormat matches.now result }
+{
+    let json = matches.get_flag("json");
+    let svg = matches.get_flag("svg");
+    let list = matches.get_flag("list");
+    format_of(json, svg, list)
 }
 
 /// The settings as the options spell them; no report needs those of the others.

@@ -61,10 +61,10 @@ operation_reads number e op listed =
 
 apart_reads : (apart : Bool) (number : ℕ) (e : List ℕ) (op : Op) → AllByRecursion IsListed (cond apart (stand_in number e op ∷ []) [])
     → Reads
-    (cond apart (operation_line number e op) (left_out number (codes "left out: it touches addresses that this list gives to records")))
+    (cond apart (operation_line number e op) (left_out number (codes "left out: it touches addresses that this list keeps for records")))
     (cond apart (stand_in number e op ∷ []) [])
 apart_reads true number e op all = operation_reads number e op all.0
-apart_reads false number e op all = left_out_reads number (codes "left out: it touches addresses that this list gives to records") refl
+apart_reads false number e op all = left_out_reads number (codes "left out: it touches addresses that this list keeps for records") refl
 
 known_reads : (count number : ℕ) (e : List ℕ) (t : Touched) (op : Option Op) → AllByRecursion IsListed (known_operation count number e t op)
     → Reads (known_line count number e t op) (known_operation count number e t op)

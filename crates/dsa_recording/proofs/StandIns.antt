@@ -3,10 +3,11 @@ use Rattle.std.proofs.Common.{◌≡◌, ◌≢◌, ℕ, ◌+◌, ◌*◌, ◌<�
 use Rattle.std.specs.Prelude.{◌↔◌, ◌&&◌, ◌||◌, ◌==◌, bit_and, if◌then◌else◌}
 use Rattle.std.specs.List.{list_all}
 use Rattle.std.proofs.Math.Dec.{leb}
-use Rattle.std.proofs.lemmas.Bool.{leb-true}
+use Rattle.std.proofs.lemmas.Bool.{eqb-true, leb-true}
 use Rattle.dsa_descriptor.specs.declared.op.Op.{Op}
+use Rattle.dsa_descriptor.specs.declared.op.Op.TheVariants.{Move, Fill, Compare, ComparePattern, ApplyDelta, Dualcast}
 use Rattle.dsa_descriptor.specs.declared.span.Span.{Span}
-use Rattle.dsa_descriptor.specs.Data.{targets, record_span}
+use Rattle.dsa_descriptor.specs.Data.{sources, targets, record_span}
 use Rattle.dsa_descriptor.specs.Places.{u32_at, u64_at, flags_at, op_at}
 use Rattle.dsa_descriptor.specs.Profile.{required_flags}
 use Rattle.dsa_descriptor.specs.Spans.{InSpan, InSome}
@@ -14,7 +15,7 @@ use Rattle.dsa_ranges.specs.declared.span.Touched.{Touched}
 use Rattle.dsa_ranges.specs.Ranges.{SpansConflict, WritesInto, read_spans, written_spans}
 use Rattle.dsa_audit.specs.Members.{TouchedConflict}
 use Rattle.dsa_recording.specs.Entries.{sources_of, targets_of, records_of}
-use Rattle.dsa_recording.specs.Listings.{records_from, stand_in, is_clear, Does, StandInsConflict}
+use Rattle.dsa_recording.specs.Listings.{expecting_zero, records_from, stand_in, is_clear, Does, StandInsConflict}
 
 -- ---- spans that are clear of the added records
 
@@ -39,9 +40,15 @@ apart_by count k a s lt (inl below) in_span in_record =
 apart_by count k a s lt (inr behind) in_span in_record =
     absurd (omega (arith, leb-true (records_from + 32 * count) s.first behind, lt, in_span.0, in_record.1))
 
+apart_some : (count k a : ℕ) (s : Span) → k < count
+    → ((s.len == 0) ≡ true) ⊎ ((leb (s.first + s.len) records_from || leb (records_from + 32 * count) s.first) ≡ true) → InSpan s a → InSpan (added k) a → ⊥
+apart_some count k a s lt (inl empty) in_span in_record = absurd (omega (arith, eqb-true s.len 0 empty, in_span.0, in_span.1))
+apart_some count k a s lt (inr clear) in_span in_record =
+    apart_by count k a s lt (either (leb (s.first + s.len) records_from) (leb (records_from + 32 * count) s.first) clear) in_span in_record
+
 apart : (count k a : ℕ) (s : Span) → k < count → is_clear count s ≡ true → InSpan s a → InSpan (added k) a → ⊥
 apart count k a s lt clear in_span in_record =
-    apart_by count k a s lt (either (leb (s.first + s.len) records_from) (leb (records_from + 32 * count) s.first) clear) in_span in_record
+    apart_some count k a s lt (either (s.len == 0) (leb (s.first + s.len) records_from || leb (records_from + 32 * count) s.first) clear) in_span in_record
 
 all_apart : (count k a : ℕ) (ss : List Span) → k < count → list_all (is_clear count) ss ≡ true → InSome ss a → InSpan (added k) a → ⊥
 all_apart count k a [] lt clear touched there = absurd touched
@@ -106,15 +113,32 @@ adds_by : (b : Bool) (k own : ℕ) (ss : List Span)
 adds_by true k own ss = record { had = λ a there. inl there; has = λ a there. there }
 adds_by false k own ss = record { had = λ a there. turned k a ss there; has = λ a there. inr there }
 
+same_sources : (op : Op) (size : ℕ) → sources (expecting_zero op) size ≡ sources op size
+same_sources (Move src dst) size = refl
+same_sources (Fill pattern dst) size = refl
+same_sources (Compare src src2 expected) size = refl
+same_sources (ComparePattern src pattern expected) size = refl
+same_sources (ApplyDelta delta dst record_size) size = refl
+same_sources (Dualcast src dst dst2) size = refl
+
+same_targets : (op : Op) (size : ℕ) → targets (expecting_zero op) size ≡ targets op size
+same_targets (Move src dst) size = refl
+same_targets (Fill pattern dst) size = refl
+same_targets (Compare src src2 expected) size = refl
+same_targets (ComparePattern src pattern expected) size = refl
+same_targets (ApplyDelta delta dst record_size) size = refl
+same_targets (Dualcast src dst dst2) size = refl
+
 writes : (k : ℕ) (e : List ℕ) (t : Touched) (op : Op) → Does e t → op_at e ≡ Some op → Adds k (written_spans (stand_in k e op)) t.writes.items
 writes k e t op does is =
-    let ranges : targets_of (op_at e) (u32_at 32 e) ≡ targets op (u32_at 32 e) = ap (λ (o : Option Op). targets_of o (u32_at 32 e)) is in
-    let whole : t.writes.items ≡ records_of e ++ targets op (u32_at 32 e) = does.writes ∙ ap (λ (ss : List Span). records_of e ++ ss) ranges in
+    let size : ℕ = u32_at 32 e in
+    let ranges : targets_of (op_at e) size ≡ targets (expecting_zero op) size = ap (λ (o : Option Op). targets_of o size) is ∙ sym (same_targets op size) in
+    let whole : t.writes.items ≡ records_of e ++ targets (expecting_zero op) size = does.writes ∙ ap (λ (ss : List Span). records_of e ++ ss) ranges in
     subst (Adds k (written_spans (stand_in k e op))) (sym whole)
-    (adds_by (bit_and (flags_at e) required_flags == required_flags) k (u64_at 8 e) (targets op (u32_at 32 e)))
+    (adds_by (bit_and (flags_at e) required_flags == required_flags) k (u64_at 8 e) (targets (expecting_zero op) size))
 
 reads : (k : ℕ) (e : List ℕ) (t : Touched) (op : Op) → Does e t → op_at e ≡ Some op → read_spans (stand_in k e op) ≡ t.reads.items
-reads k e t op does is = sym (does.reads ∙ ap (λ (o : Option Op). sources_of o (u32_at 32 e)) is)
+reads k e t op does is = sym (does.reads ∙ ap (λ (o : Option Op). sources_of o (u32_at 32 e)) is ∙ sym (same_sources op (u32_at 32 e)))
 
 pub stand_ins_conflict : StandInsConflict
 stand_ins_conflict count m n d e t u o p unlike lt lt' first second o_is p_is t_clear u_clear =

@@ -2,6 +2,7 @@
 use Rattle.std.specs.Prelude.{ℕ, suc, ◌≡◌, ◌≢◌, ◌+◌, ◌*◌, ◌^◌, ◌<◌, ◌≤◌, ◌&&◌, ◌||◌, ◌==◌, ◌↔◌, nat_le, bit_and, Bool, true, List, [], ◌∷◌, ◌++◌, length, slice_index_or, codes, decimal, map, Option, Some, None, if◌then◌else◌}
 use Rattle.std.specs.List.{list_all}
 use Rattle.dsa_descriptor.specs.declared.op.Op.{Op}
+use Rattle.dsa_descriptor.specs.declared.op.Op.TheVariants.{Move, Fill, Compare, ComparePattern, ApplyDelta, Dualcast}
 use Rattle.dsa_descriptor.specs.declared.span.Span.{Span}
 use Rattle.dsa_descriptor.specs.declared.descriptor.Descriptor.{Descriptor}
 use Rattle.dsa_descriptor.specs.Descriptors.{fields}
@@ -31,6 +32,15 @@ abbrev pub record_in_list : ℕ → List ℕ → ℕ
 record_in_list number e =
     if bit_and (flags_at e) required_flags == required_flags then u64_at 8 e else records_from + 32 * number
 
+-- the operation with the expected result 0: no conflict rests on it, and a recorded one may be none that a list has
+abbrev pub expecting_zero : Op → Op
+expecting_zero (Move src dst) = Move src dst
+expecting_zero (Fill pattern dst) = Fill pattern dst
+expecting_zero (Compare src src2 expected) = Compare src src2 0
+expecting_zero (ComparePattern src pattern expected) = ComparePattern src pattern 0
+expecting_zero (ApplyDelta delta dst record_size) = ApplyDelta delta dst record_size
+expecting_zero (Dualcast src dst dst2) = Dualcast src dst dst2
+
 -- what stands in the list for the entry of this number: its operation, size and owner, with that record, and with no other
 -- flags than a list requires
 abbrev pub stand_in : ℕ → List ℕ → Op → Fields
@@ -42,12 +52,12 @@ stand_in number e op =
       record_at = record_in_list number e;
       size = u32_at 32 e;
       int_handle = 0;
-      op = op;
+      op = expecting_zero op;
     }
 
--- the span lies below the records that so many entries might get, or behind them
+-- the span has no address, or lies below the records that entries of this number may get, or behind them
 abbrev pub is_clear : ℕ → Span → Bool
-is_clear count s = nat_le (s.first + s.len) records_from || nat_le (records_from + 32 * count) s.first
+is_clear count s = s.len == 0 || (nat_le (s.first + s.len) records_from || nat_le (records_from + 32 * count) s.first)
 
 -- so does all that is read and written
 abbrev pub is_apart_from_added : ℕ → Touched → Bool
@@ -63,13 +73,13 @@ left_out number why = codes "# entry " ++ (decimal number ++ (codes ", " ++ why)
 abbrev pub operation_line : ℕ → List ℕ → Op → List ℕ
 operation_line number e op = line_text (stand_in number e op) ++ (codes " # entry " ++ decimal number)
 
--- an entry that is looked at, of so many, has the line of its operation, where it has one and is apart from added records
+-- an entry that is looked at has the line of its operation, where it has one and is apart from added records
 abbrev pub known_line : ℕ → ℕ → List ℕ → Touched → Option Op → List ℕ
 known_line count number e t None = left_out number (codes "left out: a no-op")
 known_line count number e t (Some op) =
     if is_apart_from_added count t
     then operation_line number e op
-    else left_out number (codes "left out: it touches addresses that this list gives to records")
+    else left_out number (codes "left out: it touches addresses that this list keeps for records")
 
 abbrev pub member_line : ℕ → ℕ → List ℕ → Member → List ℕ
 member_line count number e (Known t) = known_line count number e t (op_at e)
@@ -124,8 +134,8 @@ StandInsConflict =
     Does d t → Does e u → op_at d ≡ Some o → op_at e ≡ Some p → is_apart_from_added count t ≡ true → is_apart_from_added count u ≡ true →
     Conflicts (stand_in m d o) (stand_in n e p) ↔ TouchedConflict t u
 
--- the list spells its operations, if each is that of a descriptor: an entry may have one outside the grammar, as a
--- comparison that expects 7
+-- the list spells its operations, if each is that of a descriptor: an entry may have one that no list has, with a record at
+-- no multiple of 32, say
 abbrev pub ListingIsRead : Type 0
 ListingIsRead =
     (es : List (List ℕ)) (ss : List Submission) (audits : List Audited) (ds : List Descriptor) →

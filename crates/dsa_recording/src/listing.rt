@@ -4,7 +4,7 @@ ghost use Rattle.std.specs.Prelude.{◌≡◌, ◌≤◌, ◌<◌, ◌^◌, ◌+
 ghost use Rattle.std.specs.List.{list_all};
 ghost use Rattle.dsa_descriptor.specs.Places.{op_at, pasid_at, privileged_at};
 ghost use Rattle.dsa_lines.specs.Text.{line_text};
-ghost use Rattle.dsa_recording.specs.Listings.{record_in_list, stand_in, is_clear, is_apart_from_added, left_out, operation_line, known_line, member_line, member_lines, listing_text, AreEntries, StandInsConflict, ListingIsRead};
+ghost use Rattle.dsa_recording.specs.Listings.{record_in_list, stand_in, is_clear, expecting_zero, is_apart_from_added, left_out, operation_line, known_line, member_line, member_lines, listing_text, AreEntries, StandInsConflict, ListingIsRead};
 
 use crate::report::Report;
 use crate::words::unseen_text;
@@ -27,15 +27,15 @@ fn record_in_list(entry: &[u8; 64], number: usize) -> u64
     RECORDS + 32 * number as u64
 }
 
-/// Whether the span lies below the records that so many entries might get, or behind them.
+/// Whether the span has no address, or lies below the records that entries of this number may get, or behind them.
 fn is_clear(count: usize, span: Span) -> bool
     requires { count ≤ 2 ^ 58 }
     ensures { result ≡ is_clear count span }
 {
-    span.end() <= u128::from(RECORDS) || RECORDS + 32 * count as u64 <= span.first
+    span.len == 0 || span.end() <= u128::from(RECORDS) || RECORDS + 32 * count as u64 <= span.first
 }
 
-/// Whether all of these spans do.
+/// Whether each of the spans is clear of these records.
 fn are_clear(count: usize, spans: &[Span]) -> bool
     requires { count ≤ 2 ^ 58 }
     ensures { result ≡ list_all (is_clear count) spans.now }
@@ -65,6 +65,25 @@ fn entry_text(alloc: Global, number: usize) -> Result<String, AllocError>
     format!(in alloc; " # entry {number}")
 }
 
+/// The operation with the expected result 0.
+fn expecting_zero(op: Op) -> Op
+    ensures { result ≡ expecting_zero op }
+{
+    match op {
+        Op::Compare { src, src2, .. } => Op::Compare {
+            src,
+            src2,
+            expected: 0,
+        },
+        Op::ComparePattern { src, pattern, .. } => Op::ComparePattern {
+            src,
+            pattern,
+            expected: 0,
+        },
+        Op::Move { .. } | Op::Fill { .. } | Op::ApplyDelta { .. } | Op::Dualcast { .. } => op,
+    }
+}
+
 /// The operation that stands for an entry, as a line.
 fn stand_in_text(
     alloc: Global,
@@ -79,7 +98,8 @@ fn stand_in_text(
     let owner = u32_at(entry, 0);
     let record_at = record_in_list(entry, number);
     let (pasid, privileged) = (owner % (1 << 20), owner >> 31 == 1);
-    dsa_lines::operation_line(alloc, op, u32_at(entry, 32), record_at, pasid, privileged)
+    let op = expecting_zero(*op);
+    dsa_lines::operation_line(alloc, &op, u32_at(entry, 32), record_at, pasid, privileged)
 }
 
 /// The line of the operation of an entry, with the entry's number.
@@ -116,11 +136,11 @@ fn known_line(
     if is_apart_from_added(count, touched) {
         return operation_line(alloc, number, entry, &op);
     }
-    let why = "left out: it touches addresses that this list gives to records";
+    let why = "left out: it touches addresses that this list keeps for records";
     left_out(alloc, number, why)
 }
 
-/// The line of a member, which is the entry of that number, of so many.
+/// The line of a member, which is the entry of that number of a recording of `count` entries.
 fn member_line(
     alloc: Global,
     count: usize,

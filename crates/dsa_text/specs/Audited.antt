@@ -43,11 +43,15 @@ denied_in m = denied_of (first_value (found_of m) (codes "deny"))
 
 -- ---- the form of the report, and the settings
 
--- as JSON, as a picture or as a list where that option was given; else as text
+-- the format that flags ask for: JSON, a picture, a list; else text
+abbrev pub format_of : Bool → Bool → Bool → AuditFormat
+format_of json svg list = if json then Json else (if svg then Picture else (if list then Listed else Text))
+
+-- it is that of the options that were given
 abbrev pub IsFormat : ArgMatches → AuditFormat → Type 0
 IsFormat m format =
     (json svg list : Bool) × IsFlag m (codes "json") json × IsFlag m (codes "svg") svg × IsFlag m (codes "list") list
-    × (format ≡ (if json then Json else (if svg then Picture else (if list then Listed else Text))))
+    × (format ≡ format_of json svg list)
 
 -- each word is the value of the option of its name; an audit has no option of transfers and of the staging area
 pub record AreAuditWords (m : ArgMatches) (w : SettingsWords) : Type 0 where

@@ -3,7 +3,7 @@
 ghost use Rattle.std.specs.Prelude.{◌≡◌, IfOk, map};
 ghost use Rattle.std.specs.List.{count_by};
 ghost use Rattle.std.specs.Str.{bytes_eq};
-ghost use Rattle.dsa_text.specs.Audited.{AnswersWith, AreAuditWords, AuditsInput, AuditsWithOptions, IsFormat, denied_by, denied_in};
+ghost use Rattle.dsa_text.specs.Audited.{AnswersWith, AreAuditWords, AuditsInput, AuditsWithOptions, IsFormat, denied_by, denied_in, format_of};
 
 use crate::messages::message_with;
 use crate::numbers::parts_of;
@@ -25,9 +25,9 @@ of the members behind the line of their batch.
 With --staging it is read as what was written to a portal, with the members of each batch in the first dump that has them
 at the batch's list address. --staging may be given more than once.
 
-With --list it writes the operations of the recording as lines that explain and assemble read, so that
-  dsa_text audit --list recording.bin | dsa_text explain
-tells what the least plan of the same operations costs. What has no line is named in a comment.
+With --list it writes the operations of the recording as lines that explain reads, which says what their least plan costs:
+  dsa_text audit --list recording.bin > list.txt && dsa_text explain --greatest-transfer 2048M list.txt
+A member without a line is named in a comment: the plan knows nothing of it. The list is for prices, not for submission.
 
 The status is 0 where nothing is wrong, 1 where a fence is missing or what --deny names was found, and 2 where there is
 no recording, or it is too large to draw. Of a list it is 0 or 2.
@@ -75,7 +75,8 @@ pub(crate) fn audit_command<'a>(alloc: Global) -> Result<Command<'a>, AllocError
     let svg = flag(alloc, "svg", "draw the submissions and their fences").conflicts_with("json")?;
     let list = flag(alloc, "list", "write the operations as a list to plan")
         .conflicts_with("json")?
-        .conflicts_with("svg")?;
+        .conflicts_with("svg")?
+        .conflicts_with("deny")?;
     let options = vec![in alloc; file(alloc), json, svg, list, deny(alloc), staging(alloc)]?;
     let prices = price_options(alloc)?;
     Command::new(alloc, "audit")
@@ -120,13 +121,10 @@ fn denied_in(alloc: Global, matches: &ArgMatches<'_>) -> Result<Option<Denied>, 
     }
 }
 
-/// How the report is to be written.
-fn format_in(matches: &ArgMatches<'_>) -> AuditFormat
-    ensures { IsFormat matches.now result }
+/// The format that flags ask for.
+fn format_of(json: bool, svg: bool, list: bool) -> AuditFormat
+    ensures { result ≡ format_of json svg list }
 {
-    let json = matches.get_flag("json");
-    let svg = matches.get_flag("svg");
-    let list = matches.get_flag("list");
     if json {
         return AuditFormat::Json;
     }
@@ -137,6 +135,16 @@ fn format_in(matches: &ArgMatches<'_>) -> AuditFormat
         return AuditFormat::List;
     }
     AuditFormat::Text
+}
+
+/// How the report is to be written.
+fn format_in(matches: &ArgMatches<'_>) -> AuditFormat
+    ensures { IsFormat matches.now result }
+{
+    let json = matches.get_flag("json");
+    let svg = matches.get_flag("svg");
+    let list = matches.get_flag("list");
+    format_of(json, svg, list)
 }
 
 /// The settings as the options spell them; no report needs those of the others.

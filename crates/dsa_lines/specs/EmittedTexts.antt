@@ -10,8 +10,8 @@ use Rattle.dsa_lines.specs.Portals.{Submission, IsKnown, IsPortal}
 use Rattle.dsa_lines.specs.Stagings.{StagedPiece, IsStaging}
 use Rattle.dsa_lines.specs.Stagings.StagedEntry.{Piece}
 
--- the bytes that submit a plan are a portal and a staging area, so both have a text: that of its batches and lone pieces, all
--- known; and that of the pieces of its batches, and of a record for each batch that is all zero
+-- the bytes that submit a plan are a portal and a staging area, so both have a text: that of its batches and lone pieces,
+-- all known; and that of the pieces of its batches, and of a record for each batch that is all zero
 abbrev pub EmissionsHaveTexts : Type 0
 EmissionsHaveTexts =
     (s : Limits) (plan : Plan) (ds : List Descriptor) → AreInLimits s → CanBeEmitted s plan (map fields ds) →

@@ -49,8 +49,8 @@ PortalTextIsRecorded =
     (bytes : List ℕ) (ss : List Submission) → IsPortal bytes ss → AllByRecursion IsKnown ss →
     all_recorded (lines_of (portal_text ss)) ≡ Some (said_by ss)
 
--- as a recording the text of a staging area without other bytes spells the bytes of its pieces, with their fences, where each
--- record can be one
+-- as a recording the text of a staging area without other bytes spells the bytes of its pieces, with their fences, where
+-- each record can be one
 abbrev pub StagingTextIsRecorded : Type 0
 StagingTextIsRecorded =
     (at : ℕ) (bytes : List ℕ) (ps : List StagedPiece) (records : List (List ℕ)) →

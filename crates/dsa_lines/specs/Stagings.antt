@@ -50,11 +50,12 @@ abbrev pub Shows : List ℕ → StagedEntry → Type 0
 Shows bytes (Piece p) = bytes ≡ staged_bytes p
 Shows bytes (Other others fault) = (bytes ≡ others) × IsNoPiece others fault
 
--- The records begin where byte 7 is 0, and byte 0 is not 0 or bytes 8 to 31 are all 0 (this project's choice, since no byte
--- says how many entries there are). Byte 7 of a record belongs to how many descriptors finished, which are fewer than 2^24,
--- and byte 0 is its status, which is not 0 once it is written. So a written record is always known, and one that is all zero
--- too. Byte 7 of an entry is its operation code, which is not 0 for a piece. It is 0 for a no-op: one is taken for a record
--- where the low byte of its PASID is not 0, or where bytes 8 to 31, with the address of its record, are 0
+-- The records begin where byte 7 is 0, and byte 0 is not 0 or bytes 8 to 31 are all 0 (this project's choice, since no
+-- byte says how many entries there are). Byte 7 of a record belongs to how many descriptors finished, which are fewer
+-- than 2^24, and byte 0 is its status, which is not 0 once it is written. So a written record is always known, and one
+-- that is all zero too. Byte 7 of an entry is its operation code, which is not 0 for a piece. It is 0 for a no-op: one is
+-- taken for a record where the low byte of its PASID is not 0, or where bytes 8 to 31, with the address of its record,
+-- are 0
 abbrev pub BeginsRecord : List ℕ → Type 0
 BeginsRecord bytes =
     (slice_index bytes 7 ≡ 0) × ((slice_index bytes 0 ≢ 0) ⊎ AreZero (slice_range bytes 8 32))
@@ -69,8 +70,8 @@ pub record IsRecord (bytes : List ℕ) : Type 0 where
   pub whole : length bytes ≡ 32
   pub are_bytes : IsBytes bytes
 
--- The bytes are these entries, and behind them these records. The first record begins as one does where 64 bytes or more are
--- left, which could be an entry; where it stands alone it may be any
+-- The bytes are these entries, and behind them these records. The first record begins as one does where 64 bytes or more
+-- are left, which could be an entry; where it stands alone it may be any
 pub record IsStaging (bytes : List ℕ) (entries : List StagedEntry) (records : List (List ℕ)) : Type 0 where
   pub bytes_are : bytes ≡ flat_map entry_bytes entries ++ concat records
   pub each_entry : AllByRecursion IsEntry entries
@@ -179,7 +180,7 @@ OneStagingText =
 abbrev pub records_of : List ℕ → List (List ℕ)
 records_of bytes = first_chunks 32 (length bytes / 32) bytes
 
--- the bytes begin with these entries, `number` of them, and behind them the records begin, or no entry is left
+-- the bytes begin with these entries, which are `number`, and behind them the records begin, or no entry is left
 pub record AreEntries (bytes : List ℕ) (number : ℕ) (entries : List StagedEntry) : Type 0 where
   pub count : length entries ≡ number
   pub inside : number ≤ length bytes / 64

@@ -21,8 +21,8 @@ pub fn staging_text_is_read()
     ensures { StagingTextIsRead }
 {}
 
-/// As a recording the text of a staging area spells the bytes of its pieces, where each entry is one and each record can be
-/// one.
+/// As a recording the text of a staging area spells the bytes of its pieces, where each entry is one and each record can
+/// be one.
 pub fn staging_text_is_recorded()
     ensures { StagingTextIsRecorded }
 {}

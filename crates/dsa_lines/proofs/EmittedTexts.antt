@@ -22,7 +22,7 @@ use Rattle.dsa_emission.specs.EmissionLaws.{StandsAtPlaces}
 use Rattle.dsa_emission.proofs.AtPlaces.{emission_at_places}
 use Rattle.dsa_emission.proofs.Places.{batch_yes, batch_no, lone_staged, counts_within, placed}
 use Rattle.dsa_emission.proofs.Told.{Fits, batch_entry_is, lone_entry_is, batch_code_told, count_told, group_at, is_group_at, fits_at, staged_at, staged_batch}
-use Rattle.dsa_lines.specs.Portals.{Submission, IsBatchOf, Submits, IsPortal}
+use Rattle.dsa_lines.specs.Portals.{Submission, IsBatchOf, IsKnown, Submits, IsPortal}
 use Rattle.dsa_lines.specs.Portals.Submission.{Batch, Lone}
 use Rattle.dsa_lines.specs.Stagings.{StagedPiece, BeginsRecord, IsEntry, IsRecord, IsStaging, staged_bytes, entry_bytes}
 use Rattle.dsa_lines.specs.Stagings.StagedEntry.{Piece}
@@ -55,7 +55,7 @@ batch_there f record_at list_at count bytes e a b c =
 
 -- what the group at a place submits
 group_there : (s : Limits) (total : ℕ) (place : Place) (g : Group) (ds : List Descriptor) (bytes : List ℕ) → AreInLimits s → Fits place g ds → total ≤ 65536 → place.batches ≤ 65536 → place.batched ≤ 65536
-    → bytes ≡ portal_entry s total place g (map fields ds) → (t : Submission) × Submits bytes t
+    → bytes ≡ portal_entry s total place g (map fields ds) → (t : Submission) × Submits bytes t × IsKnown t
 group_there s total place g ds bytes limits fits a b c e =
     elim (cases_lt 1 (length g)) [
       | inl more ↦
@@ -63,21 +63,24 @@ group_there s total place g ds bytes limits fits a b c e =
             Batch (length g) (s.staging + 64 * place.batched) (s.staging + 64 * total + 32 * place.batches),
             batch_there (fields d) (s.staging + 64 * total + 32 * place.batches) (s.staging + 64 * place.batched) (length g) bytes (e ∙ is)
                 (omega (arith, limits.most_staging)) (omega (arith, limits.most_staging)) (omega (arith, fits.room, fits.few)),
+            tt,
           )
       | inr few ↦
           let (d, is, at) = lone_entry_is s total place g ds fits (omega (arith, fits.nonempty)) in
-          (Lone d, e ∙ is)
+          (Lone d, e ∙ is, tt)
     ]
 
--- entries that each submit something
-each_of : (es : List (List ℕ)) → ((i : ℕ) → i < length es → (t : Submission) × Submits (get_or es i []) t) → (ts : List Submission) × AllZip Submits es ts
-each_of [] each = ([], tt)
+-- entries that each submit something known
+each_of : (es : List (List ℕ)) → ((i : ℕ) → i < length es → (t : Submission) × Submits (get_or es i []) t × IsKnown t)
+    → (ts : List Submission) × AllZip Submits es ts × AllByRecursion IsKnown ts
+each_of [] each = ([], tt, tt)
 each_of (e ∷ es) each =
     let here = each 0 (omega arith) in
     let later = each_of es (λ i lt. each (suc i) (omega arith)) in
-    (here.0 ∷ later.0, (here.1, later.1))
+    (here.0 ∷ later.0, (here.1, later.1), (here.2, later.2))
 
-portal_there : (s : Limits) (plan : Plan) (ds : List Descriptor) (portal staging : List ℕ) → AreInLimits s → CanBeEmitted s plan (map fields ds) → StandsAtPlaces s plan ds portal staging → (ts : List Submission) × IsPortal portal ts
+portal_there : (s : Limits) (plan : Plan) (ds : List Descriptor) (portal staging : List ℕ) → AreInLimits s → CanBeEmitted s plan (map fields ds) → StandsAtPlaces s plan ds portal staging
+    → (ts : List Submission) × IsPortal portal ts × AllByRecursion IsKnown ts
 portal_there s plan ds portal staging limits can stands =
     let count : length (entries portal) ≡ length plan = omega (arith, length-chunks (length portal / 64) portal, stands.portal_length) in
     let pieces : length (map fields ds) ≡ length ds = length-map ds fields in
@@ -89,7 +92,7 @@ portal_there s plan ds portal staging limits can stands =
     group_there s (batched_count plan) (place_of plan i) (group_at plan i) ds (entry portal i) limits (fits_at s plan ds can i within)
     (omega (arith, total.1, can.covers, can.few)) (omega (arith, here.batches, here.room, can.covers, can.few)) (omega (arith, here.batched_pieces, here.room, can.covers, can.few))
     (stands.entries i (group_at plan i) (is_group_at plan i within))) in
-    (each.0, record { whole = omega (arith, stands.portal_length); each = each.1 })
+    (each.0, record { whole = omega (arith, stands.portal_length); each = each.1 }, each.2)
 
 -- ---- the staging area
 
@@ -131,10 +134,13 @@ are_entries : (ps : List StagedPiece) → AllByRecursion IsEntry (map Piece ps)
 are_entries [] = tt
 are_entries (p ∷ ps) = (record { shown = refl; no_record = piece_or_record p }, are_entries ps)
 
+zero_at : (n i : ℕ) → get_or {A = ℕ} (replicate n 0) i 0 ≡ 0
+zero_at zero i = refl
+zero_at (suc n) zero = refl
+zero_at (suc n) (suc i) = zero_at n i
+
 zeros_at : (n i : ℕ) → get_or {A = ℕ} (replicate n 0) i 0 < 256
-zeros_at zero i = omega arith
-zeros_at (suc n) zero = omega arith
-zeros_at (suc n) (suc i) = zeros_at n i
+zeros_at n i = omega (arith, zero_at n i)
 
 zero_bytes : (n : ℕ) → replicate (32 * n) 0 ≡ concat (replicate n (replicate 32 0))
 zero_bytes zero = refl
@@ -148,8 +154,10 @@ zero_records (suc n) = (record { whole = length-replicate {A = ℕ} 32 0; are_by
 
 zeros_begin : (n : ℕ) → BeginsRecord (concat (replicate n (replicate 32 0)))
 zeros_begin n =
-    subst (λ (b : List ℕ). BeginsRecord b) (zero_bytes n)
-    (All-take (λ byte. byte ≡ 0) 25 (drop 7 (replicate (32 * n) 0)) (All-drop (λ byte. byte ≡ 0) 7 (replicate (32 * n) 0) (All-replicate (λ byte. byte ≡ 0) (32 * n) 0 refl)))
+    subst (λ (b : List ℕ). BeginsRecord b) (zero_bytes n) (
+      zero_at (32 * n) 7,
+      inr (All-take (λ byte. byte ≡ 0) 24 (drop 8 (replicate (32 * n) 0)) (All-drop (λ byte. byte ≡ 0) 8 (replicate (32 * n) 0) (All-replicate (λ byte. byte ≡ 0) (32 * n) 0 refl))),
+    )
 
 staging_there : (s : Limits) (plan : Plan) (ds : List Descriptor) → CanBeEmitted s plan (map fields ds)
     → (ps : List StagedPiece) × (batches : ℕ) × IsStaging (staging_bytes plan (map fields ds)) (map Piece ps) (replicate batches (replicate 32 0))
@@ -169,7 +177,7 @@ staging_there s plan ds can =
     )
 
 pub emissions_have_texts : (s : Limits) (plan : Plan) (ds : List Descriptor) → AreInLimits s → CanBeEmitted s plan (map fields ds)
-    → ((ts : List Submission) × IsPortal (portal_bytes s plan (map fields ds)) ts) × ((ps : List StagedPiece) × (batches : ℕ) × IsStaging (staging_bytes plan (map fields ds)) (map Piece ps) (replicate batches (replicate 32 0)))
+    → ((ts : List Submission) × IsPortal (portal_bytes s plan (map fields ds)) ts × AllByRecursion IsKnown ts) × ((ps : List StagedPiece) × (batches : ℕ) × IsStaging (staging_bytes plan (map fields ds)) (map Piece ps) (replicate batches (replicate 32 0)))
 emissions_have_texts s plan ds limits can =
     let stands : StandsAtPlaces s plan ds (portal_bytes s plan (map fields ds)) (staging_bytes plan (map fields ds)) =
     (emission_at_places s plan ds (portal_bytes s plan (map fields ds)) (staging_bytes plan (map fields ds)) can).0 (refl, refl) in

@@ -17,11 +17,11 @@ use Rattle.dsa_lines.specs.Grammar.{greatest, fields_of}
 use Rattle.dsa_lines.specs.Recordings.{batch_at}
 use Rattle.dsa_lines.specs.Text.{line_text}
 use Rattle.dsa_lines.specs.Texts.{lines_of, line_fields, all_fields, TextSpells}
-use Rattle.dsa_lines.specs.Portals.{Submission, Submits, IsPortal, batch_words, submission_text, portal_text}
+use Rattle.dsa_lines.specs.Portals.{Submission, IsKnown, Submits, IsPortal, batch_words, submission_text, portal_text}
 use Rattle.dsa_lines.specs.Portals.Submission.{Batch, Lone, Other}
-use Rattle.dsa_lines.specs.Stagings.{StagedPiece, IsRecord, IsStaging, piece_text, entries_text, record_place, record_text, records_text, written_text, staging_text}
+use Rattle.dsa_lines.specs.Stagings.{StagedPiece, IsPlausible, IsRecord, IsStaging, piece_text, entries_text, record_place, record_text, records_text, written_text, staging_text}
 use Rattle.dsa_lines.specs.Stagings.StagedEntry.{Piece}
-use Rattle.dsa_lines.specs.ReadAgain.{IsKnown, lone_fields}
+use Rattle.dsa_lines.specs.ReadAgain.{lone_fields}
 use Rattle.dsa_lines.proofs.WordLemmas.{blank_then, both, word_then}
 use Rattle.dsa_lines.proofs.LineLemmas.{is_line, line_append}
 use Rattle.dsa_lines.proofs.RoundTrip.{decimal_at, hex_at, line_spells}
@@ -171,24 +171,32 @@ commented_read f text listed e = ap line_fields (comment_behind (line_text f) te
 
 place_line : (batch address : ℕ) → is_line (record_place batch address) ≡ true
 place_line batch address =
-    line_append (codes "# record ") (decimal batch ++ (codes " at " ++ hex address)) refl
+    line_append (codes "record ") (decimal batch ++ (codes " at " ++ hex address)) refl
     (line_append (decimal batch) (codes " at " ++ hex address) (digits_line 10 batch (omega arith) (omega arith))
     (line_append (codes " at 0x") (digits 16 false address) refl (digits_line 16 address (omega arith) (omega arith))))
 
-pub record_line : (batch address : ℕ) (r : List ℕ) → IsRecord r → is_line (record_text batch address r) ≡ true
-record_line batch address r h = line_append (record_place batch address) (written_text r) (place_line batch address) (written_line (bytes_eq r (replicate 32 0)) r h)
+-- what stands behind `#`
+abbrev pub comment_text : ℕ → ℕ → List ℕ → List ℕ
+comment_text batch address r = codes " " ++ (record_place batch address ++ written_text r)
 
-records_read : (batch address : ℕ) (rs : List (List ℕ)) → AllByRecursion IsRecord rs → all_fields (lines_of (records_text batch address rs)) ≡ Some []
+pub comment_line : (batch address : ℕ) (r : List ℕ) → IsRecord r → is_line (comment_text batch address r) ≡ true
+comment_line batch address r h = line_append (record_place batch address) (written_text r) (place_line batch address) (written_line (bytes_eq r (replicate 32 0)) r h)
+
+pub record_is : (batch address : ℕ) (r : List ℕ) → IsPlausible r → record_text batch address r ≡ 35 ∷ comment_text batch address r
+record_is batch address r plausible = rw plausible refl
+
+records_read : (batch address : ℕ) (rs : List (List ℕ)) → AllByRecursion IsRecord rs → AllByRecursion IsPlausible rs → all_fields (lines_of (records_text batch address rs)) ≡ Some []
 unfolding records_text
-records_read batch address [] all = nothing
-records_read batch address (r ∷ rs) all =
-    let is : is_line (record_text batch address r) ≡ true = record_line batch address r all.0 in
-    line_before (record_text batch address r) (records_text (batch + 1) (address + 32) rs) [] [] is
-    (comment_read ((codes " record " ++ (decimal batch ++ (codes " at " ++ hex address))) ++ written_text r) is)
-    (records_read (batch + 1) (address + 32) rs all.1)
+records_read batch address [] all can = nothing
+records_read batch address (r ∷ rs) all can =
+    let text : List ℕ = comment_text batch address r in
+    let rest : List ℕ = records_text (batch + 1) (address + 32) rs in
+    let is : is_line text ≡ true = comment_line batch address r all.0 in
+    ap (λ (line : List ℕ). all_fields (lines_of ((line ++ 10 ∷ []) ++ rest))) (record_is batch address r can.0)
+    ∙ line_before (35 ∷ text) rest [] [] is (comment_read text is) (records_read (batch + 1) (address + 32) rs all.1 can.1)
 
-pub staging_is_read : (at : ℕ) (bytes : List ℕ) (ps : List StagedPiece) (rs : List (List ℕ)) → IsStaging bytes (map Piece ps) rs
+pub staging_is_read : (at : ℕ) (bytes : List ℕ) (ps : List StagedPiece) (rs : List (List ℕ)) → IsStaging bytes (map Piece ps) rs → AllByRecursion IsPlausible rs
     → TextSpells (staging_text at (map Piece ps) rs) (map (λ p. fields p.piece) ps)
-staging_is_read at bytes ps rs h =
+staging_is_read at bytes ps rs h can =
     let first : ℕ = at + 64 * length (map Piece ps) in
-    pieces_read ps (records_text 0 first rs) (records_read 0 first rs h.each_record)
+    pieces_read ps (records_text 0 first rs) (records_read 0 first rs h.each_record can)

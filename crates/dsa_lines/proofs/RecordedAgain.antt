@@ -1,6 +1,6 @@
 -- What is written of a portal or a staging area is read again as a recording.
 use Rattle.std.proofs.Common.{◌≡◌, ℕ, ◌+◌, ◌*◌, ◌^◌, ◌<◌, Bool, true, false, cond, Some, List, [], ◌∷◌, ◌++◌, length, refl, sym, ap, ◌∙◌, append_assoc, arith}
-use Rattle.std.specs.Prelude.{codes, decimal, map}
+use Rattle.std.specs.Prelude.{codes, map}
 use Rattle.std.specs.List.{AllByRecursion, AllZip, flat_map}
 use Rattle.std.specs.Str.{bytes_eq}
 use Rattle.dsa_descriptor.specs.declared.descriptor.Descriptor.{Descriptor}
@@ -16,22 +16,21 @@ use Rattle.dsa_emission.proofs.Told.{unfenced_same}
 use Rattle.dsa_lines.specs.declared.recording.Recorded.{Recorded}
 use Rattle.dsa_lines.specs.declared.recording.Recorded.TheVariants.{Batch as BatchSaid, Entry as EntrySaid}
 use Rattle.dsa_lines.specs.Words.{Word, words_in, words_of}
-use Rattle.dsa_lines.specs.Numbers.{hex}
 use Rattle.dsa_lines.specs.Grammar.{op_at, fields_of}
 use Rattle.dsa_lines.specs.Recordings.{fenced, recorded_at, line_recorded, all_recorded, recording_bytes, LinesSpell}
 use Rattle.dsa_lines.specs.Text.{line_text}
 use Rattle.dsa_lines.specs.Texts.{lines_of}
-use Rattle.dsa_lines.specs.Portals.{Submission, Submits, IsPortal, batch_words, submission_text, portal_text}
+use Rattle.dsa_lines.specs.Portals.{Submission, IsKnown, Submits, IsPortal, batch_words, submission_text, portal_text}
 use Rattle.dsa_lines.specs.Portals.Submission.{Batch, Lone, Other}
-use Rattle.dsa_lines.specs.Stagings.{StagedPiece, IsRecord, IsStaging, staged_bytes, piece_text, entries_text, record_text, records_text, written_text, staging_text}
+use Rattle.dsa_lines.specs.Stagings.{StagedPiece, IsPlausible, IsRecord, IsStaging, staged_bytes, piece_text, entries_text, records_text, staging_text}
 use Rattle.dsa_lines.specs.Stagings.StagedEntry.{Piece}
-use Rattle.dsa_lines.specs.ReadAgain.{IsKnown, said_by}
+use Rattle.dsa_lines.specs.ReadAgain.{said_by}
 use Rattle.dsa_lines.proofs.LineLemmas.{is_line}
 use Rattle.dsa_lines.proofs.RoundTrip.{line_spells}
 use Rattle.dsa_lines.proofs.TextLemmas.{batch_spells_none, fence_spells_none, line_first, same_word}
 use Rattle.dsa_lines.proofs.PortalLemmas.{batch_read, submission_line}
 use Rattle.dsa_lines.proofs.StagingTexts.{fenced_line}
-use Rattle.dsa_lines.proofs.ReadAgain.{batch_again, comment, fence_front, record_line}
+use Rattle.dsa_lines.proofs.ReadAgain.{batch_again, comment, comment_line, comment_text, fence_front, record_is}
 
 -- a line stands before others
 line_before : (line rest : List ℕ) (here more : List Recorded) → is_line line ≡ true → line_recorded (words_of line) ≡ Some here → all_recorded (lines_of rest) ≡ Some more
@@ -122,21 +121,22 @@ pieces_said (p ∷ ps) rest e =
     ∙ line_before (piece_text p) (entries_text (map Piece ps) ++ rest) (EntrySaid (staged_bytes p) ∷ []) (entries_said ps) (fenced_line p.fence p.piece) (piece_said p.fence p.piece)
     (pieces_said ps rest e)
 
-records_said : (batch address : ℕ) (rs : List (List ℕ)) → AllByRecursion IsRecord rs → all_recorded (lines_of (records_text batch address rs)) ≡ Some []
+records_said : (batch address : ℕ) (rs : List (List ℕ)) → AllByRecursion IsRecord rs → AllByRecursion IsPlausible rs → all_recorded (lines_of (records_text batch address rs)) ≡ Some []
 unfolding records_text
-records_said batch address [] all = nothing
-records_said batch address (r ∷ rs) all =
-    let is : is_line (record_text batch address r) ≡ true = record_line batch address r all.0 in
-    line_before (record_text batch address r) (records_text (batch + 1) (address + 32) rs) [] [] is
-    (comment_said ((codes " record " ++ (decimal batch ++ (codes " at " ++ hex address))) ++ written_text r) is)
-    (records_said (batch + 1) (address + 32) rs all.1)
+records_said batch address [] all can = nothing
+records_said batch address (r ∷ rs) all can =
+    let text : List ℕ = comment_text batch address r in
+    let rest : List ℕ = records_text (batch + 1) (address + 32) rs in
+    let is : is_line text ≡ true = comment_line batch address r all.0 in
+    ap (λ (line : List ℕ). all_recorded (lines_of ((line ++ 10 ∷ []) ++ rest))) (record_is batch address r can.0)
+    ∙ line_before (35 ∷ text) rest [] [] is (comment_said text is) (records_said (batch + 1) (address + 32) rs all.1 can.1)
 
 bytes_said : (ps : List StagedPiece) → flat_map staged_bytes ps ≡ recording_bytes (entries_said ps)
 bytes_said [] = refl
 bytes_said (p ∷ ps) = ap (λ (b : List ℕ). staged_bytes p ++ b) (bytes_said ps)
 
-pub staging_is_recorded : (at : ℕ) (bytes : List ℕ) (ps : List StagedPiece) (rs : List (List ℕ)) → IsStaging bytes (map Piece ps) rs
+pub staging_is_recorded : (at : ℕ) (bytes : List ℕ) (ps : List StagedPiece) (rs : List (List ℕ)) → IsStaging bytes (map Piece ps) rs → AllByRecursion IsPlausible rs
     → LinesSpell (lines_of (staging_text at (map Piece ps) rs)) (flat_map staged_bytes ps)
-staging_is_recorded at bytes ps rs h =
+staging_is_recorded at bytes ps rs h can =
     let first : ℕ = at + 64 * length (map Piece ps) in
-    (entries_said ps, pieces_said ps (records_text 0 first rs) (records_said 0 first rs h.each_record), bytes_said ps)
+    (entries_said ps, pieces_said ps (records_text 0 first rs) (records_said 0 first rs h.each_record can), bytes_said ps)

@@ -1,8 +1,8 @@
 -- What stands in a staging area is determined.
-use Rattle.std.proofs.Common.{◌≡◌, ℕ, ◌*◌, ◌%◌, ◌^◌, ◌<◌, ◌≤◌, Bool, true, false, List, [], ◌∷◌, ◌++◌, length, get_or, take, drop, refl, sym, ap, subst, ◌∙◌, bit_or, append_assoc, length-append, arith}
-use Rattle.std.specs.Prelude.{slice_range}
+use Rattle.std.proofs.Common.{◌≡◌, ℕ, ◌*◌, ◌%◌, ◌^◌, ◌<◌, ◌≤◌, Bool, true, false, inl, inr, List, [], ◌∷◌, ◌++◌, length, get_or, take, drop, refl, sym, ap, subst, ◌∙◌, bit_or, append_assoc, length-append, arith}
+use Rattle.std.specs.Prelude.{◌≢◌, ◌⊎◌, slice_range}
 use Rattle.std.specs.List.{AllByRecursion, concat, flat_map}
-use Rattle.std.proofs.lemmas.List.{take_at, drop_at, get_or-drop, get_or-take, get_or-set_other, length-take, length-drop, take-append-le, drop-append-le}
+use Rattle.std.proofs.lemmas.List.{take_at, drop_at, get_or_append_left, get_or-set_other, length-drop, take-append-le, drop-append-le}
 use Rattle.dsa_descriptor.specs.declared.descriptor.Descriptor.{Descriptor}
 use Rattle.dsa_descriptor.specs.declared.fault.FieldFault.{FieldFault}
 use Rattle.dsa_descriptor.specs.declared.op.Op.{Op}
@@ -65,22 +65,29 @@ piece_code p e = fenced_code p.fence p.piece e
 -- ---- where records begin
 
 -- it is seen by 32 bytes
-begins_front : (a b : List ℕ) → 32 ≤ length a → slice_range (a ++ b) 7 32 ≡ slice_range a 7 32
+begins_front : (a b : List ℕ) → 32 ≤ length a → slice_range (a ++ b) 8 32 ≡ slice_range a 8 32
 begins_front a b long =
-    ap (take 25) (drop-append-le 7 a b (omega arith)) ∙ take-append-le 25 (drop 7 a) b (omega (arith, length-drop 7 a))
+    ap (take 24) (drop-append-le 8 a b (omega arith)) ∙ take-append-le 24 (drop 8 a) b (omega (arith, length-drop 8 a))
+
+byte_front : (a b : List ℕ) (i : ℕ) → i < length a → get_or (a ++ b) i 0 ≡ get_or a i 0
+byte_front a b i lt = get_or_append_left a b 0 i lt
+
+-- a status or zeros stand in the same bytes
+written_there : (x y : ℕ) (r t : List ℕ) → x ≡ y → r ≡ t → (x ≢ 0) ⊎ AreZero r → (y ≢ 0) ⊎ AreZero t
+written_there x y r t e f (inl some) = inl (λ none. some (e ∙ none))
+written_there x y r t e f (inr zeros) = inr (subst AreZero f zeros)
 
 pub begins_there : (a b : List ℕ) → 32 ≤ length a → BeginsRecord (a ++ b) → BeginsRecord a
-begins_there a b long h = subst AreZero (begins_front a b long) h
+begins_there a b long h =
+    (sym (byte_front a b 7 (omega arith)) ∙ h.0, written_there _ _ _ _ (byte_front a b 0 (omega arith)) (begins_front a b long) h.1)
 
 pub begins_before : (a b : List ℕ) → 32 ≤ length a → BeginsRecord a → BeginsRecord (a ++ b)
-begins_before a b long h = subst AreZero (sym (begins_front a b long)) h
+begins_before a b long h =
+    (byte_front a b 7 (omega arith) ∙ h.0, written_there _ _ _ _ (sym (byte_front a b 0 (omega arith))) (sym (begins_front a b long)) h.1)
 
 -- no piece begins a record
 pub piece_or_record : (p : StagedPiece) → BeginsRecord (staged_bytes p) → ⊥
-piece_or_record p zeros =
-    let bytes = staged_bytes p in
-    let inside : 0 < length (take 25 (drop 7 bytes)) = omega (arith, length-take 25 (drop 7 bytes), length-drop 7 bytes, long_piece p) in
-    piece_code p (sym (get_or-drop 7 bytes 0 0) ∙ sym (get_or-take 25 (drop 7 bytes) 0 0 (omega arith)) ∙ zeros 0 0 inside)
+piece_or_record p begins = piece_code p begins.0
 
 -- ---- entries
 

@@ -1,6 +1,6 @@
 -- The text of a staging area.
-use Rattle.std.proofs.Common.{◌≡◌, ℕ, suc, ◌+◌, ◌*◌, ◌^◌, ◌<◌, Bool, true, false, cond, List, [], ◌∷◌, ◌++◌, length, get_or, drop, refl, sym, ap, ◌∙◌, append_assoc, arith}
-use Rattle.std.specs.Prelude.{replicate, codes, decimal}
+use Rattle.std.proofs.Common.{◌≡◌, ℕ, suc, ◌+◌, ◌*◌, ◌^◌, ◌<◌, Bool, true, false, inl, inr, cond, List, [], ◌∷◌, ◌++◌, length, get_or, drop, refl, sym, ap, subst, ◌∙◌, append_assoc, length-append, arith}
+use Rattle.std.specs.Prelude.{◌⊎◌, replicate, codes, decimal}
 use Rattle.std.specs.List.{AllByRecursion, concat, flat_map}
 use Rattle.std.specs.Str.{bytes_eq}
 use Rattle.std.proofs.lemmas.List.{append-nil, append_cancel_left}
@@ -12,13 +12,13 @@ use Rattle.dsa_descriptor.specs.declared.fault.FieldFault.{FieldFault}
 use Rattle.dsa_descriptor.specs.Descriptors.{fields}
 use Rattle.dsa_descriptor.proofs.Bytes.{u32_at-lt}
 use Rattle.dsa_lines.specs.Words.{Word, words_of}
-use Rattle.dsa_lines.specs.Numbers.{number_of}
+use Rattle.dsa_lines.specs.Numbers.{hex, number_of}
 use Rattle.dsa_lines.specs.Text.{tail_text, text_of, line_text}
 use Rattle.dsa_lines.specs.Portals.{other_words}
-use Rattle.dsa_lines.specs.Stagings.{StagedPiece, StagedEntry, IsEntry, IsRecord, IsStaging, entry_bytes, piece_text, entry_text, entries_text, status_at, finished_at, written_record, is_plain, more_words, written_words, written_text, record_place, record_text, records_text, staging_text}
+use Rattle.dsa_lines.specs.Stagings.{StagedPiece, StagedEntry, IsEntry, IsRecord, IsStaging, entry_bytes, piece_text, entry_text, entries_text, status_at, finished_at, written_record, is_plain, is_plausible, byte_words, more_words, written_words, written_text, record_place, record_text, records_text, staging_text}
 use Rattle.dsa_lines.specs.Stagings.StagedEntry.{Piece, Other}
 use Rattle.dsa_lines.proofs.WordLemmas.{AreWords, text_words}
-use Rattle.dsa_lines.proofs.NumberLemmas.{decimal_word, decimal_again, digits_word, spaced_decimal, spaced_digits}
+use Rattle.dsa_lines.proofs.NumberLemmas.{decimal_word, decimal_again, digits_word, hex_word, hex_again, spaced_decimal, spaced_digits}
 use Rattle.dsa_lines.proofs.LineLemmas.{is_line, line_append, words_line, canonical_is_line}
 use Rattle.dsa_lines.proofs.PortalLemmas.{first_line, line_begins, no_unknown, one_encoding, other_line, same_line, same_other_bytes}
 use Rattle.dsa_lines.proofs.StagingLemmas.{same_other}
@@ -41,10 +41,6 @@ fenced_begins false d e = (line_begins (fields d)).1 e
 fenced_known : (fence : Bool) (d : Descriptor) → get_or (cond fence (codes "fence ") [] ++ line_text (fields d)) 0 0 ≡ 117 → ⊥
 fenced_known true d e = let no : ◌≡◌ {A = ℕ} 102 117 = e in absurd (omega arith)
 fenced_known false d e = no_unknown (fields d) e
-
-entry_begins : (e : StagedEntry) → get_or (entry_text e) 0 35 ≡ 35 → ⊥
-entry_begins (Piece p) e = fenced_begins p.fence p.piece e
-entry_begins (Other bytes fault) e = let no : ◌≡◌ {A = ℕ} 117 35 = e in absurd (omega arith)
 
 piece_or_other_text : (p : StagedPiece) (bytes : List ℕ) (fault : FieldFault) → text_of (other_words bytes fault) ≡ piece_text p → ⊥
 piece_or_other_text p bytes fault e = fenced_known p.fence p.piece (ap (λ (t : List ℕ). get_or t 0 0) (sym e))
@@ -69,20 +65,35 @@ same_entry (Other b f) (Piece q) h k same = absurd (piece_or_other_text q b f sa
 same_entry (Other b f) (Other c g) h k same =
     same_other b c f g (same_other_bytes b c f g h.shown.1.whole k.shown.1.whole h.shown.1.are_bytes k.shown.1.are_bytes same) h.shown.1 k.shown.1
 
--- ---- the lines of entries, with what stands behind them: nothing, or what begins with `#`
+-- ---- the lines of entries, with what stands behind them: nothing, or what begins with `#` or with `unknown r`
 
 begins_more : (a b : List ℕ) → (get_or a 0 35 ≡ 35 → ⊥) → get_or (a ++ b) 0 35 ≡ 35 → ⊥
 begins_more [] b plain e = plain refl
 begins_more (c ∷ cs) b plain e = plain e
 
-no_entries_there : (f : StagedEntry) (fs : List StagedEntry) (r t : List ℕ) → get_or r 0 35 ≡ 35 → r ≡ entries_text (f ∷ fs) ++ t → ⊥
+first_more : (a b : List ℕ) → (get_or a 0 35 ≡ 35 → ⊥) → get_or (a ++ b) 0 35 ≡ get_or a 0 0
+first_more [] b plain = absurd (plain refl)
+first_more (c ∷ cs) b plain = refl
+
+abbrev Marks : List ℕ → Type 0
+Marks t = (get_or t 0 35 ≡ 35) ⊎ ((get_or t 0 35 ≡ 117) × (get_or t 8 0 ≡ 114))
+
+no_mark : (e : StagedEntry) (t : List ℕ) → Marks (entry_text e ++ t) → ⊥
+no_mark (Piece p) t (inl e) = begins_more (piece_text p) t (fenced_begins p.fence p.piece) e
+no_mark (Piece p) t (inr e) = fenced_known p.fence p.piece (sym (first_more (piece_text p) t (fenced_begins p.fence p.piece)) ∙ e.0)
+no_mark (Other bytes fault) t (inl e) = let no : ◌≡◌ {A = ℕ} 117 35 = e in absurd (omega arith)
+no_mark (Other bytes fault) t (inr e) = let no : ◌≡◌ {A = ℕ} 48 114 = e.1 in absurd (omega arith)
+
+-- what stands first in four parts
+parted : (p w n x : List ℕ) → ((p ++ w) ++ n) ++ x ≡ p ++ ((w ++ n) ++ x)
+parted p w n x = ap (λ (l : List ℕ). l ++ x) (append_assoc p w n) ∙ append_assoc p (w ++ n) x
+
+no_entries_there : (f : StagedEntry) (fs : List StagedEntry) (r t : List ℕ) → Marks r → r ≡ entries_text (f ∷ fs) ++ t → ⊥
 unfolding entries_text
 no_entries_there f fs r t mark e =
-    begins_more ((entry_text f ++ 10 ∷ []) ++ entries_text fs) t
-    (begins_more (entry_text f ++ 10 ∷ []) (entries_text fs) (begins_more (entry_text f) (10 ∷ []) (entry_begins f)))
-    (ap (λ (b : List ℕ). get_or b 0 35) (sym e) ∙ mark)
+    no_mark f ((10 ∷ entries_text fs) ++ t) (subst Marks (e ∙ parted (entry_text f) (10 ∷ []) (entries_text fs) t) mark)
 
-same_entries : (es fs : List StagedEntry) (r t : List ℕ) → AllByRecursion IsEntry es → AllByRecursion IsEntry fs → get_or r 0 35 ≡ 35 → get_or t 0 35 ≡ 35
+same_entries : (es fs : List StagedEntry) (r t : List ℕ) → AllByRecursion IsEntry es → AllByRecursion IsEntry fs → Marks r → Marks t
     → entries_text es ++ r ≡ entries_text fs ++ t → (es ≡ fs) × (r ≡ t)
 unfolding entries_text
 same_entries [] [] r t p q m n e = (refl, e)
@@ -104,18 +115,18 @@ status_fits r h = omega (arith, h.are_bytes 0)
 finished_fits : (r : List ℕ) → IsRecord r → finished_at r < 2 ^ 64
 finished_fits r h = omega (arith, u32_at-lt 4 r h.are_bytes)
 
-more_are : (plain : Bool) (r : List ℕ) → IsRecord r → AreWords (cond plain [] (codes "," ∷ codes "32" ∷ codes "bytes" ∷ encode_lower r ∷ []))
+more_are : (plain : Bool) (r : List ℕ) → IsRecord r → AreWords (cond plain [] (byte_words r))
 more_are true r h = tt
 more_are false r h = (refl, (refl, (refl, (digits_word r (omega (arith, h.whole)), tt))))
 
 written_are : (r : List ℕ) → IsRecord r → AreWords (written_words r)
 written_are r h =
-    (refl, (refl, (decimal_word (status_at r) (status_fits r h), (refl, (decimal_word (finished_at r) (finished_fits r h), (refl, more_are (is_plain r) r h))))))
+    (refl, (refl, (hex_word (status_at r) (status_fits r h), (refl, (decimal_word (finished_at r) (finished_fits r h), (refl, more_are (is_plain r) r h))))))
 
 written_read : (r : List ℕ) → IsRecord r → words_of (text_of (written_words r)) ≡ written_words r
 written_read r h =
     let all = written_are r h in
-    text_words 58 [] (codes "status" ∷ decimal (status_at r) ∷ codes "," ∷ decimal (finished_at r) ∷ codes "finished" ∷ more_words r) refl all.1
+    text_words 58 [] (codes "status" ∷ hex (status_at r) ∷ codes "," ∷ decimal (finished_at r) ∷ codes "finished" ∷ more_words r) refl all.1
 
 same_bytes : (b c : List ℕ) → bytes_eq b c ≡ true → b ≡ c
 same_bytes b c e = (bytes_eq-Decides b c).0 e
@@ -123,7 +134,7 @@ same_bytes b c e = (bytes_eq-Decides b c).0 e
 -- two records of these words are the same
 same_more : (a b : Bool) (r t : List ℕ) → IsRecord r → IsRecord t → bytes_eq r (written_record (status_at r) (finished_at r)) ≡ a → bytes_eq t (written_record (status_at t) (finished_at t)) ≡ b
     → status_at r ≡ status_at t → finished_at r ≡ finished_at t
-    → cond a [] (codes "," ∷ codes "32" ∷ codes "bytes" ∷ encode_lower r ∷ []) ≡ cond b [] (codes "," ∷ codes "32" ∷ codes "bytes" ∷ encode_lower t ∷ [])
+    → cond a [] (byte_words r) ≡ cond b [] (byte_words t)
     → r ≡ t
 same_more true true r t p q x y status finished e =
     same_bytes r (written_record (status_at r) (finished_at r)) x ∙ (λ i. written_record (status i) (finished i)) ∙ sym (same_bytes t (written_record (status_at t) (finished_at t)) y)
@@ -134,7 +145,7 @@ same_more false false r t p q x y status finished e = one_encoding r t p.are_byt
 same_words : (r t : List ℕ) → IsRecord r → IsRecord t → written_words r ≡ written_words t → r ≡ t
 same_words r t p q e =
     let status : status_at r ≡ status_at t = same_Some (status_at r) (status_at t)
-    (sym (decimal_again (status_at r) (status_fits r p)) ∙ ap (λ (ws : List Word). number_of (get_or ws 2 [])) e ∙ decimal_again (status_at t) (status_fits t q)) in
+    (sym (hex_again (status_at r) (status_fits r p)) ∙ ap (λ (ws : List Word). number_of (get_or ws 2 [])) e ∙ hex_again (status_at t) (status_fits t q)) in
     let finished : finished_at r ≡ finished_at t = same_Some (finished_at r) (finished_at t)
     (sym (decimal_again (finished_at r) (finished_fits r p)) ∙ ap (λ (ws : List Word). number_of (get_or ws 4 [])) e ∙ decimal_again (finished_at t) (finished_fits t q)) in
     same_more (is_plain r) (is_plain t) r t p q refl refl status finished (ap (drop 6) e)
@@ -152,18 +163,51 @@ written_line false r h = words_line (written_words r) (written_are r h)
 
 -- ---- the lines of records
 
-mark : (batch address : ℕ) (rs : List (List ℕ)) → get_or (records_text batch address rs) 0 35 ≡ 35
+mark_by : (plausible : Bool) (x y n z : List ℕ) → Marks ((cond plausible (codes "# " ++ x) (codes "unknown record " ++ y) ++ n) ++ z)
+mark_by true x y n z = inl refl
+mark_by false x y n z = inr (refl, refl)
+
+mark : (batch address : ℕ) (rs : List (List ℕ)) → Marks (records_text batch address rs)
 unfolding records_text
-mark batch address [] = refl
-mark batch address (r ∷ rs) = refl
+mark batch address [] = inl refl
+mark batch address (r ∷ rs) =
+    mark_by (is_plausible r) (record_place batch address ++ written_text r) ((decimal batch ++ (codes " at " ++ hex address)) ++ text_of (byte_words r)) (10 ∷ [])
+    (records_text (batch + 1) (address + 32) rs)
+
+none_left : (a x : List ℕ) → (a ++ 10 ∷ []) ++ x ≡ [] → ⊥
+none_left a x e = omega (arith, ap length e, length-append (a ++ 10 ∷ []) x, length-append a (10 ∷ []))
 
 some_text : (batch address : ℕ) (r : List ℕ) (rs : List (List ℕ)) → records_text batch address (r ∷ rs) ≡ [] → ⊥
 unfolding records_text
-some_text batch address r rs e = let no : ◌≡◌ {A = ℕ} 35 0 = ap (λ (t : List ℕ). get_or t 0 0) e in absurd (omega arith)
+some_text batch address r rs e = none_left (record_text batch address r) (records_text (batch + 1) (address + 32) rs) e
+
+-- all bytes of a record
+pub bytes_are : (r : List ℕ) → IsRecord r → text_of (byte_words r) ≡ codes ", 32 bytes " ++ encode_lower r
+bytes_are r h = rw (spaced_digits r (omega (arith, h.whole)), append-nil) refl
+
+bytes_line : (r : List ℕ) → IsRecord r → is_line (text_of (byte_words r)) ≡ true
+bytes_line r h = words_line (byte_words r) (more_are false r h)
+
+same_digits : (r t : List ℕ) → IsRecord r → IsRecord t → text_of (byte_words r) ≡ text_of (byte_words t) → r ≡ t
+same_digits r t p q e = one_encoding r t p.are_bytes q.are_bytes (ap (drop 11) (sym (bytes_are r p) ∙ e ∙ bytes_are t q))
 
 -- a line is its place, and then what stands in the record
-parted : (p w n x : List ℕ) → ((p ++ w) ++ n) ++ x ≡ p ++ ((w ++ n) ++ x)
-parted p w n x = ap (λ (l : List ℕ). l ++ x) (append_assoc p w n) ∙ append_assoc p (w ++ n) x
+behind_place : (place v w x y : List ℕ) → is_line v ≡ true → is_line w ≡ true → ((place ++ v) ++ 10 ∷ []) ++ x ≡ ((place ++ w) ++ 10 ∷ []) ++ y → (v ≡ w) × (x ≡ y)
+behind_place place v w x y p q e = first_line v w x y p q (append_cancel_left place _ _ (sym (parted place v (10 ∷ []) x) ∙ e ∙ parted place w (10 ∷ []) y))
+
+abbrev line_by : Bool → List ℕ → List ℕ → List ℕ
+line_by plausible place r = cond plausible (codes "# " ++ (place ++ written_text r)) (codes "unknown " ++ (place ++ text_of (byte_words r)))
+
+same_record : (a b : Bool) (place r t x y : List ℕ) → IsRecord r → IsRecord t → (line_by a place r ++ 10 ∷ []) ++ x ≡ (line_by b place t ++ 10 ∷ []) ++ y → (r ≡ t) × (x ≡ y)
+same_record true true place r t x y p q e =
+    let parts = behind_place place (written_text r) (written_text t) x y
+    (written_line (bytes_eq r (replicate 32 0)) r p) (written_line (bytes_eq t (replicate 32 0)) t q) (ap (drop 2) e) in
+    (same_written (bytes_eq r (replicate 32 0)) (bytes_eq t (replicate 32 0)) r t p q refl refl parts.0, parts.1)
+same_record true false place r t x y p q e = let no : ◌≡◌ {A = ℕ} 35 117 = ap (λ (l : List ℕ). get_or l 0 0) e in absurd (omega arith)
+same_record false true place r t x y p q e = let no : ◌≡◌ {A = ℕ} 117 35 = ap (λ (l : List ℕ). get_or l 0 0) e in absurd (omega arith)
+same_record false false place r t x y p q e =
+    let parts = behind_place place (text_of (byte_words r)) (text_of (byte_words t)) x y (bytes_line r p) (bytes_line t q) (ap (drop 8) e) in
+    (same_digits r t p q parts.0, parts.1)
 
 same_records_text : (batch address : ℕ) (rs ts : List (List ℕ)) → AllByRecursion IsRecord rs → AllByRecursion IsRecord ts → records_text batch address rs ≡ records_text batch address ts → rs ≡ ts
 unfolding records_text
@@ -171,14 +215,10 @@ same_records_text batch address [] [] p q e = refl
 same_records_text batch address [] (t ∷ ts) p q e = absurd (some_text batch address t ts (sym e))
 same_records_text batch address (r ∷ rs) [] p q e = absurd (some_text batch address r rs e)
 same_records_text batch address (r ∷ rs) (t ∷ ts) p q e =
-    let place : List ℕ = record_place batch address in
     let left : List ℕ = records_text (batch + 1) (address + 32) rs in
     let right : List ℕ = records_text (batch + 1) (address + 32) ts in
-    let behind : (written_text r ++ 10 ∷ []) ++ left ≡ (written_text t ++ 10 ∷ []) ++ right =
-    append_cancel_left place _ _ (sym (parted place (written_text r) (10 ∷ []) left) ∙ e ∙ parted place (written_text t) (10 ∷ []) right) in
-    let parts = first_line (written_text r) (written_text t) left right
-    (written_line (bytes_eq r (replicate 32 0)) r p.0) (written_line (bytes_eq t (replicate 32 0)) t q.0) behind in
-    let here : r ≡ t = same_written (bytes_eq r (replicate 32 0)) (bytes_eq t (replicate 32 0)) r t p.0 q.0 refl refl parts.0 in
+    let parts = same_record (is_plausible r) (is_plausible t) (record_place batch address) r t left right p.0 q.0 e in
+    let here : r ≡ t = parts.0 in
     let rest : rs ≡ ts = same_records_text (batch + 1) (address + 32) rs ts p.1 q.1 parts.1 in
     λ i. here i ∷ rest i
 
@@ -228,22 +268,21 @@ records_more batch address (t ∷ rs) r =
 regroup : (s d c f w x : List ℕ) → (s ++ (d ++ (c ++ (f ++ w)))) ++ x ≡ s ++ (d ++ (c ++ (f ++ (w ++ x))))
 regroup s d c f w x = simp append_assoc
 
-written_front : (status finished : ℕ) (ws : List Word) → status < 2 ^ 64 → finished < 2 ^ 64
-    → text_of (codes ":" ∷ codes "status" ∷ decimal status ∷ codes "," ∷ decimal finished ∷ codes "finished" ∷ ws)
-    ≡ (codes ": status " ++ (decimal status ++ (codes ", " ++ (decimal finished ++ codes " finished")))) ++ tail_text ws
-written_front status finished ws s f =
-    rw (spaced_decimal status s, spaced_decimal finished f) (sym (regroup (codes ": status ") (decimal status) (codes ", ") (decimal finished) (codes " finished") (tail_text ws)))
+written_front : (status finished : ℕ) (ws : List Word) → finished < 2 ^ 64
+    → text_of (codes ":" ∷ codes "status" ∷ hex status ∷ codes "," ∷ decimal finished ∷ codes "finished" ∷ ws)
+    ≡ (codes ": status " ++ (hex status ++ (codes ", " ++ (decimal finished ++ codes " finished")))) ++ tail_text ws
+written_front status finished ws f =
+    rw (spaced_decimal finished f) (sym (regroup (codes ": status ") (hex status) (codes ", ") (decimal finished) (codes " finished") (tail_text ws)))
 
-more_text : (plain : Bool) (r : List ℕ) → IsRecord r
-    → tail_text (cond plain [] (codes "," ∷ codes "32" ∷ codes "bytes" ∷ encode_lower r ∷ [])) ≡ cond plain [] (codes ", 32 bytes " ++ encode_lower r)
-more_text true r h = refl
-more_text false r h = rw (spaced_digits r (omega (arith, h.whole)), append-nil) refl
+more_text : (plain : Bool) (r : List ℕ) → tail_text (cond plain [] (byte_words r)) ≡ cond plain [] (text_of (byte_words r))
+more_text true r = refl
+more_text false r = refl
 
 pub written_is : (plain : Bool) (r : List ℕ) → IsRecord r → is_plain r ≡ plain
     → text_of (written_words r)
-    ≡ (codes ": status " ++ (decimal (status_at r) ++ (codes ", " ++ (decimal (finished_at r) ++ codes " finished")))) ++ cond plain [] (codes ", 32 bytes " ++ encode_lower r)
+    ≡ (codes ": status " ++ (hex (status_at r) ++ (codes ", " ++ (decimal (finished_at r) ++ codes " finished")))) ++ cond plain [] (text_of (byte_words r))
 written_is plain r h e =
-    let front : List ℕ = codes ": status " ++ (decimal (status_at r) ++ (codes ", " ++ (decimal (finished_at r) ++ codes " finished"))) in
-    written_front (status_at r) (finished_at r) (more_words r) (status_fits r h) (finished_fits r h)
-    ∙ ap (λ (b : Bool). front ++ tail_text (cond b [] (codes "," ∷ codes "32" ∷ codes "bytes" ∷ encode_lower r ∷ []))) e
-    ∙ ap (λ (t : List ℕ). front ++ t) (more_text plain r h)
+    let front : List ℕ = codes ": status " ++ (hex (status_at r) ++ (codes ", " ++ (decimal (finished_at r) ++ codes " finished"))) in
+    written_front (status_at r) (finished_at r) (more_words r) (finished_fits r h)
+    ∙ ap (λ (b : Bool). front ++ tail_text (cond b [] (byte_words r))) e
+    ∙ ap (λ (t : List ℕ). front ++ t) (more_text plain r)

@@ -1,5 +1,5 @@
 -- The text of a portal.
-use Rattle.std.specs.Prelude.{◌≡◌, ◌≢◌, ℕ, ◌%◌, ◌^◌, ◌<◌, true, false, List, [], ◌∷◌, ◌++◌, length, slice_index, codes, decimal}
+use Rattle.std.specs.Prelude.{◌≡◌, ◌≢◌, ⊤, ℕ, ◌%◌, ◌^◌, ◌<◌, true, false, List, [], ◌∷◌, ◌++◌, length, slice_index, codes, decimal}
 use Rattle.std.specs.List.{AllZip}
 use Rattle.hex.specs.Hex.{IsBytes, encode_lower}
 use Rattle.dsa_descriptor.specs.declared.descriptor.Descriptor.{Descriptor}
@@ -56,6 +56,12 @@ Submits bytes (Other others fault) = (bytes ≡ others) × IsOther others fault
 pub record IsPortal (bytes : List ℕ) (submissions : List Submission) : Type 0 where
   pub whole : length bytes % 64 ≡ 0
   pub each : AllZip Submits (entries bytes) submissions
+
+-- it is no other bytes
+abbrev pub IsKnown : Submission → Type 0
+IsKnown (Batch count list_at record_at) = ⊤
+IsKnown (Lone d) = ⊤
+IsKnown (Other bytes fault) = ⊥
 
 -- ---- their text
 

@@ -1,5 +1,5 @@
 -- What is written of a portal or a staging area is read again.
-use Rattle.std.specs.Prelude.{◌≡◌, ⊤, ℕ, List, [], ◌∷◌, map, Some}
+use Rattle.std.specs.Prelude.{◌≡◌, ℕ, List, [], ◌∷◌, map, Some}
 use Rattle.std.specs.List.{AllByRecursion, flat_map}
 use Rattle.dsa_descriptor.specs.Descriptors.{fields}
 use Rattle.dsa_descriptor.specs.Fields.{Fields}
@@ -8,16 +8,10 @@ use Rattle.dsa_lines.specs.declared.recording.Recorded.{Recorded}
 use Rattle.dsa_lines.specs.declared.recording.Recorded.TheVariants.{Batch as BatchSaid, Entry as EntrySaid}
 use Rattle.dsa_lines.specs.Texts.{lines_of, TextSpells}
 use Rattle.dsa_lines.specs.Recordings.{all_recorded, LinesSpell}
-use Rattle.dsa_lines.specs.Portals.{Submission, IsPortal, portal_text}
+use Rattle.dsa_lines.specs.Portals.{Submission, IsKnown, IsPortal, portal_text}
 use Rattle.dsa_lines.specs.Portals.Submission.{Batch, Lone, Other}
-use Rattle.dsa_lines.specs.Stagings.{StagedPiece, IsStaging, staged_bytes, staging_text}
+use Rattle.dsa_lines.specs.Stagings.{StagedPiece, IsPlausible, IsStaging, staged_bytes, staging_text}
 use Rattle.dsa_lines.specs.Stagings.StagedEntry.{Piece}
-
--- it is no other bytes
-abbrev pub IsKnown : Submission → Type 0
-IsKnown (Batch count list_at record_at) = ⊤
-IsKnown (Lone d) = ⊤
-IsKnown (Other bytes fault) = ⊥
 
 -- the fields of the descriptors that are submitted by themselves, in order
 abbrev pub lone_fields : List Submission → List Fields
@@ -32,11 +26,11 @@ PortalTextIsRead =
     (bytes : List ℕ) (ss : List Submission) → IsPortal bytes ss → AllByRecursion IsKnown ss →
     TextSpells (portal_text ss) (lone_fields ss)
 
--- the text of a staging area without other bytes spells its pieces but for their fences, whatever its records are
+-- the text of a staging area without other bytes spells its pieces but for their fences, where each record can be one
 abbrev pub StagingTextIsRead : Type 0
 StagingTextIsRead =
     (at : ℕ) (bytes : List ℕ) (ps : List StagedPiece) (records : List (List ℕ)) →
-    IsStaging bytes (map Piece ps) records →
+    IsStaging bytes (map Piece ps) records → AllByRecursion IsPlausible records →
     TextSpells (staging_text at (map Piece ps) records) (map (λ p. fields p.piece) ps)
 
 -- ---- as a recording
@@ -55,9 +49,10 @@ PortalTextIsRecorded =
     (bytes : List ℕ) (ss : List Submission) → IsPortal bytes ss → AllByRecursion IsKnown ss →
     all_recorded (lines_of (portal_text ss)) ≡ Some (said_by ss)
 
--- as a recording the text of a staging area without other bytes spells the bytes of its pieces, with their fences
+-- as a recording the text of a staging area without other bytes spells the bytes of its pieces, with their fences, where
+-- each record can be one
 abbrev pub StagingTextIsRecorded : Type 0
 StagingTextIsRecorded =
     (at : ℕ) (bytes : List ℕ) (ps : List StagedPiece) (records : List (List ℕ)) →
-    IsStaging bytes (map Piece ps) records →
+    IsStaging bytes (map Piece ps) records → AllByRecursion IsPlausible records →
     LinesSpell (lines_of (staging_text at (map Piece ps) records)) (flat_map staged_bytes ps)

@@ -1,5 +1,5 @@
 -- The text of a staging area, before a run and after it.
-use Rattle.std.specs.Prelude.{◌≡◌, ℕ, ◌+◌, ◌*◌, ◌/◌, ◌<◌, ◌≤◌, Bool, List, [], ◌∷◌, ◌++◌, length, take, drop, replicate, slice_index, slice_range, codes, decimal, if◌then◌else◌}
+use Rattle.std.specs.Prelude.{◌≡◌, ◌≢◌, ◌⊎◌, ℕ, ◌+◌, ◌*◌, ◌/◌, ◌<◌, ◌≤◌, ◌==◌, Bool, true, List, [], ◌∷◌, ◌++◌, length, take, drop, replicate, slice_index, slice_range, codes, decimal, if◌then◌else◌}
 use Rattle.std.specs.List.{AllByRecursion, concat, flat_map}
 use Rattle.std.specs.Simd.{first_chunks}
 use Rattle.std.specs.Str.{bytes_eq}
@@ -50,13 +50,15 @@ abbrev pub Shows : List ℕ → StagedEntry → Type 0
 Shows bytes (Piece p) = bytes ≡ staged_bytes p
 Shows bytes (Other others fault) = (bytes ≡ others) × IsNoPiece others fault
 
--- The records begin at the first entry whose bytes 7 to 31 are zero (this project's choice, since no byte says how many
--- entries there are). Byte 7 of an entry is its operation code: that of a piece is not 0. That of a no-op is, and bytes 8 to 15
--- are the address of its record, where it has one. Byte 7 of a record belongs to how many descriptors finished, which are
--- fewer than 2^24. So a no-op without a record is taken for a record, if bytes 16 to 31 are zero too, and a record with the
--- address of a fault, which stands in bytes 8 to 15, for an entry
+-- The records begin where byte 7 is 0, and byte 0 is not 0 or bytes 8 to 31 are all 0 (this project's choice, since no
+-- byte says how many entries there are). Byte 7 of a record belongs to how many descriptors finished, which are fewer
+-- than 2^24, and byte 0 is its status, which is not 0 once it is written. So a written record is always known, and one
+-- that is all zero too. Byte 7 of an entry is its operation code, which is not 0 for a piece. It is 0 for a no-op: one is
+-- taken for a record where the low byte of its PASID is not 0, or where bytes 8 to 31, with the address of its record,
+-- are 0
 abbrev pub BeginsRecord : List ℕ → Type 0
-BeginsRecord bytes = AreZero (slice_range bytes 7 32)
+BeginsRecord bytes =
+    (slice_index bytes 7 ≡ 0) × ((slice_index bytes 0 ≢ 0) ⊎ AreZero (slice_range bytes 8 32))
 
 -- an entry shows what stands there, and begins no record
 pub record IsEntry (e : StagedEntry) : Type 0 where
@@ -68,8 +70,8 @@ pub record IsRecord (bytes : List ℕ) : Type 0 where
   pub whole : length bytes ≡ 32
   pub are_bytes : IsBytes bytes
 
--- The bytes are these entries, and behind them these records. The first record begins as one does where 64 bytes or more are
--- left, which could be an entry; where it stands alone it may be any
+-- The bytes are these entries, and behind them these records. The first record begins as one does where 64 bytes or more
+-- are left, which could be an entry; where it stands alone it may be any
 pub record IsStaging (bytes : List ℕ) (entries : List StagedEntry) (records : List (List ℕ)) : Type 0 where
   pub bytes_are : bytes ≡ flat_map entry_bytes entries ++ concat records
   pub each_entry : AllByRecursion IsEntry entries
@@ -92,7 +94,7 @@ unfoldable pub entries_text : List StagedEntry → List ℕ
 entries_text [] = []
 entries_text (e ∷ es) = (entry_text e ++ 10 ∷ []) ++ entries_text es
 
--- a record with this status, of a batch of which so many descriptors have finished, and nothing else (linux/idxd.h, struct
+-- a record with this status and this number of finished descriptors, and nothing else (linux/idxd.h, struct
 -- dsa_completion_record: status in byte 0, descs_completed in bytes 4 to 7)
 abbrev pub written_record : ℕ → ℕ → List ℕ
 written_record status finished = layout (record { status = status; result = 0; bytes_completed = finished })
@@ -107,15 +109,18 @@ finished_at bytes = u32_at 4 bytes
 abbrev pub is_plain : List ℕ → Bool
 is_plain bytes = bytes_eq bytes (written_record (status_at bytes) (finished_at bytes))
 
--- all bytes of a record, where it has more than its status and how many have finished
-abbrev pub more_words : List ℕ → List Word
-more_words bytes =
-    if is_plain bytes then [] else codes "," ∷ codes "32" ∷ codes "bytes" ∷ encode_lower bytes ∷ []
+-- all bytes of a record
+abbrev pub byte_words : List ℕ → List Word
+byte_words bytes = codes "," ∷ codes "32" ∷ codes "bytes" ∷ encode_lower bytes ∷ []
 
--- what stands in a record that was written
+-- the same, where it has more than its status and how many have finished
+abbrev pub more_words : List ℕ → List Word
+more_words bytes = if is_plain bytes then [] else byte_words bytes
+
+-- what stands in a record that was written; its status is the whole of byte 0
 abbrev pub written_words : List ℕ → List Word
 written_words bytes =
-    codes ":" ∷ codes "status" ∷ decimal (status_at bytes) ∷
+    codes ":" ∷ codes "status" ∷ hex (status_at bytes) ∷
     codes "," ∷ decimal (finished_at bytes) ∷ codes "finished" ∷ more_words bytes
 
 -- nothing of a record that is all zero, as it is before a run
@@ -124,11 +129,21 @@ written_text bytes = if bytes_eq bytes (replicate 32 0) then [] else text_of (wr
 
 -- the batch of a record, and the address of the record
 abbrev pub record_place : ℕ → ℕ → List ℕ
-record_place batch address = codes "# record " ++ (decimal batch ++ (codes " at " ++ hex address))
+record_place batch address = codes "record " ++ (decimal batch ++ (codes " at " ++ hex address))
 
--- the line of the record of a batch
+-- it can be the record of a batch, of which fewer than 2^24 descriptors have finished
+abbrev pub is_plausible : List ℕ → Bool
+is_plausible bytes = slice_index bytes 7 == 0
+
+abbrev pub IsPlausible : List ℕ → Type 0
+IsPlausible bytes = is_plausible bytes ≡ true
+
+-- the line of the record of a batch: a comment, where it can be one; else a line that all readers refuse
 abbrev pub record_text : ℕ → ℕ → List ℕ → List ℕ
-record_text batch address bytes = record_place batch address ++ written_text bytes
+record_text batch address bytes =
+    if is_plausible bytes
+    then codes "# " ++ (record_place batch address ++ written_text bytes)
+    else codes "unknown " ++ (record_place batch address ++ text_of (byte_words bytes))
 
 -- a line for each record, of which the first is that of this batch and stands at this address
 unfoldable pub records_text : ℕ → ℕ → List (List ℕ) → List ℕ
@@ -165,7 +180,7 @@ OneStagingText =
 abbrev pub records_of : List ℕ → List (List ℕ)
 records_of bytes = first_chunks 32 (length bytes / 32) bytes
 
--- so many entries are these, and behind them the records begin, or no entry is left
+-- the bytes begin with these entries, which are `number`, and behind them the records begin, or no entry is left
 pub record AreEntries (bytes : List ℕ) (number : ℕ) (entries : List StagedEntry) : Type 0 where
   pub count : length entries ≡ number
   pub inside : number ≤ length bytes / 64

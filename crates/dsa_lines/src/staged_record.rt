@@ -2,8 +2,9 @@
 
 ghost use Rattle.std.specs.Prelude.{◌≡◌, ◌+◌, ◌^◌, ◌<◌, ◌++◌, ◌∷◌, [], length, replicate, IfOk, OnOk, codes, decimal, string_bytes};
 ghost use Rattle.std.specs.Str.{bytes_eq};
-ghost use Rattle.dsa_lines.specs.Stagings.{finished_at, is_plain, record_place, record_text, records_of, records_text, written_words};
+ghost use Rattle.dsa_lines.specs.Stagings.{byte_words, finished_at, is_plain, record_place, record_text, records_of, records_text, written_words};
 ghost use Rattle.dsa_lines.specs.Text.{text_of};
+ghost use Rattle.dsa_lines.specs.Numbers.{hex};
 
 use crate::portal::push_line;
 use dsa_descriptor::Record;
@@ -40,15 +41,24 @@ fn is_plain(bytes: &[u8; 32]) -> bool
 fn record_place(alloc: Global, batch: usize, address: u64) -> Result<String, AllocError>
     ensures { IfOk result (λ line. string_bytes line ≡ record_place batch address) }
 {
-    format!(in alloc; "# record {batch} at 0x{address:x}")
+    format!(in alloc; "record {batch} at 0x{address:x}")
 }
 
 /// The status of a record, and how many have finished.
 fn status_text(alloc: Global, status: u8, finished: u32) -> Result<String, AllocError>
     ensures { IfOk result (λ text. string_bytes text ≡ codes ": status " ++
-        (decimal status ++ (codes ", " ++ (decimal finished ++ codes " finished")))) }
+        (hex status ++ (codes ", " ++ (decimal finished ++ codes " finished")))) }
 {
-    format!(in alloc; ": status {status}, {finished} finished")
+    format!(in alloc; ": status 0x{status:x}, {finished} finished")
+}
+
+/// All bytes of a record.
+#[tactic(auto, using(crate::proofs::StagingTexts::bytes_are))]
+fn bytes_text(alloc: Global, bytes: &[u8; 32]) -> Result<String, AllocError>
+    ensures { IfOk result (λ text. string_bytes text ≡ text_of (byte_words bytes.now)) }
+{
+    let digits = hex::encode(alloc, *bytes)?;
+    format!(in alloc; ", 32 bytes {digits}")
 }
 
 /// What stands in a record that was written.
@@ -59,9 +69,8 @@ fn written_text(alloc: Global, bytes: &[u8; 32]) -> Result<String, AllocError>
     if is_plain(bytes) {
         return Ok(text);
     }
-    let digits = hex::encode(alloc, *bytes)?;
-    text.push_str(", 32 bytes ")?;
-    text.push_str(&digits)?;
+    let more = bytes_text(alloc, bytes)?;
+    text.push_str(&more)?;
     Ok(text)
 }
 
@@ -74,13 +83,16 @@ fn record_text(
 ) -> Result<String, AllocError>
     ensures { IfOk result (λ line. string_bytes line ≡ record_text batch address bytes.now) }
 {
-    let mut line = record_place(alloc, batch, address)?;
+    let place = record_place(alloc, batch, address)?;
+    if bytes[7] != 0 {
+        let more = bytes_text(alloc, bytes)?;
+        return format!(in alloc; "unknown {place}{more}");
+    }
     if is_zero(bytes) {
-        return Ok(line);
+        return format!(in alloc; "# {place}");
     }
     let written = written_text(alloc, bytes)?;
-    line.push_str(&written)?;
-    Ok(line)
+    format!(in alloc; "# {place}{written}")
 }
 
 /// Writes the line of the record of a batch at the end.

@@ -26,7 +26,7 @@ fn are_zero(bytes: &[u8]) -> bool
 fn begins_record(entry: &[u8; 64]) -> bool
     ensures { IsTrue result ↔ BeginsRecord entry.now }
 {
-    are_zero(&entry[7..32])
+    entry[7] == 0 && (entry[0] != 0 || are_zero(&entry[8..32]))
 }
 
 /// Whether the entry has the fence.
@@ -113,13 +113,15 @@ fn text_of_staging(alloc: Global, bytes: &[u8], at: u64) -> Result<String, Emitt
     Ok(text)
 }
 
-/// The text of a staging area at an address, before a run or after it: a line for each entry of 64 bytes, and then one for
-/// the record of each batch, 32 bytes.
+/// The text of a staging area at an address, before a run or after it: a line for each entry of 64 bytes, and then one
+/// for the record of each batch, 32 bytes.
 ///
-/// The line of an entry is the canonical line of a piece, `fence` before it where it is fenced, or that of other bytes as in
-/// a portal, `unknown CODE (FAULT), 64 bytes DIGITS`. The entries end at the first whose bytes 7 to 31 are zero, or where
-/// fewer than 64 bytes are left. A record has the line `# record K at ADDRESS`. Behind it stands `: status S, N finished`
-/// where it is not all zero, and behind that `, 32 bytes DIGITS` where it has more.
+/// The line of an entry is the canonical line of a piece, `fence` before it where it is fenced, or that of other bytes as
+/// in a portal, `unknown CODE (FAULT), 64 bytes DIGITS`. The entries end where byte 7 is 0, and byte 0 is not 0 or bytes
+/// 8 to 31 are all 0, or where fewer than 64 bytes are left. A record has the line `# record K at ADDRESS`. Behind it
+/// stands `: status S, N finished` where it is not all zero, S in hexadecimal, and behind that `, 32 bytes DIGITS` where
+/// it has more. Bytes of which byte 7 is not 0 can be no record, and have the line `unknown record K at ADDRESS, 32 bytes
+/// DIGITS`, which is no comment.
 ///
 /// # Errors
 /// [`EmissionFault::StagingLength`] where the length is no multiple of 32; else [`EmittedFault::Memory`] at the first

@@ -15,13 +15,14 @@ pub fn one_staging_text()
     ensures { OneStagingText }
 {}
 
-/// The text of a staging area is read again as its pieces, where each entry is one.
+/// The text of a staging area is read again as its pieces, where each entry is one and each record can be one.
 #[tactic(auto, using(crate::proofs::ReadAgain::staging_is_read))]
 pub fn staging_text_is_read()
     ensures { StagingTextIsRead }
 {}
 
-/// As a recording the text of a staging area spells the bytes of its pieces, where each entry is one.
+/// As a recording the text of a staging area spells the bytes of its pieces, where each entry is one and each record can
+/// be one.
 pub fn staging_text_is_recorded()
     ensures { StagingTextIsRecorded }
 {}

@@ -43,6 +43,12 @@ def README():
     """What explaining an example prints, and how the answer of the first job begins."""
     session(block_after("README.md", "## Look at a plan").replace(" > store.svg", " | cmp - examples/text/store.svg"))
     session(block_after("README.md", "## Look at batches that other software submits"))
+    # the list has nine operations that one batch holds, and three of them wait for the one before
+    with tempfile.TemporaryDirectory() as folder:
+        commands = block_after("README.md", "say these two commands").replace("list.txt", f"{folder}/list.txt")
+        got = printed(commands)
+        wanted = "cost 23; 9 lone submissions cost 90, saved 67\n"
+        expect(got.endswith(wanted), f"README.md: the list of the recording is explained as {got!r}")
     answer = printed("crates/dsa/out/dsa < examples/plan.job")
     line = block_after("README.md", "has a list of two moves").strip().replace("..", "")
     start = line[: line.index('"portal"')]

@@ -45,7 +45,7 @@ def README():
     session(block_after("README.md", "## Look at batches that other software submits"))
     # the list has nine operations that one batch holds, and three of them wait for the one before
     with tempfile.TemporaryDirectory() as folder:
-        commands = block_after("README.md", "say these two commands").replace("list.txt", f"{folder}/list.txt")
+        commands = block_after("README.md", "These two commands say").replace("list.txt", f"{folder}/list.txt")
         got = printed(commands)
         wanted = "cost 23; 9 lone submissions cost 90, saved 67\n"
         expect(got.endswith(wanted), f"README.md: the list of the recording is explained as {got!r}")

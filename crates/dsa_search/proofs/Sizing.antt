@@ -6,8 +6,9 @@ use Rattle.dsa_plan.proofs.Chains.{LeadsTo-same}
 use Rattle.std.proofs.Math.Nat.{mul-le-mul_left}
 use Rattle.dsa_plan.specs.Plan.{Tariff}
 use Rattle.dsa_plan.proofs.Fences.{price_of-batch}
-use Rattle.dsa_plan.specs.Settings.{greatest_price}
-use Rattle.dsa_search.specs.Filled.{HasOffers}
+use Rattle.dsa_plan.specs.Settings.{ArePrices, greatest_price}
+use Rattle.dsa_search.specs.Entries.{IsChainCost, MakesEntry}
+use Rattle.dsa_search.specs.Filled.{HasOffers, unreached}
 use Rattle.dsa_search.proofs.Filling.{offers_each}
 use Rattle.dsa_plan.proofs.Joined.{last_fits, last_joined, last_led, count_one_more, count_none}
 use Rattle.dsa_plan.specs.Settings.{sized_tariff}
@@ -130,6 +131,32 @@ module _ (pairs : Pairs) (forward : GoForward pairs) (start end count piece : �
 
   pub cost_fits : (greatest_batch : ℕ) (tariff : Tariff) (fence : ℕ) (costs : List ℕ) → start < end → fence ≤ greatest_price → HasOffers greatest_batch tariff pairs start end costs → slice_index costs start + fence * count ≤ 1000000000000000
   cost_fits greatest_batch tariff fence costs later cheap h = omega (arith, fences_fit fence cheap, h.small start (omega arith) (omega arith))
+
+module _ (lone fence : ℕ) (table : List ℕ) (pairs : Pairs) (forward : GoForward pairs) (few : length pairs ≤ 65536) (cheap_lone : lone ≤ greatest_price) (cheap_fence : fence ≤ greatest_price) (prices : ArePrices table) where
+  -- what a group costs fits
+  pub chain_cost_fits : (i j c : ℕ) → j ≤ length pairs → IsChainCost (length table + 1) (sized_tariff lone fence table) pairs i j c → c ≤ 65537000000000
+  chain_cost_fits i j c within chain =
+      elim (cases_eq (j - i) 1) [
+        | inl one ↦ let is : lone ≡ c = rw one at chain.is_cost in omega (arith, is, cheap_lone)
+        | inr more ↦
+            let fences = fences_fit pairs forward i j chain.count (chain.has_count).0 (chain.has_count).1 few within fence cheap_fence in
+            let price : slice_index table (j - i - 2) ≤ greatest_price = prices (j - i - 2) (omega (arith, chain.nonempty, chain.fits, more)) in
+            omega (arith, price_of-batch (sized_tariff lone fence table) (j - i) chain.count more, chain.is_cost, fences, price)
+      ]
+
+  -- no cost is above that of an end that no start has reached
+  pub costs_below : (start end : ℕ) (costs : List ℕ) → start ≤ length pairs → HasOffers (length table + 1) (sized_tariff lone fence table) pairs start end costs
+      → (k : ℕ) → k < length costs → slice_index costs k ≤ unreached
+  costs_below start end costs inside h k lt =
+      elim (cases_eq k 0) [
+        | inl first ↦ rw first (omega (arith, h.first))
+        | inr later ↦ below (h.made k (omega arith) (omega (arith, h.count)))
+      ]
+    where
+      below : (slice_index costs k ≡ unreached) ⊎ ((i : ℕ) × (i ≤ start) × MakesEntry (length table + 1) (sized_tariff lone fence table) pairs costs i k) → slice_index costs k ≤ unreached
+      below (inl unset) = omega (arith, unset)
+      below (inr (i, le, (c, chain, makes))) =
+          omega (arith, chain_cost_fits i k c (omega (arith, h.count)) chain, h.small i le (omega arith), makes)
 
 module _ (lone fence : ℕ) (table : List ℕ) (pairs : Pairs) (forward : GoForward pairs) (start : ℕ) (costs : List ℕ) where
   -- to each of some ends the group's price is offered, by its size and its fences

@@ -3,7 +3,7 @@
 ghost use Rattle.std.specs.Prelude.{◌≡◌, ◌⊎◌, ℕ, ◌+◌, ◌-◌, ◌*◌, ◌<◌, ◌≤◌, min, length, slice_index, IfOk};
 ghost use Rattle.dsa_descriptor.specs.Pieces.{most_pieces};
 ghost use Rattle.dsa_plan.specs.Chain.{GoForward, IsLastBelow};
-ghost use Rattle.dsa_search.specs.Filled.{HasOffers, IsFilled, past_reach};
+ghost use Rattle.dsa_search.specs.Filled.{HasOffers, IsFilled, past_reach, unreached};
 ghost use Rattle.dsa_plan.specs.Settings.{ArePrices, greatest_price, sized_tariff};
 ghost use Rattle.dsa_search.specs.Sized.{HasRows, past_block};
 
@@ -73,13 +73,26 @@ fn fill_rows(pairs: &[Option<(u32, u32)>], rows: &mut [u8], lasts: &mut [u32])
     }
 }
 
+/// The lesser of two costs below 2^63, as signed numbers, of which a vector compares two at a time.
+fn lesser(one: u64, other: u64) -> u64
+    requires small { one ≤ unreached }
+    requires other_small { other ≤ unreached }
+    ensures { result ≡ min one other }
+{
+    if (other as i64) < (one as i64) {
+        other
+    } else {
+        one
+    }
+}
+
 /// Lowers the costs of the ends from `from` to below `to`: to this cost, the price of the group's size and its fences, whose
-/// counts stand in the row from `at` on.
+/// counts stand in the row from `at` on. The fence's price has 32 bits, as each factor of one vector multiplication has.
 fn lower_row(
     costs: &mut [u64],
     table: &[u64],
     rows: &[u8],
-    fence: u64,
+    fence: u32,
     start: usize,
     from: usize,
     to: usize,
@@ -94,6 +107,7 @@ fn lower_row(
     requires prices { ArePrices table.now }
     requires fence { fence ≤ greatest_price }
     requires small { cost ≤ 1000000000000000 }
+    requires reached { (k : ℕ) → k < length costs.old → slice_index costs.old k ≤ unreached }
     ensures count { length costs.new ≡ length costs.old }
     ensures inside { (k : ℕ) → from ≤ k → k < to →
         slice_index costs.new k ≡ min (slice_index costs.old k) (cost + slice_index table.now
@@ -103,8 +117,8 @@ fn lower_row(
 {
     for end in from..to {
         let fences = u64::from(rows[at + (end - from)]);
-        let sum = cost + table[end - start - 2] + fence * fences;
-        costs[end] = costs[end].min(sum);
+        let sum = cost + table[end - start - 2] + u64::from(fence) * fences;
+        costs[end] = lesser(costs[end], sum);
     }
 }
 
@@ -116,6 +130,7 @@ fn lower_run(costs: &mut [u64], table: &[u64], start: usize, from: usize, to: us
     requires sizes { to ≤ start + 2 + length table.now }
     requires prices { ArePrices table.now }
     requires small { cost ≤ 1000000000000000 }
+    requires reached { (k : ℕ) → k < length costs.old → slice_index costs.old k ≤ unreached }
     ensures count { length costs.new ≡ length costs.old }
     ensures inside { (k : ℕ) → from ≤ k → k < to → slice_index costs.new k ≡ min
         (slice_index costs.old k) (cost + slice_index table.now (k - start - 2)) }
@@ -124,7 +139,7 @@ fn lower_run(costs: &mut [u64], table: &[u64], start: usize, from: usize, to: us
 {
     for end in from..to {
         let sum = cost + table[end - start - 2];
-        costs[end] = costs[end].min(sum);
+        costs[end] = lesser(costs[end], sum);
     }
 }
 
@@ -147,6 +162,7 @@ fn offer_row(
     requires rows { HasRows pairs.now 0 rows.now lasts.now }
     requires sizes { length table.now ≤ 1023 }
     requires prices { ArePrices table.now }
+    requires lone { lone ≤ greatest_price }
     requires fence { fence ≤ greatest_price }
     requires late { start + 2 ≤ end }
     requires chain { IsLastBelow pairs.now start end chain.1 chain.0 }
@@ -168,7 +184,17 @@ fn offer_row(
     let last = past.min(reach);
     let cost = costs[start] + fence * fences;
     let at = BLOCK * piece + (end + 63 - past);
-    lower_row(costs, table, rows, fence, start, end, last + 1, cost, at);
+    lower_row(
+        costs,
+        table,
+        rows,
+        fence as u32,
+        start,
+        end,
+        last + 1,
+        cost,
+        at,
+    );
     if last < past {
         return (piece, fences, last + 1);
     }
@@ -193,6 +219,7 @@ fn offer_run(
     requires few { length pairs.now ≤ most_pieces }
     requires sizes { length table.now ≤ 1023 }
     requires prices { ArePrices table.now }
+    requires lone { lone ≤ greatest_price }
     requires fence { fence ≤ greatest_price }
     requires late { start + 2 ≤ end }
     requires chain { IsLastBelow pairs.now start end chain.1 chain.0 }

@@ -1,9 +1,9 @@
--- The first fence behind a member, and the members that a fence guards against.
-use Rattle.std.proofs.Common.{◌≡◌, ℕ, zero, suc, ◌+◌, ◌<◌, ◌≤◌, ◌⊎◌, inl, inr, Bool, true, false, List, length, get_or, sym, ◌∙◌, subst, arith}
+-- The first fence after a member, the last one before one, and the members that a fence guards against or signals by.
+use Rattle.std.proofs.Common.{◌≡◌, ℕ, zero, suc, ◌+◌, ◌-◌, ◌<◌, ◌≤◌, ◌⊎◌, inl, inr, Bool, true, false, List, length, get_or, sym, ◌∙◌, subst, arith}
 use Rattle.std.proofs.lemmas.Bool.{true≢false, cases_Bool, cases_lt}
 use Rattle.dsa_settings.specs.Plan.{Group}
-use Rattle.dsa_audit.specs.Audits.{HasFence, IsSeparated, ShareEpoch, KeepsGuards, IsGuard, IsFirstGuard}
-use Rattle.dsa_audit.specs.Steps.{NoneFails, IsFirstToFail}
+use Rattle.dsa_audit.specs.Audits.{HasFence, IsSeparated, ShareEpoch, KeepsGuards, KeepsSignals, IsGuard, IsFirstGuard, GuardsNone, IsSignal, IsFirstSignal, SignalsNone}
+use Rattle.dsa_audit.specs.Steps.{NoneSet, IsFirstSet, IsNextFence, NoneShown, IsFirstShown}
 
 pub record IsFirstBehind (g : Group) (a b : ℕ) : Type 0 where
   pub place : ℕ
@@ -98,19 +98,19 @@ not_before bs g at last m s early is =
     let some : 0 < last = omega arith in
     is.open_between last early (s.below some) (s.starts some)
 
-pub none_guards : (bs : List Bool) (g : Group) (at last : ℕ) → IsLastGiven g at last → NoneFails bs last at → (m : ℕ) → ¬ IsGuard bs g at m
+pub none_guards : (bs : List Bool) (g : Group) (at last : ℕ) → IsLastGiven g at last → NoneSet bs last at → GuardsNone bs g at
 none_guards bs g at last s none m is =
     elim (cases_lt m last) [
       | inl early ↦ not_before bs g at last m s early is
       | inr from ↦ none m from is.before is.fails
     ]
 
-pub first_guards : (bs : List Bool) (g : Group) (at last m : ℕ) → IsLastGiven g at last → IsFirstToFail bs last at m → IsFirstGuard bs g at m
+pub first_guards : (bs : List Bool) (g : Group) (at last m : ℕ) → IsLastGiven g at last → IsFirstSet bs last at m → IsFirstGuard bs g at m
 first_guards bs g at last m s is =
     record {
       guard = record {
         before = is.ends;
-        fails = is.fails;
+        fails = is.here;
         open_between = λ n after before. s.open_behind n (omega (arith, is.begun)) before;
       };
       first = λ n before other.
@@ -126,4 +126,108 @@ guard_stays bs g other at m less fenced is p =
     elim (cases_lt p.at at) [
       | inl early ↦ absurd (is.open_between p.at p.behind early (less p.at p.fence))
       | inr from ↦ let e : p.at ≡ at = omega (arith, p.up_to) in subst (HasFence other) e p.fence
+    ]
+
+-- ---- signals
+
+pub record IsLastUpTo (g : Group) (a b : ℕ) : Type 0 where
+  pub place : ℕ
+  pub behind : a < place
+  pub up_to : place ≤ b
+  pub fence : HasFence g place
+  pub open_after : ShareEpoch g place b
+
+pub last_up_to : (g : Group) (a b : ℕ) → IsLastUpTo g a b ⊎ ShareEpoch g a b
+last_up_to g a zero = inr (λ k after up_to f. absurd (omega arith))
+last_up_to g a (suc b) =
+    elim (cases_Bool (get_or g (suc b) false)) [
+      | inl fence ↦
+          elim (cases_lt a (suc b)) [
+            | inl less ↦
+                inl (record {
+                  place = suc b;
+                  behind = less;
+                  up_to = omega arith;
+                  fence = fence;
+                  open_after = λ k after up_to f. absurd (omega arith);
+                })
+            | inr more ↦ inr (λ k after up_to f. absurd (omega arith))
+          ]
+      | inr none ↦
+          let unfenced : (k : ℕ) → k ≡ suc b → ¬ HasFence g k =
+          λ k e f. let here : get_or g (suc b) false ≡ true = subst (HasFence g) e f in true≢false (sym here ∙ none) in
+          elim (last_up_to g a b) [
+            | inl p ↦
+                inl (record {
+                  place = p.place;
+                  behind = p.behind;
+                  up_to = omega (arith, p.up_to);
+                  fence = p.fence;
+                  open_after = λ k after up_to f.
+                      elim (cases_lt k (suc b)) [
+                        | inl less ↦ p.open_after k after (omega arith) f
+                        | inr more ↦ unfenced k (omega arith) f
+                      ];
+                })
+            | inr share ↦
+                inr (λ k after up_to f.
+                elim (cases_lt k (suc b)) [
+                  | inl less ↦ share k after (omega arith) f
+                  | inr more ↦ unfenced k (omega arith) f
+                ])
+          ]
+    ]
+
+-- a group that has the last fence before each member that shows keeps what these wait for
+pub keeps_signals : (vs : List Bool) (g h : Group) → ((k j : ℕ) → k < length g → IsSignal vs g k j → HasFence g k → HasFence h k) → KeepsSignals vs g h
+keeps_signals vs g h kept a b shows within p =
+    elim (last_up_to g a b) [
+      | inl q ↦
+          record {
+            at = q.place;
+            behind = q.behind;
+            up_to = q.up_to;
+            fence = kept q.place b (omega (arith, q.up_to)) (record {
+              later = omega (arith, q.behind);
+              from = q.up_to;
+              within = within;
+              shows = shows;
+              open_between = q.open_after;
+            }) q.fence;
+          }
+      | inr share ↦ absurd (share p.at p.behind p.up_to p.fence)
+    ]
+
+-- what is after the next fence shows nothing by this one
+not_after : (vs : List Bool) (g : Group) (at end j : ℕ) → IsNextFence g at end → end ≤ j → ¬ IsSignal vs g at j
+not_after vs g at end j next le is = is.open_between end next.after le (next.closed (omega (arith, is.within)))
+
+pub none_signals : (vs : List Bool) (g : Group) (at end : ℕ) → IsNextFence g at end → NoneShown vs at end → SignalsNone vs g at
+none_signals vs g at end next none j is =
+    elim (cases_lt j end) [
+      | inl before ↦ none is.later j is.from before is.shows
+      | inr after ↦ not_after vs g at end j next after is
+    ]
+
+pub first_signals : (vs : List Bool) (g : Group) (at end j : ℕ) → IsNextFence g at end → IsFirstShown vs at end j → IsFirstSignal vs g at j
+first_signals vs g at end j next (later, is) =
+    record {
+      signal = record {
+        later = later;
+        from = is.begun;
+        within = omega (arith, is.ends, next.within);
+        shows = is.here;
+        open_between = λ k after up_to. next.open_between k after (omega (arith, up_to, is.ends));
+      };
+      first = λ n before other. is.first n other.from before other.shows;
+    }
+
+-- whatever keeps what members that show wait for has the fence itself, of those given
+pub signal_stays : (vs : List Bool) (g other : Group) (at j : ℕ) → ((k : ℕ) → HasFence other k → HasFence g k) → HasFence g at → IsSignal vs g at j → KeepsSignals vs g other → HasFence other at
+signal_stays vs g other at j less fenced is keeps =
+    let behind : at - 1 < at = omega (arith, is.later) in
+    let p = keeps (at - 1) j is.shows is.within (record { at = at; behind = behind; up_to = is.from; fence = fenced }) in
+    elim (cases_lt at p.at) [
+      | inl after ↦ absurd (is.open_between p.at after p.up_to (less p.at p.fence))
+      | inr up_to ↦ let e : p.at ≡ at = omega (arith, p.behind, is.later) in subst (HasFence other) e p.fence
     ]

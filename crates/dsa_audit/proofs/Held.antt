@@ -2,7 +2,7 @@
 use Rattle.std.proofs.Common.{inl, inr, ◌≡◌, ◌↔◌, ℕ, Bool, ◌+◌, ◌-◌, ◌<◌, ◌≤◌, Some, List, length, get_or, false, ap, ◌∙◌, subst, arith, slice_get}
 use Rattle.std.proofs.lemmas.Option.{slice_get-get_or}
 use Rattle.std.proofs.lemmas.Bool.{cases_lt}
-use Rattle.dsa_settings.specs.Plan.{Group}
+use Rattle.dsa_settings.specs.Plan.{Group, fence_count}
 use Rattle.dsa_settings.specs.Legal.{SeparatesConflicts}
 use Rattle.dsa_audit.specs.declared.member.Member.{Member}
 use Rattle.dsa_audit.specs.declared.member.Member.TheVariants.{Known, Unknown}
@@ -10,7 +10,7 @@ use Rattle.dsa_audit.specs.declared.missing.FencePlace.{FencePlace}
 use Rattle.dsa_audit.specs.declared.missing.FencePlace.TheVariants.{NoFence, Given, Missing}
 use Rattle.dsa_audit.specs.declared.needless.FenceUse.{FenceUse}
 use Rattle.dsa_audit.specs.Members.{AreKnownToConflict, CanConflict, KnownConflict, PossibleConflict}
-use Rattle.dsa_audit.specs.Audits.{HasFence, IsMissing, PlaceHolds, IsCorrected, IsReduced, Separates}
+use Rattle.dsa_audit.specs.Audits.{HasFence, IsMissing, PlaceHolds, CanFail, Shows, IsCorrected, IsReduced, Separates}
 use Rattle.dsa_audit.specs.Laws.{IsBetween, AllCanFail, Starts, Holds}
 use Rattle.dsa_audit.proofs.Flags.{fence_within}
 
@@ -23,26 +23,26 @@ known_can (Unknown why) (Unknown other) c = tt
 known_possible : (ms : List Member) (i j : ℕ) → KnownConflict ms i j → PossibleConflict ms i j
 known_possible ms i j c = (c.0, c.1, c.2, c.3, known_can c.0 c.1 c.4)
 
-spare : (ms : List Member) (bs : List Bool) (T : ℕ → ℕ → Type 0) (h k : Group) (uses : List FenceUse) → ((i j : ℕ) → T i j → PossibleConflict ms i j)
-    → IsReduced (PossibleConflict ms) bs h uses k → Separates T h → Separates T k
-spare ms bs T h k uses may reduced separates a b ordered within conflict =
+spare : (ms : List Member) (bs vs : List Bool) (T : ℕ → ℕ → Type 0) (h k : Group) (uses : List FenceUse) → ((i j : ℕ) → T i j → PossibleConflict ms i j)
+    → IsReduced (PossibleConflict ms) bs vs h uses k → Separates T h → Separates T k
+spare ms bs vs T h k uses may reduced separates a b ordered within conflict =
     let inside : b < length h = omega (arith, reduced.less.same_length) in
     reduced.separates a b ordered inside (may a b conflict) (separates a b ordered inside conflict)
 
-given_at : (ms : List Member) (bs : List Bool) (g h k : Group) (uses : List FenceUse) (m : ℕ) (place : FencePlace) → length h ≡ length g → m < length g
-    → IsReduced (PossibleConflict ms) bs h uses k → HasFence h m → ¬ HasFence k m → PlaceHolds (KnownConflict ms) g h m place → HasFence g m
-given_at ms bs g h k uses m NoFence same within reduced here gone is = absurd (is.1 here)
-given_at ms bs g h k uses m Given same within reduced here gone is = is.0
-given_at ms bs g h k uses m (Missing i) same within reduced here gone is =
+given_at : (ms : List Member) (bs vs : List Bool) (g h k : Group) (uses : List FenceUse) (m : ℕ) (place : FencePlace) → length h ≡ length g → m < length g
+    → IsReduced (PossibleConflict ms) bs vs h uses k → HasFence h m → ¬ HasFence k m → PlaceHolds (KnownConflict ms) g h m place → HasFence g m
+given_at ms bs vs g h k uses m NoFence same within reduced here gone is = absurd (is.1 here)
+given_at ms bs vs g h k uses m Given same within reduced here gone is = is.0
+given_at ms bs vs g h k uses m (Missing i) same within reduced here gone is =
     let p = reduced.separates i m is.before (omega arith) (known_possible ms i m is.conflict) (record { at = m; behind = is.before; up_to = omega arith; fence = here }) in
     elim (cases_lt p.at m) [
       | inl before ↦ absurd (is.alone p.at p.behind before (reduced.less.fences p.at p.fence))
       | inr from ↦ let e : p.at ≡ m = omega (arith, p.up_to) in absurd (gone (subst (HasFence k) e p.fence))
     ]
 
-same_starts : (ms : List Member) (bs : List Bool) (h k : Group) (uses : List FenceUse) (failed : ℕ → Bool) (b : ℕ) → IsReduced (PossibleConflict ms) bs h uses k
+same_starts : (ms : List Member) (bs vs : List Bool) (h k : Group) (uses : List FenceUse) (failed : ℕ → Bool) (b : ℕ) → IsReduced (PossibleConflict ms) bs vs h uses k
     → AllCanFail bs failed → Starts failed h b ↔ Starts failed k b
-same_starts ms bs h k uses failed b reduced can = (
+same_starts ms bs vs h k uses failed b reduced can = (
   (λ starts a fails p. starts a fails (record { at = p.at; behind = p.behind; up_to = p.up_to; fence = reduced.less.fences p.at p.fence })),
   (λ starts a fails p.
       let up_to : p.at ≤ p.at = omega arith in
@@ -50,20 +50,35 @@ same_starts ms bs h k uses failed b reduced can = (
       starts a fails (record { at = q.at; behind = q.behind; up_to = omega (arith, q.up_to, p.up_to); fence = q.fence })),
 )
 
-pub held : (ms : List Member) (bs : List Bool) (T : ℕ → ℕ → Type 0) (g h k : Group) (places : List FencePlace) (uses : List FenceUse)
-    → IsBetween ms T → IsCorrected (KnownConflict ms) g places h → IsReduced (PossibleConflict ms) bs h uses k → Holds T ms bs g h k places
-held ms bs T g h k places uses between corrected reduced =
+pub held : (ms : List Member) (bs vs : List Bool) (T : ℕ → ℕ → Type 0) (g h k : Group) (places : List FencePlace) (uses : List FenceUse)
+    → IsBetween ms T → IsCorrected (KnownConflict ms) g places h → IsReduced (PossibleConflict ms) bs vs h uses k → Holds T ms bs vs g h k places
+held ms bs vs T g h k places uses between corrected reduced =
     record {
       missing = λ i m within is.
           let found : IsMissing (KnownConflict ms) g h i m = subst (PlaceHolds (KnownConflict ms) g h m) is (corrected.each m within) in
           (found.before, between.known i m found.conflict, found.unseparated);
-      spared = spare ms bs T h k uses between.possible reduced;
+      spared = spare ms bs vs T h k uses between.possible reduced;
       given = λ m here gone.
           let w : m < length g = omega (arith, fence_within h m here, corrected.more.same_length) in
-          given_at ms bs g h k uses m (get_or places m NoFence) corrected.more.same_length w reduced here gone (corrected.each m w);
-      legal = spare ms bs (KnownConflict ms) h k uses (known_possible ms) reduced corrected.separates;
-      starts = λ failed b can. same_starts ms bs h k uses failed b reduced can;
+          given_at ms bs vs g h k uses m (get_or places m NoFence) corrected.more.same_length w reduced here gone (corrected.each m w);
+      legal = spare ms bs vs (KnownConflict ms) h k uses (known_possible ms) reduced corrected.separates;
+      starts = λ failed b can. same_starts ms bs vs h k uses failed b reduced can;
+      shows = λ a b shows within. (
+        reduced.signals a b shows (omega (arith, within, corrected.more.same_length)),
+        (λ p. record { at = p.at; behind = p.behind; up_to = p.up_to; fence = reduced.less.fences p.at p.fence }),
+      );
+      recorded = λ a b shows within p.
+          reduced.signals a b shows (omega (arith, within, corrected.more.same_length))
+          (record { at = p.at; behind = p.behind; up_to = p.up_to; fence = corrected.more.fences p.at p.fence });
     }
+
+-- what keeps more is one of the groups among which the least is
+pub freed : (C : ℕ → ℕ → Type 0) (bs vs bs' vs' : List Bool) (h k k' : Group) (uses uses' : List FenceUse)
+    → ((m : ℕ) → CanFail bs' m → CanFail bs m) → ((m : ℕ) → Shows vs' m → Shows vs m)
+    → IsReduced C bs vs h uses k → IsReduced C bs' vs' h uses' k' → fence_count k' ≤ fence_count k
+freed C bs vs bs' vs' h k k' uses uses' fewer_fail fewer_show reduced other =
+    other.least k reduced.less reduced.separates (λ m b fails. reduced.guards m b (fewer_fail m fails))
+    (λ a b shows. reduced.signals a b (fewer_show b shows))
 
 pub separates : (C : ℕ → ℕ → Type 0) (start : ℕ) (g : Group) → Separates (λ a b. C (start + a) (start + b)) g → SeparatesConflicts C start g
 separates C start g apart a b pair =

@@ -66,16 +66,25 @@ pub record IsCorrected (C : ℕ → ℕ → Type 0) (g : Group) (places : List F
 -- ---- needless fences
 
 -- member k can fail: it may end with another status than 1, and the device then abandons the next fenced member and all
--- behind that
+-- after that
 abbrev pub CanFail : List Bool → ℕ → Type 0
 CanFail fallible k = get_or fallible k false ≡ true
+
+-- software can see that member k has ended
+abbrev pub Shows : List Bool → ℕ → Type 0
+Shows visible k = get_or visible k false ≡ true
 
 -- h has a fence between a member that can fail and a later one wherever g has: the same members are abandoned
 abbrev pub KeepsGuards : List Bool → Group → Group → Type 0
 KeepsGuards fallible g h =
     (m b : ℕ) → CanFail fallible m → b < length g → IsSeparated g m b → IsSeparated h m b
 
--- member m can fail, and is in the epoch that ends before member k: a fence there is the first behind m
+-- a member that shows waits in h for each that it waits for in g: who sees that it has ended knows that those have
+abbrev pub KeepsSignals : List Bool → Group → Group → Type 0
+KeepsSignals visible g h =
+    (a b : ℕ) → Shows visible b → b < length g → IsSeparated g a b → IsSeparated h a b
+
+-- member m can fail, and is in the epoch that ends before member k: a fence there is the first after m
 pub record IsGuard (fallible : List Bool) (g : Group) (k m : ℕ) : Type 0 where
   pub before : m < k
   pub fails : CanFail fallible m
@@ -86,8 +95,22 @@ pub record IsFirstGuard (fallible : List Bool) (g : Group) (k m : ℕ) : Type 0 
   pub guard : IsGuard fallible g k m
   pub first : (n : ℕ) → n < m → ¬ IsGuard fallible g k n
 
+-- member j shows, and a fence before member k is the last one up to j: by it j waits for all members before k. One before
+-- member 0 is waited for by none
+pub record IsSignal (visible : List Bool) (g : Group) (k j : ℕ) : Type 0 where
+  pub later : 0 < k
+  pub from : k ≤ j
+  pub within : j < length g
+  pub shows : Shows visible j
+  pub open_between : ShareEpoch g k j
+
+-- j is the first such member
+pub record IsFirstSignal (visible : List Bool) (g : Group) (k j : ℕ) : Type 0 where
+  pub signal : IsSignal visible g k j
+  pub first : (n : ℕ) → n < j → ¬ IsSignal visible g k n
+
 -- the fence before member k is needed: members i and j conflict, and it alone separates them, of the fences that stay
--- (h), and behind it also of those given (g)
+-- (h), and after it also of those given (g)
 pub record IsNeeded (C : ℕ → ℕ → Type 0) (g h : Group) (k i j : ℕ) : Type 0 where
   pub before : i < k
   pub behind : k ≤ j
@@ -98,32 +121,45 @@ pub record IsNeeded (C : ℕ → ℕ → Type 0) (g h : Group) (k i j : ℕ) : T
   pub alone_before : (m : ℕ) → i < m → m < k → ¬ HasFence h m
   pub alone_after : ShareEpoch g k j
 
--- the fence before member k guards: no conflict needs it, since each two members around it that conflict have another
--- fence between, one that stays (h) before it or one that was given (g) behind it; but it is the first behind a member
--- that can fail, and m is the first such member
-pub record IsGuarding (C : ℕ → ℕ → Type 0) (fallible : List Bool) (g h : Group) (k m : ℕ) : Type 0 where
-  pub first : IsFirstGuard fallible g k m
+-- the fence before member k stays though no conflict needs it: each two members around it that conflict have another
+-- fence between, one that stays (h) before it or one that was given (g) after it
+pub record IsSpared (C : ℕ → ℕ → Type 0) (g h : Group) (k : ℕ) : Type 0 where
   pub given : HasFence g k
   pub stays : HasFence h k
   pub unneeded :
       (i j : ℕ) → i < k → k ≤ j → j < length g → C i j → IsSeparated h i (k - 1) ⊎ IsSeparated g k j
 
--- what is said of member k holds: there is no fence in g or h; there is one in g alone, the first behind no member that
--- can fail; it guards; or it is needed
-abbrev pub UseHolds : (ℕ → ℕ → Type 0) → List Bool → Group → Group → ℕ → FenceUse → Type 0
-UseHolds C fallible g h k fence_use.NoFence = (¬ HasFence g k) × (¬ HasFence h k)
-UseHolds C fallible g h k fence_use.Needless =
-    HasFence g k × (¬ HasFence h k) × ((m : ℕ) → ¬ IsGuard fallible g k m)
-UseHolds C fallible g h k (fence_use.Guarding m) = IsGuarding C fallible g h k m
-UseHolds C fallible g h k (fence_use.Needed i j) = IsNeeded C g h k i j
+-- it guards against no member; no member that shows waits for it
+abbrev pub GuardsNone : List Bool → Group → ℕ → Type 0
+GuardsNone fallible g k = (m : ℕ) → ¬ IsGuard fallible g k m
 
--- h is g without the needless fences: it separates all conflicts that g separates, and the same members are abandoned;
--- whatever does both with fences of g alone has no fewer; and what is said of each member holds
-pub record IsReduced (C : ℕ → ℕ → Type 0) (fallible : List Bool) (g : Group) (uses : List FenceUse) (h : Group) : Type 0 where
+abbrev pub SignalsNone : List Bool → Group → ℕ → Type 0
+SignalsNone visible g k = (j : ℕ) → ¬ IsSignal visible g k j
+
+-- what is said of member k holds: there is no fence in g or h; there is one in g alone, which guards against nothing and
+-- signals nothing; one that no conflict needs guards, signals, or does both, and the first member of each is named; or it
+-- is needed
+abbrev pub UseHolds : (ℕ → ℕ → Type 0) → List Bool → List Bool → Group → Group → ℕ → FenceUse → Type 0
+UseHolds C fallible visible g h k fence_use.NoFence = (¬ HasFence g k) × (¬ HasFence h k)
+UseHolds C fallible visible g h k fence_use.Needless =
+    HasFence g k × (¬ HasFence h k) × GuardsNone fallible g k × SignalsNone visible g k
+UseHolds C fallible visible g h k (fence_use.Guarding m) =
+    IsSpared C g h k × IsFirstGuard fallible g k m × SignalsNone visible g k
+UseHolds C fallible visible g h k (fence_use.Signalling j) =
+    IsSpared C g h k × GuardsNone fallible g k × IsFirstSignal visible g k j
+UseHolds C fallible visible g h k (fence_use.GuardingAndSignalling m j) =
+    IsSpared C g h k × IsFirstGuard fallible g k m × IsFirstSignal visible g k j
+UseHolds C fallible visible g h k (fence_use.Needed i j) = IsNeeded C g h k i j
+
+-- h is g without the needless fences: it separates all conflicts that g separates, the same members are abandoned, and
+-- members that show wait for the same ones; whatever does all that with fences of g alone has no fewer; and what is said
+-- of each member holds
+pub record IsReduced (C : ℕ → ℕ → Type 0) (fallible visible : List Bool) (g : Group) (uses : List FenceUse) (h : Group) : Type 0 where
   pub less : HasFencesOf h g
   pub separates : SeparatesAsMuch C g h
   pub guards : KeepsGuards fallible g h
+  pub signals : KeepsSignals visible g h
   pub least : (other : Group) → HasFencesOf other g → SeparatesAsMuch C g other → KeepsGuards fallible g other →
-      fence_count h ≤ fence_count other
+      KeepsSignals visible g other → fence_count h ≤ fence_count other
   pub count : length uses ≡ length g
-  pub each : (k : ℕ) → k < length g → UseHolds C fallible g h k (get_or uses k fence_use.NoFence)
+  pub each : (k : ℕ) → k < length g → UseHolds C fallible visible g h k (get_or uses k fence_use.NoFence)

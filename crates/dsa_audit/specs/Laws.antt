@@ -1,6 +1,6 @@
 -- What an audit of a batch promises.
-use Rattle.std.specs.Prelude.{ℕ, ◌≡◌, ◌↔◌, ◌+◌, ◌<◌, Bool, IsTrue, List, length, get_or}
-use Rattle.dsa_settings.specs.Plan.{Group}
+use Rattle.std.specs.Prelude.{ℕ, ◌≡◌, ◌↔◌, ◌+◌, ◌<◌, ◌≤◌, Bool, IsTrue, List, length, get_or}
+use Rattle.dsa_settings.specs.Plan.{Group, fence_count}
 use Rattle.dsa_settings.specs.Legal.{SeparatesConflicts}
 use Rattle.dsa_audit.specs.declared.member.Member.{Member}
 use Rattle.dsa_audit.specs.declared.missing.FencePlace.{FencePlace}
@@ -8,22 +8,23 @@ use Rattle.dsa_audit.specs.declared.missing.FencePlace.TheVariants.{NoFence, Mis
 use Rattle.dsa_audit.specs.declared.needless.FenceUse.{FenceUse}
 use Rattle.dsa_audit.specs.declared.audit.Audit.{Audit}
 use Rattle.dsa_audit.specs.Members.{KnownConflict, PossibleConflict}
-use Rattle.dsa_audit.specs.Audits.{HasFence, IsSeparated, CanFail, IsCorrected, IsReduced, ShareEpoch, Separates}
+use Rattle.dsa_audit.specs.Audits.{HasFence, IsSeparated, CanFail, Shows, IsCorrected, IsReduced, ShareEpoch, Separates}
 
 -- the missing fences by the conflicts that are known; of all fences then, the needless ones by the conflicts that are
--- not ruled out, and by the members that can fail
-pub record IsAudit (members : List Member) (fallible : List Bool) (g : Group) (a : Audit) : Type 0 where
+-- not ruled out, by the members that can fail, and by those that show
+pub record IsAudit (members : List Member) (fallible visible : List Bool) (g : Group) (a : Audit) : Type 0 where
   pub corrected : IsCorrected (KnownConflict members) g a.corrected.places.items a.corrected.fences.items
   pub reduced :
-      IsReduced (PossibleConflict members) fallible a.corrected.fences.items a.reduced.uses.items a.reduced.fences.items
+      IsReduced (PossibleConflict members) fallible visible a.corrected.fences.items a.reduced.uses.items
+      a.reduced.fences.items
 
 -- T has all conflicts that are known, and none that is ruled out: it may be the true one
 pub record IsBetween (members : List Member) (T : ℕ → ℕ → Type 0) : Type 0 where
   pub known : (i j : ℕ) → KnownConflict members i j → T i j
   pub possible : (i j : ℕ) → T i j → PossibleConflict members i j
 
--- where these members fail, member b starts: no fence stands behind one of them and at b at the latest (specification
--- 341204, batch: the device abandons the next fenced member and all behind it)
+-- where these members fail, member b starts: there is no fence after one of them and at b at the latest (specification
+-- 341204, batch: the device abandons the next fenced member and all after it)
 abbrev pub Starts : (ℕ → Bool) → Group → ℕ → Type 0
 Starts failed g b = (a : ℕ) → IsTrue (failed a) → ¬ IsSeparated g a b
 
@@ -32,7 +33,7 @@ abbrev pub AllCanFail : List Bool → (ℕ → Bool) → Type 0
 AllCanFail fallible failed = (a : ℕ) → IsTrue (failed a) → CanFail fallible a
 
 -- of an audit that leads from the fences g to h and then to k, where T has the true conflicts
-pub record Holds (T : ℕ → ℕ → Type 0) (members : List Member) (fallible : List Bool) (g h k : Group) (places : List FencePlace) : Type 0 where
+pub record Holds (T : ℕ → ℕ → Type 0) (members : List Member) (fallible visible : List Bool) (g h k : Group) (places : List FencePlace) : Type 0 where
   -- each missing fence has a true conflict within an epoch
   pub missing : (i m : ℕ) → m < length g → get_or places m NoFence ≡ Missing i → (i < m) × T i m × ShareEpoch g i m
   -- where the corrected batch separates the true conflicts, so does the reduced one
@@ -43,15 +44,29 @@ pub record Holds (T : ℕ → ℕ → Type 0) (members : List Member) (fallible 
   pub legal : Separates (KnownConflict members) k
   -- whichever members fail of those that can, the same ones start in the corrected and in the reduced batch
   pub starts : (failed : ℕ → Bool) (b : ℕ) → AllCanFail fallible failed → Starts failed h b ↔ Starts failed k b
+  -- a member that shows waits for the same members in the corrected and in the reduced batch
+  pub shows : (a b : ℕ) → Shows visible b → b < length g → IsSeparated h a b ↔ IsSeparated k a b
+  -- and there for each that it waited for as recorded
+  pub recorded : (a b : ℕ) → Shows visible b → b < length g → IsSeparated g a b → IsSeparated k a b
 
 -- an audit holds whatever the true conflicts are, given as truth values
 abbrev pub AuditsHold : Type 0
 AuditsHold =
-    (truth : ℕ → ℕ → Bool) (members : List Member) (fallible : List Bool) (g h k : Group) (places : List FencePlace) →
-    (uses : List FenceUse) →
+    (truth : ℕ → ℕ → Bool) (members : List Member) (fallible visible : List Bool) (g h k : Group) →
+    (places : List FencePlace) (uses : List FenceUse) →
     IsBetween members (λ i j. IsTrue (truth i j)) → IsCorrected (KnownConflict members) g places h →
-    IsReduced (PossibleConflict members) fallible h uses k →
-    Holds (λ i j. IsTrue (truth i j)) members fallible g h k places
+    IsReduced (PossibleConflict members) fallible visible h uses k →
+    Holds (λ i j. IsTrue (truth i j)) members fallible visible g h k places
+
+-- fewer members that can fail and fewer that show never leave more fences
+abbrev pub AssumptionsFree : Type 0
+AssumptionsFree =
+    (members : List Member) (fallible visible fallible' visible' : List Bool) (h k k' : Group) →
+    (uses uses' : List FenceUse) →
+    ((m : ℕ) → CanFail fallible' m → CanFail fallible m) → ((m : ℕ) → Shows visible' m → Shows visible m) →
+    IsReduced (PossibleConflict members) fallible visible h uses k →
+    IsReduced (PossibleConflict members) fallible' visible' h uses' k' →
+    fence_count k' ≤ fence_count k
 
 -- a group that begins with piece `start` of a list and separates its conflicts does so in the sense of legal plans
 abbrev pub SeparatedIsLegal : Type 0

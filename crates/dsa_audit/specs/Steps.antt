@@ -1,12 +1,12 @@
 -- One step of an audit. `epoch` is the member that the epoch of the fences so far begins with.
-use Rattle.std.specs.Prelude.{ℕ, ◌≡◌, ◌<◌, ◌≤◌, Bool, true, false, List, length, Option, Some, slice_get}
+use Rattle.std.specs.Prelude.{ℕ, ◌≡◌, ◌<◌, ◌≤◌, Bool, true, false, List, length, get_or, Option, Some, slice_get}
 use Rattle.dsa_conflicts.specs.Access.{IsGreatest}
 use Rattle.dsa_settings.specs.Plan.{Group}
 use Rattle.dsa_audit.specs.declared.missing.FencePlace.{FencePlace}
 use Rattle.dsa_audit.specs.declared.missing.FencePlace.TheVariants as fence_place
 use Rattle.dsa_audit.specs.declared.needless.FenceUse.{FenceUse}
 use Rattle.dsa_audit.specs.declared.needless.FenceUse.TheVariants as fence_use
-use Rattle.dsa_audit.specs.Audits.{HasFence, IsSeparated, ShareEpoch, CanFail}
+use Rattle.dsa_audit.specs.Audits.{HasFence, IsSeparated, ShareEpoch}
 
 -- for each of the first members, the last one before it that conflicts with it, or none
 abbrev pub AreLasts : (ℕ → ℕ → Type 0) → List (Option ℕ) → Type 0
@@ -70,46 +70,85 @@ pub record IsWitness (C : ℕ → ℕ → Type 0) (g : Group) (epoch at i j : �
   pub conflict : C i j
   pub open_after : ShareEpoch g at j
 
--- no member from `from` on and below `before` can fail; member m is the first of them that can
-abbrev pub NoneFails : List Bool → ℕ → ℕ → Type 0
-NoneFails fallible from before = (n : ℕ) → from ≤ n → n < before → ¬ CanFail fallible n
+-- of no member from `from` on and below `before` is the flag set; member m is the first of them of which it is
+abbrev pub NoneSet : List Bool → ℕ → ℕ → Type 0
+NoneSet flags from before = (n : ℕ) → from ≤ n → n < before → ¬ (get_or flags n false ≡ true)
 
-pub record IsFirstToFail (fallible : List Bool) (from before m : ℕ) : Type 0 where
+pub record IsFirstSet (flags : List Bool) (from before m : ℕ) : Type 0 where
   pub begun : from ≤ m
   pub ends : m < before
-  pub fails : CanFail fallible m
-  pub first : (n : ℕ) → from ≤ n → n < m → ¬ CanFail fallible n
+  pub here : get_or flags m false ≡ true
+  pub first : (n : ℕ) → from ≤ n → n < m → ¬ (get_or flags n false ≡ true)
 
--- what a fence before `at` is for that no conflict needs, where the last one of the batch before it is at `given`
-abbrev pub IsSpareUse : List Bool → ℕ → ℕ → FenceUse → Type 0
-IsSpareUse fallible given at fence_use.NoFence = ⊥
-IsSpareUse fallible given at fence_use.Needless = NoneFails fallible given at
-IsSpareUse fallible given at (fence_use.Guarding m) = IsFirstToFail fallible given at m
-IsSpareUse fallible given at (fence_use.Needed i j) = ⊥
+-- `end` is the first fenced member after `at`, or the end of the group
+pub record IsNextFence (g : Group) (at end : ℕ) : Type 0 where
+  pub after : at < end
+  pub within : end ≤ length g
+  pub open_between : IsUnfencedUpTo g at end
+  pub closed : end < length g → HasFence g end
+
+-- no member waits for a fence before `at` and can be seen to have ended; one before member 0 is waited for by none
+abbrev pub NoneShown : List Bool → ℕ → ℕ → Type 0
+NoneShown visible at end = 0 < at → NoneSet visible at end
+
+-- member j is the first that does and can
+abbrev pub IsFirstShown : List Bool → ℕ → ℕ → ℕ → Type 0
+IsFirstShown visible at end j = (0 < at) × IsFirstSet visible at end j
+
+-- what a fence before `at` is for that no conflict needs, where the last one of the batch before it is at `given`, and the
+-- next one at `end`
+abbrev pub IsSpareUse : List Bool → List Bool → ℕ → ℕ → ℕ → FenceUse → Type 0
+IsSpareUse fallible visible given at end fence_use.NoFence = ⊥
+IsSpareUse fallible visible given at end fence_use.Needless = NoneSet fallible given at × NoneShown visible at end
+IsSpareUse fallible visible given at end (fence_use.Guarding m) =
+    IsFirstSet fallible given at m × NoneShown visible at end
+IsSpareUse fallible visible given at end (fence_use.Signalling j) =
+    NoneSet fallible given at × IsFirstShown visible at end j
+IsSpareUse fallible visible given at end (fence_use.GuardingAndSignalling m j) =
+    IsFirstSet fallible given at m × IsFirstShown visible at end j
+IsSpareUse fallible visible given at end (fence_use.Needed i j) = ⊥
+
+-- a fence before `at` that no conflict needs is for this
+pub record IsSpareFence (C : ℕ → ℕ → Type 0) (fallible visible : List Bool) (g : Group) (given epoch at : ℕ) (u : FenceUse) : Type 0 where
+  pub fenced : HasFence g at
+  pub spare : IsSpare C g epoch at
+  pub end : ℕ
+  pub next : IsNextFence g at end
+  pub is : IsSpareUse fallible visible given at end u
 
 -- what the fence before a member is for
-abbrev pub IsNextUse : (ℕ → ℕ → Type 0) → List Bool → Group → ℕ → ℕ → ℕ → FenceUse → Type 0
-IsNextUse C fallible g given epoch at fence_use.NoFence = ¬ HasFence g at
-IsNextUse C fallible g given epoch at fence_use.Needless =
-    HasFence g at × IsSpare C g epoch at × IsSpareUse fallible given at fence_use.Needless
-IsNextUse C fallible g given epoch at (fence_use.Guarding m) =
-    HasFence g at × IsSpare C g epoch at × IsSpareUse fallible given at (fence_use.Guarding m)
-IsNextUse C fallible g given epoch at (fence_use.Needed i j) = HasFence g at × IsWitness C g epoch at i j
+abbrev pub IsNextUse : (ℕ → ℕ → Type 0) → List Bool → List Bool → Group → ℕ → ℕ → ℕ → FenceUse → Type 0
+IsNextUse C fallible visible g given epoch at fence_use.NoFence = ¬ HasFence g at
+IsNextUse C fallible visible g given epoch at fence_use.Needless =
+    IsSpareFence C fallible visible g given epoch at fence_use.Needless
+IsNextUse C fallible visible g given epoch at (fence_use.Guarding m) =
+    IsSpareFence C fallible visible g given epoch at (fence_use.Guarding m)
+IsNextUse C fallible visible g given epoch at (fence_use.Signalling j) =
+    IsSpareFence C fallible visible g given epoch at (fence_use.Signalling j)
+IsNextUse C fallible visible g given epoch at (fence_use.GuardingAndSignalling m j) =
+    IsSpareFence C fallible visible g given epoch at (fence_use.GuardingAndSignalling m j)
+IsNextUse C fallible visible g given epoch at (fence_use.Needed i j) = HasFence g at × IsWitness C g epoch at i j
 
 abbrev pub is_kept : FenceUse → Bool
 is_kept fence_use.NoFence = false
 is_kept fence_use.Needless = false
 is_kept (fence_use.Guarding m) = true
+is_kept (fence_use.Signalling j) = true
+is_kept (fence_use.GuardingAndSignalling m j) = true
 is_kept (fence_use.Needed i j) = true
 
 abbrev pub epoch_kept : FenceUse → ℕ → ℕ → ℕ
 epoch_kept fence_use.NoFence epoch at = epoch
 epoch_kept fence_use.Needless epoch at = epoch
 epoch_kept (fence_use.Guarding m) epoch at = at
+epoch_kept (fence_use.Signalling j) epoch at = at
+epoch_kept (fence_use.GuardingAndSignalling m j) epoch at = at
 epoch_kept (fence_use.Needed i j) epoch at = at
 
 abbrev pub given_after : FenceUse → ℕ → ℕ → ℕ
 given_after fence_use.NoFence given at = given
 given_after fence_use.Needless given at = at
 given_after (fence_use.Guarding m) given at = at
+given_after (fence_use.Signalling j) given at = at
+given_after (fence_use.GuardingAndSignalling m j) given at = at
 given_after (fence_use.Needed i j) given at = at

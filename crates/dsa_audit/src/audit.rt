@@ -1,12 +1,12 @@
 //! The fences of one recorded batch.
 
 ghost use Rattle.std.specs.Prelude.{◌≡◌, length, IfOk};
-ghost use Rattle.dsa_audit.specs.Laws.{IsAudit, AuditsHold, SeparatedIsLegal};
+ghost use Rattle.dsa_audit.specs.Laws.{IsAudit, AuditsHold, AssumptionsFree, SeparatedIsLegal};
 
 use crate::lasts::{known_lasts, possible_lasts};
 use crate::member::Member;
 use crate::missing::{Corrected, add_missing};
-use crate::needless::{Reduced, drop_needless};
+use crate::needless::{Effects, Reduced, drop_needless};
 use crate::relation::{KnownConflicts, PossibleConflicts};
 use std::alloc::{AllocError, Global};
 
@@ -20,28 +20,34 @@ pub struct Audit {
 }
 
 /// The fences that are missing by what is known of the members; and of all fences then, those that are needless whatever
-/// the members do of which nothing is known, and whichever of those fail that can (`fallible`).
+/// the members do of which nothing is known, whichever of those fail that can, and whichever software sees that have ended.
 pub fn audit_fences(
     alloc: Global,
     fences: &[bool],
     members: &[Member],
-    fallible: &[bool],
+    effects: Effects,
 ) -> Result<Audit, AllocError>
     requires { length fences.now ≡ length members.now }
-    ensures { IfOk result (λ a. IsAudit members.now fallible.now fences.now a) }
+    ensures { IfOk result (λ a. IsAudit members.now effects.entry.fallible.now effects.entry.visible.now
+        fences.now a) }
 {
     let known = known_lasts(alloc, members)?;
     let corrected = add_missing(alloc, fences, &KnownConflicts { members }, &known)?;
     let lasts = possible_lasts(alloc, members, &known)?;
     let possible = PossibleConflicts { members };
-    let reduced = drop_needless(alloc, &corrected.fences, &possible, &lasts, fallible)?;
+    let reduced = drop_needless(alloc, &corrected.fences, &possible, &lasts, effects)?;
     Ok(Audit { corrected, reduced })
 }
 
-/// Whatever the members do that are not looked at, and whichever fail that can: what is missing is missing, and what may
-/// go may go.
+/// Whatever the members do that are not looked at, and whichever fail that can: what is missing is missing, what may go
+/// may go, and whoever sees that a member has ended knows the same of the others.
 pub fn audits_hold()
     ensures { AuditsHold }
+{}
+
+/// Fewer members that can fail, or that can be seen to have ended, never leave more fences.
+pub fn assumptions_free()
+    ensures { AssumptionsFree }
 {}
 
 /// A group that separates its conflicts does so as legal plans do.

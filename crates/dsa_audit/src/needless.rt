@@ -2,7 +2,7 @@
 
 ghost use Rattle.std.specs.Prelude.{◌≡◌, ◌<◌, ◌≤◌, ℕ, length, IfOk, MatchOption};
 ghost use Rattle.dsa_audit.specs.Audits.{HasFence, IsReduced};
-ghost use Rattle.dsa_audit.specs.Steps.{AreLasts, IsNextUse, IsSpareUse, NoneAcross, IsAcross, NoneFails, IsFirstToFail, IsUnfencedUpTo, is_kept, epoch_kept, given_after};
+ghost use Rattle.dsa_audit.specs.Steps.{AreLasts, IsNextUse, IsSpareUse, NoneAcross, IsAcross, NoneSet, IsFirstSet, IsNextFence, IsUnfencedUpTo, is_kept, epoch_kept, given_after};
 
 use crate::relation::{Relation, last_conflict};
 use std::alloc::{AllocError, Global};
@@ -14,11 +14,25 @@ pub enum FenceUse {
     NoFence,
     /// It is needed: of all fences that stay it alone separates these two members, which conflict.
     Needed(usize, usize),
-    /// No conflict needs it by itself, but it is the first behind this member, which can fail: it then stops the rest. Of
+    /// No conflict needs it by itself, but it is the first after this member, which can fail: it then stops the rest. Of
     /// more such members this is the first.
     Guarding(usize),
+    /// No conflict needs it by itself, but this member waits for it, and software can see that the member has ended. Of
+    /// more such members up to the next fence this is the first.
+    Signalling(usize),
+    /// Both: the first member that it guards against, and the first that waits for it and can be seen to have ended.
+    GuardingAndSignalling(usize, usize),
     /// It may go.
     Needless,
+}
+
+/// What members can do beside reading and writing memory.
+#[derive(Clone, Copy, Debug)]
+pub struct Effects<'a> {
+    /// Whether each member can fail, so that the next fence stops the rest of its batch.
+    pub fallible: &'a [bool],
+    /// Whether software can see of each member that it has ended.
+    pub visible: &'a [bool],
 }
 
 impl FenceUse {
@@ -27,25 +41,32 @@ impl FenceUse {
         ensures { result ≡ is_kept self }
     {
         match self {
-            FenceUse::Needed(_, _) | FenceUse::Guarding(_) => true,
+            FenceUse::Needed(_, _)
+            | FenceUse::Guarding(_)
+            | FenceUse::Signalling(_)
+            | FenceUse::GuardingAndSignalling(_, _) => true,
             FenceUse::NoFence | FenceUse::Needless => false,
         }
     }
 
-    /// The member that the epoch begins with that goes on behind this one.
+    /// The member that the epoch begins with that goes on after this one.
     fn epoch(self, epoch: usize, at: usize) -> usize
         ensures { result ≡ epoch_kept self epoch at }
     {
         if self.is_kept() { at } else { epoch }
     }
 
-    /// The member that the last fence of the batch stands before, going on behind this one.
+    /// The member that has the last fence of the batch, up to this one.
     fn given(self, given: usize, at: usize) -> usize
         ensures { result ≡ given_after self given at }
     {
         match self {
             FenceUse::NoFence => given,
-            FenceUse::Needed(_, _) | FenceUse::Guarding(_) | FenceUse::Needless => at,
+            FenceUse::Needed(_, _)
+            | FenceUse::Guarding(_)
+            | FenceUse::Signalling(_)
+            | FenceUse::GuardingAndSignalling(_, _)
+            | FenceUse::Needless => at,
         }
     }
 }
@@ -59,13 +80,10 @@ pub struct Reduced {
     pub fences: Vec<bool>,
 }
 
-/// The first fenced member behind `at`, or the end.
+/// The first fenced member after `at`, or the end.
 fn next_fence(fences: &[bool], at: usize) -> usize
     requires { at < length fences.now }
-    ensures after { at < result }
-    ensures within { result ≤ length fences.now }
-    ensures open { IsUnfencedUpTo fences.now at result }
-    ensures closed { result < length fences.now → HasFence fences.now result }
+    ensures { IsNextFence fences.now at result }
 {
     for k in at + 1..fences.len() {
         if fences[k] {
@@ -96,26 +114,35 @@ fn across<R: Relation>(
     None
 }
 
-/// The first member that can fail, from `from` on and before `before`.
-fn first_to_fail(fallible: &[bool], from: usize, before: usize) -> Option<usize>
-    ensures { MatchOption result (NoneFails fallible.now from before)
-        (IsFirstToFail fallible.now from before) }
+/// The first member of which the flag is set, from `from` on and before `before`.
+fn first_set(flags: &[bool], from: usize, before: usize) -> Option<usize>
+    ensures { MatchOption result (NoneSet flags.now from before)
+        (IsFirstSet flags.now from before) }
 {
-    for m in from..before.min(fallible.len()) {
-        if fallible[m] {
+    for m in from..before.min(flags.len()) {
+        if flags[m] {
             return Some(m);
         }
     }
     None
 }
 
-/// What a fence before the member is for that no conflict needs, where the last one of the batch before it is at `given`.
-fn spare_use(fallible: &[bool], given: usize, at: usize) -> FenceUse
-    ensures { IsSpareUse fallible.now given at result }
+/// What a fence before the member is for that no conflict needs, between the fences of the batch at `given` and `end`. One
+/// before the first member orders nothing.
+fn spare_use(effects: Effects, given: usize, at: usize, end: usize) -> FenceUse
+    requires { given ≤ at }
+    ensures { IsSpareUse effects.entry.fallible.now effects.entry.visible.now given at end result }
 {
-    match first_to_fail(fallible, given, at) {
-        Some(m) => FenceUse::Guarding(m),
-        None => FenceUse::Needless,
+    if at == 0 {
+        return FenceUse::Needless;
+    }
+    let guarded = first_set(effects.fallible, given, at);
+    let shown = first_set(effects.visible, at, end);
+    match (guarded, shown) {
+        (Some(m), Some(j)) => FenceUse::GuardingAndSignalling(m, j),
+        (Some(m), None) => FenceUse::Guarding(m),
+        (None, Some(j)) => FenceUse::Signalling(j),
+        (None, None) => FenceUse::Needless,
     }
 }
 
@@ -125,7 +152,7 @@ fn use_of<R: Relation>(
     fences: &[bool],
     relation: &R,
     lasts: &[Option<usize>],
-    fallible: &[bool],
+    effects: Effects,
     given: usize,
     epoch: usize,
     at: usize,
@@ -133,39 +160,43 @@ fn use_of<R: Relation>(
     requires lasts { AreLasts (R.conflict relation.now) lasts.now }
     requires known { length fences.now ≡ R.count relation.now }
     requires within { at < length fences.now }
-    ensures { IsNextUse (R.conflict relation.now) fallible.now fences.now given epoch at result }
+    requires given { given ≤ at }
+    ensures { IsNextUse (R.conflict relation.now) effects.entry.fallible.now effects.entry.visible.now
+        fences.now given epoch at result }
 {
     if !fences[at] {
         return FenceUse::NoFence;
     }
-    match across(relation, lasts, epoch, at, next_fence(fences, at)) {
+    let end = next_fence(fences, at);
+    match across(relation, lasts, epoch, at, end) {
         Some((earlier, later)) => FenceUse::Needed(earlier, later),
-        None => spare_use(fallible, given, at),
+        None => spare_use(effects, given, at, end),
     }
 }
 
-/// The fewest fences of a batch that separate all conflicts that its fences separate, and behind which the same members are
-/// abandoned, whichever fail of those that can (`fallible`): each with a conflict that needs it, or with the first member
-/// that can fail of the epoch before it. The others may go, all at once. `lasts` is as of [`add_missing`](crate::add_missing).
+/// The fewest fences of a batch that separate all conflicts that its fences separate, that stop the same members,
+/// whichever fail of those that can, and that each member which can be seen to have ended waits for as before: each with a
+/// conflict that needs it, or with the first member that can fail of the epoch before it, the first that can be seen of
+/// the epoch after it, or both. The others may go, all at once. `lasts` is as of [`add_missing`](crate::add_missing).
 pub fn drop_needless<R: Relation>(
     alloc: Global,
     fences: &[bool],
     relation: &R,
     lasts: &[Option<usize>],
-    fallible: &[bool],
+    effects: Effects,
 ) -> Result<Reduced, AllocError>
     requires lasts { AreLasts (R.conflict relation.now) lasts.now }
     requires known { length fences.now ≡ R.count relation.now }
     ensures { IfOk result
-        (λ t. IsReduced (R.conflict relation.now) fallible.now fences.now t.uses.items
-        t.fences.items) }
+        (λ t. IsReduced (R.conflict relation.now) effects.entry.fallible.now effects.entry.visible.now
+        fences.now t.uses.items t.fences.items) }
 {
     let mut uses = Vec::new(alloc);
     let mut kept = Vec::new(alloc);
     let mut epoch = 0;
     let mut given = 0;
     for at in 0..fences.len() {
-        let fence = use_of(fences, relation, lasts, fallible, given, epoch, at);
+        let fence = use_of(fences, relation, lasts, effects, given, epoch, at);
         uses.push(fence)?;
         kept.push(fence.is_kept())?;
         epoch = fence.epoch(epoch, at);

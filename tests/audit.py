@@ -22,6 +22,9 @@ from model import COMPARE, DELTA, DUALCAST, FILL, MOVE, PATTERN, Op
 COUNT = 200
 WRAP = 1 << 64
 GREATEST_BATCH = 6
+KINDS = ("unseen", "missing", "needless", "guarding", "signalling")
+# What can be assumed of software: what it looks at, and whether all memory is resident.
+ASSUMED = list(itertools.product(("writes", "signals", "batches"), (False, True)))
 
 # ---- entries
 
@@ -79,10 +82,24 @@ def accesses(it, owner):
     return known if isinstance(known, str) else tuple(set().union(*spans) for spans in known)
 
 
-def can_fail(it, known):
-    """The entry can end with another status than 1: a checked compare, a delta, or one of which nothing is known."""
+def can_fail(it, known, resident):
+    """The entry can end with another status than 1: a checked compare, a delta, one with data that does not block on page
+    faults where memory may be absent, or one of which nothing is known."""
     flags, code = it[4], it[7]
-    return isinstance(known, str) or code == DELTA or (code in (COMPARE, PATTERN) and bool(flags & 0x80))
+    if isinstance(known, str) or code == DELTA or (code in (COMPARE, PATTERN) and flags & 0x80):
+        return True
+    return code != 0 and not resident and not flags & 0x02
+
+
+def shows(it, known, head, awaited, resident):
+    """Software that looks at this sees that the entry has ended: an interrupt, a completion record, or data."""
+    flags, code, whole = it[4], it[7], head[4]
+    interrupt = bool(flags & 0x10)
+    record = bool(flags & 0x04) and (bool(flags & 0x08) or can_fail(it, known, resident))
+    if awaited == "batches" and (whole & 0x10 or whole & 0x0C == 0x0C):
+        return interrupt or (record and code in (0, 1))
+    writes = isinstance(known, str) or code in (MOVE, FILL, DELTA, DUALCAST)
+    return interrupt or record or (awaited == "writes" and writes)
 
 
 def conflict(one, other):
@@ -122,9 +139,10 @@ def has_record(entry, address):
 
 
 class Batch:
-    """A recorded submission, and what the report says of it."""
+    """A recorded submission, what the report says of it, and what is assumed: what is awaited, and whether memory is
+    resident."""
 
-    def __init__(self, number, head, entries, findings):
+    def __init__(self, number, head, entries, findings, assumed):
         self.number, self.entries, self.head = number, entries, head
         owner = struct.unpack_from("<I", head)[0]
         self.known = [accesses(it, owner) for it in entries]
@@ -134,12 +152,33 @@ class Batch:
         clash = {p for p in pairs if all(is_seen[k] for k in p) and conflict(*(self.known[k] for k in p))}
         self.certain = [p for p in pairs if p in clash]
         self.possible = [p for p in pairs if p in clash or not all(is_seen[k] for k in p)]
-        self.fallible = [k for k, it in enumerate(entries) if can_fail(it, self.known[k])]
-        self.found = {"missing": {}, "needless": {}, "guarding": {}, "unseen": {}}
+        self.assume(*assumed)
+        self.found = {kind: {} for kind in KINDS}
         for finding in findings:
-            self.found[finding["what"]["kind"]][finding["member"] or 0] = finding["what"]
+            for kind in finding["what"]["kind"].split(" and "):
+                self.found[kind][finding["member"] or 0] = finding["what"]
         self.corrected = self.fences | set(self.found["missing"])
         self.reduced = self.corrected - set(self.found["needless"])
+
+    def assume(self, awaited, resident):
+        """Which members can fail, and which show that they have ended."""
+        both = list(zip(self.entries, self.known))
+        self.fallible = [k for k, (it, known) in enumerate(both) if can_fail(it, known, resident)]
+        self.visible = [k for k, (it, known) in enumerate(both) if shows(it, known, self.head, awaited, resident)]
+
+    def kept_pairs(self):
+        """Which pairs of members have to stay separated: those that may conflict, a member that can fail and each later one,
+        one that shows and each earlier one."""
+        count = len(self.entries)
+        held = [pair for pair in self.possible if separated(self.corrected, pair)]
+        pairs = [(m, b) for m in self.fallible for b in range(m + 1, count)] + [(a, b) for b in self.visible for a in range(b)]
+        return held, [pair for pair in pairs if separated(self.corrected, pair)]
+
+    def needless_with(self, assumed):
+        """How many fences are needless, most, under other assumptions."""
+        self.assume(*assumed)
+        held, others = self.kept_pairs()
+        return len(self.corrected) - fewest(set(), sorted(self.corrected), held + others)
 
     def faults(self):
         yield from self.unseen_faults()
@@ -193,37 +232,38 @@ class Batch:
     def needless_faults(self):
         if not set(self.found["needless"]) <= self.fences:
             yield "a fence is needless that is not there"
-        held = [pair for pair in self.possible if separated(self.corrected, pair)]
+        held, others = self.kept_pairs()
         if not all_separated(self.reduced, held):
             yield "a needless fence is needed"
-        behind = [(m, b) for m in self.fallible for b in range(m + 1, len(self.entries))]
-        abandoned = [pair for pair in behind if separated(self.corrected, pair)]
-        if not all_separated(self.reduced, abandoned):
-            yield "a needless fence guards"
-        least = fewest(set(), sorted(self.corrected), held + abandoned)
+        if not all_separated(self.reduced, others):
+            yield "a needless fence guards or signals"
+        least = fewest(set(), sorted(self.corrected), held + others)
         if len(self.reduced) != least:
             yield f"{least} fences stay"
-        yield from self.guarding_faults(held)
+        yield from self.spare_faults(held)
         complete = not self.found["missing"]
         if any(what["once_corrected"] == complete for what in self.found["needless"].values()):
             yield "what is needless once fences are set is not so"
 
-    def guarding_faults(self, held):
-        """A fence that stays guards where no conflict needs it beside those that stay before it and all behind it."""
+    def spare_faults(self, held):
+        """A fence that stays guards or signals where no conflict needs it beside those that stay before it and all after it."""
         spare = set()
         for k in self.reduced:
             others = {it for it in self.reduced if it < k} | {it for it in self.corrected if it > k}
             if all_separated(others, held):
                 spare.add(k)
-        if spare != set(self.found["guarding"]) or not spare <= self.fences:
-            yield f"guarding fences are {sorted(spare)}"
-        for k, what in self.found["guarding"].items():
-            first = [m for m in self.fallible if m < k and not separated(self.corrected, (m, k - 1))]
-            if what["earlier"] != min(first, default=None):
-                yield f"fence {k} guards {first}, and not first {what['earlier']}"
+        if spare != {*self.found["guarding"], *self.found["signalling"]} or not spare <= self.fences:
+            yield f"guarding or signalling fences are {sorted(spare)}"
+        for k in spare:
+            guards = [m for m in self.fallible if m < k and not separated(self.corrected, (m, k - 1))]
+            signals = [j for j in self.visible if 0 < k <= j and not separated(self.corrected, (k, j))]
+            earlier = self.found["guarding"].get(k, {}).get("earlier")
+            awaited = self.found["signalling"].get(k, {}).get("awaited")
+            if (earlier, awaited) != (min(guards, default=None), min(signals, default=None)):
+                yield f"fence {k} guards {guards} and signals {signals}, and not {earlier} and {awaited}"
 
 
-def submissions(recording, report):
+def submissions(recording, report, assumed=("writes", False)):
     """The submissions of a recording, each with its findings."""
     entries = [recording[k : k + 64] for k in range(0, len(recording), 64)]
     findings, at, number = {}, 0, 0
@@ -236,15 +276,32 @@ def submissions(recording, report):
         for it in mine:
             right = it["entry"] == first + (it["member"] or 0) and (it["member"] is None) != is_batch
             common.expect(right, f"submission {number}: {it} stands at no entry of it")
-        yield Batch(number, entries[at], entries[first : first + size], mine), is_batch
+        yield Batch(number, entries[at], entries[first : first + size], mine, assumed), is_batch
         at, number = first + size, number + 1
 
 
-def judge(recording, report, status, name):
+def freed(recording, report, assumed):
+    """How many more fences would be needless with each set of further assumptions, where some fence guards or signals."""
+    if not report["totals"]["guarding"] + report["totals"]["signalling"]:
+        return []
+    awaited, resident = assumed
+    names, rows = ["writes", "signals", "batches"], []
+    for more in [("writes", True), ("signals", False), ("batches", False), ("signals", True), ("batches", True)]:
+        if more != assumed and names.index(more[0]) >= names.index(awaited) and more[1] >= resident:
+            count = sum(it.needless_with(more) for it, _ in submissions(recording, report, assumed))
+            rows.append({"assumptions": {"await": more[0], "resident": more[1]}, "needless": count - report["totals"]["needless"]})
+    return rows
+
+
+def judge(recording, report, status, name, assumed=("writes", False)):
     """Compares a report with what the brute force finds."""
-    totals = dict.fromkeys(("batches", "lone", "descriptors", "unseen", "fences", "missing", "needless", "guarding"), 0)
+    totals = dict.fromkeys(("batches", "lone", "descriptors", "fences", *KINDS), 0)
     costs = dict.fromkeys(("recorded", "corrected", "reduced", "unpriced"), 0)
-    for it, is_batch in submissions(recording, report):
+    said = {"await": assumed[0], "resident": assumed[1]}
+    common.expect(report["assumptions"] == said, f"{name}: assumed is {report['assumptions']}")
+    wanted = freed(recording, report, assumed)
+    common.expect(report["freed"] == wanted, f"{name}: needless too are {report['freed']}, and not {wanted}")
+    for it, is_batch in submissions(recording, report, assumed):
         for fault in it.faults():
             common.expect(False, f"{name}, submission {it.number}: {fault}")
         totals["batches" if is_batch else "lone"] += 1
@@ -269,6 +326,7 @@ class Maker:
     def __init__(self, seed):
         self.random = random.Random(seed)
         self.crowd = self.random.choice([2, 4, 8, 16, 40])
+        self.blocking = self.random.choice([0, 0.5, 1])
 
     def address(self):
         return 0x1000 + 8 * self.random.randrange(self.crowd)
@@ -278,10 +336,10 @@ class Maker:
         record = 0x800000 + 32 * (number * 16 + (k if choose() < 0.97 else 0))
         flags = 0x0C if choose() < 0.9 else self.random.choice([0, 0x04, 0x08, 0x1C, 0x0E])
         flags |= int(choose() < (0.35 if k else 0.05))
-        flags |= 0x80 * int(choose() < 0.1)
+        flags |= 0x80 * int(choose() < 0.1) | 0x02 * int(choose() < self.blocking) | 0x10 * int(choose() < 0.05)
         code = self.random.choices(
             [MOVE, FILL, COMPARE, PATTERN, DELTA, DUALCAST, 0x00, 0x10, 0x01, 0x02, "empty", "wrap", "owner"],
-            [50, 15, 15, 5, 3, 4, 3, 1, 0 if is_lone else 1, 1, 1, 1, 0 if is_lone else 1],
+            [45, 15, 15, 5, 3, 4, 8, 1, 0 if is_lone else 1, 1, 1, 1, 0 if is_lone else 1],
         )[0]
         if code == "wrap":
             return entry(MOVE, flags, record, WRAP - 8, self.address(), 16)
@@ -300,7 +358,7 @@ class Maker:
                 text += self.member(number, 0, True)
             else:
                 members = [self.member(number, k, False) for k in range(self.random.randint(0, 8))]
-                text += batch(*members)
+                text += batch(*members, flags=self.random.choice([0x0C, 0x0C, 0x1C, 0x00]))
         return text
 
 
@@ -308,19 +366,21 @@ def brute_force():
     """Random recordings, judged."""
     sums = {}
     for seed in range(COUNT):
-        recording = Maker(seed).recording()
-        report, status = audited(recording, f"--greatest-batch {GREATEST_BATCH}")
-        for name, number in judge(recording, report, status, f"seed {seed}").items():
+        recording, assumed = Maker(seed).recording(), ASSUMED[seed % len(ASSUMED)]
+        words = f"--await {assumed[0]}" + " --resident" * assumed[1]
+        report, status = audited(recording, f"--greatest-batch {GREATEST_BATCH} {words}")
+        for name, number in judge(recording, report, status, f"seed {seed} {words}", assumed).items():
             sums[name] = sums.get(name, 0) + number
     print(", ".join(f"{number} {name}" for name, number in sums.items()))
-    common.expect(all(sums[name] > COUNT // 10 for name in ("missing", "needless", "guarding", "unseen")), f"too few findings: {sums}")
+    common.expect(all(sums[kind] > COUNT // 10 for kind in KINDS), f"too few findings: {sums}")
 
 
 def padded():
     """A batch has the same findings with 70 more members that touch nothing else, behind it or before it: above 64 members
     the last conflicts come from a sweep, else each two are compared."""
     found = 0
-    idle = [move(0x10000000 + 64 * k, 0x20000000 + 64 * k, record_at=0x30000000 + 32 * k).bytes() for k in range(70)]
+    # they read, wait for absent pages, and have no record: none of them can fail or show
+    idle = [entry(COMPARE, 0x02, 0, 0x10000000 + 64 * k, 0x20000000 + 64 * k, 64) for k in range(70)]
     for seed in range(COUNT // 10):
         recording = Maker(seed).recording()
         for it, is_batch in submissions(recording, {"findings": []}):
@@ -334,8 +394,9 @@ def padded():
                 continue
             for finding in wanted:
                 finding["entry"], finding["member"] = finding["entry"] + 70, finding["member"] + 70
-                if "earlier" in finding["what"]:
-                    finding["what"]["earlier"] += 70
+                for name in ("earlier", "awaited"):
+                    if name in finding["what"]:
+                        finding["what"][name] += 70
                 if "records" in finding["what"]:
                     finding["what"]["records"] = [k + 70 for k in finding["what"]["records"]]
             got = audited(batch(*idle, *it.entries))[0]["findings"]
@@ -347,6 +408,7 @@ def padded():
 
 NAMES = {0: "no-op", MOVE: "move", FILL: "fill", COMPARE: "cmp", PATTERN: "pat", DELTA: "delta", DUALCAST: "dual"}
 HAZARDS = {"read after write": "RAW", "write after read": "WAR", "write after write": "WAW"}
+PARTS = ("row", "box", "fence", "missing", "needless", "kept")
 SVG = "{http://www.w3.org/2000/svg}"
 
 
@@ -361,7 +423,12 @@ def mark_of(found, fenced, later):
         return ("fence",) if fenced else None
     if what["kind"] == "missing":
         return ("missing", f"{later}←{what['earlier']}", HAZARDS[what["hazard"]])
-    return ("guarding", f"guards {what['earlier']}") if what["kind"] == "guarding" else ("needless", "needless")
+    words = {
+        "guarding": "guards {earlier}",
+        "signalling": "signals {awaited}",
+        "guarding and signalling": "{earlier} and {awaited}",
+    }
+    return ("kept", words[what["kind"]].format(**what)) if what["kind"] in words else ("needless", "needless")
 
 
 def wanted_parts(recording, report):
@@ -409,14 +476,14 @@ def part_of(group):
         return ("missing" if is_red else "a line", x - 2, y, *words)
     if tags == ["rect", "path"]:
         return ("needless" if shapes[1].get("d") == f"M{x - 4} {y + 14}l12 12m0 -12l-12 12" else "a path", x, y, *words)
-    return ({None: "fence", "white": "guarding"}.get(shape.get("fill"), "a bar"), x, y, *words)
+    return ({None: "fence", "white": "kept"}.get(shape.get("fill"), "a bar"), x, y, *words)
 
 
 def drawn_totals(totals):
     """The two lines of numbers of a report."""
     held = f"{counted(totals['batches'], 'batch', 'batches')} and {counted(totals['lone'], 'lone submission')}"
     first = f"{counted(totals['descriptors'], 'descriptor')} in {held}, {totals['unseen']} not looked at"
-    numbers = ", ".join(f"{totals[name]} {name}" for name in ("missing", "needless", "guarding"))
+    numbers = ", ".join(f"{totals[name]} {name}" for name in ("missing", "needless", "guarding", "signalling"))
     return [first, f"{counted(totals['fences'], 'fence')}, {numbers}"]
 
 
@@ -442,7 +509,7 @@ def compare(recording, name, words=""):
     lines = [(f"{end + 11 + 14 * k}", line) for k, line in enumerate(drawn_totals(totals))]
     common.expect(last == lines, f"{name}: at the end stand {last}")
     kinds = [part[0] for part in parts]
-    return {kind: kinds.count(kind) for kind in ("row", "box", "fence", "missing", "needless", "guarding")}
+    return {kind: kinds.count(kind) for kind in PARTS}
 
 
 def pictures():
@@ -460,7 +527,7 @@ def sizes():
     """Pictures of nothing, of batches of several sizes, and of the most submissions and entries that a picture has."""
     apart = [move(0x1000000 + 64 * k, 0x9000000 + 64 * k, record_at=0x20000000 + 32 * k).bytes() for k in range(1025)]
     same = [move(0x1000, 0x2000, record_at=0x20000000 + 32 * k).bytes() for k in range(1023)]
-    none = dict.fromkeys(("row", "box", "fence", "missing", "needless", "guarding"), 0)
+    none = dict.fromkeys(PARTS, 0)
     common.expect(compare(b"", "nothing") == none, "nothing has parts")
     common.expect(compare(batch(), "an empty batch") == none | {"row": 1}, "an empty batch has other parts")
     for size in (1, 2, 15, 16, 17, 32, 33, 1023):
@@ -470,7 +537,8 @@ def sizes():
         common.expect(got == none | {"row": 1, "box": size, "missing": size - 1}, f"{size} members that conflict: {got}")
         fenced = [bytes([*it[:4], it[4] | 1, *it[5:]]) for it in apart[:size]]
         got = compare(batch(*fenced), f"{size} needless fences")
-        common.expect(got == none | {"row": 1, "box": size, "needless": size}, f"{size} needless fences: {got}")
+        wanted = {"row": 1, "box": size, "needless": 1, "kept": size - 1}
+        common.expect(got == none | wanted, f"{size} fences that no conflict needs: {got}")
     for recording, boxes, name in [
         (b"".join(apart[:1024]), 1024, "1024 lone submissions"),
         (batch(*apart[:63]) * 1024, 63 * 1024, "1024 batches of 65536 entries"),
@@ -517,7 +585,7 @@ def planned():
         answer, job = json.loads(answer), json.loads(path.read_text())
         portal, staging = bytes.fromhex(answer["portal"]), bytes.fromhex(answer["staging"])
         recording = recorded(portal, staging, job["settings"]["staging"])
-        report, status = audited(recording, "--deny needless,unseen")
+        report, status = audited(recording, "--deny needless,guarding,signalling,unseen")
         common.expect(report["findings"] == [] and status == 0, f"{path}: {report}")
         fenced = [k for k in range(0, len(recording), 64) if recording[k + 4] & 1]
         common.expect(report["totals"]["fences"] == len(fenced), f"{path}: {report['totals']}")

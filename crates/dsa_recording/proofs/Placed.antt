@@ -28,4 +28,6 @@ pub behind_entry : (first member entry : ℕ) (c : Cause) → entry ≡ first + 
 behind_entry first member entry (cause.MissingFence earlier h) e lt = omega (arith, e, lt)
 behind_entry first member entry (cause.NotSeen why) e lt = tt
 behind_entry first member entry (cause.GuardingFence earlier) e lt = tt
+behind_entry first member entry (cause.SignallingFence awaited) e lt = tt
+behind_entry first member entry (cause.GuardingAndSignallingFence earlier awaited) e lt = tt
 behind_entry first member entry cause.NeedlessFence e lt = tt

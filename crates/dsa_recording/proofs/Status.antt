@@ -9,7 +9,7 @@ use Rattle.dsa_recording.specs.Reports.{IsReport}
 use Rattle.dsa_recording.specs.Answers.{AnswersReport, AnswersRecording}
 
 pub reported : {E : Type 0} (r : Result AuditAnswer E) (options : AuditOptions) (bytes : List ℕ) (es : List (List ℕ)) (report : Report)
-    → es ≡ entries bytes → IsReport bytes report → IfOk r (AnswersReport options es report) → IfOk r (AnswersRecording options bytes)
+    → es ≡ entries bytes → IsReport options.assumptions bytes report → IfOk r (AnswersReport options es report) → IfOk r (AnswersRecording options bytes)
 reported (Ok x) options bytes es report same is ok =
     inl (report, is, subst (λ es. AnswersReport options es report x) same ok)
 reported (Err e) options bytes es report same is ok = tt

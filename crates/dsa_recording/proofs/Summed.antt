@@ -7,6 +7,7 @@ use Rattle.std.proofs.lemmas.List.Sums.{count_by-le-length, sum_by-append}
 use Rattle.dsa_descriptor.specs.Lists.{entries}
 use Rattle.dsa_descriptor.proofs.Entries.{length-chunks}
 use Rattle.dsa_descriptor.specs.Places.{u32_at, code_at}
+use Rattle.dsa_recording.specs.declared.assumptions.Assumptions.{Assumptions}
 use Rattle.dsa_recording.specs.declared.stream.Submission.{Submission}
 use Rattle.dsa_recording.specs.declared.submission.Audited.{Audited}
 use Rattle.dsa_recording.specs.declared.report.Report.{Report}
@@ -35,14 +36,14 @@ within_size es s =
     let size : length (members_in es s) ≡ min (end_of s - s.first) (length (drop s.first es)) = length-take (end_of s - s.first) (drop s.first es) in
     omega (arith, size)
 
-few_members : (es : List (List ℕ)) (s : Submission) (a : Audited) → IsAudited es s a → member_count a ≤ s.size
-few_members es s a is =
+few_members : (assumed : Assumptions) (es : List (List ℕ)) (s : Submission) (a : Audited) → IsAudited assumed es s a → member_count a ≤ s.size
+few_members assumed es s a is =
     let count : length a.members.items ≡ length (members_in es s) = is.members.count in
     let size = within_size es s in
     omega (arith, count, size)
 
-few_fences : (es : List (List ℕ)) (s : Submission) (a : Audited) → IsAudited es s a → set_count a ≤ s.size
-few_fences es s a is =
+few_fences : (assumed : Assumptions) (es : List (List ℕ)) (s : Submission) (a : Audited) → IsAudited assumed es s a → set_count a ≤ s.size
+few_fences assumed es s a is =
     let fences : length a.fences.items ≡ length (members_in es s) = ap length is.fences ∙ length-map (members_in es s) is_fenced in
     let size = within_size es s in
     let set : set_count a ≤ length a.fences.items = count_by-le-length (λ b. b) a.fences.items in
@@ -50,25 +51,25 @@ few_fences es s a is =
 
 -- ---- of all, counted by any measure that is within the size of each
 
-sum_within : (f : Audited → ℕ) (es : List (List ℕ)) (few : (s : Submission) (a : Audited) → IsAudited es s a → f a ≤ s.size) (from to : ℕ) (ss : List Submission) (audits : List Audited)
-    → ReadsUpTo es from ss to → AreAudited es ss audits → from + sum_by f audits ≤ to
-sum_within f es few from to [] [] reads all =
+sum_within : (assumed : Assumptions) (f : Audited → ℕ) (es : List (List ℕ)) (few : (s : Submission) (a : Audited) → IsAudited assumed es s a → f a ≤ s.size) (from to : ℕ) (ss : List Submission) (audits : List Audited)
+    → ReadsUpTo es from ss to → AreAudited assumed es ss audits → from + sum_by f audits ≤ to
+sum_within assumed f es few from to [] [] reads all =
     let none : sum_by f [] ≡ 0 = refl in
     omega (arith, reads, none)
-sum_within f es few from to (s ∷ ss) (a ∷ audits) (lt, is, le, reads) (first, all) =
+sum_within assumed f es few from to (s ∷ ss) (a ∷ audits) (lt, is, le, reads) (first, all) =
     let begun = begins_behind es from s is in
     let here = few s a first in
-    let rest : end_of s + sum_by f audits ≤ to = sum_within f es few (end_of s) to ss audits reads all in
+    let rest : end_of s + sum_by f audits ≤ to = sum_within assumed f es few (end_of s) to ss audits reads all in
     let one : sum_by f (a ∷ []) ≡ 0 + f a = refl in
     let step : sum_by f (a ∷ audits) ≡ sum_by f (a ∷ []) + sum_by f audits = sum_by-append f (a ∷ []) audits in
     omega (arith, begun, here, rest, one, step)
-sum_within f es few from to [] (a ∷ audits) reads all = absurd all
-sum_within f es few from to (s ∷ ss) [] reads all = absurd all
+sum_within assumed f es few from to [] (a ∷ audits) reads all = absurd all
+sum_within assumed f es few from to (s ∷ ss) [] reads all = absurd all
 
-pub has_sums : (bytes : List ℕ) (r : Report) → IsReport bytes r → length bytes < 2 ^ 64 → HasSums r
-has_sums bytes r is small =
+pub has_sums : (assumed : Assumptions) (bytes : List ℕ) (r : Report) → IsReport assumed bytes r → length bytes < 2 ^ 64 → HasSums r
+has_sums assumed bytes r is small =
     let es : List (List ℕ) = entries bytes in
     let count : length es ≡ length bytes / 64 = length-chunks (length bytes / 64) bytes in
-    let members = sum_within member_count es (few_members es) 0 (length es) r.submissions.items r.audits.items is.submissions.all is.audits in
-    let fences = sum_within set_count es (few_fences es) 0 (length es) r.submissions.items r.audits.items is.submissions.all is.audits in
+    let members = sum_within assumed member_count es (few_members assumed es) 0 (length es) r.submissions.items r.audits.items is.submissions.all is.audits in
+    let fences = sum_within assumed set_count es (few_fences assumed es) 0 (length es) r.submissions.items r.audits.items is.submissions.all is.audits in
     record { members = omega (arith, members, count, small); fences = omega (arith, fences, count, small) }

@@ -1,5 +1,5 @@
 -- What the answer of `audit` says.
-use Rattle.std.specs.Prelude.{ℕ, ◌≡◌, ◌<◌, ◌⊎◌, Bool, true, false, not, List, length, string_bytes}
+use Rattle.std.specs.Prelude.{ℕ, ◌≡◌, ◌<◌, ◌⊎◌, Bool, true, false, not, ◌&&◌, List, length, string_bytes}
 use Rattle.std.specs.List.{AllByRecursion}
 use Rattle.dsa_descriptor.specs.Lists.{entries}
 use Rattle.dsa_drawing.specs.Pictures.{IsPicture}
@@ -9,7 +9,7 @@ use Rattle.dsa_recording.specs.declared.answer.AuditFormat.TheVariants.{Text, Js
 use Rattle.dsa_recording.specs.declared.answer.AuditOptions.{AuditOptions}
 use Rattle.dsa_recording.specs.declared.findings.Finding.{Finding}
 use Rattle.dsa_recording.specs.declared.findings.FindingKind.{FindingKind}
-use Rattle.dsa_recording.specs.declared.findings.FindingKind.TheVariants.{NotSeen, MissingFence, GuardingFence, NeedlessFence}
+use Rattle.dsa_recording.specs.declared.findings.FindingKind.TheVariants.{NotSeen, MissingFence, GuardingFence, SignallingFence, GuardingAndSignallingFence, NeedlessFence}
 use Rattle.dsa_recording.specs.declared.report.Report.{Report}
 use Rattle.dsa_recording.specs.declared.stream.Submission.{Submission}
 use Rattle.dsa_recording.specs.Streams.{ReadsStream}
@@ -21,7 +21,9 @@ use Rattle.dsa_recording.specs.declared.words.Denied.{Denied}
 abbrev pub is_harmless : Denied → FindingKind → Bool
 is_harmless denied (NotSeen why) = not denied.unseen
 is_harmless denied (MissingFence earlier) = false
-is_harmless denied (GuardingFence earlier) = true
+is_harmless denied (GuardingFence earlier) = not denied.guarding
+is_harmless denied (SignallingFence awaited) = not denied.signalling
+is_harmless denied (GuardingAndSignallingFence earlier awaited) = not denied.guarding && not denied.signalling
 is_harmless denied NeedlessFence = not denied.needless
 
 abbrev pub AreHarmless : Denied → List Finding → Type 0
@@ -60,5 +62,5 @@ AnswersReport options es r answer = AnswersFormat options.format es r options.de
 -- the answer of a recording: that of a report on the bytes; or its status is 2, and they are no recording
 abbrev pub AnswersRecording : AuditOptions → List ℕ → AuditAnswer → Type 0
 AnswersRecording options bytes answer =
-    ((r : Report) × IsReport bytes r × AnswersReport options (entries bytes) r answer)
+    ((r : Report) × IsReport options.assumptions bytes r × AnswersReport options (entries bytes) r answer)
     ⊎ ((answer.status ≡ 2) × ((list : List Submission) → ¬ ReadsStream bytes list))

@@ -1,5 +1,5 @@
 -- What a finding says of its entry.
-use Rattle.std.specs.Prelude.{ℕ, ◌≡◌, ◌+◌, ◌-◌, ◌<◌, ◌&&◌, ◌==◌, nat_le, nat_lt, bit_and, Bool, false, List, [], length, slice_get, slice_index_or, Some}
+use Rattle.std.specs.Prelude.{ℕ, ◌≡◌, ◌+◌, ◌-◌, ◌<◌, ◌≤◌, ◌&&◌, ◌==◌, nat_le, nat_lt, bit_and, Bool, false, List, [], length, slice_get, slice_index_or, Some}
 use Rattle.dsa_descriptor.specs.Places.{u32_at, u64_at, flags_at, code_at}
 use Rattle.dsa_descriptor.specs.Profile.{required_flags}
 use Rattle.dsa_audit.specs.declared.member.Member.{Member}
@@ -10,7 +10,7 @@ use Rattle.dsa_recording.specs.declared.stream.Submission.{Submission}
 use Rattle.dsa_recording.specs.declared.submission.Audited.{Audited}
 use Rattle.dsa_recording.specs.declared.findings.Finding.{Finding}
 use Rattle.dsa_recording.specs.declared.findings.FindingKind.{FindingKind}
-use Rattle.dsa_recording.specs.declared.findings.FindingKind.TheVariants.{NotSeen, MissingFence, GuardingFence, NeedlessFence}
+use Rattle.dsa_recording.specs.declared.findings.FindingKind.TheVariants.{NotSeen, MissingFence, GuardingFence, SignallingFence, GuardingAndSignallingFence, NeedlessFence}
 use Rattle.dsa_recording.specs.declared.detail.Cause.{Cause}
 use Rattle.dsa_recording.specs.declared.detail.Cause.TheVariants as cause
 use Rattle.dsa_recording.specs.declared.detail.Detail.{Detail}
@@ -19,31 +19,37 @@ use Rattle.dsa_recording.specs.Submissions.{head_at}
 use Rattle.dsa_recording.specs.declared.report.Report.{Report}
 
 -- what is found of member k can be said of these members: where a fence is missing, the earlier member is known to
--- conflict with it; where one guards, the other member is an earlier one
+-- conflict with it; where one guards, the other member is an earlier one; where one signals, it is not
 abbrev pub IsOf : List Member → ℕ → FindingKind → Type 0
 IsOf ms k (NotSeen why) = Unit
 IsOf ms k (MissingFence earlier) = (earlier < k) × (k < length ms) × KnownConflict ms earlier k
 IsOf ms k (GuardingFence earlier) = earlier < k
+IsOf ms k (SignallingFence awaited) = (k ≤ awaited) × (awaited < length ms)
+IsOf ms k (GuardingAndSignallingFence earlier awaited) = (earlier < k) × (k ≤ awaited) × (awaited < length ms)
 IsOf ms k NeedlessFence = Unit
 
+-- the kind of what is found, without its hazard
+abbrev pub kind_of : Cause → FindingKind
+kind_of (cause.NotSeen why) = NotSeen why
+kind_of (cause.MissingFence earlier h) = MissingFence earlier
+kind_of (cause.GuardingFence earlier) = GuardingFence earlier
+kind_of (cause.SignallingFence awaited) = SignallingFence awaited
+kind_of (cause.GuardingAndSignallingFence earlier awaited) = GuardingAndSignallingFence earlier awaited
+kind_of cause.NeedlessFence = NeedlessFence
+
+-- the hazard of a missing fence before member k is between the two members
+abbrev pub HasHazard : List Member → ℕ → Cause → Type 0
+HasHazard ms k (cause.NotSeen why) = Unit
+HasHazard ms k (cause.MissingFence earlier h) = IsHazardBetween ms earlier k h
+HasHazard ms k (cause.GuardingFence earlier) = Unit
+HasHazard ms k (cause.SignallingFence awaited) = Unit
+HasHazard ms k (cause.GuardingAndSignallingFence earlier awaited) = Unit
+HasHazard ms k cause.NeedlessFence = Unit
+
 -- what is found, and of a missing fence the hazard between the two members
-abbrev pub IsCause : List Member → ℕ → FindingKind → Cause → Type 0
-IsCause ms k (NotSeen why) (cause.NotSeen other) = other ≡ why
-IsCause ms k (MissingFence earlier) (cause.MissingFence other h) = (other ≡ earlier) × IsHazardBetween ms earlier k h
-IsCause ms k (GuardingFence earlier) (cause.GuardingFence other) = other ≡ earlier
-IsCause ms k NeedlessFence cause.NeedlessFence = Unit
-IsCause ms k (NotSeen why) (cause.MissingFence other h) = ⊥
-IsCause ms k (NotSeen why) (cause.GuardingFence other) = ⊥
-IsCause ms k (NotSeen why) cause.NeedlessFence = ⊥
-IsCause ms k (MissingFence earlier) (cause.NotSeen why) = ⊥
-IsCause ms k (MissingFence earlier) (cause.GuardingFence other) = ⊥
-IsCause ms k (MissingFence earlier) cause.NeedlessFence = ⊥
-IsCause ms k (GuardingFence earlier) (cause.NotSeen why) = ⊥
-IsCause ms k (GuardingFence earlier) (cause.MissingFence other h) = ⊥
-IsCause ms k (GuardingFence earlier) cause.NeedlessFence = ⊥
-IsCause ms k NeedlessFence (cause.NotSeen why) = ⊥
-IsCause ms k NeedlessFence (cause.MissingFence other h) = ⊥
-IsCause ms k NeedlessFence (cause.GuardingFence other) = ⊥
+pub record IsCause (ms : List Member) (k : ℕ) (kind : FindingKind) (c : Cause) : Type 0 where
+  pub kind_is : kind_of c ≡ kind
+  pub hazard : HasHazard ms k c
 
 -- the entry requests a completion record that has the address
 abbrev pub is_in_record : ℕ → List ℕ → Bool
@@ -58,6 +64,8 @@ shared_records es first at (cause.MissingFence earlier h) = record {
 }
 shared_records es first at (cause.NotSeen why) = record { earlier = false; later = false }
 shared_records es first at (cause.GuardingFence earlier) = record { earlier = false; later = false }
+shared_records es first at (cause.SignallingFence awaited) = record { earlier = false; later = false }
+shared_records es first at (cause.GuardingAndSignallingFence earlier awaited) = record { earlier = false; later = false }
 shared_records es first at cause.NeedlessFence = record { earlier = false; later = false }
 
 -- of a finding in a submission of these members: its member is one of the submission, and an entry, and what is found can
@@ -110,4 +118,6 @@ abbrev pub IsBehind : ℕ → ℕ → Cause → Type 0
 IsBehind first at (cause.MissingFence earlier h) = first + earlier < at
 IsBehind first at (cause.NotSeen why) = Unit
 IsBehind first at (cause.GuardingFence earlier) = Unit
+IsBehind first at (cause.SignallingFence awaited) = Unit
+IsBehind first at (cause.GuardingAndSignallingFence earlier awaited) = Unit
 IsBehind first at cause.NeedlessFence = Unit

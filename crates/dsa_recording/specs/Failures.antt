@@ -1,12 +1,13 @@
--- Which members of a batch can fail: end with another status than 1 (specification 341204, completion record). Page faults
--- are left out, and errors for which the device refuses the descriptor (this project's choice).
-use Rattle.std.specs.Prelude.{ℕ, ◌≡◌, ◌<◌, Bool, true, false, Option, Some, None, List, [], length, get_or, bit_and, ◌==◌}
+-- Which members of a batch can fail: end with another status than 1 (specification 341204, completion record). Errors for
+-- which the device refuses the descriptor are left out (this project's choice).
+use Rattle.std.specs.Prelude.{ℕ, ◌≡◌, ◌<◌, Bool, true, false, not, ◌&&◌, ◌||◌, Option, Some, None, List, [], length, get_or, bit_and, ◌==◌}
 use Rattle.dsa_descriptor.specs.declared.op.Op.{Op}
 use Rattle.dsa_descriptor.specs.declared.op.Op.TheVariants.{Move, Fill, Compare, ComparePattern, ApplyDelta, Dualcast}
 use Rattle.dsa_descriptor.specs.Places.{flags_at, op_at}
 use Rattle.dsa_audit.specs.declared.member.Member.{Member}
 use Rattle.dsa_audit.specs.declared.member.Member.TheVariants.{Known, Unknown}
 use Rattle.dsa_audit.specs.declared.member.Unseen.TheVariants.{Operation}
+use Rattle.dsa_recording.specs.declared.assumptions.Assumptions.{Assumptions}
 
 -- the flag 0x0080 is set: a compare is checked against the expected result
 abbrev pub checks_result : ℕ → Bool
@@ -22,13 +23,23 @@ can_op_fail (Some (ComparePattern src pattern expected)) flags = checks_result f
 can_op_fail (Some (ApplyDelta delta dst record_size)) flags = true
 can_op_fail (Some (Dualcast src dst dst2)) flags = false
 
+-- the flag 0x0002 is set, block on fault: the device waits for an absent page
+abbrev pub blocks_on_fault : ℕ → Bool
+blocks_on_fault flags = bit_and flags 0x02 == 0x02
+
+-- an operation that does not block on a fault may end with status 3 or 4, unless all memory is resident; a no-op has no data
+abbrev pub can_fault : Bool → Option Op → ℕ → Bool
+can_fault resident None flags = false
+can_fault resident (Some op) flags = not resident && not (blocks_on_fault flags)
+
 -- of a member that is not looked at nothing is known, so it can fail
-abbrev pub can_fail : Member → List ℕ → Bool
-can_fail (Known touched) e = can_op_fail (op_at e) (flags_at e)
-can_fail (Unknown why) e = true
+abbrev pub can_fail : Assumptions → Member → List ℕ → Bool
+can_fail assumed (Known touched) e =
+    can_op_fail (op_at e) (flags_at e) || can_fault assumed.resident (op_at e) (flags_at e)
+can_fail assumed (Unknown why) e = true
 
 -- of each member, whose entry is that of `es`, whether it can fail
-pub record AreFallible (ms : List Member) (es : List (List ℕ)) (fallible : List Bool) : Type 0 where
+pub record AreFallible (assumed : Assumptions) (ms : List Member) (es : List (List ℕ)) (fallible : List Bool) : Type 0 where
   pub count : length fallible ≡ length es
   pub each :
-      (k : ℕ) → k < length es → get_or fallible k false ≡ can_fail (get_or ms k (Unknown Operation)) (get_or es k [])
+      (k : ℕ) → k < length es → get_or fallible k false ≡ can_fail assumed (get_or ms k (Unknown Operation)) (get_or es k [])

@@ -8,11 +8,12 @@ use Rattle.dsa_audit.specs.declared.missing.FencePlace.TheVariants as fence_plac
 use Rattle.dsa_audit.specs.declared.needless.FenceUse.{FenceUse}
 use Rattle.dsa_audit.specs.declared.needless.FenceUse.TheVariants as fence_use
 use Rattle.dsa_recording.specs.declared.findings.FindingKind.{FindingKind}
-use Rattle.dsa_recording.specs.declared.findings.FindingKind.TheVariants.{NotSeen, MissingFence, GuardingFence, NeedlessFence}
+use Rattle.dsa_recording.specs.declared.findings.FindingKind.TheVariants.{NotSeen, MissingFence, GuardingFence, SignallingFence, GuardingAndSignallingFence, NeedlessFence}
 use Rattle.dsa_recording.specs.declared.findings.Finding.{Finding}
 use Rattle.dsa_recording.specs.declared.submission.Audited.{Audited}
 
--- a member is not looked at; a fence is missing before it; its fence is needless, or guards; or none of these
+-- a member is not looked at; a fence is missing before it; no conflict needs its fence, and what it is for then; or none of
+-- these
 abbrev pub unseen_kind : Member → Option FindingKind
 unseen_kind (member.Known touched) = None
 unseen_kind (member.Unknown why) = Some (NotSeen why)
@@ -26,6 +27,8 @@ abbrev pub use_kind : FenceUse → Option FindingKind
 use_kind fence_use.NoFence = None
 use_kind fence_use.Needless = Some NeedlessFence
 use_kind (fence_use.Guarding earlier) = Some (GuardingFence earlier)
+use_kind (fence_use.Signalling awaited) = Some (SignallingFence awaited)
+use_kind (fence_use.GuardingAndSignalling earlier awaited) = Some (GuardingAndSignallingFence earlier awaited)
 use_kind (fence_use.Needed earlier later) = None
 
 -- a finding of member k of the submission of that number, if there is one

@@ -1,6 +1,7 @@
 pub mod Streams
 pub mod Entries
 pub mod Failures
+pub mod Showing
 pub mod Submissions
 pub mod Findings
 pub mod Reports
@@ -11,6 +12,7 @@ pub mod Answers
 pub mod Inputs
 pub mod Dumps
 pub mod Totals
+pub mod Freed
 pub mod Costs
 pub mod Listings
 pub mod Laws

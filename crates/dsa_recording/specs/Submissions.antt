@@ -10,6 +10,8 @@ use Rattle.dsa_recording.specs.declared.submission.Audited.{Audited}
 use Rattle.dsa_recording.specs.Streams.{end_of}
 use Rattle.dsa_recording.specs.Entries.{IsMember}
 use Rattle.dsa_recording.specs.Failures.{AreFallible}
+use Rattle.dsa_recording.specs.Showing.{AreVisible}
+use Rattle.dsa_recording.specs.declared.assumptions.Assumptions.{Assumptions}
 
 -- the flag 0x0001 is set (specification 341204, flags)
 abbrev pub is_fenced : List ℕ → Bool
@@ -33,17 +35,20 @@ pub record AreMembers (head : List ℕ) (es : List (List ℕ)) (ms : List Member
   pub count : length ms ≡ length es
   pub each : (k : ℕ) → k < length es → IsMember head (get_or es k []) (get_or ms k (Unknown Operation))
 
--- whether it is a batch, the fences of the submission's entries, what is known of them, which can fail, and an audit of these
-pub record IsAudited (es : List (List ℕ)) (s : Submission) (a : Audited) : Type 0 where
+-- whether it is a batch, the fences of the submission's entries, what is known of them, which can fail and which show under
+-- these assumptions, and an audit of these
+pub record IsAudited (assumed : Assumptions) (es : List (List ℕ)) (s : Submission) (a : Audited) : Type 0 where
   pub is_batch : a.is_batch ≡ s.is_batch
   pub fences : a.fences.items ≡ map is_fenced (members_in es s)
   pub members : AreMembers (slice_index_or es (head_at s) []) (members_in es s) a.members.items
-  pub fallible : AreFallible a.members.items (members_in es s) a.fallible.items
-  pub audit : IsAudit a.members.items a.fallible.items a.fences.items a.audit
+  pub fallible : AreFallible assumed a.members.items (members_in es s) a.fallible.items
+  pub visible :
+      AreVisible assumed (slice_index_or es (head_at s) []) a.members.items (members_in es s) a.visible.items
+  pub audit : IsAudit a.members.items a.fallible.items a.visible.items a.fences.items a.audit
 
 -- each submission is audited, in order
-abbrev pub AreAudited : List (List ℕ) → List Submission → List Audited → Type 0
-AreAudited es [] [] = Unit
-AreAudited es (s ∷ ss) (a ∷ audits) = IsAudited es s a × AreAudited es ss audits
-AreAudited es [] (a ∷ audits) = ⊥
-AreAudited es (s ∷ ss) [] = ⊥
+abbrev pub AreAudited : Assumptions → List (List ℕ) → List Submission → List Audited → Type 0
+AreAudited assumed es [] [] = Unit
+AreAudited assumed es (s ∷ ss) (a ∷ audits) = IsAudited assumed es s a × AreAudited assumed es ss audits
+AreAudited assumed es [] (a ∷ audits) = ⊥
+AreAudited assumed es (s ∷ ss) [] = ⊥

@@ -1,12 +1,12 @@
 -- The words of a report on a recording (this project's choice): of each finding where it is, how severe, what, and why.
-use Rattle.std.specs.Prelude.{ℕ, ◌/◌, ◌%◌, ◌^◌, ◌==◌, Bool, true, false, List, [], ◌∷◌, ◌++◌, codes, decimal, if◌then◌else◌}
+use Rattle.std.specs.Prelude.{ℕ, ◌/◌, ◌%◌, ◌^◌, ◌==◌, Bool, true, false, ◌||◌, List, [], ◌∷◌, ◌++◌, codes, decimal, if◌then◌else◌}
 use Rattle.dsa_audit.specs.declared.member.Unseen.{Unseen}
 use Rattle.dsa_audit.specs.declared.member.Unseen.TheVariants.{Operation, Nested, Owner, Empty, Wrap}
 use Rattle.dsa_ranges.specs.declared.hazards.HazardKind.{HazardKind}
 use Rattle.dsa_ranges.specs.declared.hazards.HazardKind.TheVariants.{ReadAfterWrite, WriteAfterRead, WriteAfterWrite}
 use Rattle.dsa_recording.specs.declared.detail.Detail.{Detail}
 use Rattle.dsa_recording.specs.declared.detail.Cause.{Cause}
-use Rattle.dsa_recording.specs.declared.detail.Cause.TheVariants.{NotSeen, MissingFence, GuardingFence, NeedlessFence}
+use Rattle.dsa_recording.specs.declared.detail.Cause.TheVariants.{NotSeen, MissingFence, GuardingFence, SignallingFence, GuardingAndSignallingFence, NeedlessFence}
 use Rattle.dsa_lines.specs.Numbers.{hex}
 use Rattle.dsa_recording.specs.declared.words.Severity.{Severity}
 use Rattle.dsa_recording.specs.declared.words.Severity.TheVariants.{Error, Warning, Note}
@@ -26,11 +26,16 @@ place_words d = entry_words d.entry d.submission (member_words d.is_batch d.memb
 
 -- ---- how severe: a missing fence is an error, and so is what is denied
 
+abbrev pub note_unless : Bool → Severity
+note_unless denied = if denied then Error else Note
+
 abbrev pub severity_of : Denied → Cause → Severity
 severity_of denied (NotSeen why) = if denied.unseen then Error else Warning
 severity_of denied (MissingFence earlier hazard) = Error
-severity_of denied (GuardingFence earlier) = Note
-severity_of denied NeedlessFence = if denied.needless then Error else Note
+severity_of denied (GuardingFence earlier) = note_unless denied.guarding
+severity_of denied (SignallingFence awaited) = note_unless denied.signalling
+severity_of denied (GuardingAndSignallingFence earlier awaited) = note_unless (denied.guarding || denied.signalling)
+severity_of denied NeedlessFence = note_unless denied.needless
 
 abbrev pub severity_words : Severity → List ℕ
 severity_words Error = codes ": error: "
@@ -61,11 +66,21 @@ needless_words false = codes "needless fence, once the missing fences of its bat
 abbrev pub guarding_words : ℕ → List ℕ
 guarding_words earlier = codes "guarding fence: member " ++ (decimal earlier ++ codes " can fail")
 
+abbrev pub signalling_words : ℕ → List ℕ
+signalling_words awaited = codes "signalling fence: member " ++ (decimal awaited ++ codes " can be awaited")
+
+abbrev pub both_words : ℕ → ℕ → List ℕ
+both_words earlier awaited =
+    codes "guarding and signalling fence: member " ++ (decimal earlier ++ (codes " can fail, member " ++ (decimal awaited
+    ++ codes " can be awaited")))
+
 -- `complete`: no fence of its submission is missing
 abbrev pub cause_words : Bool → ℕ → Cause → List ℕ
 cause_words complete code (NotSeen why) = unseen_words why code
 cause_words complete code (MissingFence earlier hazard) = hazard_words hazard.kind earlier hazard.address
 cause_words complete code (GuardingFence earlier) = guarding_words earlier
+cause_words complete code (SignallingFence awaited) = signalling_words awaited
+cause_words complete code (GuardingAndSignallingFence earlier awaited) = both_words earlier awaited
 cause_words complete code NeedlessFence = needless_words complete
 
 -- of an owner, bytes 0 to 3 of an entry, bits 0 to 19 are the PASID, and bit 31 is the privilege (specification 341204)
@@ -94,6 +109,8 @@ abbrev pub more_words : Detail → Cause → List ℕ
 more_words d (NotSeen why) = owners_words why d.owner d.head_owner
 more_words d (MissingFence earlier hazard) = record_words d.records.earlier d.records.later earlier
 more_words d (GuardingFence earlier) = []
+more_words d (SignallingFence awaited) = []
+more_words d (GuardingAndSignallingFence earlier awaited) = []
 more_words d NeedlessFence = []
 
 -- ---- the line of a finding

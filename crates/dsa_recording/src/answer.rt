@@ -1,15 +1,18 @@
 //! The answer to a recording: which fences of its submissions are missing, and which are needless.
 
 ghost use Rattle.dsa_recording.specs.declared.answer.AuditFormat.TheVariants.{Picture, List as Listed};
-ghost use Rattle.std.specs.Prelude.{◌≡◌, ◌≢◌, ◌≤◌, ◌^◌, ◌↔◌, length, IfOk, IsTrue};
+ghost use Rattle.std.specs.Prelude.{◌≡◌, ◌≢◌, ◌≤◌, ◌^◌, ◌↔◌, All, length, IfOk, IsTrue};
 ghost use Rattle.dsa_recording.specs.declared.stream.StreamFault.TheVariants.{Memory};
 ghost use Rattle.dsa_recording.specs.Answers.{is_harmless, AnswersFormat, AnswersRecording, AnswersReport, AreHarmless, IsStatusOf};
 ghost use Rattle.dsa_recording.specs.Listings.{AreEntries};
+ghost use Rattle.dsa_recording.specs.Submissions.{IsWithin};
 ghost use Rattle.dsa_recording.specs.Totals.{HasSums};
 
+use crate::assumptions::Assumptions;
 use crate::costs::{costs_of, costs_text};
 use crate::detail::{detail_of, has_all_fences};
 use crate::findings::{Finding, FindingKind};
+use crate::freed::{freed_by, freed_text};
 use crate::listing::listing_text;
 use crate::picture::{draw_report, is_too_large, too_large_text};
 use crate::report::{Report, audit_recording};
@@ -41,6 +44,8 @@ pub struct AuditOptions {
     pub format: AuditFormat,
     /// The findings that count as errors.
     pub denied: Denied,
+    /// What is assumed of the software.
+    pub assumptions: Assumptions,
 }
 
 /// What an audit answers.
@@ -74,7 +79,9 @@ fn is_harmless(denied: Denied, kind: FindingKind) -> bool
     match kind {
         FindingKind::NotSeen(_) => !denied.unseen,
         FindingKind::MissingFence(_) => false,
-        FindingKind::GuardingFence(_) => true,
+        FindingKind::GuardingFence(_) => !denied.guarding,
+        FindingKind::SignallingFence(_) => !denied.signalling,
+        FindingKind::GuardingAndSignallingFence(_, _) => !denied.guarding && !denied.signalling,
         FindingKind::NeedlessFence => !denied.needless,
     }
 }
@@ -101,21 +108,24 @@ fn report_text(
     all: &[[u8; 64]],
     report: &Report,
     settings: &Settings,
-    denied: Denied,
+    options: AuditOptions,
 ) -> Result<String, AllocError>
-    requires { HasSums report.now }
+    requires sums { HasSums report.now }
+    requires within { All (IsWithin all.now) report.now.submissions.items }
 {
     let complete = completeness(alloc, report)?;
     let mut text = String::new(alloc);
     for finding in &report.findings {
         if let Some(detail) = detail_of(all, report, *finding) {
             let known = is_complete(&complete, detail.submission);
-            text.push_str(&finding_text(alloc, &detail, known, denied)?)?;
+            text.push_str(&finding_text(alloc, &detail, known, options.denied)?)?;
         }
     }
     let totals = totals_of(report);
     text.push_str(&totals_text(alloc, &totals)?)?;
     text.push_str(&costs_text(alloc, settings, &costs_of(settings, report), &totals)?)?;
+    let freed = freed_by(alloc, all, report, options.assumptions)?;
+    text.push_str(&freed_text(alloc, options.assumptions, &freed)?)?;
     Ok(text)
 }
 
@@ -171,16 +181,17 @@ fn answer_report(
     requires sums { HasSums report.now }
     requires entries { AreEntries all.now report.now.submissions.items report.now.audits.items }
     requires few { length all.now ≤ 2 ^ 58 }
+    requires within { All (IsWithin all.now) report.now.submissions.items }
     ensures { IfOk result (AnswersReport options all.now report.now) }
 {
     let denied = options.denied;
     match options.format {
         AuditFormat::Text => {
-            let text = report_text(alloc, all, report, settings, denied)?;
+            let text = report_text(alloc, all, report, settings, options)?;
             Ok(written(denied, report, text))
         }
         AuditFormat::Json => {
-            let line = report_json(alloc, all, report, settings, denied)?;
+            let line = report_json(alloc, all, report, settings, options)?;
             Ok(written(denied, report, line))
         }
         AuditFormat::Picture => answer_picture(alloc, all, report, denied),
@@ -223,7 +234,7 @@ pub(crate) fn audit_bytes(
 ) -> Result<AuditAnswer, AllocError>
     ensures { IfOk result (AnswersRecording options bytes.now) }
 {
-    match audit_recording(alloc, bytes) {
+    match audit_recording(alloc, bytes, options.assumptions) {
         Ok(report) => {
             let (all, _) = bytes.as_chunks::<64>();
             answer_report(alloc, all, &report, settings, options)

@@ -19,8 +19,12 @@ pub enum Cause {
     NotSeen(Unseen),
     /// A fence is missing before it: it conflicts with this earlier member, as the hazard says.
     MissingFence(usize, Hazard),
-    /// No conflict needs the fence before it, but it is the first behind this earlier member, which can fail.
+    /// No conflict needs the fence before it, but it is the first after this earlier member, which can fail.
     GuardingFence(usize),
+    /// No conflict needs the fence before it, but this member waits for it and can be seen to have ended.
+    SignallingFence(usize),
+    /// Both: the earlier member that can fail, and the one that waits.
+    GuardingAndSignallingFence(usize, usize),
     /// The fence before it may go, once the missing ones of its batch are set.
     NeedlessFence,
 }
@@ -80,6 +84,18 @@ fn cause_of(members: &[Member], member: usize, kind: FindingKind) -> Option<Caus
             }
             Some(Cause::GuardingFence(earlier))
         }
+        FindingKind::SignallingFence(awaited) => {
+            if awaited < member || awaited >= members.len() {
+                return None;
+            }
+            Some(Cause::SignallingFence(awaited))
+        }
+        FindingKind::GuardingAndSignallingFence(earlier, awaited) => {
+            if earlier >= member || awaited < member || awaited >= members.len() {
+                return None;
+            }
+            Some(Cause::GuardingAndSignallingFence(earlier, awaited))
+        }
         FindingKind::NeedlessFence => Some(Cause::NeedlessFence),
     }
 }
@@ -107,7 +123,11 @@ fn shared_records(all: &[[u8; 64]], first: usize, at: usize, cause: Cause) -> Re
             earlier: is_in_record(&all[first + earlier], hazard.address),
             later: is_in_record(&all[at], hazard.address),
         },
-        Cause::NotSeen(_) | Cause::GuardingFence(_) | Cause::NeedlessFence => Records {
+        Cause::NotSeen(_)
+        | Cause::GuardingFence(_)
+        | Cause::SignallingFence(_)
+        | Cause::GuardingAndSignallingFence(_, _)
+        | Cause::NeedlessFence => Records {
             earlier: false,
             later: false,
         },

@@ -2,13 +2,14 @@
 
 ghost use Rattle.std.specs.Prelude.{◌≡◌, length, IfOk};
 ghost use Rattle.dsa_descriptor.specs.Places.{flags_at, op_at};
-ghost use Rattle.dsa_recording.specs.Failures.{can_op_fail, can_fail, AreFallible};
+ghost use Rattle.dsa_recording.specs.Failures.{can_op_fail, can_fault, can_fail, AreFallible};
 
+use crate::assumptions::Assumptions;
 use dsa_audit::Member;
 use dsa_descriptor::{Op, op_at, u32_at};
 use std::alloc::{AllocError, Global};
 
-/// Whether the operation of an entry can fail, if it has one that is listed.
+/// Whether the operation of an entry can fail by its result, if it has one that is listed.
 fn can_op_fail(entry: &[u8; 64]) -> bool
     ensures { result ≡ can_op_fail (op_at entry.now) (flags_at entry.now) }
 {
@@ -21,13 +22,21 @@ fn can_op_fail(entry: &[u8; 64]) -> bool
     }
 }
 
-/// Whether a member can fail, so that the next fence stops the rest of its batch: a compare that is checked, a delta, or one
-/// that is not looked at.
-pub fn can_fail(member: &Member, entry: &[u8; 64]) -> bool
-    ensures { result ≡ can_fail member.now entry.now }
+/// Whether an entry can end with a page fault: it has data, and does not wait for absent pages.
+fn can_fault(resident: bool, entry: &[u8; 64]) -> bool
+    ensures { result ≡ can_fault resident (op_at entry.now) (flags_at entry.now) }
+{
+    let blocks = u32_at(entry, 4) % (1 << 24) & 0x02 == 0x02;
+    op_at(entry).is_some() && !resident && !blocks
+}
+
+/// Whether a member can fail, so that the next fence stops the rest of its batch: a compare that is checked, a delta, one
+/// that can end with a page fault, or one that is not looked at.
+pub fn can_fail(assumptions: Assumptions, member: &Member, entry: &[u8; 64]) -> bool
+    ensures { result ≡ can_fail assumptions member.now entry.now }
 {
     match member {
-        Member::Known(_) => can_op_fail(entry),
+        Member::Known(_) => can_op_fail(entry) || can_fault(assumptions.resident, entry),
         Member::Unknown(_) => true,
     }
 }
@@ -35,15 +44,17 @@ pub fn can_fail(member: &Member, entry: &[u8; 64]) -> bool
 /// Of each member, whose entry is that of `entries`, whether it can fail.
 pub(crate) fn fallible_of(
     alloc: Global,
+    assumptions: Assumptions,
     members: &[Member],
     entries: &[[u8; 64]],
 ) -> Result<Vec<bool>, AllocError>
     requires { length members.now ≡ length entries.now }
-    ensures { IfOk result (λ fallible. AreFallible members.now entries.now fallible.items) }
+    ensures { IfOk result
+        (λ fallible. AreFallible assumptions members.now entries.now fallible.items) }
 {
     let mut fallible = Vec::new(alloc);
     for k in 0..entries.len() {
-        fallible.push(can_fail(&members[k], &entries[k]))?;
+        fallible.push(can_fail(assumptions, &members[k], &entries[k]))?;
     }
     Ok(fallible)
 }

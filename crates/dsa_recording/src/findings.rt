@@ -14,8 +14,12 @@ pub enum FindingKind {
     NotSeen(Unseen),
     /// A fence is missing before it: it conflicts with this earlier member.
     MissingFence(usize),
-    /// No conflict needs the fence before it, but it is the first behind this earlier member, which can fail.
+    /// No conflict needs the fence before it, but it is the first after this earlier member, which can fail.
     GuardingFence(usize),
+    /// No conflict needs the fence before it, but this member waits for it and can be seen to have ended.
+    SignallingFence(usize),
+    /// Both: the earlier member that can fail, and the one that waits.
+    GuardingAndSignallingFence(usize, usize),
     /// The fence before it may go, once the missing ones of its batch are set.
     NeedlessFence,
 }
@@ -51,13 +55,17 @@ fn missing_kind(place: FencePlace) -> Option<FindingKind>
     }
 }
 
-/// Whether a fence is needless, or guards.
+/// Whether a fence is needless, or what it is for though no conflict needs it.
 fn use_kind(fence: FenceUse) -> Option<FindingKind>
     ensures { result ≡ use_kind fence }
 {
     match fence {
         FenceUse::NoFence | FenceUse::Needed(_, _) => None,
         FenceUse::Guarding(earlier) => Some(FindingKind::GuardingFence(earlier)),
+        FenceUse::Signalling(awaited) => Some(FindingKind::SignallingFence(awaited)),
+        FenceUse::GuardingAndSignalling(earlier, awaited) => {
+            Some(FindingKind::GuardingAndSignallingFence(earlier, awaited))
+        }
         FenceUse::Needless => Some(FindingKind::NeedlessFence),
     }
 }
@@ -123,8 +131,8 @@ fn push_submission(
     Ok(())
 }
 
-/// All that is found in submissions, in order: members that are not looked at, missing fences, and fences that are needless
-/// or guard.
+/// All that is found in submissions, in order: members that are not looked at, missing fences, and fences that no conflict
+/// needs.
 pub fn findings_of(alloc: Global, audits: &[Audited]) -> Result<Vec<Finding>, AllocError>
     requires { All HasAll audits.now }
     ensures { IfOk result (λ findings. findings.items ≡ recording_findings 0 audits.now) }

@@ -3,12 +3,14 @@
 #![tactic(auto)]
 
 mod answer;
+mod assumptions;
 mod costs;
 mod detail;
 mod dumps;
 mod failure;
 mod findings;
 mod forms;
+mod freed;
 mod input;
 mod laws;
 mod listing;
@@ -18,6 +20,7 @@ mod picture;
 mod places;
 mod report;
 mod report_json;
+mod showing;
 mod staged;
 mod stream;
 mod submission;
@@ -25,12 +28,14 @@ mod totals;
 mod words;
 
 pub use answer::{AuditAnswer, AuditFormat, AuditOptions};
+pub use assumptions::{Assumptions, Await};
 pub use costs::{Costs, costs_of, costs_text};
 pub use detail::{Cause, Detail, Records, detail_of, has_all_fences};
 pub use dumps::{Dump, StagingFault, stage};
 pub use failure::can_fail;
 pub use findings::{Finding, FindingKind, findings_of};
 pub use forms::{Form, Part, bytes_of_text, first_part, form_of, is_passed, is_text, next_part};
+pub use freed::{Freed, freed_by, needless_under};
 pub use input::{audit, one_recording};
 pub use laws::{findings_are_placed, listed_are_known};
 pub use listing::{listing_is_read, stand_ins_conflict};
@@ -38,6 +43,7 @@ pub use member::{member_of, unseen_reason};
 pub use picture::MOST_ENTRIES;
 pub use places::{BytesFault, DigitFault, bytes_of_input};
 pub use report::{Report, audit_recording};
+pub use showing::can_show;
 pub use staged::audit_staged;
 pub use stream::{StreamFault, Submission, read_stream};
 pub use submission::{Audited, audit_submission, audit_submissions};

@@ -1,7 +1,7 @@
 //! What stands before a member in a picture: a fence and what is wrong with it, or where one is missing.
 
 use crate::submission::Audited;
-use crate::words::{guarding_text, hazard_text, needless_text};
+use crate::words::{both_text, guarding_text, hazard_text, needless_text, signalling_text};
 use dsa_audit::{FencePlace, FenceUse, Member, hazard_between};
 use dsa_drawing::{Spot, push_bar, push_conflict, push_text};
 use dsa_ranges::Hazard;
@@ -27,6 +27,10 @@ pub(crate) enum Mark {
     Needless,
     /// A fence that guards against the failure of this member.
     Guarding(usize),
+    /// A fence that this member waits for, which can be seen to have ended.
+    Signalling(usize),
+    /// Both.
+    GuardingAndSignalling(usize, usize),
 }
 
 /// That a fence is missing between two members.
@@ -50,6 +54,10 @@ fn use_mark(used: FenceUse) -> Mark {
         FenceUse::NoFence => Mark::Nothing,
         FenceUse::Needed(_, _) => Mark::Fence,
         FenceUse::Guarding(earlier) => Mark::Guarding(earlier),
+        FenceUse::Signalling(awaited) => Mark::Signalling(awaited),
+        FenceUse::GuardingAndSignalling(earlier, awaited) => {
+            Mark::GuardingAndSignalling(earlier, awaited)
+        }
         FenceUse::Needless => Mark::Needless,
     }
 }
@@ -70,7 +78,11 @@ pub(crate) fn mark_of(audited: &Audited, member: usize) -> Mark {
 pub(crate) fn has_words(mark: Mark) -> bool {
     match mark {
         Mark::Nothing | Mark::Fence => false,
-        Mark::Missing { .. } | Mark::Needless | Mark::Guarding(_) => true,
+        Mark::Missing { .. }
+        | Mark::Needless
+        | Mark::Guarding(_)
+        | Mark::Signalling(_)
+        | Mark::GuardingAndSignalling(_, _) => true,
     }
 }
 
@@ -86,6 +98,8 @@ fn title_of(alloc: Global, mark: Mark, complete: bool) -> Result<String, AllocEr
         } => hazard_text(alloc, earlier, hazard),
         Mark::Needless => needless_text(alloc, complete),
         Mark::Guarding(earlier) => guarding_text(alloc, earlier),
+        Mark::Signalling(awaited) => signalling_text(alloc, awaited),
+        Mark::GuardingAndSignalling(earlier, awaited) => both_text(alloc, earlier, awaited),
     }
 }
 
@@ -151,13 +165,18 @@ fn push_shape(alloc: Global, svg: &mut String, mark: Mark, bar: Spot) -> Result<
         }
         Mark::Guarding(earlier) => {
             push_hollow(alloc, svg, bar, 40)?;
-            push_text(
-                alloc,
-                svg,
-                under,
-                50,
-                &format!(in alloc; "guards {earlier}")?,
-            )
+            let words = format!(in alloc; "guards {earlier}")?;
+            push_text(alloc, svg, under, 50, &words)
+        }
+        Mark::Signalling(awaited) => {
+            push_hollow(alloc, svg, bar, 40)?;
+            let words = format!(in alloc; "signals {awaited}")?;
+            push_text(alloc, svg, under, 50, &words)
+        }
+        Mark::GuardingAndSignalling(earlier, awaited) => {
+            push_hollow(alloc, svg, bar, 40)?;
+            let words = format!(in alloc; "{earlier} and {awaited}")?;
+            push_text(alloc, svg, under, 50, &words)
         }
     }
 }

@@ -7,6 +7,7 @@ ghost use Rattle.dsa_recording.specs.declared.stream.StreamFault.TheVariants.{Me
 ghost use Rattle.dsa_recording.specs.Streams.{ReadsStream, IsStreamFault};
 ghost use Rattle.dsa_recording.specs.Reports.{IsReport};
 
+use crate::assumptions::Assumptions;
 use crate::findings::{Finding, findings_of};
 use crate::stream::{StreamFault, Submission, read_stream};
 use crate::submission::{Audited, audit_submissions};
@@ -23,12 +24,16 @@ pub struct Report {
     pub findings: Vec<Finding>,
 }
 
-/// The submissions of a recording, an audit of each, and what these find.
+/// The submissions of a recording, an audit of each under the assumptions, and what these find.
 ///
 /// # Errors
 /// Those of [`read_stream`].
-pub fn audit_recording(alloc: Global, bytes: &[u8]) -> Result<Report, StreamFault>
-    ensures answer { MatchResult result (IsReport bytes.now) (IsStreamFault bytes.now) }
+pub fn audit_recording(
+    alloc: Global,
+    bytes: &[u8],
+    assumptions: Assumptions,
+) -> Result<Report, StreamFault>
+    ensures answer { MatchResult result (IsReport assumptions bytes.now) (IsStreamFault bytes.now) }
     ensures only { (list : List Submission) → ReadsStream bytes.now list →
         MatchResult result (λ r. r.submissions.items ≡ list) (λ fault. fault ≡ Memory) }
     ensures refused { (fault : StreamFault) → fault ≢ Memory → IsStreamFault bytes.now fault →
@@ -39,7 +44,7 @@ pub fn audit_recording(alloc: Global, bytes: &[u8]) -> Result<Report, StreamFaul
         Err(fault) => return Err(fault),
     };
     let (all, _) = bytes.as_chunks::<64>();
-    let audits = audit_submissions(alloc, all, &submissions)?;
+    let audits = audit_submissions(alloc, all, assumptions, &submissions)?;
     let findings = findings_of(alloc, &audits)?;
     Ok(Report {
         submissions,

@@ -1,10 +1,14 @@
 //! A report on a recording as JSON.
 
+ghost use Rattle.std.specs.Prelude.{All};
+ghost use Rattle.dsa_recording.specs.Submissions.{IsWithin};
 ghost use Rattle.dsa_recording.specs.Totals.{HasSums};
 
-use crate::answer::{completeness, is_complete};
+use crate::answer::{AuditOptions, completeness, is_complete};
+use crate::assumptions::Assumptions;
 use crate::costs::{Costs, costs_of};
 use crate::detail::{Cause, Detail, detail_of};
+use crate::freed::{Freed, await_name, freed_by};
 use crate::report::Report;
 use crate::totals::{Totals, totals_of};
 use crate::words::{Denied, Severity, severity_of};
@@ -104,6 +108,18 @@ fn cause_json(alloc: Global, detail: &Detail, complete: bool) -> Result<Value, A
             let earlier = earlier as u64;
             json!(in alloc; {"kind": "guarding", "earlier": earlier})
         }
+        Cause::SignallingFence(awaited) => {
+            let awaited = awaited as u64;
+            json!(in alloc; {"kind": "signalling", "awaited": awaited})
+        }
+        Cause::GuardingAndSignallingFence(earlier, awaited) => {
+            let (earlier, awaited) = (earlier as u64, awaited as u64);
+            json!(in alloc; {
+                "kind": "guarding and signalling",
+                "earlier": earlier,
+                "awaited": awaited
+            })
+        }
         Cause::NeedlessFence => {
             let later = !complete;
             json!(in alloc; {"kind": "needless", "once_corrected": later})
@@ -141,6 +157,7 @@ fn totals_json(alloc: Global, totals: &Totals) -> Result<Value, AllocError> {
     let (descriptors, unseen) = (totals.descriptors as u64, totals.unseen as u64);
     let (fences, missing) = (totals.fences as u64, totals.missing as u64);
     let (needless, guarding) = (totals.needless as u64, totals.guarding as u64);
+    let signalling = totals.signalling as u64;
     json!(in alloc; {
         "batches": batches,
         "lone": lone,
@@ -149,7 +166,8 @@ fn totals_json(alloc: Global, totals: &Totals) -> Result<Value, AllocError> {
         "fences": fences,
         "missing": missing,
         "needless": needless,
-        "guarding": guarding
+        "guarding": guarding,
+        "signalling": signalling
     })
 }
 
@@ -163,6 +181,23 @@ fn costs_json(alloc: Global, costs: &Costs) -> Result<Value, AllocError> {
         "reduced": reduced,
         "unpriced": unpriced
     })
+}
+
+/// The object of what is assumed.
+fn assumptions_json(alloc: Global, assumptions: Assumptions) -> Result<Value, AllocError> {
+    let (awaited, resident) = (await_name(assumptions.awaited), assumptions.resident);
+    json!(in alloc; {"await": awaited, "resident": resident})
+}
+
+/// The array of how many more fences would be needless.
+fn freed_json(alloc: Global, freed: &[Freed]) -> Result<Value, AllocError> {
+    let mut rows = Vec::new(alloc);
+    for more in freed {
+        let assumed = assumptions_json(alloc, more.assumptions)?;
+        let fences = more.fences as u64;
+        rows.push(json!(in alloc; {"assumptions": assumed, "needless": fences})?)?;
+    }
+    Ok(Value::Array(rows))
 }
 
 /// Writes the objects of all findings, one by one, since a value of all of them would take much memory.
@@ -195,16 +230,23 @@ pub(crate) fn report_json(
     all: &[[u8; 64]],
     report: &Report,
     settings: &Settings,
-    denied: Denied,
+    options: AuditOptions,
 ) -> Result<String, AllocError>
-    requires { HasSums report.now }
+    requires sums { HasSums report.now }
+    requires within { All (IsWithin all.now) report.now.submissions.items }
 {
-    let mut line = String::from_str(alloc, "{\"costs\":")?;
+    let mut line = String::from_str(alloc, "{\"assumptions\":")?;
+    let assumed = assumptions_json(alloc, options.assumptions)?;
+    line.push_str(&assumed.to_string(alloc)?)?;
+    line.push_str(",\"costs\":")?;
     let costs = costs_json(alloc, &costs_of(settings, report))?;
     line.push_str(&costs.to_string(alloc)?)?;
     line.push_str(",\"findings\":[")?;
-    push_findings(alloc, &mut line, all, report, denied)?;
-    line.push_str("],\"totals\":")?;
+    push_findings(alloc, &mut line, all, report, options.denied)?;
+    line.push_str("],\"freed\":")?;
+    let freed = freed_by(alloc, all, report, options.assumptions)?;
+    line.push_str(&freed_json(alloc, &freed)?.to_string(alloc)?)?;
+    line.push_str(",\"totals\":")?;
     let totals = totals_json(alloc, &totals_of(report))?;
     line.push_str(&totals.to_string(alloc)?)?;
     line.push_str("}\n")?;

@@ -3,10 +3,12 @@
 ghost use Rattle.std.specs.Prelude.{◌≡◌, All, map, IfOk};
 ghost use Rattle.dsa_recording.specs.Submissions.{head_at, is_fenced, IsWithin, AreMembers, IsAudited, AreAudited};
 
+use crate::assumptions::Assumptions;
 use crate::failure::fallible_of;
 use crate::member::member_of;
+use crate::showing::visible_of;
 use crate::stream::Submission;
-use dsa_audit::{Audit, Member, audit_fences};
+use dsa_audit::{Audit, Effects, Member, audit_fences};
 use dsa_descriptor::u32_at;
 use std::alloc::{AllocError, Global};
 
@@ -21,6 +23,8 @@ pub struct Audited {
     pub members: Vec<Member>,
     /// Whether each member can fail.
     pub fallible: Vec<bool>,
+    /// Whether software can see of each member that it has ended.
+    pub visible: Vec<bool>,
     /// The missing and the needless fences.
     pub audit: Audit,
 }
@@ -69,26 +73,33 @@ fn members_of(
     Ok(members)
 }
 
-/// The fences of a submission of these entries: which are missing, and which are needless.
+/// The fences of a submission of these entries: which are missing, and which are needless under the assumptions.
 pub fn audit_submission(
     alloc: Global,
     all: &[[u8; 64]],
+    assumptions: Assumptions,
     submission: Submission,
 ) -> Result<Audited, AllocError>
     requires { IsWithin all.now submission }
-    ensures { IfOk result (IsAudited all.now submission) }
+    ensures { IfOk result (IsAudited assumptions all.now submission) }
 {
     let at = head_at(submission);
     let entries = &all[submission.first..submission.first + submission.size];
     let fences = fences_of(alloc, entries)?;
     let members = members_of(alloc, &all[at], entries)?;
-    let fallible = fallible_of(alloc, &members, entries)?;
-    let audit = audit_fences(alloc, &fences, &members, &fallible)?;
+    let fallible = fallible_of(alloc, assumptions, &members, entries)?;
+    let visible = visible_of(alloc, assumptions, &all[at], &members, entries)?;
+    let effects = Effects {
+        fallible: &fallible,
+        visible: &visible,
+    };
+    let audit = audit_fences(alloc, &fences, &members, effects)?;
     Ok(Audited {
         is_batch: submission.is_batch,
         fences,
         members,
         fallible,
+        visible,
         audit,
     })
 }
@@ -97,14 +108,16 @@ pub fn audit_submission(
 pub fn audit_submissions(
     alloc: Global,
     all: &[[u8; 64]],
+    assumptions: Assumptions,
     submissions: &[Submission],
 ) -> Result<Vec<Audited>, AllocError>
     requires { All (IsWithin all.now) submissions.now }
-    ensures { IfOk result (λ audits. AreAudited all.now submissions.now audits.items) }
+    ensures { IfOk result
+        (λ audits. AreAudited assumptions all.now submissions.now audits.items) }
 {
     let mut audits = Vec::new(alloc);
     for submission in submissions {
-        let audited = audit_submission(alloc, all, *submission)?;
+        let audited = audit_submission(alloc, all, assumptions, *submission)?;
         audits.push(audited)?;
     }
     Ok(audits)

@@ -2,7 +2,7 @@
 
 ghost use Rattle.std.specs.Prelude.{◌≡◌, ◌<◌, ◌^◌, not};
 ghost use Rattle.std.specs.List.{count_by, sum_by};
-ghost use Rattle.dsa_recording.specs.Totals.{member_count, set_count, is_unseen, is_missing, is_needless, is_guarding, IsTotals, HasSums};
+ghost use Rattle.dsa_recording.specs.Totals.{member_count, set_count, AreCounts, IsTotals, HasSums};
 
 use crate::findings::{Finding, FindingKind};
 use crate::report::Report;
@@ -27,8 +27,10 @@ pub struct Totals {
     pub missing: usize,
     /// How many are needless.
     pub needless: usize,
-    /// How many guard: no conflict needs them, but each is the first behind a member that can fail.
+    /// How many guard: no conflict needs them, but each is the first after a member that can fail.
     pub guarding: usize,
+    /// How many signal: no conflict needs them, but a member waits for each that can be seen to have ended.
+    pub signalling: usize,
 }
 
 /// How many submissions are batches.
@@ -82,24 +84,42 @@ fn all_fences_in(audits: &[Audited]) -> usize
     fences
 }
 
-/// How many members are not looked at, and how many fences are missing, needless, or guard.
-fn counts_of(findings: &[Finding]) -> (usize, usize, usize, usize)
-    ensures unseen { result.0 ≡ count_by (λ f. is_unseen f.kind) findings.now }
-    ensures missing { result.1 ≡ count_by (λ f. is_missing f.kind) findings.now }
-    ensures needless { result.2 ≡ count_by (λ f. is_needless f.kind) findings.now }
-    ensures guarding { result.3 ≡ count_by (λ f. is_guarding f.kind) findings.now }
+/// How many findings there are of each kind.
+#[derive(Clone, Copy)]
+struct Counts {
+    unseen: usize,
+    missing: usize,
+    needless: usize,
+    guarding: usize,
+    signalling: usize,
+}
+
+/// How many findings there are of each kind; a fence that guards and signals counts as both.
+fn counts_of(findings: &[Finding]) -> Counts
+    ensures { AreCounts findings.now result }
 {
     let (mut unseen, mut missing): (usize, usize) = (0, 0);
-    let (mut needless, mut guarding): (usize, usize) = (0, 0);
+    let (mut needless, mut guarding, mut signalling): (usize, usize, usize) = (0, 0, 0);
     for finding in findings {
         match finding.kind {
             FindingKind::NotSeen(_) => unseen += 1,
             FindingKind::MissingFence(_) => missing += 1,
             FindingKind::GuardingFence(_) => guarding += 1,
+            FindingKind::SignallingFence(_) => signalling += 1,
+            FindingKind::GuardingAndSignallingFence(_, _) => {
+                guarding += 1;
+                signalling += 1;
+            }
             FindingKind::NeedlessFence => needless += 1,
         }
     }
-    (unseen, missing, needless, guarding)
+    Counts {
+        unseen,
+        missing,
+        needless,
+        guarding,
+        signalling,
+    }
 }
 
 /// The numbers of a report.
@@ -107,16 +127,17 @@ pub fn totals_of(report: &Report) -> Totals
     requires { HasSums report.now }
     ensures { IsTotals report.now result }
 {
-    let (unseen, missing, needless, guarding) = counts_of(&report.findings);
+    let counts = counts_of(&report.findings);
     Totals {
         batches: batches_in(&report.submissions),
         lone: lone_in(&report.submissions),
         descriptors: members_in(&report.audits),
-        unseen,
+        unseen: counts.unseen,
         fences: all_fences_in(&report.audits),
-        missing,
-        needless,
-        guarding,
+        missing: counts.missing,
+        needless: counts.needless,
+        guarding: counts.guarding,
+        signalling: counts.signalling,
     }
 }
 
@@ -134,7 +155,8 @@ pub(crate) fn counted(
 /// The two lines of the numbers.
 pub fn totals_text(alloc: Global, totals: &Totals) -> Result<String, AllocError> {
     let (unseen, missing) = (totals.unseen, totals.missing);
-    let (needless, guarding) = (totals.needless, totals.guarding);
+    let needless = totals.needless;
+    let (guarding, signalling) = (totals.guarding, totals.signalling);
     let mut text = counted(alloc, totals.descriptors, "descriptor", "descriptors")?;
     text.push_str(" in ")?;
     text.push_str(&counted(alloc, totals.batches, "batch", "batches")?)?;
@@ -143,7 +165,7 @@ pub fn totals_text(alloc: Global, totals: &Totals) -> Result<String, AllocError>
     text.push_str(&format!(in alloc; ", {unseen} not looked at\n")?)?;
     text.push_str(&counted(alloc, totals.fences, "fence", "fences")?)?;
     text.push_str(&format!(in alloc;
-        ", {missing} missing, {needless} needless, {guarding} guarding\n"
+        ", {missing} missing, {needless} needless, {guarding} guarding, {signalling} signalling\n"
     )?)?;
     Ok(text)
 }

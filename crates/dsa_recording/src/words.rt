@@ -2,7 +2,7 @@
 
 ghost use Rattle.std.specs.Prelude.{◌≡◌, ◌++◌, true, IfOk, OnOk, codes, string_bytes};
 ghost use Rattle.dsa_recording.specs.declared.detail.Detail.{Detail};
-ghost use Rattle.dsa_recording.specs.Words.{entry_words, member_words, place_words, severity_of, severity_words, unseen_words, hazard_words, guarding_words, needless_words, cause_words, privilege_words, owners_words, record_words, more_words, finding_words};
+ghost use Rattle.dsa_recording.specs.Words.{entry_words, member_words, place_words, note_unless, severity_of, severity_words, unseen_words, hazard_words, guarding_words, signalling_words, both_words, needless_words, cause_words, privilege_words, owners_words, record_words, more_words, finding_words};
 ghost use Rattle.dsa_audit.specs.declared.member.Unseen.TheVariants.{Owner};
 
 use crate::detail::{Cause, Detail, Records};
@@ -26,8 +26,23 @@ pub enum Severity {
 pub struct Denied {
     /// Needless fences.
     pub needless: bool,
+    /// Fences that guard.
+    pub guarding: bool,
+    /// Fences that signal.
+    pub signalling: bool,
     /// Members that are not looked at.
     pub unseen: bool,
+}
+
+/// How severe a finding is that may be left as it is, unless it is denied.
+fn note_unless(denied: bool) -> Severity
+    ensures { result ≡ note_unless denied }
+{
+    if denied {
+        Severity::Error
+    } else {
+        Severity::Note
+    }
 }
 
 /// How severe it is that this was found.
@@ -43,14 +58,12 @@ pub fn severity_of(denied: Denied, cause: Cause) -> Severity
             }
         }
         Cause::MissingFence(_, _) => Severity::Error,
-        Cause::GuardingFence(_) => Severity::Note,
-        Cause::NeedlessFence => {
-            if denied.needless {
-                Severity::Error
-            } else {
-                Severity::Note
-            }
+        Cause::GuardingFence(_) => note_unless(denied.guarding),
+        Cause::SignallingFence(_) => note_unless(denied.signalling),
+        Cause::GuardingAndSignallingFence(_, _) => {
+            note_unless(denied.guarding || denied.signalling)
         }
+        Cause::NeedlessFence => note_unless(denied.needless),
     }
 }
 
@@ -166,6 +179,22 @@ pub(crate) fn guarding_text(alloc: Global, earlier: usize) -> Result<String, All
     format!(in alloc; "guarding fence: member {earlier} can fail")
 }
 
+/// That a fence signals, and which member software can await.
+pub(crate) fn signalling_text(alloc: Global, awaited: usize) -> Result<String, AllocError>
+    ensures { IfOk result (λ s. string_bytes s ≡ signalling_words awaited) }
+{
+    format!(in alloc; "signalling fence: member {awaited} can be awaited")
+}
+
+/// That a fence guards and signals.
+pub(crate) fn both_text(alloc: Global, earlier: usize, awaited: usize) -> Result<String, AllocError>
+    ensures { IfOk result (λ s. string_bytes s ≡ both_words earlier awaited) }
+{
+    format!(in alloc;
+        "guarding and signalling fence: member {earlier} can fail, member {awaited} can be awaited"
+    )
+}
+
 /// What was found, and why; `complete`: no fence of its submission is missing.
 fn cause_text(alloc: Global, detail: &Detail, complete: bool) -> Result<String, AllocError>
     ensures { IfOk result (λ s. string_bytes s ≡
@@ -175,6 +204,8 @@ fn cause_text(alloc: Global, detail: &Detail, complete: bool) -> Result<String, 
         Cause::NotSeen(why) => unseen_text(alloc, why, detail.code),
         Cause::MissingFence(earlier, hazard) => hazard_text(alloc, earlier, hazard),
         Cause::GuardingFence(earlier) => guarding_text(alloc, earlier),
+        Cause::SignallingFence(awaited) => signalling_text(alloc, awaited),
+        Cause::GuardingAndSignallingFence(earlier, awaited) => both_text(alloc, earlier, awaited),
         Cause::NeedlessFence => needless_text(alloc, complete),
     }
 }
@@ -226,6 +257,8 @@ fn push_more(alloc: Global, line: &mut String, detail: &Detail) -> Result<(), Al
         }
         Cause::NotSeen(Unseen::Operation | Unseen::Nested | Unseen::Empty | Unseen::Wrap)
         | Cause::GuardingFence(_)
+        | Cause::SignallingFence(_)
+        | Cause::GuardingAndSignallingFence(_, _)
         | Cause::NeedlessFence => Ok(()),
     }
 }

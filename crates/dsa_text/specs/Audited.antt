@@ -8,6 +8,8 @@ use Rattle.dsa_plan.specs.Settings.{Limits}
 use Rattle.dsa_recording.specs.declared.answer.AuditAnswer.{AuditAnswer}
 use Rattle.dsa_recording.specs.declared.answer.AuditFormat.{AuditFormat}
 use Rattle.dsa_recording.specs.declared.answer.AuditFormat.TheVariants.{Text, Json, Picture, List as Listed}
+use Rattle.dsa_recording.specs.declared.assumptions.Await.{Await}
+use Rattle.dsa_recording.specs.declared.assumptions.Await.TheVariants.{Writes, Signals, Batches}
 use Rattle.dsa_recording.specs.declared.words.Denied.{Denied}
 use Rattle.dsa_recording.specs.declared.answer.AuditOptions.{AuditOptions}
 use Rattle.dsa_recording.specs.declared.dumps.Dump.{Dump}
@@ -23,23 +25,43 @@ use Rattle.dsa_text.specs.Options.{IsFlag, word_of}
 abbrev pub times_named : List ℕ → List (List ℕ) → ℕ
 times_named name words = count_by (λ word. bytes_eq word name) words
 
+-- how many of the words are names of findings that can be denied
+abbrev pub findings_named : List (List ℕ) → ℕ
+findings_named words =
+    times_named (codes "needless") words + times_named (codes "guarding") words + times_named (codes "signalling") words
+    + times_named (codes "unseen") words
+
 -- those that words name, where each word names some
 abbrev pub denied_by : List (List ℕ) → Option Denied
 denied_by words =
-    if times_named (codes "needless") words + times_named (codes "unseen") words == length words
+    if findings_named words == length words
     then Some (record {
       needless = nat_lt 0 (times_named (codes "needless") words);
+      guarding = nat_lt 0 (times_named (codes "guarding") words);
+      signalling = nat_lt 0 (times_named (codes "signalling") words);
       unseen = nat_lt 0 (times_named (codes "unseen") words);
     })
     else None
 
 -- those of the option, with commas between; none without it
 abbrev pub denied_of : Option (List ℕ) → Option Denied
-denied_of None = Some (record { needless = false; unseen = false })
+denied_of None = Some (record { needless = false; guarding = false; signalling = false; unseen = false })
 denied_of (Some names) = denied_by (slice_split (λ c. c == 44) names)
 
 abbrev pub denied_in : ArgMatches → Option Denied
 denied_in m = denied_of (first_value (found_of m) (codes "deny"))
+
+-- ---- what is assumed of the software
+
+-- what a word says that it looks at
+abbrev pub awaited_by : List ℕ → Option Await
+awaited_by word =
+    if bytes_eq word (codes "writes") then Some Writes else
+    if bytes_eq word (codes "signals") then Some Signals else
+    if bytes_eq word (codes "batches") then Some Batches else None
+
+abbrev pub awaited_in : ArgMatches → Option Await
+awaited_in m = awaited_by (word_of m (codes "await"))
 
 -- ---- the form of the report, and the settings
 
@@ -71,18 +93,21 @@ AnswersWith options [] input a = AnswersInput options input a
 AnswersWith options (d ∷ ds) input a = AnswersStaged options (d ∷ ds) input a
 
 -- status 2 where the options spell no settings; else the answer to the input in the form that they name
-pub data AuditsWithOptions (m : ArgMatches) (ds : List Dump) (denied : Denied) (input : List ℕ) (a : AuditAnswer) : Type 0 where
+pub data AuditsWithOptions (m : ArgMatches) (ds : List Dump) (denied : Denied) (awaited : Await) (input : List ℕ) (a : AuditAnswer) : Type 0 where
   spells_none :
-      (w : SettingsWords) → AreAuditWords m w → GivesSettings w None → a.status ≡ 2 → AuditsWithOptions m ds denied input a
+      (w : SettingsWords) → AreAuditWords m w → GivesSettings w None → a.status ≡ 2 →
+      AuditsWithOptions m ds denied awaited input a
   spells_settings :
-      (w : SettingsWords) (s : Limits) (format : AuditFormat) → AreAuditWords m w → GivesSettings w (Some s) →
-      IsFormat m format → AnswersWith (record { format = format; denied = denied }) ds input a →
-      AuditsWithOptions m ds denied input a
+      (w : SettingsWords) (s : Limits) (o : AuditOptions) → AreAuditWords m w → GivesSettings w (Some s) →
+      IsFormat m o.format → o.denied ≡ denied → o.assumptions.awaited ≡ awaited →
+      IsFlag m (codes "resident") o.assumptions.resident → AnswersWith o ds input a →
+      AuditsWithOptions m ds denied awaited input a
 
--- status 2 where the option of what counts as an error names something else
-abbrev pub AuditsDenying : Option Denied → ArgMatches → List Dump → List ℕ → AuditAnswer → Type 0
-AuditsDenying None m ds input a = a.status ≡ 2
-AuditsDenying (Some denied) m ds input a = AuditsWithOptions m ds denied input a
+-- status 2 where the option of what counts as an error, or the one of what software looks at, names something else
+abbrev pub AuditsAssuming : Option Denied → Option Await → ArgMatches → List Dump → List ℕ → AuditAnswer → Type 0
+AuditsAssuming None awaited m ds input a = a.status ≡ 2
+AuditsAssuming (Some denied) None m ds input a = a.status ≡ 2
+AuditsAssuming (Some denied) (Some awaited) m ds input a = AuditsWithOptions m ds denied awaited input a
 
 abbrev pub AuditsInput : ArgMatches → List Dump → List ℕ → AuditAnswer → Type 0
-AuditsInput m ds input a = AuditsDenying (denied_in m) m ds input a
+AuditsInput m ds input a = AuditsAssuming (denied_in m) (awaited_in m) m ds input a

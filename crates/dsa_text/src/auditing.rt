@@ -1,9 +1,10 @@
 //! `audit` of an input, with the options that were given.
 
-ghost use Rattle.std.specs.Prelude.{◌≡◌, IfOk, map};
+ghost use Rattle.std.specs.Prelude.{◌≡◌, IfOk, codes, map};
 ghost use Rattle.std.specs.List.{count_by};
 ghost use Rattle.std.specs.Str.{bytes_eq};
-ghost use Rattle.dsa_text.specs.Audited.{AnswersWith, AreAuditWords, AuditsInput, AuditsWithOptions, IsFormat, denied_by, denied_in, format_of};
+ghost use Rattle.dsa_text.specs.Options.{IsFlag};
+ghost use Rattle.dsa_text.specs.Audited.{AnswersWith, AreAuditWords, AuditsInput, AuditsWithOptions, IsFormat, awaited_by, awaited_in, denied_by, denied_in, format_of};
 
 use crate::messages::message_with;
 use crate::numbers::parts_of;
@@ -13,7 +14,9 @@ use crate::{batches, file, flag, value};
 use clap::{Arg, ArgAction, ArgMatches, Command};
 use dsa_calls::PlanFault;
 use dsa_plan::Settings;
-use dsa_recording::{AuditAnswer, AuditFormat, AuditOptions, Denied, Dump, audit, audit_staged};
+use dsa_recording::{
+    Assumptions, AuditAnswer, AuditFormat, AuditOptions, Await, Denied, Dump, audit, audit_staged,
+};
 use std::alloc::{AllocError, Global};
 
 /// What the help of `audit` says of recordings and statuses.
@@ -29,6 +32,15 @@ With --list it writes the operations of the recording as lines that explain read
   dsa_text audit --list recording.bin > list.txt && dsa_text explain --greatest-transfer 2048M list.txt
 A member without a line is named in a comment: the plan knows nothing of it. The list is for prices, not for submission.
 
+No conflict needs a fence that guards or signals. A guarding one is the first after a member that can fail. A signalling one
+is waited for by a member that software can see to have ended, and who sees that knows that all before the fence have
+ended. --await and --resident say what the software is known to do, and free fences that only guard or signal otherwise:
+  --await writes    it may look at all that a member writes, also a flag that another thread polls
+  --await signals   it looks at data only after a completion record or an interrupt says so
+  --await batches   it looks at the records of batches, lone descriptors and no-ops, and interrupts, alone
+  --resident        no member can end with a page fault
+Drop needless fences of one audit together, and never with those of an audit under other options.
+
 The status is 0 where nothing is wrong, 1 where a fence is missing or what --deny names was found, and 2 where there is
 no recording, or it is too large to draw. Of a list it is 0 or 2.
 Prices are in one unit of your choice. Numbers are decimal, or hexadecimal behind 0x.
@@ -38,9 +50,19 @@ Example: dsa_text audit --deny needless,unseen recording.bin";
 fn deny<'a>(alloc: Global) -> Arg<'a> {
     Arg::new(alloc, "deny")
         .long("deny")
-        .value_name("needless,unseen")
+        .value_name("KIND,..")
         .action(ArgAction::Set)
-        .help("take these findings for errors too")
+        .help("findings that are errors too: needless, guarding, signalling, unseen")
+}
+
+/// The option of what software looks at.
+fn awaited<'a>(alloc: Global) -> Arg<'a> {
+    Arg::new(alloc, "await")
+        .long("await")
+        .value_name("WHAT")
+        .action(ArgAction::Set)
+        .default_value("writes")
+        .help("what software looks at: writes, signals or batches")
 }
 
 /// The option of dumps of memory.
@@ -77,7 +99,21 @@ pub(crate) fn audit_command<'a>(alloc: Global) -> Result<Command<'a>, AllocError
         .conflicts_with("json")?
         .conflicts_with("svg")?
         .conflicts_with("deny")?;
-    let options = vec![in alloc; file(alloc), json, svg, list, deny(alloc), staging(alloc)]?;
+    let resident = flag(
+        alloc,
+        "resident",
+        "all memory is resident: no member page-faults",
+    );
+    let options = vec![in alloc;
+        file(alloc),
+        json,
+        svg,
+        list,
+        deny(alloc),
+        awaited(alloc),
+        resident,
+        staging(alloc),
+    ]?;
     let prices = price_options(alloc)?;
     Command::new(alloc, "audit")
         .about("Reads a recording of what was submitted, and reports missing and needless fences")
@@ -98,12 +134,17 @@ fn denied_by(words: &[&str]) -> Option<Denied>
     ensures { result ≡ denied_by (map (λ word. word.now) words.now) }
 {
     let needless = times_named("needless", words);
+    let guarding = times_named("guarding", words);
+    let signalling = times_named("signalling", words);
     let unseen = times_named("unseen", words);
-    if needless.checked_add(unseen) != Some(words.len()) {
+    let named = needless as u128 + guarding as u128 + signalling as u128 + unseen as u128;
+    if named != words.len() as u128 {
         return None;
     }
     Some(Denied {
         needless: needless > 0,
+        guarding: guarding > 0,
+        signalling: signalling > 0,
         unseen: unseen > 0,
     })
 }
@@ -115,10 +156,35 @@ fn denied_in(alloc: Global, matches: &ArgMatches<'_>) -> Result<Option<Denied>, 
     match matches.get_str("deny") {
         None => Ok(Some(Denied {
             needless: false,
+            guarding: false,
+            signalling: false,
             unseen: false,
         })),
         Some(names) => Ok(denied_by(&parts_of(alloc, names)?)),
     }
+}
+
+/// What a word says that software looks at.
+fn awaited_by(word: &str) -> Option<Await>
+    ensures { result ≡ awaited_by word.now }
+{
+    if word == "writes" {
+        return Some(Await::Writes);
+    }
+    if word == "signals" {
+        return Some(Await::Signals);
+    }
+    if word == "batches" {
+        return Some(Await::Batches);
+    }
+    None
+}
+
+/// What software is said to look at, if the option says so.
+fn awaited_in(matches: &ArgMatches<'_>) -> Option<Await>
+    ensures { result ≡ awaited_in matches.now }
+{
+    awaited_by(word(matches, "await"))
 }
 
 /// The format that flags ask for.
@@ -145,6 +211,13 @@ fn format_in(matches: &ArgMatches<'_>) -> AuditFormat
     let svg = matches.get_flag("svg");
     let list = matches.get_flag("list");
     format_of(json, svg, list)
+}
+
+/// Whether all memory is said to be resident.
+fn resident_in(matches: &ArgMatches<'_>) -> bool
+    ensures { IsFlag matches.now (codes "resident") result }
+{
+    matches.get_flag("resident")
 }
 
 /// The settings as the options spell them; no report needs those of the others.
@@ -193,21 +266,27 @@ fn audit_with(
     audit_staged(alloc, input, dumps, settings, options)
 }
 
-/// What `audit` answers, with findings that count as errors.
+/// What `audit` answers, with findings that count as errors and what software looks at.
 fn audit_denying(
     alloc: Global,
     matches: &ArgMatches<'_>,
     dumps: &[Dump],
     denied: Denied,
+    awaited: Await,
     input: &[u8],
 ) -> Result<AuditAnswer, AllocError>
-    ensures { IfOk result (AuditsWithOptions matches.now dumps.now denied input.now) }
+    ensures { IfOk result (AuditsWithOptions matches.now dumps.now denied awaited input.now) }
 {
     let format = format_in(matches);
+    let resident = resident_in(matches);
     let words = audit_words(matches);
     match settings_of(alloc, &words)? {
         Some(settings) => {
-            let options = AuditOptions { format, denied };
+            let options = AuditOptions {
+                format,
+                denied,
+                assumptions: Assumptions { awaited, resident },
+            };
             audit_with(alloc, dumps, input, &settings, options)
         }
         None => refused_settings(alloc, &words),
@@ -223,10 +302,15 @@ pub(crate) fn audit_input(
 ) -> Result<AuditAnswer, AllocError>
     ensures { IfOk result (AuditsInput matches.now dumps.now input.now) }
 {
-    match denied_in(alloc, matches)? {
-        Some(denied) => audit_denying(alloc, matches, dumps, denied, input),
+    let Some(denied) = denied_in(alloc, matches)? else {
+        let reason =
+            "error: --deny takes needless, guarding, signalling and unseen, with commas between\n";
+        return Ok(refusal(String::from_str(alloc, reason)?));
+    };
+    match awaited_in(matches) {
+        Some(awaited) => audit_denying(alloc, matches, dumps, denied, awaited, input),
         None => {
-            let reason = "error: --deny takes needless and unseen, with a comma between\n";
+            let reason = "error: --await takes writes, signals or batches\n";
             Ok(refusal(String::from_str(alloc, reason)?))
         }
     }

@@ -2,13 +2,18 @@ use Rattle.std.proofs.Common.{arith}
 use Rattle.dsa_recording.proofs.ListingLines.{report_entries}
 use Rattle.dsa_recording.proofs.Status.{reported}
 use Rattle.dsa_recording.proofs.Summed.{has_sums}
+use Rattle.dsa_recording.proofs.Within.{within}
 use Rattle.dsa_recording.proofs.answer.audit_bytes.Goals as goal
 
 pub answer_report-requires-clause-sums : goal.answer_report-requires-clause-sums
-answer_report-requires-clause-sums c = has_sums c.args.bytes.now c.in-Ok.report c.in-Ok.ensures.answer (omega arith)
+answer_report-requires-clause-sums c = has_sums c.args.options.assumptions c.args.bytes.now c.in-Ok.report c.in-Ok.ensures.answer (omega arith)
 
 pub answer_report-requires-clause-entries : goal.answer_report-requires-clause-entries
-answer_report-requires-clause-entries c = report_entries c.args.bytes.now c.as_chunks.result.0.now c.in-Ok.report c.as_chunks.ensures.front c.in-Ok.ensures.answer
+answer_report-requires-clause-entries c = report_entries c.args.options.assumptions c.args.bytes.now c.as_chunks.result.0.now c.in-Ok.report c.as_chunks.ensures.front c.in-Ok.ensures.answer
+
+pub answer_report-requires-clause-within : goal.answer_report-requires-clause-within
+answer_report-requires-clause-within c =
+    within c.args.bytes.now c.as_chunks.result.0.now c.in-Ok.report.submissions.items c.as_chunks.ensures.front c.in-Ok.ensures.answer.submissions
 
 pub returns-in-Ok : goal.returns-in-Ok
 returns-in-Ok c =

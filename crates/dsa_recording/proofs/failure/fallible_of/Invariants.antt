@@ -8,5 +8,5 @@ use Rattle.dsa_recording.proofs.failure.fallible_of.Given as goal
 abbrev pub invariant-loop-k : goal.invariant-loop-k
 invariant-loop-k l = record {
   count : length l.fallible.items ≡ l.k;
-  each : (n : ℕ) → n < l.k → get_or l.fallible.items n false ≡ can_fail (get_or l.members n (Unknown Operation)) (get_or l.entries n []);
+  each : (n : ℕ) → n < l.k → get_or l.fallible.items n false ≡ can_fail l.assumptions (get_or l.members n (Unknown Operation)) (get_or l.entries n []);
 }

@@ -12,4 +12,4 @@ audit_submissions-requires c =
 pub findings_of-requires : goal.findings_of-requires
 findings_of-requires c =
     subst (All HasAll) (sym c.deref-2.ensures.value)
-    (all_have c.as_chunks.result.0.now c.deref.result.now c.in_ok-audits.audits.items c.in_ok-audits.ensures)
+    (all_have c.args.assumptions c.as_chunks.result.0.now c.deref.result.now c.in_ok-audits.audits.items c.in_ok-audits.ensures)

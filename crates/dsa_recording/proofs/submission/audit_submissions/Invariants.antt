@@ -4,4 +4,4 @@ use Rattle.dsa_recording.proofs.submission.audit_submissions.Given as goal
 
 -- the submissions so far are audited
 abbrev pub invariant-loop-submission : goal.invariant-loop-submission
-invariant-loop-submission l = AreAudited l.all (take l.submission-index l.submissions) l.audits.items
+invariant-loop-submission l = AreAudited l.assumptions l.all (take l.submission-index l.submissions) l.audits.items

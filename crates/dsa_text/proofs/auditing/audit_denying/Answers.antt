@@ -1,3 +1,4 @@
+use Rattle.std.proofs.Common.{refl}
 use Rattle.std.proofs.lemmas.Result.{IfOk-weaker}
 use Rattle.dsa_text.specs.Audited.{spells_none, spells_settings}
 use Rattle.dsa_text.proofs.auditing.audit_denying.Goals as goal
@@ -6,7 +7,9 @@ pub returns-in-Some : goal.returns-in-Some
 returns-in-Some c =
     let given = rw c.in-Some.is at c.in_ok-settings.ensures in
     IfOk-weaker c.audit_with.result _ _
-    (λ a h. spells_settings c.audit_words-words.result c.in-Some.settings c.format_in-format.result c.audit_words-words.ensures given c.format_in-format.ensures h)
+    (λ a h. spells_settings c.audit_words-words.result c.in-Some.settings
+    (record { format = c.format_in-format.result; denied = c.args.denied; assumptions = record { awaited = c.args.awaited; resident = c.resident_in-resident.result } })
+    c.audit_words-words.ensures given c.format_in-format.ensures refl refl c.resident_in-resident.ensures h)
     c.audit_with.ensures
 
 pub returns-in-None : goal.returns-in-None

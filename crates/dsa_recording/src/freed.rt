@@ -1,0 +1,208 @@
+//! How many more fences would be needless if more were assumed.
+
+ghost use Rattle.std.specs.Prelude.{◌≡◌, All, IfOk};
+ghost use Rattle.std.specs.List.{AllByRecursion, count_by};
+ghost use Rattle.dsa_recording.specs.Freed.{needless_count, AreNeedless, IsFreed};
+ghost use Rattle.dsa_recording.specs.Submissions.{IsWithin};
+ghost use Rattle.dsa_recording.specs.Totals.{is_needless};
+
+use crate::assumptions::{Assumptions, Await};
+use crate::findings::{Finding, FindingKind, findings_of};
+use crate::report::Report;
+use crate::stream::Submission;
+use crate::submission::audit_submissions;
+use std::alloc::{AllocError, Global};
+
+/// What can be assumed beyond the least, in the order in which it is said.
+const MORE: [Assumptions; 5] = [
+    Assumptions {
+        awaited: Await::Writes,
+        resident: true,
+    },
+    Assumptions {
+        awaited: Await::Signals,
+        resident: false,
+    },
+    Assumptions {
+        awaited: Await::Batches,
+        resident: false,
+    },
+    Assumptions {
+        awaited: Await::Signals,
+        resident: true,
+    },
+    Assumptions {
+        awaited: Await::Batches,
+        resident: true,
+    },
+];
+
+/// Assumptions, and how many more fences are needless under them.
+#[derive(Clone, Copy, Debug, PartialEq, Eq)]
+pub struct Freed {
+    /// What is assumed.
+    pub assumptions: Assumptions,
+    /// How many more fences are needless.
+    pub fences: usize,
+}
+
+/// Whether a kind of finding is a needless fence.
+fn is_needless(kind: FindingKind) -> bool
+    ensures { result ≡ is_needless kind }
+{
+    match kind {
+        FindingKind::NeedlessFence => true,
+        FindingKind::NotSeen(_)
+        | FindingKind::MissingFence(_)
+        | FindingKind::GuardingFence(_)
+        | FindingKind::SignallingFence(_)
+        | FindingKind::GuardingAndSignallingFence(_, _) => false,
+    }
+}
+
+/// How many of the findings are needless fences.
+fn needless_in(findings: &[Finding]) -> usize
+    ensures { result ≡ count_by (λ f. is_needless f.kind) findings.now }
+{
+    findings
+        .iter()
+        .filter(|finding| is_needless(finding.kind))
+        .count()
+}
+
+/// How many fences of submissions of these entries are needless under the assumptions.
+pub fn needless_under(
+    alloc: Global,
+    all: &[[u8; 64]],
+    assumptions: Assumptions,
+    submissions: &[Submission],
+) -> Result<usize, AllocError>
+    requires { All (IsWithin all.now) submissions.now }
+    ensures { IfOk result (AreNeedless assumptions all.now submissions.now) }
+{
+    let audits = audit_submissions(alloc, all, assumptions, submissions)?;
+    let findings = findings_of(alloc, &audits)?;
+    Ok(needless_in(&findings))
+}
+
+/// Whether no conflict needs the fence that was found, and it stays.
+fn is_kept(kind: FindingKind) -> bool {
+    match kind {
+        FindingKind::GuardingFence(_)
+        | FindingKind::SignallingFence(_)
+        | FindingKind::GuardingAndSignallingFence(_, _) => true,
+        FindingKind::NotSeen(_) | FindingKind::MissingFence(_) | FindingKind::NeedlessFence => {
+            false
+        }
+    }
+}
+
+/// How much software is assumed to look at: the less, the greater.
+fn rank(awaited: Await) -> u8 {
+    match awaited {
+        Await::Writes => 0,
+        Await::Signals => 1,
+        Await::Batches => 2,
+    }
+}
+
+/// Whether the second assumes all that the first does, and more.
+fn is_more(first: Assumptions, second: Assumptions) -> bool {
+    let (one, other) = (rank(first.awaited), rank(second.awaited));
+    first != second && one <= other && (second.resident || !first.resident)
+}
+
+/// How many more fences are needless under these assumptions than the `now` of the report.
+fn freed_under(
+    alloc: Global,
+    all: &[[u8; 64]],
+    report: &Report,
+    now: usize,
+    assumptions: Assumptions,
+) -> Result<Freed, AllocError>
+    requires within { All (IsWithin all.now) report.now.submissions.items }
+    requires now { now ≡ needless_count report.now.findings.items }
+    ensures { IfOk result (λ f. IsFreed all.now report.now f) }
+{
+    let then = needless_under(alloc, all, assumptions, &report.submissions)?;
+    Ok(Freed {
+        assumptions,
+        fences: then.saturating_sub(now),
+    })
+}
+
+/// How many more fences would be needless with each set of further assumptions, of the report under these. There is none
+/// where no fence guards or signals, since only such fences can become needless.
+pub fn freed_by(
+    alloc: Global,
+    all: &[[u8; 64]],
+    report: &Report,
+    assumptions: Assumptions,
+) -> Result<Vec<Freed>, AllocError>
+    requires { All (IsWithin all.now) report.now.submissions.items }
+    ensures { IfOk result (λ freed. AllByRecursion (IsFreed all.now report.now) freed.items) }
+{
+    let mut freed = Vec::new(alloc);
+    if !report.findings.iter().any(|finding| is_kept(finding.kind)) {
+        return Ok(freed);
+    }
+    let now = needless_in(&report.findings);
+    for more in MORE {
+        if is_more(assumptions, more) {
+            let one = freed_under(alloc, all, report, now, more)?;
+            freed.push(one)?;
+        }
+    }
+    Ok(freed)
+}
+
+/// The name of what software looks at.
+pub(crate) fn await_name(awaited: Await) -> &'static str {
+    match awaited {
+        Await::Writes => "writes",
+        Await::Signals => "signals",
+        Await::Batches => "batches",
+    }
+}
+
+/// The options that lead from the first assumptions to the second.
+fn options_text(
+    alloc: Global,
+    first: Assumptions,
+    second: Assumptions,
+) -> Result<String, AllocError> {
+    let mut text = String::new(alloc);
+    if first.awaited != second.awaited {
+        text.push_str(" --await ")?;
+        text.push_str(await_name(second.awaited))?;
+    }
+    if first.resident != second.resident {
+        text.push_str(" --resident")?;
+    }
+    Ok(text)
+}
+
+/// The line that says how many more fences would be needless, or nothing where that is not asked.
+pub(crate) fn freed_text(
+    alloc: Global,
+    assumptions: Assumptions,
+    freed: &[Freed],
+) -> Result<String, AllocError> {
+    let mut text = String::new(alloc);
+    for more in freed {
+        let front = if text.is_empty() {
+            "needless too: "
+        } else {
+            ", "
+        };
+        let (fences, options) = (
+            more.fences,
+            options_text(alloc, assumptions, more.assumptions)?,
+        );
+        text.push_str(&format!(in alloc; "{front}{fences} with{options}")?)?;
+    }
+    if !text.is_empty() {
+        text.push_str("\n")?;
+    }
+    Ok(text)
+}

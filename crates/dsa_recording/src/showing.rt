@@ -1,0 +1,127 @@
+//! Of which members of a batch software can see that they have ended.
+
+ghost use Rattle.std.specs.Prelude.{◌≡◌, length, IfOk};
+ghost use Rattle.dsa_descriptor.specs.Places.{flags_at, op_at};
+ghost use Rattle.dsa_recording.specs.Showing.{asks_interrupt, has_record, requests_record, writes_record, is_signal, writes_data, can_write, is_awaited_whole, is_marker, shows_beside_batch, can_show, AreVisible};
+
+use crate::assumptions::{Assumptions, Await};
+use crate::failure::can_fail;
+use dsa_audit::Member;
+use dsa_descriptor::{Op, op_at, u32_at};
+use std::alloc::{AllocError, Global};
+
+/// The flags of an entry.
+fn flags_of(entry: &[u8; 64]) -> u32
+    ensures { result ≡ flags_at entry.now }
+{
+    u32_at(entry, 4) % (1 << 24)
+}
+
+/// Whether the device raises an interrupt when the descriptor has ended.
+fn asks_interrupt(flags: u32) -> bool
+    ensures { result ≡ asks_interrupt flags }
+{
+    flags & 0x10 == 0x10
+}
+
+/// Whether the descriptor requests a completion record.
+fn requests_record(flags: u32) -> bool
+    ensures { result ≡ requests_record flags }
+{
+    flags & 0x0c == 0x0c
+}
+
+/// Whether a member can write its record: it requests it, or can fail and has one.
+fn writes_record(assumptions: Assumptions, member: &Member, entry: &[u8; 64]) -> bool
+    ensures { result ≡ writes_record assumptions member.now entry.now }
+{
+    let flags = flags_of(entry);
+    let is_written = requests_record(flags) || can_fail(assumptions, member, entry);
+    flags & 0x04 == 0x04 && is_written
+}
+
+/// Whether a member raises an interrupt, or can write its record.
+fn is_signal(assumptions: Assumptions, member: &Member, entry: &[u8; 64]) -> bool
+    ensures { result ≡ is_signal assumptions member.now entry.now }
+{
+    asks_interrupt(flags_of(entry)) || writes_record(assumptions, member, entry)
+}
+
+/// Whether the operation of an entry writes data, if it has one that is listed.
+fn writes_data(entry: &[u8; 64]) -> bool
+    ensures { result ≡ writes_data (op_at entry.now) }
+{
+    match op_at(entry) {
+        None => false,
+        Some(Op::Compare { .. } | Op::ComparePattern { .. }) => false,
+        Some(Op::Move { .. } | Op::Fill { .. }) => true,
+        Some(Op::ApplyDelta { .. } | Op::Dualcast { .. }) => true,
+    }
+}
+
+/// Whether a member may write data.
+fn can_write(member: &Member, entry: &[u8; 64]) -> bool
+    ensures { result ≡ can_write member.now entry.now }
+{
+    match member {
+        Member::Known(_) => writes_data(entry),
+        Member::Unknown(_) => true,
+    }
+}
+
+/// Whether software can await the batch of this descriptor as a whole.
+fn is_awaited_whole(head: &[u8; 64]) -> bool
+    ensures { result ≡ is_awaited_whole head.now }
+{
+    asks_interrupt(flags_of(head)) || requests_record(flags_of(head))
+}
+
+/// Whether software sees the end of a member beside that of its batch: by an interrupt, or the record of a no-op.
+fn shows_beside_batch(assumptions: Assumptions, member: &Member, entry: &[u8; 64]) -> bool
+    ensures { result ≡ shows_beside_batch assumptions member.now entry.now }
+{
+    let code = u32_at(entry, 4) >> 24;
+    let is_marker = code == 0 || code == 1;
+    asks_interrupt(flags_of(entry)) || is_marker && writes_record(assumptions, member, entry)
+}
+
+/// Whether software can see that a member has ended, whose batch has the descriptor `head`.
+pub fn can_show(
+    assumptions: Assumptions,
+    head: &[u8; 64],
+    member: &Member,
+    entry: &[u8; 64],
+) -> bool
+    ensures { result ≡ can_show assumptions head.now member.now entry.now }
+{
+    match assumptions.awaited {
+        Await::Writes => is_signal(assumptions, member, entry) || can_write(member, entry),
+        Await::Signals => is_signal(assumptions, member, entry),
+        Await::Batches => {
+            if is_awaited_whole(head) {
+                shows_beside_batch(assumptions, member, entry)
+            } else {
+                is_signal(assumptions, member, entry)
+            }
+        }
+    }
+}
+
+/// Of each member, whose entry is that of `entries`, whether software can see that it has ended.
+pub(crate) fn visible_of(
+    alloc: Global,
+    assumptions: Assumptions,
+    head: &[u8; 64],
+    members: &[Member],
+    entries: &[[u8; 64]],
+) -> Result<Vec<bool>, AllocError>
+    requires { length members.now ≡ length entries.now }
+    ensures { IfOk result
+        (λ visible. AreVisible assumptions head.now members.now entries.now visible.items) }
+{
+    let mut visible = Vec::new(alloc);
+    for k in 0..entries.len() {
+        visible.push(can_show(assumptions, head, &members[k], &entries[k]))?;
+    }
+    Ok(visible)
+}

@@ -44,14 +44,14 @@ less_is : (x y : ℕ) → x < y → nat_lt x y ≡ true
 less_is x y h = grind (arith, nat_tests)
 
 -- the changed value, and the others
-with_same : (f : ℕ → Bool) (n : ℕ) (b : Bool) → with f n b n ≡ b
+pub with_same : (f : ℕ → Bool) (n : ℕ) (b : Bool) → with f n b n ≡ b
 with_same f n b =
     elim (eqb_tells n n) [
       | inl (e, same) ↦ ap (λ t. if t then b else f n) e
       | inr (e, ne) ↦ absurd (ne refl)
     ]
 
-with_other : (f : ℕ → Bool) (n x : ℕ) (b : Bool) → (x ≡ n → ⊥) → with f n b x ≡ f x
+pub with_other : (f : ℕ → Bool) (n x : ℕ) (b : Bool) → (x ≡ n → ⊥) → with f n b x ≡ f x
 with_other f n x b ne =
     elim (eqb_tells x n) [
       | inl (e, same) ↦ absurd (ne same)

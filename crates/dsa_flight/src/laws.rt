@@ -11,13 +11,15 @@ ghost use Rattle.dsa_flight.specs.Planned.{PlannedEndInTurn};
 ghost use Rattle.dsa_flight.specs.Spans.{SpansTell, StagingIsWritten, any_read_spans, any_written_spans};
 ghost use Rattle.dsa_ranges.specs.Ranges.{read_spans, written_spans};
 
-/// If each submission waits for the earlier ones that it conflicts with, every complete flight leaves what the submissions
-/// leave one after another, each up to its own stop point, whatever the order of steps.
+/// If each submission waits for the earlier ones that it conflicts with, every complete flight
+/// leaves what the submissions leave one after another, each up to its own stop point, whatever the
+/// order of steps.
 pub fn every_flight_ends_in_turn()
     ensures { EveryFlightEndsInTurn descriptor_machine }
 {}
 
-/// Planned lists in flight leave the memory of executing the lists one after another, if each descriptor succeeds there.
+/// Planned lists in flight leave the memory of executing the lists one after another, if each
+/// descriptor succeeds there.
 pub fn planned_end_in_turn()
     ensures { PlannedEndInTurn }
 {}
@@ -42,14 +44,15 @@ pub fn others_keep_it()
     ensures { OthersKeepIt descriptor_machine }
 {}
 
-/// Of two submissions that conflict the later has to wait: there are pieces that read and write just what theirs do, and a
-/// complete flight without that wait that does not end in turn.
+/// Of two submissions that conflict the later has to wait: there are pieces that read and write
+/// just what theirs do, and a complete flight without that wait that does not end in turn.
 pub fn no_fewer_waits()
     ensures { NoFewerWaits }
 {}
 
-/// A caller that rings only what is ready, and retires only what has ended or was never rung, finds what the submissions
-/// that it rang leave one after another, in the order in which they were submitted.
+/// A caller that rings only what is ready, and retires only what has ended or was never rung, finds
+/// what the submissions that it rang leave one after another, in the order in which they were
+/// submitted.
 pub fn tracked_ends_in_turn()
     ensures { TrackedEndsInTurn descriptor_machine }
 {}
@@ -59,15 +62,17 @@ pub fn some_is_ready()
     ensures { SomeIsReady }
 {}
 
-/// The same for a caller that reads and writes memory itself: its accesses are pieces, of submissions of their own or of
-/// those that they prepare, and what it reads is what it reads in turn. Its accesses stay within what they name.
+/// The same for a caller that reads and writes memory itself: its accesses are pieces, of
+/// submissions of their own or of those that they prepare, and what it reads is what it reads in
+/// turn. Its accesses stay within what they name.
 pub fn hosted_ends_in_turn()
     ensures local { (e : AnyPiece) → IsLocal hosted_machine e }
     ensures tracked { TrackedEndsInTurn hosted_machine }
 {}
 
-/// The spans that their pieces read and write tell whether two submissions conflict, also if some pieces are accesses of
-/// the host. A submission whose staging bytes the host writes first writes its staging area.
+/// The spans that their pieces read and write tell whether two submissions conflict, also if some
+/// pieces are accesses of the host. A submission whose staging bytes the host writes first writes
+/// its staging area.
 pub fn spans_tell()
     ensures descriptors { SpansTell descriptor_machine read_spans written_spans }
     ensures hosted { SpansTell hosted_machine any_read_spans any_written_spans }

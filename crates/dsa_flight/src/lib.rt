@@ -1,4 +1,5 @@
-//! Several submissions in flight over one memory: every order of their steps, and what each complete one leaves.
+//! Several submissions in flight over one memory: every order of their steps, and what each
+//! complete one leaves.
 #![tactic(auto)]
 
 mod laws;

@@ -1,0 +1,12 @@
+pub mod Pushing
+pub mod Ended
+pub mod InTurn
+pub mod Needed
+pub mod Caller
+pub mod Own
+pub mod Spans
+pub mod Hosted
+pub mod Ready
+pub mod Planned
+pub mod Agree
+pub mod Existing

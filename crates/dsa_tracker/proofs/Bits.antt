@@ -1,0 +1,71 @@
+-- Bits of words.
+use Rattle.std.proofs.Common.{◌≡◌, ◌≢◌, ℕ, ◌-◌, ◌*◌, ◌%◌, ◌^◌, ◌<◌, ◌≤◌, ◌↔◌, ◌⊎◌, inl, inr, sym, subst, arith}
+use Rattle.std.specs.Prelude.{bit_and, bit_or}
+use Rattle.std.specs.Int.{bit_at, w64}
+use Rattle.std.proofs.lemmas.Bool.{cases_eq, cases_lt}
+use Rattle.std.proofs.lemmas.Nat.Bits.{bit_at_set_same, bit_at_set_other, bit_at_clear_same, bit_at_clear_other, bit_at_above, bit_at_and, bit_at-zero, same_from_bits}
+
+-- a bit that is set
+abbrev IsSet : ℕ → ℕ → Type 0
+IsSet n i = 0 < bit_at n i
+
+pub not_above : (n i : ℕ) → n < 2 ^ 64 → 64 ≤ i → IsSet n i → ⊥
+not_above n i small above set = let e : bit_at n i ≡ 0 = bit_at_above n 64 i small above in omega (arith, e, set)
+
+pub set_one : (n k : ℕ) → k < 64 → (i : ℕ) → IsSet (bit_or n (1 * 2 ^ k % 18446744073709551616)) i ↔ (IsSet n i ⊎ (i ≡ k))
+set_one n k few i = (there, back)
+  where
+    there : IsSet (bit_or n (1 * 2 ^ k % 18446744073709551616)) i → IsSet n i ⊎ (i ≡ k)
+    there h =
+        elim (cases_eq i k) [
+          | inl same ↦ inr same
+          | inr apart ↦ inl (subst (λ (x : ℕ). 0 < x) (bit_at_set_other w64 n k few i apart) h)
+        ]
+
+    at_k : IsSet (bit_or n (1 * 2 ^ k % 18446744073709551616)) k
+    at_k = subst (λ (x : ℕ). 0 < x) (sym (bit_at_set_same w64 n k few)) (omega arith)
+
+    back : IsSet n i ⊎ (i ≡ k) → IsSet (bit_or n (1 * 2 ^ k % 18446744073709551616)) i
+    back h =
+        elim (cases_eq i k) [
+          | inl same ↦ subst (λ x. IsSet (bit_or n (1 * 2 ^ k % 18446744073709551616)) x) (sym same) at_k
+          | inr apart ↦
+              elim h [
+                | inl set ↦ subst (λ (x : ℕ). 0 < x) (sym (bit_at_set_other w64 n k few i apart)) set
+                | inr same ↦ absurd (apart same)
+              ]
+        ]
+
+pub clear_one : (n k : ℕ) → n < 2 ^ 64 → k < 64 → (i : ℕ) → IsSet (bit_and n (18446744073709551615 - 1 * 2 ^ k % 18446744073709551616)) i ↔ (IsSet n i × (i ≢ k))
+clear_one n k small few i = (there, back)
+  where
+    mask : ℕ
+    mask = 18446744073709551615 - 1 * 2 ^ k % 18446744073709551616
+
+    only : IsSet (bit_and n (18446744073709551615 - 1 * 2 ^ k % 18446744073709551616)) i → IsSet n i
+    only h = let e = bit_at_and n (18446744073709551615 - 1 * 2 ^ k % 18446744073709551616) i in omega (arith, e, h)
+
+    there : IsSet (bit_and n (18446744073709551615 - 1 * 2 ^ k % 18446744073709551616)) i → IsSet n i × (i ≢ k)
+    there h = (
+      only h,
+      λ same.
+          let e : bit_at (bit_and n (18446744073709551615 - 1 * 2 ^ k % 18446744073709551616)) k ≡ 0 = bit_at_clear_same w64 n k few in
+          let g : IsSet (bit_and n (18446744073709551615 - 1 * 2 ^ k % 18446744073709551616)) k = subst (λ x. IsSet (bit_and n (18446744073709551615 - 1 * 2 ^ k % 18446744073709551616)) x) same h in
+          omega (arith, e, g),
+    )
+
+    back : IsSet n i × (i ≢ k) → IsSet (bit_and n (18446744073709551615 - 1 * 2 ^ k % 18446744073709551616)) i
+    back h =
+        elim (cases_lt i 64) [
+          | inl low ↦ subst (λ (x : ℕ). 0 < x) (sym (bit_at_clear_other w64 n k few i low h.1)) h.0
+          | inr high ↦ absurd (not_above n i small (omega (arith, high)) h.0)
+        ]
+
+pub none_set : (n : ℕ) → ((i : ℕ) → IsSet n i → ⊥) → n ≡ 0
+none_set n none = same_from_bits n 0 (λ i. let e : bit_at 0 i ≡ 0 = bit_at-zero i in let no = none i in omega (arith, e, no))
+
+pub zero_has_none : (n i : ℕ) → n ≡ 0 → IsSet n i → ⊥
+zero_has_none n i zero h =
+    let e : bit_at 0 i ≡ 0 = bit_at-zero i in
+    let g : IsSet 0 i = subst (λ x. IsSet x i) zero h in
+    omega (arith, e, g)

@@ -1,0 +1,11 @@
+pub mod Bits
+pub mod Shown
+pub mod Found
+pub mod Forgotten
+pub mod Noted
+pub mod Taken
+pub mod Owners
+pub mod Tables
+pub mod Made
+pub mod Deciding
+pub mod Honest

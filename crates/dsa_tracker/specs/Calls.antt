@@ -1,0 +1,128 @@
+-- What the calls of a tracker do, and when each refusal comes. (This project's choice.)
+use Rattle.std.specs.Prelude.{◌≡◌, ◌≢◌, ℕ, ◌+◌, ◌*◌, ◌<◌, ◌≤◌, max, List, [], ◌∷◌, ◌++◌, Option, Some, None, length, slice_get, slice_set}
+use Rattle.dsa_descriptor.specs.declared.span.Span.{Span}
+use Rattle.dsa_descriptor.specs.Fields.{Fields}
+use Rattle.dsa_descriptor.specs.Spans.{IsAddressable}
+use Rattle.dsa_tracker.specs.declared.fault.TrackFault.{TrackFault}
+use Rattle.dsa_tracker.specs.declared.fault.TrackFault.TheVariants.{NoSlot, TooManySpans, NotOutstanding, Held, Wrap, OtherOwner}
+use Rattle.dsa_tracker.specs.declared.owner.Owner.{Owner}
+use Rattle.dsa_tracker.specs.declared.tracker.Retired.{Retired}
+use Rattle.dsa_tracker.specs.declared.tracker.Submitted.{Submitted}
+use Rattle.dsa_tracker.specs.declared.slots.Slots.{Slots}
+use Rattle.dsa_tracker.specs.Table.{Outstanding, Table, IsHeld, IsFree, IsFirstFree, IsFull, HasToWait, WaitsFor, IsReady, IsExactly, IsWithout}
+
+-- no span goes past 2^64
+abbrev pub AreAddressable : List Span → Type 0
+AreAddressable spans = (k : ℕ) (s : Span) → slice_get spans k ≡ Some s → IsAddressable s
+
+-- the span of this index is the first that does
+abbrev pub IsFirstPast : List Span → ℕ → Type 0
+IsFirstPast spans i =
+    (s : Span) × (slice_get spans i ≡ Some s) × (¬ IsAddressable s) × ((k : ℕ) (t : Span) → k < i → slice_get spans k ≡ Some t → IsAddressable t)
+
+-- the owner that a descriptor names
+abbrev pub owner_of : Fields → Owner
+owner_of d = record { pasid = d.pasid; privileged = d.privileged }
+
+-- the owner once these pieces came: the one that was known, else that of the first piece
+abbrev pub owner_with : Option Owner → List Fields → Option Owner
+owner_with (Some owner) pieces = Some owner
+owner_with None [] = None
+owner_with None (d ∷ ds) = Some (owner_of d)
+
+-- each piece has this owner
+abbrev pub HaveOwner : Option Owner → List Fields → Type 0
+HaveOwner owner pieces = (k : ℕ) (d : Fields) → slice_get pieces k ≡ Some d → owner ≡ Some (owner_of d)
+
+-- the piece of this index is the first with another one
+abbrev pub IsFirstOther : Option Owner → List Fields → ℕ → Type 0
+IsFirstOther owner pieces i =
+    (d : Fields) × (slice_get pieces i ≡ Some d) × (owner ≢ Some (owner_of d))
+    × ((k : ℕ) (e : Fields) → k < i → slice_get pieces k ≡ Some e → owner ≡ Some (owner_of e))
+
+-- a submission that reads and writes these spans can be kept
+abbrev pub CanKeep : ℕ → List Span → List Span → Type 0
+CanKeep room reads writes = (length reads ≤ room) × (length writes ≤ room) × AreAddressable (reads ++ writes)
+
+-- what stands against it
+abbrev pub IsSpanFault : ℕ → List Span → List Span → TrackFault → Type 0
+IsSpanFault room reads writes NoSlot = ⊥
+IsSpanFault room reads writes (TooManySpans count) = (count ≡ max (length reads) (length writes)) × (room < count)
+IsSpanFault room reads writes (NotOutstanding slot) = ⊥
+IsSpanFault room reads writes (Held slot) = ⊥
+IsSpanFault room reads writes (Wrap span) = (length reads ≤ room) × (length writes ≤ room) × IsFirstPast (reads ++ writes) span
+IsSpanFault room reads writes (OtherOwner piece) = ⊥
+
+-- how many spans a list of so many pieces may read or write, its staging area among them: three for each piece (its
+-- completion record and two destinations)
+abbrev pub most_spans : ℕ → ℕ
+most_spans pieces = 3 * pieces + 1
+
+-- a submission of these pieces with this staging area, and all of this owner, can be kept
+abbrev pub CanKeepList : ℕ → Option Owner → List Fields → Span → Type 0
+CanKeepList room owner pieces staging = (most_spans (length pieces) ≤ room) × IsAddressable staging × HaveOwner owner pieces
+
+-- what stands against it; of its spans the staging area alone can go past 2^64
+abbrev pub IsListFault : ℕ → Option Owner → List Fields → Span → TrackFault → Type 0
+IsListFault room owner pieces staging NoSlot = ⊥
+IsListFault room owner pieces staging (TooManySpans count) = (count ≡ most_spans (length pieces)) × (room < count)
+IsListFault room owner pieces staging (NotOutstanding slot) = ⊥
+IsListFault room owner pieces staging (Held slot) = ⊥
+IsListFault room owner pieces staging (Wrap span) = (span ≡ 0) × (most_spans (length pieces) ≤ room) × (¬ IsAddressable staging)
+IsListFault room owner pieces staging (OtherOwner piece) =
+    (most_spans (length pieces) ≤ room) × IsAddressable staging × IsFirstOther owner pieces piece
+
+-- the submission gets the first free slot, and waits for just those that it has to wait for
+pub record Submits (old : Table) (reads writes : List Span) (also : Slots) (owner : Option Owner) (submitted : Submitted) (new : Table) : Type 0 where
+  pub slot : IsFirstFree old.slots submitted.slot
+  pub waits : IsExactly submitted.waits (HasToWait old.slots reads writes also)
+  pub after :
+      new ≡ record {
+        slots = slice_set old.slots submitted.slot (Some (record { reads = reads; writes = writes; waits = submitted.waits }));
+        room = old.room;
+        owner = owner;
+      }
+
+-- a slot is free and no other wait is left on it, and else nothing changes
+pub record Releases (old : List (Option Outstanding)) (slot : ℕ) (new : List (Option Outstanding)) : Type 0 where
+  pub count : length new ≡ length old
+  pub freed : IsFree new slot
+  pub others :
+      (s : ℕ) (o : Outstanding) → s ≢ slot → slice_get old s ≡ Some (Some o) →
+      (rest : Slots) × (slice_get new s ≡ Some (Some (record o { waits = rest }))) × IsWithout o.waits slot rest
+  pub free : (s : ℕ) → IsFree old s → IsFree new s
+
+-- the submission of the slot is taken off; the answer says who waited for it, and which of these now wait for none
+pub record Retires (old : Table) (slot : ℕ) (retired : Retired) (new : Table) : Type 0 where
+  pub released : Releases old.slots slot new.slots
+  pub room : new.room ≡ old.room
+  pub owner : new.owner ≡ old.owner
+  pub waited : IsExactly retired.waited (WaitsFor old.slots slot)
+  pub ready : IsExactly retired.ready (λ s. WaitsFor old.slots slot s × IsReady new.slots s)
+
+-- a submission is refused if no slot is free, and else for the first cause that stands against it
+abbrev pub IsRefused : Table → TrackFault → Type 0 → Type 0
+IsRefused t NoSlot against = IsFull t.slots
+IsRefused t (TooManySpans count) against = ((s : ℕ) × IsFirstFree t.slots s) × against
+IsRefused t (NotOutstanding slot) against = ⊥
+IsRefused t (Held slot) against = ⊥
+IsRefused t (Wrap span) against = ((s : ℕ) × IsFirstFree t.slots s) × against
+IsRefused t (OtherOwner piece) against = ((s : ℕ) × IsFirstFree t.slots s) × against
+
+-- why a submission cannot be completed
+abbrev pub IsCompleteFault : Table → ℕ → TrackFault → Type 0
+IsCompleteFault t slot NoSlot = ⊥
+IsCompleteFault t slot (TooManySpans count) = ⊥
+IsCompleteFault t slot (NotOutstanding other) = (other ≡ slot) × (¬ IsHeld t.slots slot)
+IsCompleteFault t slot (Held other) = (other ≡ slot) × IsHeld t.slots slot × (¬ IsReady t.slots slot)
+IsCompleteFault t slot (Wrap span) = ⊥
+IsCompleteFault t slot (OtherOwner piece) = ⊥
+
+-- why it cannot be withdrawn
+abbrev pub IsWithdrawFault : Table → ℕ → TrackFault → Type 0
+IsWithdrawFault t slot NoSlot = ⊥
+IsWithdrawFault t slot (TooManySpans count) = ⊥
+IsWithdrawFault t slot (NotOutstanding other) = (other ≡ slot) × (¬ IsHeld t.slots slot)
+IsWithdrawFault t slot (Held other) = ⊥
+IsWithdrawFault t slot (Wrap span) = ⊥
+IsWithdrawFault t slot (OtherOwner piece) = ⊥

@@ -1,0 +1,15 @@
+//! Laws of trackers, each the contract of an empty function.
+
+ghost use Rattle.dsa_core.specs.DescriptorMachine.{descriptor_machine};
+ghost use Rattle.dsa_flight.specs.Hosted.{hosted_machine};
+ghost use Rattle.dsa_flight.specs.Spans.{any_read_spans, any_written_spans};
+ghost use Rattle.dsa_ranges.specs.Ranges.{read_spans, written_spans};
+ghost use Rattle.dsa_tracker.specs.Honest.{TrackerEndsInTurn};
+
+/// A caller that rings only what its tracker calls ready, completes only what is ready and has
+/// ended, and withdraws only what it did not ring, finds what the submissions that it rang leave
+/// one after another; also if some of their pieces are its own reads and writes.
+pub fn tracker_ends_in_turn()
+    ensures descriptors { TrackerEndsInTurn descriptor_machine read_spans written_spans }
+    ensures hosted { TrackerEndsInTurn hosted_machine any_read_spans any_written_spans }
+{}

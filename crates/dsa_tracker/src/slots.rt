@@ -1,0 +1,69 @@
+//! Sets of slots.
+
+ghost use Rattle.std.specs.Prelude.{◌≡◌, ◌≢◌, ℕ, ◌<◌, ◌⊎◌, ◌↔◌, IsTrue};
+ghost use Rattle.std.specs.Int.{bit_at};
+ghost use Rattle.dsa_tracker.specs.Sets.{Has, IsEmpty};
+
+/// A set of slots, which are numbered from 0 to 63: bit `s` of the word is for slot `s`.
+#[derive(Clone, Copy, Debug, Default, PartialEq, Eq)]
+pub struct Slots(pub u64);
+
+/// Whether bit `place` of the word is set.
+fn has_bit(word: u64, place: u32) -> bool
+    ensures { IsTrue result ↔ (0 < bit_at word place) }
+{
+    if place >= 64 {
+        return false;
+    }
+    (word >> place) & 1 == 1
+}
+
+/// Whether no bit of the word is set.
+fn has_no_bit(word: u64) -> bool
+    ensures { IsTrue result ↔ ((place : ℕ) → ¬ (0 < bit_at word place)) }
+{
+    word == 0
+}
+
+/// The word with this bit cleared.
+fn without_bit(word: u64, place: u32) -> u64
+    requires { place < 64 }
+    ensures { (s : ℕ) → (0 < bit_at result s) ↔ ((0 < bit_at word s) × (s ≢ place)) }
+{
+    word & !(1 << place)
+}
+
+impl Slots {
+    /// The set of no slots.
+    pub const EMPTY: Slots = Slots(0);
+
+    /// Whether the slot is in the set.
+    pub fn contains(self, slot: u32) -> bool
+        ensures { IsTrue result ↔ Has self slot }
+    {
+        has_bit(self.0, slot)
+    }
+
+    /// Whether no slot is in the set.
+    pub fn is_empty(self) -> bool
+        ensures { IsTrue result ↔ IsEmpty self }
+    {
+        has_no_bit(self.0)
+    }
+
+    /// The set and this slot.
+    pub(crate) fn with(self, slot: u32) -> Slots
+        requires { slot < 64 }
+        ensures { (s : ℕ) → Has result s ↔ (Has self s ⊎ (s ≡ slot)) }
+    {
+        Slots(self.0 | 1 << slot)
+    }
+
+    /// The set without this slot.
+    pub(crate) fn without(self, slot: u32) -> Slots
+        requires { slot < 64 }
+        ensures { (s : ℕ) → Has result s ↔ (Has self s × (s ≢ slot)) }
+    {
+        Slots(without_bit(self.0, slot))
+    }
+}

@@ -1,0 +1,214 @@
+//! The tracker.
+
+ghost use Rattle.std.specs.Prelude.{◌≡◌, ◌↔◌, ◌≤◌, None, IfOk, IsTrue, MatchResult, map, replicate};
+ghost use Rattle.dsa_descriptor.specs.Descriptors.{fields};
+ghost use Rattle.dsa_flight.specs.Spans.{all_reads, staged_writes};
+ghost use Rattle.dsa_tracker.specs.Calls.{CanKeep, CanKeepList, IsCompleteFault, IsListFault, IsRefused, IsSpanFault, IsWithdrawFault, Retires, Submits, owner_with};
+ghost use Rattle.dsa_tracker.specs.Entries.{AllHaveRoom, all_shown};
+ghost use Rattle.dsa_tracker.specs.Table.{ConflictsWith, IsExactly, IsHeld, IsReady, WaitsFor};
+
+use crate::entry::Entry;
+use crate::fault::TrackFault;
+use crate::limits::{list_fault, span_fault};
+use crate::owner::{Owner, expected_owner};
+use crate::scans::{first_free, slots_to_await, waits_at};
+use crate::slots::Slots;
+use crate::taking::{release, take_for_pieces, take_for_spans};
+use dsa_descriptor::{Descriptor, Span};
+use std::alloc::{AllocError, Global};
+use std::marker::Model;
+
+/// A submission that the tracker has taken.
+#[derive(Clone, Copy, Debug, PartialEq, Eq)]
+pub struct Submitted {
+    /// Its slot.
+    pub slot: u32,
+    /// The slots of those that it waits for.
+    pub waits: Slots,
+}
+
+/// What follows from taking a submission off.
+#[derive(Clone, Copy, Debug, PartialEq, Eq)]
+pub struct Retired {
+    /// The slots of those that waited for it.
+    pub waited: Slots,
+    /// Those of them that wait for none any more.
+    pub ready: Slots,
+}
+
+/// The submissions in flight: what each reads and writes, and what it waits for.
+#[derive(Drop)]
+pub struct Tracker {
+    entries: Vec<Entry>,
+    room: u32,
+    owner: Option<Owner>,
+}
+
+impl Model for Tracker {
+    ghost use Rattle.dsa_tracker.specs.Table.{Table};
+
+    ghost Value = { Table };
+
+    ghost use Rattle.dsa_tracker.specs.Inside.{IsSound, table};
+
+    ghost view = { table };
+
+    ghost invariant = { IsSound };
+}
+
+/// An entry for each slot, all of them free.
+fn free_entries(alloc: Global, slots: u32, room: u32) -> Result<Vec<Entry>, AllocError>
+    ensures slots { IfOk result (λ v. all_shown v.items ≡ replicate slots None) }
+    ensures room { IfOk result (λ v. AllHaveRoom room v.items) }
+{
+    let mut entries = Vec::with_capacity(alloc, slots as usize)?;
+    for _ in 0..slots {
+        entries.push(Entry::with_room(alloc, room as usize)?)?;
+    }
+    Ok(entries)
+}
+
+impl Tracker {
+    /// A tracker with so many slots, for submissions that read at most `room` spans and write at
+    /// most `room` spans. All its memory is taken here.
+    ///
+    /// # Errors
+    /// An allocation failed.
+    pub fn new(alloc: Global, slots: u32, room: u32) -> Result<Tracker, AllocError>
+        requires { slots ≤ 64 }
+        ensures { IfOk result (λ t. t ≡
+            record { slots = replicate slots None; room = room; owner = None }) }
+    {
+        Ok(Tracker {
+            entries: free_entries(alloc, slots, room)?,
+            room,
+            owner: None,
+        })
+    }
+
+    /// Takes a submission that reads and writes these spans. It waits for the outstanding ones that
+    /// it conflicts with, and for those of `also` that are outstanding.
+    ///
+    /// # Errors
+    /// The first cause: no slot is free, there are too many spans, a span of `reads` and then
+    /// `writes` goes past 2^64.
+    pub fn submit_spans(
+        &mut self,
+        reads: &[Span],
+        writes: &[Span],
+        also: Slots,
+    ) -> Result<Submitted, TrackFault>
+        ensures { MatchResult result
+            (λ s. CanKeep self.old.room reads.now writes.now ×
+            Submits self.old reads.now writes.now also self.old.owner s self.new)
+            (λ f. IsRefused self.old f (IsSpanFault self.old.room reads.now writes.now f) ×
+            (self.new ≡ self.old)) }
+    {
+        let Some(slot) = first_free(&self.entries) else {
+            return Err(TrackFault::NoSlot);
+        };
+        if let Some(fault) = span_fault(self.room, reads, writes) {
+            return Err(fault);
+        }
+        let waits = take_for_spans(&mut self.entries, slot, reads, writes, also);
+        Ok(Submitted {
+            slot: slot as u32,
+            waits,
+        })
+    }
+
+    /// Takes a submission of these pieces, whose staging area (its batch descriptors and batch
+    /// records) counts as written. It waits for the outstanding ones that it conflicts with, and
+    /// for those of `also` that are outstanding.
+    ///
+    /// # Errors
+    /// The first cause: no slot is free, there are too many pieces, the staging area goes past
+    /// 2^64, a piece has another owner than the first piece that came.
+    pub fn submit(
+        &mut self,
+        pieces: &[Descriptor],
+        staging: Span,
+        also: Slots,
+    ) -> Result<Submitted, TrackFault>
+        ensures { let list = map fields pieces.now in
+            let owner = owner_with self.old.owner list in
+            MatchResult result
+            (λ s. CanKeepList self.old.room owner list staging ×
+            Submits self.old (all_reads list) (staged_writes staging list) also owner s self.new)
+            (λ f. IsRefused self.old f (IsListFault self.old.room owner list staging f) ×
+            (self.new ≡ self.old)) }
+    {
+        let Some(slot) = first_free(&self.entries) else {
+            return Err(TrackFault::NoSlot);
+        };
+        let owner = expected_owner(self.owner, pieces);
+        if let Some(fault) = list_fault(self.room, owner, pieces, staging) {
+            return Err(fault);
+        }
+        let waits = take_for_pieces(&mut self.entries, slot, pieces, staging, also);
+        self.owner = owner;
+        Ok(Submitted {
+            slot: slot as u32,
+            waits,
+        })
+    }
+
+    /// The outstanding submissions that conflict with accesses to these spans, also with accesses
+    /// of the host: if there are none, the accesses may be done at once.
+    pub fn ask(&self, reads: &[Span], writes: &[Span]) -> Slots
+        ensures { IsExactly result (ConflictsWith self.now.slots reads.now writes.now) }
+    {
+        slots_to_await(&self.entries, reads, writes, Slots::EMPTY)
+    }
+
+    /// The slots that the submission of this slot waits for; none if it is not outstanding.
+    pub fn waits(&self, slot: u32) -> Slots
+        ensures { IsExactly result (λ s. WaitsFor self.now.slots s slot) }
+    {
+        waits_at(&self.entries, slot).unwrap_or(Slots::EMPTY)
+    }
+
+    /// Whether the submission of this slot is outstanding and waits for none, so that it may be
+    /// rung.
+    pub fn is_ready(&self, slot: u32) -> bool
+        ensures { IsTrue result ↔ IsReady self.now.slots slot }
+    {
+        match waits_at(&self.entries, slot) {
+            Some(waits) => waits.is_empty(),
+            None => false,
+        }
+    }
+
+    /// Takes a submission off that was ready, and has ended.
+    ///
+    /// # Errors
+    /// The slot has no outstanding submission, or one that still waits.
+    pub fn complete(&mut self, slot: u32) -> Result<Retired, TrackFault>
+        ensures { MatchResult result
+            (λ r. IsReady self.old.slots slot × Retires self.old slot r self.new)
+            (λ f. IsCompleteFault self.old slot f × (self.new ≡ self.old)) }
+    {
+        let Some(waits) = waits_at(&self.entries, slot) else {
+            return Err(TrackFault::NotOutstanding(slot));
+        };
+        if !waits.is_empty() {
+            return Err(TrackFault::Held(slot));
+        }
+        Ok(release(&mut self.entries, slot))
+    }
+
+    /// Takes a submission off that was not rung.
+    ///
+    /// # Errors
+    /// The slot has no outstanding submission.
+    pub fn withdraw(&mut self, slot: u32) -> Result<Retired, TrackFault>
+        ensures { MatchResult result
+            (λ r. IsHeld self.old.slots slot × Retires self.old slot r self.new)
+            (λ f. IsWithdrawFault self.old slot f × (self.new ≡ self.old)) }
+    {
+        let Some(_waits) = waits_at(&self.entries, slot) else {
+            return Err(TrackFault::NotOutstanding(slot));
+        };
+        Ok(release(&mut self.entries, slot))
+    }
+}

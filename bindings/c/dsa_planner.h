@@ -158,8 +158,8 @@ enum dsa_number {
     DSA_UNFENCED = 43,    /* the two pieces */
     /* bytes to submit */
     DSA_PORTAL_LENGTH = 44,  /* no index */
-    DSA_BATCH_FIELDS = 45,   /* index of the group */
-    DSA_STAGING_LENGTH = 46, /* no index */
+    DSA_BATCH_FIELDS = 45,   /* index of the group: its count of descriptors or another byte of its entry is wrong */
+    DSA_STAGING_LENGTH = 46, /* no index: the length is wrong, or there are more than 65,536 pieces */
     DSA_ENTRY = 47,          /* index of the piece */
     DSA_ENTRY_FENCE = 48,    /* index of the group */
     DSA_RECORD_BYTES = 49,   /* index of the batch */

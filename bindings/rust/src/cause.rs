@@ -114,10 +114,10 @@ causes! {
     Unfenced = 43: "pieces {0} and {1} of one group conflict without a fence between",
     /// The length of the portal bytes is no multiple of 64.
     PortalLength = 44: "the portal's length is no multiple of 64",
-    /// A field of the batch descriptor of group `first` is wrong.
-    BatchFields = 45: "a byte of the batch entry of group {0} is not the one of its place",
-    /// The length of the staging bytes does not fit the portal bytes.
-    StagingLength = 46: "the staging's length is not 64 for each piece in a batch and 32 for each batch",
+    /// The number of descriptors in the batch entry of group `first`, or another byte of it, is wrong.
+    BatchFields = 45: "the number of descriptors in the batch entry of group {0} is outside 2 to the greatest batch, or a byte is not the one of its place",
+    /// The length of the staging bytes does not fit the portal bytes, or there are more than 65,536 pieces.
+    StagingLength = 46: "the staging's length is not 64 for each piece in a batch and 32 for each batch, or there are more than 65,536 pieces",
     /// Piece `first` is refused.
     Entry = 47: "piece {0} is refused",
     /// The first piece of group `first` is fenced.
@@ -138,8 +138,8 @@ causes! {
     Version = 65: "the certificate is of another version than the settings",
     /// An allocation failed.
     Memory = 73: "there was not enough memory",
-    /// A setting is outside its limits, or the table of prices has a wrong length.
-    Settings = 83: "a setting is outside its limits, or the table of prices has a wrong length",
+    /// A setting is outside its limits, the version is neither 1 nor 2, or the table of prices has a wrong length.
+    Settings = 83: "a setting is outside its limits, the version is neither 1 nor 2, or the table of prices has a wrong length",
     /// Portal needs `first` bytes and staging `second`.
     NoRoom = 90: "a buffer is too small for the bytes to submit: portal needs {0} bytes and staging {1}",
     /// The arrays of the certificate need room for `first` pieces.

@@ -349,7 +349,7 @@ fn refusals_are_shown() {
     for (refusal, shown) in [
         (
             refused(83, 0, 0, 0),
-            "83 Settings: a setting is outside its limits, or the table of prices has a wrong length",
+            "83 Settings: a setting is outside its limits, the version is neither 1 nor 2, or the table of prices has a wrong length",
         ),
         (
             refused(63, 0, 4, 9),

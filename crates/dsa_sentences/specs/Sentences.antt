@@ -42,8 +42,8 @@ of_plans n =
     if n == 42 then codes "the first of group # is fenced" else
     if n == 43 then codes "pieces # and $ of one group conflict without a fence between" else
     if n == 44 then codes "the portal's length is no multiple of 64" else
-    if n == 45 then codes "a byte of the batch entry of group # is not the one of its place" else
-    if n == 46 then codes "the staging's length is not 64 for each piece in a batch and 32 for each batch" else
+    if n == 45 then codes "the number of descriptors in the batch entry of group # is outside 2 to the greatest batch, or a byte is not the one of its place" else
+    if n == 46 then codes "the staging's length is not 64 for each piece in a batch and 32 for each batch, or there are more than 65,536 pieces" else
     if n == 47 then codes "piece # is refused" else
     if n == 48 then codes "the first piece of group # is fenced" else
     if n == 49 then codes "the 32 record bytes of batch # are not all zero" else
@@ -74,7 +74,7 @@ of_runs n =
     if n == 80 then codes "the text is no JSON" else
     if n == 81 then codes "a member is missing, of another kind, or not named for the job" else
     if n == 82 then codes "`do` is missing or names no job" else
-    if n == 83 then codes "a setting is outside its limits, or the table of prices has a wrong length" else
+    if n == 83 then codes "a setting is outside its limits, the version is neither 1 nor 2, or the table of prices has a wrong length" else
     if n == 84 then codes "bytes are no hexadecimal text of even length" else
     if n == 85 then codes "there are not 1 to 64 engines" else
     if n == 86 then codes "the text has more than 67,108,864 bytes" else

@@ -65,8 +65,10 @@ fn of_plans(number: u64) -> &'static str
         42 => "the first of group # is fenced",
         43 => "pieces # and $ of one group conflict without a fence between",
         44 => "the portal's length is no multiple of 64",
-        45 => "a byte of the batch entry of group # is not the one of its place",
-        46 => "the staging's length is not 64 for each piece in a batch and 32 for each batch",
+        45 =>
+            "the number of descriptors in the batch entry of group # is outside 2 to the greatest batch, or a byte is not the one of its place",
+        46 =>
+            "the staging's length is not 64 for each piece in a batch and 32 for each batch, or there are more than 65,536 pieces",
         47 => "piece # is refused",
         48 => "the first piece of group # is fenced",
         49 => "the 32 record bytes of batch # are not all zero",
@@ -111,7 +113,8 @@ fn of_runs(number: u64) -> &'static str
         80 => "the text is no JSON",
         81 => "a member is missing, of another kind, or not named for the job",
         82 => "`do` is missing or names no job",
-        83 => "a setting is outside its limits, or the table of prices has a wrong length",
+        83 =>
+            "a setting is outside its limits, the version is neither 1 nor 2, or the table of prices has a wrong length",
         84 => "bytes are no hexadecimal text of even length",
         85 => "there are not 1 to 64 engines",
         86 => "the text has more than 67,108,864 bytes",

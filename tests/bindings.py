@@ -7,6 +7,7 @@ import ast
 import os
 import re
 import shutil
+import struct
 import subprocess
 import sys
 import tempfile
@@ -119,6 +120,24 @@ def prepared():
     tried("the ring of docs/USING.md", [compiled(f"{WORK}/ring.c")], block_after("docs/USING.md", "It prints", ""))
 
 
+def recorder():
+    """Four threads record by the lines of docs/USING.md: each batch is followed by its own members, and none is lost."""
+    lines, recording = Path(WORK, "recorder.inc"), Path(WORK, "recording")
+    lines.write_text(block_after("docs/USING.md", "At the place where it rings the portal", "c"))
+    built = f"{WORK}/recorder"
+    words = [compiler(), "-std=c11", "-D_GNU_SOURCE", *WARN, "-O2", "-pthread", f'-DRECORDER="{lines}"']
+    tried("the build of the recorder", [*words, "tests/bindings/recorder.c", "-o", built])
+    tried("the recorder", [built, recording])
+    entries, found = recording.read_bytes(), []
+    for at in range(0, len(entries), 64):
+        owner, _, code, record = struct.unpack_from("<I3sBQ", entries, at)
+        found.append((owner, code, record))
+    batches = [found[at : at + 4] for at in range(0, len(found), 4)]
+    mixed = [batch for batch in batches if batch != [(batch[0][0], 1, 0), *((batch[0][0], 0, k) for k in range(3))]]
+    owners = sorted(batch[0][0] for batch in batches)
+    expect(not mixed and owners == [thread for thread in range(4) for _ in range(200)], f"the recording has {mixed[:3]}")
+
+
 def sentences_of_bindings():
     """The sentences of the Python module and of the Rust crate, by number."""
     tree = ast.parse(Path("bindings/python/dsa_planner.py").read_text())
@@ -164,7 +183,7 @@ def main(words):
         sys.exit(0)
     make.need_proved("libdsa_c.a")
     with tempfile.TemporaryDirectory() as WORK:
-        for part in named([header, examples, calls, texts, prepared, random_lists, speed], words):
+        for part in named([header, examples, calls, texts, prepared, recorder, random_lists, speed], words):
             part()
 
 

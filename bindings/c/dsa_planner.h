@@ -2,8 +2,13 @@
  * dsa_planner.h: plans lists of descriptors of Intel's Data Streaming Accelerator, from C or C++.
  *
  * A list of operations goes in, 64 bytes for each (struct dsa_hw_desc of linux/idxd.h); out come the bytes that submit
- * it, as batches and lone descriptors with fences, at least cost. What each call promises, but for
- * dsa_planner_version, is proved: the contracts stand at the functions of the same names in crates/dsa_c/src.
+ * it, as batches and lone descriptors with fences, at least cost.
+ *
+ * Proved:    of each call but dsa_planner_version, for all inputs of a caller that does what is asked below: which number
+ *            it returns, and what it has written then, as its comment here says. The contracts are at the functions of the
+ *            same names in crates/dsa_c/src. Tested, not proved: that a call succeeds if there is memory, how much stack it
+ *            takes, that calls on several threads do not disturb each other, and that DSA_PORTAL_ROOM, DSA_STAGING_ROOM and
+ *            DSA_PREPARED_ROOM are enough. Neither: that a device does what docs/FORMATS.md says of it.
  *
  * Link:      cc app.c $(pkg-config --cflags --libs dsa_planner)            with the shared object libdsa_planner.so.1
  *            cc app.c $(pkg-config --cflags --libs dsa_planner_static)     with the archive libdsa_planner.a
@@ -219,7 +224,10 @@ uint64_t dsa_count_pieces(const struct dsa_settings *settings,
                           const uint8_t *list, size_t list_len);
 
 /*
- * Plans a list: 64 bytes for each operation, in the order in which they are to take effect.
+ * Plans a list: 64 bytes for each operation, in their order.
+ *
+ * If all operations succeed, the final memory is that of the list in order. Nothing is promised of what another thread, an
+ * interrupt or the device's other queues see in between, nor that a later operation waits for an earlier one to succeed.
  *
  * Returns 0: portal and staging begin with the bytes that submit the plan of least cost, and planned has their lengths.
  * The rest of each buffer is unchanged; refusal is not written. To run the plan, clear the completion records of all

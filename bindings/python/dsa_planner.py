@@ -366,7 +366,11 @@ def count_pieces(settings: Settings, operations: Bytes) -> int:
 
 
 def plan_list(settings: Settings, operations: Bytes) -> Summary:
-    """Plans a list: 64 bytes for each operation, in the order in which they are to take effect. Raises `Refusal`."""
+    """Plans a list: 64 bytes for each operation, in their order. Raises `Refusal`.
+
+    If all operations succeed, the final memory is that of the list in order. Nothing is promised of what another thread, an
+    interrupt or the device's other queues see in between, nor that a later operation waits for an earlier one to succeed.
+    """
     raw, table, entries = settings._raw()
     listed, size = _given("operations", operations)
     pieces = min(int(_library.dsa_count_pieces(raw, table, entries, listed, size)), MOST_PIECES)

@@ -249,7 +249,8 @@ pub fn count_pieces(settings: &Settings, list: &[u8]) -> u64 {
     unsafe { raw::dsa_count_pieces(&raw, table.as_ptr(), table.len(), list.as_ptr(), list.len()) }
 }
 
-/// Plans a list into buffers of the caller: 64 bytes for each operation, in the order in which they are to take effect.
+/// Plans a list into buffers of the caller: 64 bytes for each operation, in their order. Of the order in which they take effect
+/// [`plan_list`] says what is promised.
 ///
 /// # Errors
 /// The first fault of the list or the settings; [`Cause::NoRoom`] where a buffer is too small; [`Cause::Memory`]. The
@@ -293,7 +294,10 @@ pub fn plan_into(
     answer(code, summary, refusal)
 }
 
-/// Plans a list: 64 bytes for each operation, in the order in which they are to take effect.
+/// Plans a list: 64 bytes for each operation, in their order.
+///
+/// If all operations succeed, the final memory is that of the list in order. Nothing is promised of what another thread, an
+/// interrupt or the device's other queues see in between, nor that a later operation waits for an earlier one to succeed.
 ///
 /// # Errors
 /// The first fault of the list or the settings; [`Cause::Memory`].

@@ -8,7 +8,7 @@
  *            it returns, and what it has written then, as its comment here says. The contracts are at the functions of the
  *            same names in crates/dsa_c/src. Tested, not proved: that a call succeeds if there is memory, how much stack it
  *            takes, that calls on several threads do not disturb each other, and that DSA_PORTAL_ROOM, DSA_STAGING_ROOM and
- *            DSA_PREPARED_ROOM are enough. Neither: that a device does what docs/FORMATS.md says of it.
+ *            says of it.
  *
  * Link:      cc app.c $(pkg-config --cflags --libs dsa_planner)            with the shared object libdsa_planner.so.1
  *            cc app.c $(pkg-config --cflags --libs dsa_planner_static)     with the archive libdsa_planner.a
@@ -110,9 +110,10 @@ struct dsa_planned {
 struct dsa_refusal {
     uint32_t number; /* a number of enum dsa_number */
     uint32_t inner;  /* of DSA_ENTRY the number of the piece's fault, of DSA_PLAN that of the plan's; else 0 */
-    uint64_t first;  /* the first index that the cause names, from 0; of DSA_NO_ROOM the bytes that portal needs, of
-                        DSA_NO_ROOM_FOR_CERTIFICATE the number of pieces, of DSA_NO_ROOM_FOR_ROWS the rows
-                        that are needed; else 0 */
+    uint64_t first;  /* the first index that the cause names, from 0; of DSA_SETTINGS the setting that is outside its
+                        limits: 1 to 7 for the members of struct dsa_settings in their order, 8 for the table; of
+                        DSA_NO_ROOM the bytes that portal needs, of DSA_NO_ROOM_FOR_CERTIFICATE the number of pieces,
+                        of DSA_NO_ROOM_FOR_ROWS the rows that are needed; else 0 */
     uint64_t second; /* the second index; of DSA_NO_ROOM the bytes that staging needs; else 0 */
 };
 
@@ -175,9 +176,9 @@ enum dsa_number {
     DSA_PRICE = 63,   /* where the group begins, and where it ends */
     DSA_TOTAL = 64,   /* no index */
     DSA_VERSION = 65, /* no index */
-    /* any call, no index */
-    DSA_MEMORY = 73,   /* an allocation failed */
-    DSA_SETTINGS = 83, /* a setting outside its limits, an unknown version, or a table of another length */
+    /* any call */
+    DSA_MEMORY = 73,   /* no index: an allocation failed */
+    DSA_SETTINGS = 83, /* the number of the setting: outside its limits, an unknown version, a table of another length */
     /* room in the caller's arrays */
     DSA_NO_ROOM = 90,
     DSA_NO_ROOM_FOR_CERTIFICATE = 91,

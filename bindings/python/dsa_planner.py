@@ -303,6 +303,18 @@ CAUSES: Dict[int, Tuple[str, str]] = {
 }
 """The name and the sentence of each cause, by its number; {0} and {1} stand for the places that a refusal names."""
 
+SETTINGS: Dict[int, str] = {
+    1: "the version of the settings is neither 1 nor 2",
+    2: "the greatest batch is not 2 to 1,024 pieces",
+    3: "the greatest transfer is not 8 to 2^31 bytes, or no multiple of 8",
+    4: "the price of a lone descriptor is above 1,000,000,000",
+    5: "the price of a batch is above 1,000,000,000",
+    6: "the price of a fence is above 1,000,000,000",
+    7: "the staging address is no multiple of 64, or above 2^63",
+    8: "the table does not have a price of at most 1,000,000,000 for each size of a batch from 2 to the greatest",
+}
+"""The sentence of cause 83 by the setting that `first` of the refusal names."""
+
 
 class Refusal(Exception):
     """Why a call refuses: its cause, and the places that the cause names."""
@@ -312,8 +324,8 @@ class Refusal(Exception):
     inner: int
     """The number of the cause within, of a plan or a piece that is refused in its turn, else 0."""
     first: int
-    """The first index that the cause names, else 0; of 90 the bytes that portal needs, of 91 the number of pieces, of 92
-    that of rows."""
+    """The first index that the cause names, else 0; of 83 the number of the setting (`SETTINGS`), of 90 the bytes that portal
+    needs, of 91 the number of pieces, of 92 that of rows."""
     second: int
     """The second index, else 0; of 90 the bytes that staging needs."""
 
@@ -329,7 +341,8 @@ class Refusal(Exception):
     def __str__(self) -> str:
         unknown = ("Unknown", "a cause of a later version of the library")
         numbers = [self.number, self.inner] if self.inner else [self.number]
-        whole = ": ".join("{} {}: {}".format(number, *CAUSES.get(number, unknown)) for number in numbers)
+        causes = {**CAUSES, 83: ("Settings", SETTINGS.get(self.first, CAUSES[83][1]))}
+        whole = ": ".join("{} {}: {}".format(number, *causes.get(number, unknown)) for number in numbers)
         return f"refused {whole}".format(self.first, self.second)
 
 

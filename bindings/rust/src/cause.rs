@@ -183,3 +183,18 @@ impl From<u32> for Cause {
         Cause::of(number)
     }
 }
+
+// The sentence of the settings, by the number of the one that is outside its limits.
+pub(crate) const fn sentence_of_setting(number: u64) -> &'static str {
+    match number {
+        1 => "the version of the settings is neither 1 nor 2",
+        2 => "the greatest batch is not 2 to 1,024 pieces",
+        3 => "the greatest transfer is not 8 to 2^31 bytes, or no multiple of 8",
+        4 => "the price of a lone descriptor is above 1,000,000,000",
+        5 => "the price of a batch is above 1,000,000,000",
+        6 => "the price of a fence is above 1,000,000,000",
+        7 => "the staging address is no multiple of 64, or above 2^63",
+        8 => "the table does not have a price of at most 1,000,000,000 for each size of a batch from 2 to the greatest",
+        _ => Cause::Settings.sentence(),
+    }
+}

@@ -100,6 +100,19 @@ of_buffers n =
     if n == 111 then codes "the rows do not have the form of a prepared list" else
     []
 
+-- of settings, by the number of the one that is outside its limits; by another number what is right of each
+unfoldable pub of_settings : ℕ → List ℕ
+of_settings n =
+    if n == 1 then codes "the version of the settings is neither 1 nor 2" else
+    if n == 2 then codes "the greatest batch is not 2 to 1,024 pieces" else
+    if n == 3 then codes "the greatest transfer is not 8 to 2^31 bytes, or no multiple of 8" else
+    if n == 4 then codes "the price of a lone descriptor is above 1,000,000,000" else
+    if n == 5 then codes "the price of a batch is above 1,000,000,000" else
+    if n == 6 then codes "the price of a fence is above 1,000,000,000" else
+    if n == 7 then codes "the staging address is no multiple of 64, or above 2^63" else
+    if n == 8 then codes "the table does not have a price of at most 1,000,000,000 for each size of a batch from 2 to the greatest" else
+    codes "a setting is outside its limits, the version is neither 1 nor 2, or the table of prices has a wrong length"
+
 -- of any number
 abbrev pub sentence : ℕ → List ℕ
 sentence n =
@@ -109,3 +122,7 @@ sentence n =
     if nat_lt n 70 then of_certificates n else
     if nat_lt n 90 then of_runs n else
     of_buffers n
+
+-- of any number, where 83 names the setting by its first number
+abbrev pub said : ℕ → ℕ → List ℕ
+said number first = if number == 83 then of_settings first else sentence number

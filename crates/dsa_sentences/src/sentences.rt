@@ -2,7 +2,7 @@
 //! second. docs/FORMATS.md has the same sentences.
 
 ghost use Rattle.std.specs.Prelude.{◌≡◌, ◌≤◌};
-ghost use Rattle.dsa_sentences.specs.Sentences.{sentence, of_buffers, of_certificates, of_lists, of_operations, of_plans, of_runs};
+ghost use Rattle.dsa_sentences.specs.Sentences.{said, sentence, of_buffers, of_certificates, of_lists, of_operations, of_plans, of_runs, of_settings};
 ghost use Rattle.dsa_sentences.specs.Texts.{longest};
 
 /// The causes of a list.
@@ -151,6 +151,27 @@ fn of_buffers(number: u64) -> &'static str
     }
 }
 
+/// Which setting is outside its limits, by its number; by another number what is right of each.
+#[tactic(auto, unfolding(crate::specs::Sentences::of_settings))]
+fn of_settings(number: u64) -> &'static str
+    ensures value { result.now ≡ of_settings number }
+    ensures short { longest result.now ≤ 200 }
+{
+    match number {
+        1 => "the version of the settings is neither 1 nor 2",
+        2 => "the greatest batch is not 2 to 1,024 pieces",
+        3 => "the greatest transfer is not 8 to 2^31 bytes, or no multiple of 8",
+        4 => "the price of a lone descriptor is above 1,000,000,000",
+        5 => "the price of a batch is above 1,000,000,000",
+        6 => "the price of a fence is above 1,000,000,000",
+        7 => "the staging address is no multiple of 64, or above 2^63",
+        8 =>
+            "the table does not have a price of at most 1,000,000,000 for each size of a batch from 2 to the greatest",
+        _ =>
+            "a setting is outside its limits, the version is neither 1 nor 2, or the table of prices has a wrong length",
+    }
+}
+
 /// What the cause of this number means; nothing where no cause has the number.
 pub fn sentence_of(number: u64) -> &'static str
     ensures value { result.now ≡ sentence number }
@@ -172,4 +193,15 @@ pub fn sentence_of(number: u64) -> &'static str
         return of_runs(number);
     }
     of_buffers(number)
+}
+
+/// What the cause of this number means. Of 83 the first number that the refusal names is that of the setting.
+pub(crate) fn said_of(number: u64, first: u64) -> &'static str
+    ensures value { result.now ≡ said number first }
+    ensures short { longest result.now ≤ 200 }
+{
+    if number == 83 {
+        return of_settings(first);
+    }
+    sentence_of(number)
 }

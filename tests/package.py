@@ -115,6 +115,40 @@ def reproduced():
         expect(first.read_bytes() == path.read_bytes(), f"{path.name} differs when it is made again")
 
 
+def unproved():
+    """Nothing is packaged but files that the gate recorded as proved: in a copy of the tree with another file, without a record,
+    with that of another crate or kit, or with another source, make.py stops with the reason and writes nothing."""
+    tree, crates = Path(WORK, "tree"), ("dsa", "dsa_text", "dsa_c")
+    shutil.copytree(ROOT, tree, ignore=shutil.ignore_patterns("out", ".git"))
+    for crate in crates:
+        built = make.PROVED["libdsa_c.a" if crate == "dsa_c" else crate]
+        (tree / f"crates/{crate}/out").mkdir()
+        for path in (built, built.parent / "proved"):
+            shutil.copy(path, tree / f"crates/{crate}/out")
+    packed, path_of_rt = (tree / "bindings/package/make.py", Path(WORK, "none")), os.environ["PATH"]
+    record = tree / "crates/dsa/out/proved"
+    name, kit, rest = record.read_text().split(" ", 2)
+    changes = {
+        tree / "crates/dsa/out/dsa": (lambda old: old + b"\0", "crates/dsa/out/dsa is another file than the one that was proved"),
+        tree / "crates/dsa_c/out/libdsa_c.a": (lambda old: None, "crates/dsa_c/out/libdsa_c.a is missing"),
+        tree / "crates/dsa_text/out/proved": (lambda old: None, "there is no record that crates/dsa_text/out/dsa_text was proved"),
+        tree / "crates/dsa_ranges/src/lib.rt": (lambda old: old + b"\n", "crates/dsa/out/dsa is older than its sources"),
+    }
+    records = {f"dsa_text {kit} {rest}": "of another crate", f"{name} rattle-kit-0 {rest}": "proved with another kit"}
+    for text, why in records.items():
+        record.write_text(text)
+        refused(why, [f"make.py: crates/dsa/out/dsa is {why}; prove it first: "], *packed, PATH=path_of_rt)
+    record.write_text(f"{name} {kit} {rest}")
+    for path, (change, why) in changes.items():
+        old = path.read_bytes()
+        new = change(old)
+        path.unlink() if new is None else path.write_bytes(new)
+        refused(why, [f"make.py: {why}; prove it first: "], *packed, PATH=path_of_rt)
+        path.write_bytes(old)
+    expect(not Path(WORK, "none").exists(), "make.py wrote a package of what is not recorded as proved")
+    tried("make.py in the copy", *packed, PATH=path_of_rt)
+
+
 def installed():
     """What is in the archive is in the prefix, a second installation takes the place of the first, and what is taken away
     leaves what others had there and nothing else."""
@@ -463,7 +497,7 @@ def threads():
         tried(f"threads {kind}", "./threads", os.environ.get("LISTS", "100"), 8, 20261124)
 
 
-PARTS = [version, causes, reproduced, installed, debian, symbols, pages, completion, said]
+PARTS = [version, causes, reproduced, unproved, installed, debian, symbols, pages, completion, said]
 PARTS += [c, cmake, rust, python, sentences, readme, threads]
 
 

@@ -7,6 +7,7 @@ import ast
 import os
 import re
 import shutil
+import struct
 import subprocess
 import sys
 import tempfile
@@ -119,25 +120,47 @@ def prepared():
     tried("the ring of docs/USING.md", [compiled(f"{WORK}/ring.c")], block_after("docs/USING.md", "It prints", ""))
 
 
+def recorder():
+    """Four threads record by the lines of docs/USING.md: each batch is followed by its own members, and none is lost."""
+    lines, recording = Path(WORK, "recorder.inc"), Path(WORK, "recording")
+    lines.write_text(block_after("docs/USING.md", "At the place where it rings the portal", "c"))
+    built = f"{WORK}/recorder"
+    words = [compiler(), "-std=c11", "-D_GNU_SOURCE", *WARN, "-O2", "-pthread", f'-DRECORDER="{lines}"']
+    tried("the build of the recorder", [*words, "tests/bindings/recorder.c", "-o", built])
+    tried("the recorder", [built, recording])
+    entries, found = recording.read_bytes(), []
+    for at in range(0, len(entries), 64):
+        owner, _, code, record = struct.unpack_from("<I3sBQ", entries, at)
+        found.append((owner, code, record))
+    batches = [found[at : at + 4] for at in range(0, len(found), 4)]
+    mixed = [batch for batch in batches if batch != [(batch[0][0], 1, 0), *((batch[0][0], 0, k) for k in range(3))]]
+    owners = sorted(batch[0][0] for batch in batches)
+    expect(not mixed and owners == [thread for thread in range(4) for _ in range(200)], f"the recording has {mixed[:3]}")
+
+
 def sentences_of_bindings():
-    """The sentences of the Python module and of the Rust crate, by number."""
+    """The sentences of the Python module and of the Rust crate, by number, and those of settings by theirs."""
     tree = ast.parse(Path("bindings/python/dsa_planner.py").read_text())
-    [table] = [node.value for node in tree.body if isinstance(node, ast.AnnAssign) and node.target.id == "CAUSES"]
-    of_python = {number: said for number, (_, said) in ast.literal_eval(table).items()}
+    tables = {node.target.id: node.value for node in tree.body if isinstance(node, ast.AnnAssign)}
+    of_python = {number: said for number, (_, said) in ast.literal_eval(tables["CAUSES"]).items()}
+    settings = ast.literal_eval(tables["SETTINGS"])
     source = Path("bindings/rust/src/cause.rs").read_text()
     of_rust = {int(number): said for number, said in re.findall(r' = (\d+): "([^"]*)",', source)}
-    expect(of_python == of_rust, "the crate and the module have other sentences")
-    return of_python
+    of_settings = {int(number): said for number, said in re.findall(r'^ +(\d+) => "([^"]*)",', source, re.M)}
+    expect((of_python, settings) == (of_rust, of_settings), "the crate and the module have other sentences")
+    return of_python, settings
 
 
 def texts():
     """The text of each refusal is the sentence that Python and Rust say, whatever the room for it; no cause has none."""
-    said, most, wanted, asked = sentences_of_bindings(), 2**64 - 1, [], []
+    (said, settings), most, wanted, asked = sentences_of_bindings(), 2**64 - 1, [], []
     within = [(47, inner) for inner in (2, 10, 12, 13, 33, 37)] + [(60, inner) for inner in (40, 41, 42, 43)]
     numbers = [(number, 0) for number in said] + within + [(0, 0), (14, 0), (112, 0), (2**32 - 1, 0), (0, 43), (60, 14)]
     for number, inner in numbers:
-        for first, second in ((0, 0), (7, 65_535), (most, most)):
-            parts = [said[one] for one in (number, inner) if number in said and one in said]
+        firsts = ((k, 0) for k in range(1, 10)) if number == 83 else ()
+        for first, second in ((0, 0), (7, 65_535), (most, most), *firsts):
+            known = {**said, 83: settings.get(first, said[83])}
+            parts = [known[one] for one in (number, inner) if number in said and one in said]
             text = ": ".join(parts).format(first, second)
             for room in {512, len(text), max(0, len(text) - 1), 10, 0}:
                 asked.append(f"{number} {inner} {first} {second} {room}\n")
@@ -164,7 +187,7 @@ def main(words):
         sys.exit(0)
     make.need_proved("libdsa_c.a")
     with tempfile.TemporaryDirectory() as WORK:
-        for part in named([header, examples, calls, texts, prepared, random_lists, speed], words):
+        for part in named([header, examples, calls, texts, prepared, recorder, random_lists, speed], words):
             part()
 
 

@@ -42,11 +42,12 @@ def expect(right, fault):
 
 
 def expect_line(command, text, line):
-    """The command answers the text with this line, or these, and ends with status 1 for a refusal and else 0."""
+    """The command answers the text with this line, or these, ends with status 1 for a refusal and else 0, and writes
+    nothing to standard error."""
     text = text if isinstance(text, bytes) else text.encode()
     ran = subprocess.run(command, input=text, capture_output=True)
-    wanted = (int(line.startswith("refused")), line.encode() + b"\n")
-    got = (ran.returncode, ran.stdout)
+    wanted = (int(line.startswith("refused")), line.encode() + b"\n", b"")
+    got = (ran.returncode, ran.stdout, ran.stderr)
     if got != wanted:
         words = " ".join(map(str, command[1:]))
         got = f"status {ran.returncode}, {ran.stdout[:400]} and on standard error {ran.stderr[:200]}"

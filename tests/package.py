@@ -87,12 +87,9 @@ def version():
     missing = [(page, word) for page, words in pages.items() for word in words if word not in Path(page).read_text()]
     expect(not missing, f"other versions than {whole} stand in pages: {missing}")
     expect(f"\n## {whole}\n" in Path("CHANGELOG.md").read_text(), f"CHANGELOG.md has no part {whole}")
-    for name in ("dsa", "dsa_text"):
-        end = subprocess.run([program(name), "--version"], capture_output=True, text=True, stdin=subprocess.DEVNULL)
-        if end.returncode == 0:
-            expect(end.stdout == f"{name} {whole}\n", f"{name} --version prints {end.stdout!r}, the header has {whole}")
-        else:
-            print(f"{name} has no --version")
+    end = subprocess.run([program("dsa_text"), "--version"], capture_output=True, text=True, stdin=subprocess.DEVNULL)
+    printed = (end.returncode, end.stdout)
+    expect(printed == (0, f"dsa_text {whole}\n"), f"dsa_text --version: {printed}, the header has {whole}")
 
 
 def causes():
@@ -116,6 +113,40 @@ def reproduced():
     for path in make.make(Path(WORK, "again")):
         first = ROOT / "out" / path.name
         expect(first.read_bytes() == path.read_bytes(), f"{path.name} differs when it is made again")
+
+
+def unproved():
+    """Nothing is packaged but files that the gate recorded as proved: in a copy of the tree with another file, without a record,
+    with that of another crate or kit, or with another source, make.py stops with the reason and writes nothing."""
+    tree, crates = Path(WORK, "tree"), ("dsa", "dsa_text", "dsa_c")
+    shutil.copytree(ROOT, tree, ignore=shutil.ignore_patterns("out", ".git"))
+    for crate in crates:
+        built = make.PROVED["libdsa_c.a" if crate == "dsa_c" else crate]
+        (tree / f"crates/{crate}/out").mkdir()
+        for path in (built, built.parent / "proved"):
+            shutil.copy(path, tree / f"crates/{crate}/out")
+    packed, path_of_rt = (tree / "bindings/package/make.py", Path(WORK, "none")), os.environ["PATH"]
+    record = tree / "crates/dsa/out/proved"
+    name, kit, rest = record.read_text().split(" ", 2)
+    changes = {
+        tree / "crates/dsa/out/dsa": (lambda old: old + b"\0", "crates/dsa/out/dsa is another file than the one that was proved"),
+        tree / "crates/dsa_c/out/libdsa_c.a": (lambda old: None, "crates/dsa_c/out/libdsa_c.a is missing"),
+        tree / "crates/dsa_text/out/proved": (lambda old: None, "there is no record that crates/dsa_text/out/dsa_text was proved"),
+        tree / "crates/dsa_ranges/src/lib.rt": (lambda old: old + b"\n", "crates/dsa/out/dsa is older than its sources"),
+    }
+    records = {f"dsa_text {kit} {rest}": "of another crate", f"{name} rattle-kit-0 {rest}": "proved with another kit"}
+    for text, why in records.items():
+        record.write_text(text)
+        refused(why, [f"make.py: crates/dsa/out/dsa is {why}; prove it first: "], *packed, PATH=path_of_rt)
+    record.write_text(f"{name} {kit} {rest}")
+    for path, (change, why) in changes.items():
+        old = path.read_bytes()
+        new = change(old)
+        path.unlink() if new is None else path.write_bytes(new)
+        refused(why, [f"make.py: {why}; prove it first: "], *packed, PATH=path_of_rt)
+        path.write_bytes(old)
+    expect(not Path(WORK, "none").exists(), "make.py wrote a package of what is not recorded as proved")
+    tried("make.py in the copy", *packed, PATH=path_of_rt)
 
 
 def installed():
@@ -206,7 +237,7 @@ def pages():
         end = ran("man", "--warnings", "-l", source, MANWIDTH="200", LC_ALL="C.UTF-8")
         expect(end.returncode == 0 and not end.stderr, f"man {page}: {end.stderr[:500]}")
         shown[page] = end.stdout
-    words = {"man1/dsa.1": ["Unfenced", "greatest_transfer", "DualcastBits"], "man3/dsa_planner.3": make.exported()}
+    words = {"man1/dsa.1": ["no arguments", "nothing to standard error", "Unfenced", "greatest_transfer", "DualcastBits"], "man3/dsa_planner.3": make.exported()}
     words["man1/dsa_text.1"] = ["--greatest-batch", "--svg", "--at", "dualcast"]
     for page, wanted in words.items():
         missing = [word for word in wanted if word not in shown[page]]
@@ -466,7 +497,7 @@ def threads():
         tried(f"threads {kind}", "./threads", os.environ.get("LISTS", "100"), 8, 20261124)
 
 
-PARTS = [version, causes, reproduced, installed, debian, symbols, pages, completion, said]
+PARTS = [version, causes, reproduced, unproved, installed, debian, symbols, pages, completion, said]
 PARTS += [c, cmake, rust, python, sentences, readme, threads]
 
 

@@ -1,6 +1,6 @@
-"""Runs the program on the examples and on the jobs of tests/jobs, and looks at its line and its status in each case:
-0 for an answer, 1 for a refusal, 2 where reading or writing fails. A word takes the jobs that have it in their
-names."""
+"""Runs the program on the examples and on the jobs of tests/jobs, without arguments and with some, and looks at its line
+and its status in each case: 0 for an answer, 1 for a refusal, 2 if reading or writing fails. It looks at no arguments,
+and writes nothing to standard error. A word takes the jobs that have it in their names."""
 
 import re
 import subprocess
@@ -9,18 +9,29 @@ from pathlib import Path
 
 from common import expect, expect_line, having, program, run_test
 
+# The program looks at none of these: an option, a word, a file that is there, one that isn't, no text.
+ARGUMENTS = (
+    [],
+    ["--help"],
+    ["--version", "-x"],
+    ["examples/plan.job"],
+    ["-", "no-such-file", ""],
+    [b"\xff"],
+)
+
 
 def jobs(dsa, words):
     for name in having(sorted(glob("examples/*.job") + glob("tests/jobs/*.job")), words):
         path = Path(name)
-        expect_line([dsa], path.read_bytes(), path.with_suffix(".line").read_text().rstrip("\n"))
+        for arguments in ARGUMENTS:
+            expect_line([dsa, *arguments], path.read_bytes(), path.with_suffix(".line").read_text().rstrip("\n"))
 
 
-def told(command, status, output, error):
-    """What the command prints, and its status."""
+def silent(command, status):
+    """The command writes nothing to either output, and ends with this status."""
     ran = subprocess.run(command, stdin=subprocess.DEVNULL, capture_output=True)
     got = (ran.returncode, ran.stdout, ran.stderr)
-    expect(got == (status, output, error), f"{command}: wanted {(status, output, error)}, got {got}")
+    expect(got == (status, b"", b""), f"{command}: wanted status {status} and no output, got {got}")
 
 
 def by_hand(dsa):
@@ -31,17 +42,11 @@ def by_hand(dsa):
     expect_line([dsa], " " * 1048575, "refused 80 Json")
     expect_line([dsa], "{}\n", "refused 82 Do")
     expect_line([dsa], "[\n", "refused 80 Json")
-    told([dsa, "-"], 2, b"", b"dsa: it takes a job from standard input alone; --help says more\n")
-    told([dsa, "--version"], 0, b"dsa 1.0.0\n", b"")
-    for word in ("--help", "--version"):
-        told(["sh", "-c", 'exec "$0" "$1" > /dev/full', dsa, word], 2, b"", b"dsa: the answer can't be written\n")
-    told(["sh", "-c", 'exec "$0" <&-', dsa], 2, b"", b"dsa: the input can't be read to its end\n")
-    told(["sh", "-c", 'exec "$0" < examples/judge.job > /dev/full', dsa], 2, b"", b"dsa: the answer can't be written\n")
-    helped = subprocess.run([dsa, "--help"], stdin=subprocess.DEVNULL, capture_output=True)
-    expect(helped.returncode == 0 and b"Usage: dsa < JOB" in helped.stdout and not helped.stderr, f"--help: {helped}")
-    header = Path("bindings/c/dsa_planner.h").read_text()
-    parts = [re.search(rf"define DSA_PLANNER_{part} (\d+)", header)[1] for part in ("MAJOR", "MINOR", "PATCH")]
-    expect(".".join(parts) == "1.0.0", f"the header has version {parts}, the programs 1.0.0")
+    for words in ([], ["--help"]):
+        expect_line([dsa, *words], "", "refused 80 Json")
+        silent(["sh", "-c", 'exec "$0" "$@" <&-', dsa, *words], 2)
+        silent(["sh", "-c", 'exec "$0" "$@" < examples/judge.job > /dev/full', dsa, *words], 2)
+        silent(["sh", "-c", 'exec "$0" "$@" < examples/judge.job >&-', dsa, *words], 2)
 
 
 def main(words):

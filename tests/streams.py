@@ -11,7 +11,6 @@ from glob import glob
 from common import ROOT, expect, having, program, refuse_so, run_test, side_by_side
 
 TURNS = 1048576
-REASONS = (b"dsa: the input can't be read to its end\n", b"dsa: the answer can't be written\n")
 JOBS = sorted(glob("examples/*.job", root_dir=ROOT)) + [
     f"tests/jobs/{name}.job" for name in ("judge-unfenced", "check-fence-left-out", "plan-nothing", "no-do", "nothing")
 ]
@@ -28,9 +27,7 @@ def once(shared, tried, text, settings):
         os.close(writer)
         with os.fdopen(reader) as report:
             counts = report.read().split()
-    is_told = ran.returncode == 2 and ran.stderr in REASONS
-    said = ran.stdout if is_told else ran.stdout + ran.stderr
-    return said, ran.returncode, int(counts[2]) if len(counts) == 5 else "unknown"
+    return ran.stdout + ran.stderr, ran.returncode, int(counts[2]) if len(counts) == 5 else "unknown"
 
 
 def turns(text, most):

@@ -2,8 +2,13 @@
  * dsa_planner.h: plans lists of descriptors of Intel's Data Streaming Accelerator, from C or C++.
  *
  * A list of operations goes in, 64 bytes for each (struct dsa_hw_desc of linux/idxd.h); out come the bytes that submit
- * it, as batches and lone descriptors with fences, at least cost. What each call promises, but for
- * dsa_planner_version, is proved: the contracts stand at the functions of the same names in crates/dsa_c/src.
+ * it, as batches and lone descriptors with fences, at least cost.
+ *
+ * Proved:    of each call but dsa_planner_version, for all inputs of a caller that does what is asked below: which number
+ *            it returns, and what it has written then, as its comment here says. The contracts are at the functions of the
+ *            same names in crates/dsa_c/src. Tested, not proved: that a call succeeds if there is memory, how much stack it
+ *            takes, that calls on several threads do not disturb each other, and that DSA_PORTAL_ROOM, DSA_STAGING_ROOM and
+ *            says of it.
  *
  * Link:      cc app.c $(pkg-config --cflags --libs dsa_planner)            with the shared object libdsa_planner.so.1
  *            cc app.c $(pkg-config --cflags --libs dsa_planner_static)     with the archive libdsa_planner.a
@@ -105,9 +110,10 @@ struct dsa_planned {
 struct dsa_refusal {
     uint32_t number; /* a number of enum dsa_number */
     uint32_t inner;  /* of DSA_ENTRY the number of the piece's fault, of DSA_PLAN that of the plan's; else 0 */
-    uint64_t first;  /* the first index that the cause names, from 0; of DSA_NO_ROOM the bytes that portal needs, of
-                        DSA_NO_ROOM_FOR_CERTIFICATE the number of pieces, of DSA_NO_ROOM_FOR_ROWS the rows
-                        that are needed; else 0 */
+    uint64_t first;  /* the first index that the cause names, from 0; of DSA_SETTINGS the setting that is outside its
+                        limits: 1 to 7 for the members of struct dsa_settings in their order, 8 for the table; of
+                        DSA_NO_ROOM the bytes that portal needs, of DSA_NO_ROOM_FOR_CERTIFICATE the number of pieces,
+                        of DSA_NO_ROOM_FOR_ROWS the rows that are needed; else 0 */
     uint64_t second; /* the second index; of DSA_NO_ROOM the bytes that staging needs; else 0 */
 };
 
@@ -158,8 +164,8 @@ enum dsa_number {
     DSA_UNFENCED = 43,    /* the two pieces */
     /* bytes to submit */
     DSA_PORTAL_LENGTH = 44,  /* no index */
-    DSA_BATCH_FIELDS = 45,   /* index of the group */
-    DSA_STAGING_LENGTH = 46, /* no index */
+    DSA_BATCH_FIELDS = 45,   /* index of the group: its count of descriptors or another byte of its entry is wrong */
+    DSA_STAGING_LENGTH = 46, /* no index: the length is wrong, or there are more than 65,536 pieces */
     DSA_ENTRY = 47,          /* index of the piece */
     DSA_ENTRY_FENCE = 48,    /* index of the group */
     DSA_RECORD_BYTES = 49,   /* index of the batch */
@@ -170,9 +176,9 @@ enum dsa_number {
     DSA_PRICE = 63,   /* where the group begins, and where it ends */
     DSA_TOTAL = 64,   /* no index */
     DSA_VERSION = 65, /* no index */
-    /* any call, no index */
-    DSA_MEMORY = 73,   /* an allocation failed */
-    DSA_SETTINGS = 83, /* a setting outside its limits, an unknown version, or a table of another length */
+    /* any call */
+    DSA_MEMORY = 73,   /* no index: an allocation failed */
+    DSA_SETTINGS = 83, /* the number of the setting: outside its limits, an unknown version, a table of another length */
     /* room in the caller's arrays */
     DSA_NO_ROOM = 90,
     DSA_NO_ROOM_FOR_CERTIFICATE = 91,
@@ -219,7 +225,10 @@ uint64_t dsa_count_pieces(const struct dsa_settings *settings,
                           const uint8_t *list, size_t list_len);
 
 /*
- * Plans a list: 64 bytes for each operation, in the order in which they are to take effect.
+ * Plans a list: 64 bytes for each operation, in their order.
+ *
+ * If all operations succeed, the final memory is that of the list in order. Nothing is promised of what another thread, an
+ * interrupt or the device's other queues see in between, nor that a later operation waits for an earlier one to succeed.
  *
  * Returns 0: portal and staging begin with the bytes that submit the plan of least cost, and planned has their lengths.
  * The rest of each buffer is unchanged; refusal is not written. To run the plan, clear the completion records of all

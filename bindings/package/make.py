@@ -3,9 +3,9 @@
 
     bindings/package/make.py [FOLDER]
 
-It needs the proved archive and both programs (`./run dsa`, `./run dsa_text`, `cd crates/dsa_c && rt lib`), a C compiler
-(CC names it), binutils, and dpkg-deb for the second. Where the folder is given the packages are written there. Equal
-inputs give equal packages, byte for byte."""
+It needs the archive and both programs, as the gate proved and recorded them (`tests/gate/gate.py --kept --proofs dsa dsa_text
+dsa_c`), the toolchain, a C compiler (CC names it), binutils, and dpkg-deb for the second. If the folder is given, the packages
+are written there. Equal inputs give equal packages, byte for byte."""
 
 import gzip
 import hashlib
@@ -64,46 +64,15 @@ def exported():
     return sorted(set(re.findall(r"^(?:uint32_t|uint64_t) (dsa_\w+)\(", HEADER.read_text(), re.M)))
 
 
-def sources_of(crate):
-    """The code, the definitions and the proofs from which a crate is built, those of the crates below it too."""
-    lines = [line.partition(":") for line in (ROOT / "crates.txt").read_text().splitlines() if line[:1] not in ("", "#")]
-    below = {name.split()[0]: rest.split() for name, _, rest in lines}
-    found, waiting = set(), [crate]
-    while waiting:
-        name = waiting.pop()
-        if name in below and name not in found:
-            found.add(name)
-            waiting += below[name]
-    kinds = [("src", "*.rt"), ("specs", "*.antt"), ("proofs", "*.antt")]
-    folders = [(ROOT / "crates" / name / folder, files) for name in found for folder, files in kinds]
-    return [path for folder, files in folders for path in folder.rglob(files)]
-
-
-# Ends with status 0 where each crate that is named is built from the sources that it has, by the sums that the gate noted.
-IS_MADE = """
-import sys, toolchain
-known = toolchain.crates()
-sys.exit(not all(known[name].is_made() for name in sys.argv[1:]))
-"""
-
-
-def is_current(path, crate):
-    """Whether what was built is of the sources as they are: no source is newer, or the gate noted the sum of them all."""
-    if path.stat().st_mtime >= max(source.stat().st_mtime for source in sources_of(crate)):
-        return True
-    ask = [sys.executable, "-B", "-c", IS_MADE, crate]
-    return subprocess.run(ask, cwd=ROOT / "tests/gate", capture_output=True).returncode == 0
-
-
 def need_proved(*files):
-    """Ends the script where something isn't built, or is older than what it is built from."""
-    for path in [PROVED[file] for file in files or PROVED]:
-        crate = path.parent.parent.name
-        build = f"cd crates/{crate} && rt lib" if crate == "dsa_c" else f"./run {crate} --help"
-        if not path.exists():
-            sys.exit(f"{path.relative_to(ROOT)} is missing; build it first: {build}")
-        if not is_current(path, crate):
-            sys.exit(f"{path.relative_to(ROOT)} is older than its sources; build it first: {build}")
+    """The kit and the sum of each built file, as the gate recorded them when it was proved; the reason ends the script where the
+    gate has no record of the file, or not of this file, these sources and this kit."""
+    crates = [PROVED[file].parent.parent.name for file in files or PROVED]
+    ask = [sys.executable, "-B", ROOT / "tests/gate/proved.py", *crates]
+    ran = subprocess.run(ask, capture_output=True, text=True)
+    if ran.returncode != 0:
+        sys.exit(f"make.py: {ran.stderr.strip()}")
+    return {name: (kit, summed) for name, kit, summed in map(str.split, ran.stdout.splitlines())}
 
 
 def libraries(to):
@@ -176,11 +145,11 @@ def commit():
     return name + (", with changes that are not committed" if changes else ""), time
 
 
-def proved():
-    """The file that says what was proved."""
+def proved(records):
+    """The file that says what was proved, from what the gate recorded of each built file."""
     name, _ = commit()
-    kit = run("rt", "version").split()[0]
-    sums = "\n".join(f"{hashlib.sha256(path.read_bytes()).hexdigest()}  {file}" for file, path in PROVED.items())
+    [kit] = {kit for kit, _ in records.values()}
+    sums = "\n".join(f"{records[path.parent.parent.name][1]}  {file}" for file, path in PROVED.items())
     return f"""What was proved of dsa-planner {".".join(map(str, version()))}
 
 Commit: {name}
@@ -201,7 +170,7 @@ Promises, for all inputs, with the functions whose clauses carry them:
 """
 
 
-def tree(root, places):
+def tree(root, places, records):
     """All files of the package, under one folder."""
     numbers = ".".join(map(str, version()))
     library = root / places["lib"]
@@ -209,14 +178,16 @@ def tree(root, places):
     for folder in (root / "bin", root / "include", library, docs / "examples"):
         folder.mkdir(parents=True)
     for name in ("dsa", "dsa_text"):
-        shutil.copy(PROVED[name], root / "bin" / name)
+        copied = Path(shutil.copy(PROVED[name], root / "bin" / name))
+        if hashlib.sha256(copied.read_bytes()).hexdigest() != records[name][1]:
+            sys.exit(f"make.py: {name} changed while it was packaged")
     shutil.copy(HEADER, root / "include")
     libraries(library)
     build_files(library, places)
     manuals(root / "share/man", numbers)
     script = completion.bash(str(PROVED["dsa_text"]), "dsa_text")
     write(root / "share/bash-completion/completions/dsa_text", script)
-    write(docs / "PROVED", proved())
+    write(docs / "PROVED", proved(records))
     for page in ("USING.md", "FORMATS.md", "PRICES.md", "jobs.schema.json"):
         shutil.copy(ROOT / f"docs/{page}", docs)
     shutil.copy(ROOT / "CHANGELOG.md", docs)
@@ -313,20 +284,20 @@ def debian(root, to, numbers):
 
 def make(to):
     """Makes the packages; answers where they are."""
-    need_proved()
+    records = need_proved()
     numbers = ".".join(map(str, version()))
     name = f"dsa-planner-{numbers}-x86_64-linux"
     to.mkdir(parents=True, exist_ok=True)
     made = [to / f"{name}.tar.gz"]
     with tempfile.TemporaryDirectory() as work:
         root = Path(work, name)
-        tree(root, ANYWHERE)
+        tree(root, ANYWHERE, records)
         shutil.copy(HERE / "install.sh", root)
         tidy(root)
         tarball(root, made[0])
         if shutil.which("dpkg-deb"):
             made.append(to / f"dsa-planner_{numbers}_amd64.deb")
-            tree(Path(work, "debian/usr"), DEBIAN)
+            tree(Path(work, "debian/usr"), DEBIAN, records)
             debian(Path(work, "debian"), made[1], numbers)
         else:
             print("there is no dpkg-deb, so no package for Debian")

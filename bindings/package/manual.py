@@ -87,9 +87,9 @@ def sections(**parts):
 STATUS = roff("""
 | Status | Meaning |
 |---|---|
-| 0 | an answer is on standard output |
-| 1 | a refusal is on standard output |
-| 2 | reading or writing failed, or the arguments are wrong |
+| 0 | the line is the answer |
+| 1 | the line is a refusal |
+| 2 | reading failed, or 1,048,576 turns of reading did not reach the end: there is no line. Or writing failed: part of the line may be written |
 """)
 
 
@@ -105,8 +105,14 @@ TEXT_STATUS = roff("""
 def dsa(head):
     """dsa(1)."""
     about = """
-`dsa` reads one job, a JSON object, on standard input and writes one line on standard output: the answer, or a refusal
-with the number and the name of its first cause (`dsa_text explain` of the same job says the place too). All addresses are the device's; nothing here touches a device.
+`dsa` reads one job, a JSON object, on standard input to its end, and writes one line on standard output: the answer, or a
+refusal with the number and the name of its first cause. It looks at no arguments and writes nothing to standard error, so
+the line and the status are all that it says. `dsa_text explain` of a job to plan, judge or check says in a sentence what is
+refused and why. All addresses are the device's; nothing here touches a device.
+
+`share/doc/dsa-planner/examples` has a job of each kind:
+
+    dsa < /usr/share/doc/dsa-planner/examples/plan.job
 """
     return PAGE.format(title="DSA", section=1, **head) + sections(
         NAME=plain("dsa - plan, check, judge, replay and run lists of DSA descriptors") + "\n",

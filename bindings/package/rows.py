@@ -4,14 +4,31 @@ import json
 import re
 
 NONE = 2**32 - 1
+MEMBERS = ("version", "greatest_batch", "greatest_transfer", "lone", "batch", "fence", "staging")
 HEAD = """# Rows for tests of a caller: lines of a key and what belongs to it; the line `answer` ends a row. `settings` are the
 # seven numbers of struct dsa_settings in their order, `table` the prices by size, bytes are hexadecimal, a pair is two
 # numbers, and of no pair both are 4294967295. An answer of a refusal has its four numbers.
 """
 
 
-def refusal(line):
-    """The four numbers of a refusal, or none where no call of the library has it."""
+def outside(settings):
+    """The number of the setting that is outside its limits, of several the first, but the prices of batches last."""
+    version, batch, transfer, lone, price, fence, staging = (settings[key] for key in MEMBERS)
+    wrong = {
+        1: version not in (1, 2),
+        2: not 2 <= batch <= 1024,
+        3: not 8 <= transfer <= 1 << 31 or transfer % 8 != 0,
+        4: lone > 10**9,
+        6: fence > 10**9,
+        7: staging > 1 << 63 or staging % 64 != 0,
+        5: not isinstance(price, list),
+        8: True,
+    }
+    return next(number for number, is_wrong in wrong.items() if is_wrong)
+
+
+def refusal(line, settings):
+    """The four numbers of a refusal, or none if no call of the library has it."""
     words = line.split()[1:]
     number = int(words[0])
     if number in (20, 21, 50) or 70 <= number <= 86 and number != 83:
@@ -22,7 +39,7 @@ def refusal(line):
     elif number == 47:
         places, inner = found[:1], found[1]
     else:
-        inner, places = 0, found
+        inner, places = 0, [outside(settings)] if number == 83 else found
     first, second = (*places, 0, 0)[:2]
     return f"refused {number} {inner} {first} {second}"
 
@@ -52,7 +69,7 @@ def row(name, job, line):
     table = settings["batch"] if isinstance(settings["batch"], list) else []
     numbers = [settings[key] for key in ("version", "greatest_batch", "greatest_transfer", "lone")]
     numbers += [0 if table else settings["batch"], settings["fence"], settings["staging"]]
-    answer = refusal(line) if line.startswith("refused") else cost_line(job, json.loads(line))
+    answer = refusal(line, settings) if line.startswith("refused") else cost_line(job, json.loads(line))
     lines = [f"row {name}", f"do {job['do']}", "settings " + " ".join(map(str, numbers)), "table " + " ".join(map(str, table))]
     lines += [f"{key} {job[key].lower()}" for key in ("list", "portal", "staging") if key in job]
     if job["do"] == "judge":

@@ -272,8 +272,8 @@ CAUSES: Dict[int, Tuple[str, str]] = {
     42: ("FirstFence", "the first of group {0} is fenced"),
     43: ("Unfenced", "pieces {0} and {1} of one group conflict without a fence between"),
     44: ("PortalLength", "the portal's length is no multiple of 64"),
-    45: ("BatchFields", "a byte of the batch entry of group {0} is not the one of its place"),
-    46: ("StagingLength", "the staging's length is not 64 for each piece in a batch and 32 for each batch"),
+    45: ("BatchFields", "the number of descriptors in the batch entry of group {0} is outside 2 to the greatest batch, or a byte is not the one of its place"),
+    46: ("StagingLength", "the staging's length is not 64 for each piece in a batch and 32 for each batch, or there are more than 65,536 pieces"),
     47: ("Entry", "piece {0} is refused"),
     48: ("EntryFence", "the first piece of group {0} is fenced"),
     49: ("RecordBytes", "the 32 record bytes of batch {0} are not all zero"),
@@ -284,7 +284,7 @@ CAUSES: Dict[int, Tuple[str, str]] = {
     64: ("Total", "the last price is not the plan's cost"),
     65: ("Version", "the certificate is of another version than the settings"),
     73: ("Memory", "there was not enough memory"),
-    83: ("Settings", "a setting is outside its limits, or the table of prices has a wrong length"),
+    83: ("Settings", "a setting is outside its limits, the version is neither 1 nor 2, or the table of prices has a wrong length"),
     90: ("NoRoom", "a buffer is too small for the bytes to submit: portal needs {0} bytes and staging {1}"),
     91: ("NoRoomForCertificate", "an array is too small for the prices, the pairs or the marks of {0} pieces"),
     92: ("NoRoomForRows", "the array of rows is too small: {0} rows are needed"),
@@ -303,6 +303,18 @@ CAUSES: Dict[int, Tuple[str, str]] = {
 }
 """The name and the sentence of each cause, by its number; {0} and {1} stand for the places that a refusal names."""
 
+SETTINGS: Dict[int, str] = {
+    1: "the version of the settings is neither 1 nor 2",
+    2: "the greatest batch is not 2 to 1,024 pieces",
+    3: "the greatest transfer is not 8 to 2^31 bytes, or no multiple of 8",
+    4: "the price of a lone descriptor is above 1,000,000,000",
+    5: "the price of a batch is above 1,000,000,000",
+    6: "the price of a fence is above 1,000,000,000",
+    7: "the staging address is no multiple of 64, or above 2^63",
+    8: "the table does not have a price of at most 1,000,000,000 for each size of a batch from 2 to the greatest",
+}
+"""The sentence of cause 83 by the setting that `first` of the refusal names."""
+
 
 class Refusal(Exception):
     """Why a call refuses: its cause, and the places that the cause names."""
@@ -312,8 +324,8 @@ class Refusal(Exception):
     inner: int
     """The number of the cause within, of a plan or a piece that is refused in its turn, else 0."""
     first: int
-    """The first index that the cause names, else 0; of 90 the bytes that portal needs, of 91 the number of pieces, of 92
-    that of rows."""
+    """The first index that the cause names, else 0; of 83 the number of the setting (`SETTINGS`), of 90 the bytes that portal
+    needs, of 91 the number of pieces, of 92 that of rows."""
     second: int
     """The second index, else 0; of 90 the bytes that staging needs."""
 
@@ -329,7 +341,8 @@ class Refusal(Exception):
     def __str__(self) -> str:
         unknown = ("Unknown", "a cause of a later version of the library")
         numbers = [self.number, self.inner] if self.inner else [self.number]
-        whole = ": ".join("{} {}: {}".format(number, *CAUSES.get(number, unknown)) for number in numbers)
+        causes = {**CAUSES, 83: ("Settings", SETTINGS.get(self.first, CAUSES[83][1]))}
+        whole = ": ".join("{} {}: {}".format(number, *causes.get(number, unknown)) for number in numbers)
         return f"refused {whole}".format(self.first, self.second)
 
 
@@ -366,7 +379,11 @@ def count_pieces(settings: Settings, operations: Bytes) -> int:
 
 
 def plan_list(settings: Settings, operations: Bytes) -> Summary:
-    """Plans a list: 64 bytes for each operation, in the order in which they are to take effect. Raises `Refusal`."""
+    """Plans a list: 64 bytes for each operation, in their order. Raises `Refusal`.
+
+    If all operations succeed, the final memory is that of the list in order. Nothing is promised of what another thread, an
+    interrupt or the device's other queues see in between, nor that a later operation waits for an earlier one to succeed.
+    """
     raw, table, entries = settings._raw()
     listed, size = _given("operations", operations)
     pieces = min(int(_library.dsa_count_pieces(raw, table, entries, listed, size)), MOST_PIECES)

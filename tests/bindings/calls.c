@@ -157,16 +157,64 @@ static void refusals_leave_the_outputs(void)
     struct dsa_settings other = settings;
     put_moves(64, 64);
     other.version = 3;
-    expect(plan(&other, table, 3, sizeof staging) == DSA_SETTINGS && outputs_stay());
+    expect(plan(&other, table, 3, sizeof staging) == DSA_SETTINGS && refusal.first == 1 && outputs_stay());
     other.version = 2;
     expect(plan(&other, table, 2, sizeof staging) == DSA_SETTINGS && outputs_stay());
-    expect(refusal.number == DSA_SETTINGS && refusal.inner == 0 && refusal.first == 0 && refusal.second == 0);
+    expect(refusal.number == DSA_SETTINGS && refusal.inner == 0 && refusal.first == 8 && refusal.second == 0);
     expect(plan(&settings, &settings.batch, 0, 159) == DSA_NO_ROOM && outputs_stay());
     expect(refusal.first == 64 && refusal.second == 160);
     expect(certify(160, 2, 2, 2) == DSA_NO_ROOM_FOR_CERTIFICATE && refusal.first == 2 && outputs_stay());
     expect(certify(160, 3, 1, 2) == DSA_NO_ROOM_FOR_CERTIFICATE && outputs_stay());
     expect(certify(160, 3, 2, 1) == DSA_NO_ROOM_FOR_CERTIFICATE && outputs_stay());
     expect(certify(159, 2, 1, 1) == DSA_NO_ROOM && refusal.first == 64 && refusal.second == 160 && outputs_stay());
+}
+
+/* The call refused the settings, named this one and wrote nothing. */
+static void expect_setting(uint32_t number, uint64_t setting)
+{
+    expect(number == DSA_SETTINGS && refusal.number == DSA_SETTINGS && refusal.inner == 0 && refusal.first == setting
+           && refusal.second == 0 && outputs_stay());
+}
+
+/* The refusal names a setting that is outside its limits by its place in the struct, and the table as 8; of several the
+ * first, but the price of a batch after all others. */
+static void settings_are_named(void)
+{
+    const uint64_t dear = 1000000001, short_table[] = {14, 14}, dear_table[] = {14, dear, 14};
+    const struct {
+        struct dsa_settings of;
+        uint64_t setting;
+    } wrong[] = {
+        {{0, 4, 4096, 10, 14, 3, 0x10000}, 1},
+        {{3, 4, 4096, 10, 14, 3, 0x10000}, 1},
+        {{1, 1, 4096, 10, 14, 3, 0x10000}, 2},
+        {{1, 1025, 4096, 10, 14, 3, 0x10000}, 2},
+        {{1, 4, 0, 10, 14, 3, 0x10000}, 3},
+        {{1, 4, 4100, 10, 14, 3, 0x10000}, 3},
+        {{1, 4, UINT64_C(0x80000008), 10, 14, 3, 0x10000}, 3},
+        {{1, 4, 4096, dear, 14, 3, 0x10000}, 4},
+        {{1, 4, 4096, 10, dear, 3, 0x10000}, 5},
+        {{1, 4, 4096, 10, 14, dear, 0x10000}, 6},
+        {{1, 4, 4096, 10, 14, 3, 0x10020}, 7},
+        {{1, 4, 4096, 10, 14, 3, UINT64_C(0x8000000000000040)}, 7},
+        {{1, 1025, 4100, dear, dear, dear, 0x10020}, 2},
+        {{1, 4, 4096, 10, dear, dear, 0x10000}, 6},
+    };
+    struct dsa_settings by_size = settings;
+    put_moves(64, 64);
+    for (size_t k = 0; k < sizeof wrong / sizeof wrong[0]; k++) {
+        const struct dsa_settings *of = &wrong[k].of;
+        expect_setting(plan(of, &of->batch, 0, sizeof staging), wrong[k].setting);
+        expect_setting(dsa_judge(of, &of->batch, 0, list, sizeof list, marks, 2, &cost, &refusal), wrong[k].setting);
+        expect_setting(dsa_check(of, &of->batch, 0, portal, 64, staging, 160, 1, prices, 3, pairs, 2, &cost, &refusal),
+                       wrong[k].setting);
+    }
+    by_size.version = 2;
+    expect_setting(plan(&by_size, short_table, 2, sizeof staging), 8);
+    expect_setting(plan(&by_size, dear_table, 3, sizeof staging), 8);
+    by_size.batch = dear; /* which does not count */
+    by_size.lone = dear;
+    expect_setting(plan(&by_size, short_table, 2, sizeof staging), 4);
 }
 
 /* A batch of two costs 5 in the table, and its fence 3. */
@@ -211,6 +259,7 @@ int main(void)
     plans_are_judged();
     other_bits_of_marks_do_not_count();
     refusals_leave_the_outputs();
+    settings_are_named();
     prices_go_by_size();
     the_most_pieces_are_planned_checked_and_judged();
     return 0;

@@ -23,11 +23,16 @@ def load_rt():
     loader = importlib.machinery.SourceFileLoader("rt", os.path.realpath(program))
     module = importlib.util.module_from_spec(importlib.util.spec_from_loader("rt", loader))
     loader.exec_module(module)
-    with open(f"{module.KIT}/KIT-ID", encoding="utf-8") as file:
-        found = file.read().strip()
+    found = kit_of(module)
     if not found.startswith(KIT_IDS):
         sys.exit(f"the gate knows {' and '.join(KIT_IDS)}, and this is {found}: run tests/full, which asks rt alone")
     return module
+
+
+def kit_of(module):
+    """Returns the kit of an `rt`, as `rt version` prints it."""
+    with open(f"{module.KIT}/KIT-ID", encoding="utf-8") as file:
+        return file.read().strip()
 
 
 rt = load_rt()
@@ -57,27 +62,41 @@ class Crate(rt.Crate):
     def words_of_check(self, jobs):
         return [*self.words(["--jobs", str(jobs)]), "--incremental", KEPT]
 
-    def stamp_file(self):
-        """Returns where the sum of the sources of what was made stands: for a library where rt looks for it."""
-        return f"{self.folder}/out/rlib/stamp" if self.makes_rlib() else f"{self.made()}.stamp"
+    def built(self):
+        """Returns what is used of a proved crate: the linked program, the archive or the library."""
+        return f"{self.folder}/out/{self.name}" if self.is_program else self.made()
+
+    def record_file(self):
+        """Returns where it is noted that the crate was proved: for a library where rt looks for it."""
+        return f"{self.folder}/out/rlib/stamp" if self.makes_rlib() else f"{self.folder}/out/proved"
+
+    def record(self):
+        """Returns what is noted of a proved crate: the sum of its sources; of a program or an archive also its name, the kit and
+        the sum of the built file, so that another file is not taken for the proved one."""
+        if self.makes_rlib():
+            return self.stamp()
+        kit = kit_of(rt).split()[0]
+        return f"{self.name} {kit} {rtlib.sum_of(self.built())} {self.stamp()}\n"
 
     def is_made(self):
-        return os.path.exists(self.made()) and rtlib.text_of(self.stamp_file()) == self.stamp()
+        return os.path.exists(self.made()) and rtlib.text_of(self.record_file()) == self.record()
 
     def build(self, jobs):
         """Proves the crate over what its out/ keeps, and makes its library, archive or program."""
         if self.is_made():
             return 0
-        words, stamp = self.words_of_check(jobs), self.stamp()
+        words, sources = self.words_of_check(jobs), self.stamp()
         if not self.makes_rlib():
             words += ["--toolchain", f"{rt.KIT}/toolchain", "--backend", "llvm"]
         os.makedirs(os.path.dirname(self.made()), exist_ok=True)
         status = self.prove(["build", *words, "-o", self.made()])
         if not status and self.is_program:
             status = self.link(self.made(), f"out/{self.name}")
+        if not status and self.stamp() != sources:
+            rtlib.stop(f"{self.name}: its sources changed while they were proved")
         if not status:
-            with open(self.stamp_file(), "w", encoding="utf-8") as file:
-                file.write(stamp)
+            with open(self.record_file(), "w", encoding="utf-8") as file:
+                file.write(self.record())
         return status
 
 

@@ -114,10 +114,10 @@ causes! {
     Unfenced = 43: "pieces {0} and {1} of one group conflict without a fence between",
     /// The length of the portal bytes is no multiple of 64.
     PortalLength = 44: "the portal's length is no multiple of 64",
-    /// A field of the batch descriptor of group `first` is wrong.
-    BatchFields = 45: "a byte of the batch entry of group {0} is not the one of its place",
-    /// The length of the staging bytes does not fit the portal bytes.
-    StagingLength = 46: "the staging's length is not 64 for each piece in a batch and 32 for each batch",
+    /// The number of descriptors in the batch entry of group `first`, or another byte of it, is wrong.
+    BatchFields = 45: "the number of descriptors in the batch entry of group {0} is outside 2 to the greatest batch, or a byte is not the one of its place",
+    /// The length of the staging bytes does not fit the portal bytes, or there are more than 65,536 pieces.
+    StagingLength = 46: "the staging's length is not 64 for each piece in a batch and 32 for each batch, or there are more than 65,536 pieces",
     /// Piece `first` is refused.
     Entry = 47: "piece {0} is refused",
     /// The first piece of group `first` is fenced.
@@ -138,8 +138,8 @@ causes! {
     Version = 65: "the certificate is of another version than the settings",
     /// An allocation failed.
     Memory = 73: "there was not enough memory",
-    /// A setting is outside its limits, or the table of prices has a wrong length.
-    Settings = 83: "a setting is outside its limits, or the table of prices has a wrong length",
+    /// A setting is outside its limits, the version is neither 1 nor 2, or the table of prices has a wrong length.
+    Settings = 83: "a setting is outside its limits, the version is neither 1 nor 2, or the table of prices has a wrong length",
     /// Portal needs `first` bytes and staging `second`.
     NoRoom = 90: "a buffer is too small for the bytes to submit: portal needs {0} bytes and staging {1}",
     /// The arrays of the certificate need room for `first` pieces.
@@ -181,5 +181,20 @@ impl fmt::Display for Cause {
 impl From<u32> for Cause {
     fn from(number: u32) -> Cause {
         Cause::of(number)
+    }
+}
+
+// The sentence of the settings, by the number of the one that is outside its limits.
+pub(crate) const fn sentence_of_setting(number: u64) -> &'static str {
+    match number {
+        1 => "the version of the settings is neither 1 nor 2",
+        2 => "the greatest batch is not 2 to 1,024 pieces",
+        3 => "the greatest transfer is not 8 to 2^31 bytes, or no multiple of 8",
+        4 => "the price of a lone descriptor is above 1,000,000,000",
+        5 => "the price of a batch is above 1,000,000,000",
+        6 => "the price of a fence is above 1,000,000,000",
+        7 => "the staging address is no multiple of 64, or above 2^63",
+        8 => "the table does not have a price of at most 1,000,000,000 for each size of a batch from 2 to the greatest",
+        _ => Cause::Settings.sentence(),
     }
 }

@@ -126,7 +126,8 @@ pub struct Refusal {
     pub cause: Cause,
     /// The cause within: of [`Cause::Plan`] that of the plan's fault, of [`Cause::Entry`] that of the piece's.
     pub inner: Option<Cause>,
-    /// The first index that the cause names, else 0; of [`Cause::NoRoom`] the bytes that `portal` needs, of
+    /// The first index that the cause names, else 0; of [`Cause::Settings`] the number of a setting that is outside its limits
+    /// (1 to 7 are the members of `struct dsa_settings` in their order, 8 is a table of prices by size), of [`Cause::NoRoom`] the bytes that `portal` needs, of
     /// [`Cause::NoRoomForCertificate`] the number of pieces, of [`Cause::NoRoomForRows`] that of rows.
     pub first: u64,
     /// The second, else 0; of [`Cause::NoRoom`] the bytes that `staging` needs.
@@ -141,6 +142,14 @@ impl Refusal {
             inner: (raw.inner != 0).then(|| Cause::of(raw.inner)),
             first: raw.first,
             second: raw.second,
+        }
+    }
+
+    // The sentence of the cause; of the settings that of the one which is outside its limits.
+    fn sentence(&self) -> &'static str {
+        match self.cause {
+            Cause::Settings => cause::sentence_of_setting(self.first),
+            cause => cause.sentence(),
         }
     }
 
@@ -160,7 +169,7 @@ impl Refusal {
 impl fmt::Display for Refusal {
     fn fmt(&self, f: &mut fmt::Formatter<'_>) -> fmt::Result {
         write!(f, "refused {}: ", self.cause)?;
-        self.write_sentence(f, self.cause.sentence())?;
+        self.write_sentence(f, self.sentence())?;
         if let Some(inner) = self.inner {
             write!(f, ": {inner}: ")?;
             self.write_sentence(f, inner.sentence())?;
@@ -249,7 +258,8 @@ pub fn count_pieces(settings: &Settings, list: &[u8]) -> u64 {
     unsafe { raw::dsa_count_pieces(&raw, table.as_ptr(), table.len(), list.as_ptr(), list.len()) }
 }
 
-/// Plans a list into buffers of the caller: 64 bytes for each operation, in the order in which they are to take effect.
+/// Plans a list into buffers of the caller: 64 bytes for each operation, in their order. Of the order in which they take effect
+/// [`plan_list`] says what is promised.
 ///
 /// # Errors
 /// The first fault of the list or the settings; [`Cause::NoRoom`] where a buffer is too small; [`Cause::Memory`]. The
@@ -293,7 +303,10 @@ pub fn plan_into(
     answer(code, summary, refusal)
 }
 
-/// Plans a list: 64 bytes for each operation, in the order in which they are to take effect.
+/// Plans a list: 64 bytes for each operation, in their order.
+///
+/// If all operations succeed, the final memory is that of the list in order. Nothing is promised of what another thread, an
+/// interrupt or the device's other queues see in between, nor that a later operation waits for an earlier one to succeed.
 ///
 /// # Errors
 /// The first fault of the list or the settings; [`Cause::Memory`].

@@ -48,8 +48,8 @@ pub struct Prepared {
     rows: Vec<Row>,
 }
 
-/// Plans a list once, for buffers at any addresses: 64 bytes for each operation, in the order in which they are to take
-/// effect. The regions are the buffers at whose addresses the list was made, in the order of their addresses; each range
+/// Plans a list once, for buffers at any addresses: 64 bytes for each operation, in their order, of which
+/// [`plan_list`](crate::plan_list) says what is promised. The regions are the buffers at whose addresses the list was made, in the order of their addresses; each range
 /// of each operation, and the row of its pieces' completion records, lies in one of them.
 ///
 /// # Errors

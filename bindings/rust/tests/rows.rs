@@ -170,7 +170,7 @@ fn refusals_leave_the_buffers() {
     };
     assert_eq!(
         plan_into(&small, &list, &mut portal, &mut staging),
-        Err(refused(83, 0, 0, 0))
+        Err(refused(83, 0, 2, 0))
     );
     assert_eq!(count_pieces(&small, &list), 0);
     assert_eq!((portal, staging), ([0xee; 64], [0xee; 159]));
@@ -232,7 +232,7 @@ fn prices_by_size() {
     };
     assert_eq!(
         plan_list(&short, &two_moves()).unwrap_err(),
-        refused(83, 0, 0, 0)
+        refused(83, 0, 8, 0)
     );
 }
 
@@ -264,7 +264,7 @@ fn certificates_by_size() {
         batch: BatchPrice::BySize(&[5, 16]),
         ..SETTINGS
     };
-    assert_eq!(checked(&short, &certificate), Err(refused(83, 0, 0, 0)));
+    assert_eq!(checked(&short, &certificate), Err(refused(83, 0, 8, 0)));
 }
 
 // A fault of the plan or of a piece stands within the one that `check` answers.
@@ -348,8 +348,12 @@ fn planning_into_buffers_is_planning() {
 fn refusals_are_shown() {
     for (refusal, shown) in [
         (
+            refused(83, 0, 7, 0),
+            "83 Settings: the staging address is no multiple of 64, or above 2^63",
+        ),
+        (
             refused(83, 0, 0, 0),
-            "83 Settings: a setting is outside its limits, or the table of prices has a wrong length",
+            "83 Settings: a setting is outside its limits, the version is neither 1 nor 2, or the table of prices has a wrong length",
         ),
         (
             refused(63, 0, 4, 9),

@@ -9,11 +9,11 @@ use Rattle.dsa_plan.specs.Legal.{IsLeast}
 use Rattle.dsa_plan.specs.EmissionFaults.{IsEmission}
 use Rattle.dsa_cert.specs.Document.{Contents}
 use Rattle.dsa_calls.specs.declared.fault.PlanFault.{PlanFault}
-use Rattle.dsa_calls.specs.declared.fault.PlanFault.TheVariants.{Memory, Settings}
+use Rattle.dsa_calls.specs.declared.fault.PlanFault.TheVariants.{Memory}
 use Rattle.dsa_calls.specs.Checked.{Checks}
 use Rattle.dsa_c.specs.declared.settings.RawSettings.{RawSettings}
 use Rattle.dsa_c.specs.declared.refusal.RawRefusal.{RawRefusal}
-use Rattle.dsa_c.specs.Raw.{limits_of, AreSettings, refusal_of}
+use Rattle.dsa_c.specs.Raw.{limits_of, AreSettings, RefusesSettings, refusal_of}
 
 -- checking answers this cost, and no legal plan of the pieces that the bytes submit costs less, whoever wrote the certificate
 pub record IsCheckedCost (s : RawSettings) (table portal staging : List ℕ) (c : Contents) (cost : ℕ) : Type 0 where
@@ -23,9 +23,9 @@ pub record IsCheckedCost (s : RawSettings) (table portal staging : List ℕ) (c 
       (plan : Plan) (ds : List Descriptor) → IsEmission (limits_of s table) portal staging plan ds →
       IsLeast (ConflictAt (map fields ds)) (limits_of s table).greatest_batch (tariff_of (limits_of s table)) (length ds) plan
 
--- why checking refuses: the numbers are no settings, an allocation failed, or checking answers this fault
+-- why checking refuses: the numbers are no settings, of which one is named, an allocation failed, or checking answers this fault
 abbrev pub RefusesCheck : RawSettings → List ℕ → List ℕ → List ℕ → Contents → RawRefusal → Type 0
 RefusesCheck s table portal staging c r =
-    ((r ≡ refusal_of Settings) × (¬ AreSettings s table))
+    RefusesSettings s table r
     ⊎ ((r ≡ refusal_of Memory) × AreSettings s table)
     ⊎ ((fault : PlanFault) × AreSettings s table × Checks portal staging (limits_of s table) c (Err fault) × (r ≡ refusal_of fault))

@@ -2,19 +2,19 @@
 use Rattle.std.specs.Prelude.{◌≡◌, ◌⊎◌, ℕ, List, Ok, Err}
 use Rattle.dsa_c.specs.Marks.{plan_of}
 use Rattle.dsa_calls.specs.declared.fault.PlanFault.{PlanFault}
-use Rattle.dsa_calls.specs.declared.fault.PlanFault.TheVariants.{Memory, Settings}
+use Rattle.dsa_calls.specs.declared.fault.PlanFault.TheVariants.{Memory}
 use Rattle.dsa_calls.specs.Judge.{Judges}
 use Rattle.dsa_c.specs.declared.settings.RawSettings.{RawSettings}
 use Rattle.dsa_c.specs.declared.refusal.RawRefusal.{RawRefusal}
-use Rattle.dsa_c.specs.Raw.{limits_of, AreSettings, refusal_of}
+use Rattle.dsa_c.specs.Raw.{limits_of, AreSettings, RefusesSettings, refusal_of}
 
 -- the plan that the marks spell is legal for the list, and costs this
 abbrev pub IsJudgedCost : RawSettings → List ℕ → List ℕ → List ℕ → ℕ → Type 0
 IsJudgedCost s table list marks cost = AreSettings s table × Judges list (plan_of marks) (limits_of s table) (Ok cost)
 
--- why judging refuses: the numbers are no settings, an allocation failed, or judging answers this fault
+-- why judging refuses: the numbers are no settings, of which one is named, an allocation failed, or judging answers this fault
 abbrev pub RefusesJudge : RawSettings → List ℕ → List ℕ → List ℕ → RawRefusal → Type 0
 RefusesJudge s table list marks r =
-    ((r ≡ refusal_of Settings) × (¬ AreSettings s table))
+    RefusesSettings s table r
     ⊎ ((r ≡ refusal_of Memory) × AreSettings s table)
     ⊎ ((fault : PlanFault) × AreSettings s table × Judges list (plan_of marks) (limits_of s table) (Err fault) × (r ≡ refusal_of fault))

@@ -7,14 +7,14 @@ use Rattle.dsa_plan.specs.Legal.{IsLeast}
 use Rattle.dsa_plan.specs.Certificate.{IsGood}
 use Rattle.dsa_c.specs.Marks.{marks_of}
 use Rattle.dsa_calls.specs.declared.fault.PlanFault.{PlanFault}
-use Rattle.dsa_calls.specs.declared.fault.PlanFault.TheVariants.{Memory, Settings}
+use Rattle.dsa_calls.specs.declared.fault.PlanFault.TheVariants.{Memory}
 use Rattle.dsa_calls.specs.Planned.{Submission, Plans}
 use Rattle.dsa_calls.specs.Checked.{Checks}
 use Rattle.dsa_c.specs.declared.settings.RawSettings.{RawSettings}
 use Rattle.dsa_c.specs.declared.refusal.RawRefusal.{RawRefusal}
 use Rattle.dsa_c.specs.declared.planning.RawPlanned.{RawPlanned}
 use Rattle.dsa_c.specs.declared.certificate.RawPair.{RawPair}
-use Rattle.dsa_c.specs.Raw.{limits_of, AreSettings, written, refusal_of, no_room, no_room_for_certificate}
+use Rattle.dsa_c.specs.Raw.{limits_of, AreSettings, RefusesSettings, written, refusal_of, no_room, no_room_for_certificate}
 use Rattle.dsa_c.specs.Certificates.{raw_pair_of}
 
 -- this is what planning the bytes answers: the plan is legal and no legal plan costs less, the certificate is good for its
@@ -47,11 +47,11 @@ pub record IsWritten (s : RawSettings) (table list portal new_portal staging new
   pub staging_is : new_staging ≡ written submission.staging staging
   pub summary_is : summary ≡ summary_of submission
 
--- Why nothing is written: the numbers are no settings; an allocation failed; planning refuses the list; or the bytes of the
+-- Why nothing is written: the numbers are no settings, of which one is named; an allocation failed; planning refuses the list; or the bytes of the
 -- planned list don't fit, and this is what they need.
 abbrev pub Refuses : RawSettings → List ℕ → List ℕ → ℕ → ℕ → RawRefusal → Type 0
 Refuses s table list portal staging r =
-    ((r ≡ refusal_of Settings) × (¬ AreSettings s table))
+    RefusesSettings s table r
     ⊎ ((r ≡ refusal_of Memory) × AreSettings s table)
     ⊎ ((fault : PlanFault) × AreSettings s table × Plans list (limits_of s table) (Err fault) × (r ≡ refusal_of fault))
     ⊎ ((p : Submission) × IsPlannedFor s table list p × (¬ FitsIn p portal staging) × (r ≡ no_room (length p.portal) (length p.staging)))

@@ -4,7 +4,7 @@ use Rattle.dsa_descriptor.specs.declared.descriptor.Descriptor.{Descriptor}
 use Rattle.dsa_descriptor.specs.declared.span.Span.{Span}
 use Rattle.dsa_descriptor.specs.Causes.{index_list}
 use Rattle.dsa_descriptor.specs.Spans.{span}
-use Rattle.dsa_calls.specs.declared.fault.PlanFault.TheVariants.{Memory, Settings}
+use Rattle.dsa_calls.specs.declared.fault.PlanFault.TheVariants.{Memory}
 use Rattle.dsa_prepared.specs.declared.fault.PrepareFault.{PrepareFault}
 use Rattle.dsa_prepared.specs.declared.fault.PrepareFault.TheVariants.{Plan, RegionWrap, RegionOrder, Outside}
 use Rattle.dsa_prepared.specs.declared.fault.FillFault.{FillFault}
@@ -18,7 +18,7 @@ use Rattle.dsa_c.specs.declared.preparing.RawInfo.{RawInfo}
 use Rattle.dsa_c.specs.declared.preparing.RawRegion.{RawRegion}
 use Rattle.dsa_c.specs.declared.settings.RawSettings.{RawSettings}
 use Rattle.dsa_c.specs.declared.refusal.RawRefusal.{RawRefusal}
-use Rattle.dsa_c.specs.Raw.{limits_of, AreSettings, written, refusal_of}
+use Rattle.dsa_c.specs.Raw.{limits_of, AreSettings, RefusesSettings, written, refusal_of}
 
 -- the addresses of a region
 abbrev pub span_of : RawRegion → Span
@@ -68,11 +68,11 @@ pub record IsPreparedInto (s : RawSettings) (table list : List ℕ) (regions : L
   pub fillable : ArePrepared (rows_of template)
   pub info_is : info ≡ info_of template cost
 
--- Why nothing is written: the numbers are no settings; an allocation failed; preparing refuses the list; or the rows of the
+-- Why nothing is written: the numbers are no settings, of which one is named; an allocation failed; preparing refuses the list; or the rows of the
 -- prepared list don't fit, and these are needed.
 abbrev pub RefusesPrepare : RawSettings → List ℕ → List ℕ → List Span → ℕ → RawRefusal → Type 0
 RefusesPrepare s table list regions room r =
-    ((r ≡ refusal_of Settings) × (¬ AreSettings s table))
+    RefusesSettings s table r
     ⊎ ((r ≡ refusal_of Memory) × AreSettings s table)
     ⊎ ((fault : PrepareFault) × AreSettings s table × IsFirstPrepareFault list (limits_of s table) regions fault × (r ≡ prepare_refusal_of fault))
     ⊎ ((t : Template) × (cost : ℕ) × IsPreparedFor s table list regions t cost × (room < length (rows_of t)) × (r ≡ no_room_for_rows (length (rows_of t))))

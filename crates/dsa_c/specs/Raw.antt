@@ -1,6 +1,6 @@
 -- What crosses to C and back.
-use Rattle.std.specs.Prelude.{◌≡◌, ◌⊎◌, if◌then◌else◌, ◌==◌, ℕ, List, [], ◌++◌, drop, length, slice_index_or, Option, Some, None}
-use Rattle.dsa_plan.specs.Settings.{BatchPrices, Limits, AreInLimits, limits}
+use Rattle.std.specs.Prelude.{◌≡◌, ◌⊎◌, if◌then◌else◌, ◌==◌, ◌≤◌, ◌%◌, ◌^◌, ℕ, List, [], ◌++◌, drop, length, slice_index_or, Option, Some, None}
+use Rattle.dsa_plan.specs.Settings.{BatchPrices, Limits, AreBatchPrices, AreInLimits, greatest_price, limits}
 use Rattle.dsa_plan.specs.Settings.BatchPrices.{SamePrice, BySize}
 use Rattle.dsa_descriptor.specs.Causes.{index_list}
 use Rattle.dsa_calls.specs.declared.fault.PlanFault.{PlanFault}
@@ -21,6 +21,28 @@ limits_of r table = limits r.greatest_batch r.greatest_transfer r.lone (prices_i
 -- these numbers are settings: of a known version, and each in its limits
 abbrev pub AreSettings : RawSettings → List ℕ → Type 0
 AreSettings r table = ((r.version ≡ 1) ⊎ (r.version ≡ 2)) × AreInLimits (limits_of r table)
+
+-- the setting of this number is outside its limits: 1 to 7 are the members of the struct in their order, 8 is the table of
+-- prices, which counts in version 2 alone (this project's choice)
+abbrev pub IsOutside : ℕ → RawSettings → List ℕ → Type 0
+IsOutside setting s table =
+    ((setting ≡ 1) × (¬ ((s.version ≡ 1) ⊎ (s.version ≡ 2))))
+    ⊎ ((setting ≡ 2) × (¬ ((2 ≤ s.greatest_batch) × (s.greatest_batch ≤ 1024))))
+    ⊎ ((setting ≡ 3) × (¬ ((8 ≤ s.greatest_transfer) × (s.greatest_transfer ≤ 2 ^ 31) × (s.greatest_transfer % 8 ≡ 0))))
+    ⊎ ((setting ≡ 4) × (¬ (s.lone ≤ greatest_price)))
+    ⊎ ((setting ≡ 5) × (s.version ≡ 1) × (¬ (s.batch ≤ greatest_price)))
+    ⊎ ((setting ≡ 6) × (¬ (s.fence ≤ greatest_price)))
+    ⊎ ((setting ≡ 7) × (¬ ((s.staging ≤ 2 ^ 63) × (s.staging % 64 ≡ 0))))
+    ⊎ ((setting ≡ 8) × (s.version ≡ 2) × (¬ AreBatchPrices s.greatest_batch (BySize table)))
+
+-- the refusal of settings, number 83, which names the setting of this number
+abbrev pub settings_refusal : ℕ → RawRefusal
+settings_refusal setting = record { number = 83; inner = 0; first = setting; second = 0 }
+
+-- the numbers are no settings, and the refusal names one that is outside its limits
+abbrev pub RefusesSettings : RawSettings → List ℕ → RawRefusal → Type 0
+RefusesSettings s table r =
+    (setting : ℕ) × (r ≡ settings_refusal setting) × IsOutside setting s table × (¬ AreSettings s table)
 
 -- a buffer after the items were written at its front
 abbrev pub written : {X : Type 0} → List X → List X → List X

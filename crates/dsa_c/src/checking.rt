@@ -6,7 +6,7 @@ ghost use Rattle.dsa_c.specs.Checking.{IsCheckedCost, RefusesCheck};
 
 use crate::certificate::{RawPair, certificate_of};
 use crate::refusal::{RawRefusal, refusal};
-use crate::settings::{RawSettings, settings_of};
+use crate::settings::{RawSettings, settings_of, settings_refusal};
 use dsa_calls::{PlanFault, check_bytes};
 use std::alloc::Global;
 
@@ -28,7 +28,7 @@ fn check_for(
         (λ r. (0 < r.number) × RefusesCheck s t portal.now staging.now c r) }
 {
     let Ok(checked) = settings_of(settings, table) else {
-        return Err(refusal(PlanFault::Settings));
+        return Err(settings_refusal(settings));
     };
     let Ok(certificate) = certificate_of(alloc, version, prices, pairs) else {
         return Err(refusal(PlanFault::Memory));

@@ -5,7 +5,7 @@ ghost use Rattle.dsa_c.specs.Judging.{IsJudgedCost, RefusesJudge};
 
 use crate::marks::plan_of;
 use crate::refusal::{RawRefusal, refusal};
-use crate::settings::{RawSettings, settings_of};
+use crate::settings::{RawSettings, settings_of, settings_refusal};
 use dsa_calls::{PlanFault, judge_bytes};
 use std::alloc::Global;
 
@@ -22,7 +22,7 @@ fn judge_for(
         (λ r. (0 < r.number) × RefusesJudge settings.now table.now list.now marks.now r) }
 {
     let Ok(checked) = settings_of(settings, table) else {
-        return Err(refusal(PlanFault::Settings));
+        return Err(settings_refusal(settings));
     };
     let Ok(plan) = plan_of(alloc, marks) else {
         return Err(refusal(PlanFault::Memory));

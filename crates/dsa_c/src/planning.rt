@@ -8,8 +8,8 @@ ghost use Rattle.dsa_c.specs.Planning.{IsPlannedFor, FitsIn, IsWritten, Refuses,
 
 use crate::buffer::put;
 use crate::refusal::{RawRefusal, no_room, refusal};
-use crate::settings::{RawSettings, by_size, same_price};
-use dsa_calls::{PlanFault, Planned, plan_list};
+use crate::settings::{RawSettings, by_size, same_price, settings_refusal};
+use dsa_calls::{Planned, plan_list};
 use dsa_plan::Settings;
 use std::alloc::Global;
 
@@ -87,7 +87,7 @@ fn plan_by_size(
 {
     match &by_size(settings, table) {
         Ok(checked) => plan_under(alloc, checked, list, portal_room, staging_room),
-        Err(_) => Err(refusal(PlanFault::Settings)),
+        Err(_) => Err(settings_refusal(settings)),
     }
 }
 
@@ -110,11 +110,11 @@ fn plan_at_one_price(
 {
     // Asked before, the compiler knows below that there are settings, and does not copy them.
     let Ok(_) = same_price(settings) else {
-        return Err(refusal(PlanFault::Settings));
+        return Err(settings_refusal(settings));
     };
     match &same_price(settings) {
         Ok(checked) => plan_under(alloc, checked, list, portal_room, staging_room),
-        Err(_) => Err(refusal(PlanFault::Settings)),
+        Err(_) => Err(settings_refusal(settings)),
     }
 }
 
@@ -139,7 +139,7 @@ pub(crate) fn plan_for(
     if settings.version == 2 {
         return plan_by_size(alloc, settings, table, list, portal_room, staging_room);
     }
-    Err(refusal(PlanFault::Settings))
+    Err(settings_refusal(settings))
 }
 
 /// Plans the operations that the bytes of `list` spell, and writes the bytes that submit the plan of least cost to

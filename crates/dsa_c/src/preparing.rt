@@ -8,7 +8,7 @@ ghost use Rattle.dsa_c.specs.Preparing.{IsPreparedFor, IsPreparedInto, RefusesPr
 
 use crate::buffer::put;
 use crate::refusal::{RawRefusal, refusal, refusal_at};
-use crate::settings::{RawSettings, settings_of};
+use crate::settings::{RawSettings, settings_of, settings_refusal};
 use dsa_calls::PlanFault;
 use dsa_descriptor::Span;
 use dsa_plan::Settings;
@@ -132,7 +132,7 @@ fn prepare_for(
 {
     match &settings_of(settings, table) {
         Ok(checked) => prepare_under(alloc, checked, list, regions, room),
-        Err(_) => Err(refusal(PlanFault::Settings)),
+        Err(_) => Err(settings_refusal(settings)),
     }
 }
 

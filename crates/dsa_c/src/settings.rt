@@ -1,8 +1,9 @@
 //! The settings, as C lays them out.
 
-ghost use Rattle.std.specs.Prelude.{◌≡◌, ℕ, List, MatchResult};
-ghost use Rattle.dsa_c.specs.Raw.{limits_of, AreSettings};
+ghost use Rattle.std.specs.Prelude.{◌≡◌, ◌<◌, ℕ, List, MatchResult};
+ghost use Rattle.dsa_c.specs.Raw.{limits_of, AreSettings, IsOutside, RefusesSettings};
 
+use crate::refusal::{RawRefusal, refusal_at};
 use dsa_plan::{Settings, SettingsFault};
 
 /// `struct dsa_settings`.
@@ -73,4 +74,59 @@ pub(crate) fn settings_of(raw: &RawSettings, table: &[u64]) -> Result<Settings, 
         return Err(SettingsFault::Settings);
     }
     same_price(raw)
+}
+
+/// The number of the refusal of settings.
+const OUTSIDE: u32 = 83;
+
+/// The greatest price.
+const GREATEST_PRICE: u64 = 1_000_000_000;
+
+/// The first of the settings that is outside its limits, if one of them or of the prices of batches is: 1 to 7 are the
+/// members of the struct in their order, but for 5, the price of a batch, which comes last, and then the table is 8.
+fn outside(raw: &RawSettings) -> u64
+    ensures { (table : List ℕ) → ¬ AreSettings raw.now table → IsOutside result raw.now table }
+{
+    if raw.version != 1 {
+        if raw.version != 2 {
+            return 1;
+        }
+    }
+    if raw.greatest_batch < 2 {
+        return 2;
+    }
+    if raw.greatest_batch > 1024 {
+        return 2;
+    }
+    if raw.greatest_transfer < 8 {
+        return 3;
+    }
+    if raw.greatest_transfer > 1 << 31 {
+        return 3;
+    }
+    if raw.greatest_transfer % 8 != 0 {
+        return 3;
+    }
+    if raw.lone > GREATEST_PRICE {
+        return 4;
+    }
+    if raw.fence > GREATEST_PRICE {
+        return 6;
+    }
+    if raw.staging > 1 << 63 {
+        return 7;
+    }
+    if raw.staging % 64 != 0 {
+        return 7;
+    }
+    if raw.version == 1 { 5 } else { 8 }
+}
+
+/// The refusal of settings, which names the one that is outside its limits.
+pub(crate) fn settings_refusal(raw: &RawSettings) -> RawRefusal
+    ensures some { 0 < result.number }
+    ensures names { (table : List ℕ) → ¬ AreSettings raw.now table →
+        RefusesSettings raw.now table result }
+{
+    refusal_at(OUTSIDE, outside(raw), 0)
 }

@@ -1,9 +1,9 @@
 //! The turns of reading a text.
 
-ghost use Rattle.std.specs.Prelude.{◌≡◌, ◌≢◌, ◌+◌, ◌<◌, ◌↔◌, Some};
+ghost use Rattle.std.specs.Prelude.{◌≡◌, ◌≢◌, ◌+◌, ◌<◌, ◌≤◌, ◌↔◌, Some};
 ghost use Rattle.dsa_report.specs.Reading.{ReadsTurn, most_turns};
 
-use std::io::Read;
+use crate::asked::Asked;
 
 /// The most bytes that one turn reads.
 pub const TURN_BYTES: usize = 65_536;
@@ -33,7 +33,7 @@ pub(crate) struct Turns<'a, R> {
     last: Option<Turn>,
 }
 
-impl<'a, R: Read> Turns<'a, R> {
+impl<'a, R: Asked> Turns<'a, R> {
     /// A reader with all of its turns.
     pub(crate) fn new(reader: &'a mut R) -> Turns<'a, R>
         ensures same_reader { result.reader.ghost_name ≡ reader.entry.ghost_name }
@@ -55,6 +55,9 @@ impl<'a, R: Read> Turns<'a, R> {
         ensures over { result ≡ Turn.Over ↔ (self.old.left ≡ 0) }
         ensures counted { result ≢ Turn.Over → self.new.left + 1 ≡ self.old.left }
         ensures kept { result ≡ Turn.Over → self.new.left ≡ self.old.left }
+        // The reader is asked at most once for each turn that is taken.
+        ensures asks { R.asks self.new.reader.now + self.new.left
+            ≤ R.asks self.old.reader.now + self.old.left }
         ensures bytes { ReadsTurn (R.remaining self.old.reader.now)
             (R.remaining self.new.reader.now) most buffer.new result }
     {
@@ -64,7 +67,7 @@ impl<'a, R: Read> Turns<'a, R> {
         }
         self.left -= 1;
         let room = TURN_BYTES.min(most);
-        let turn = match self.reader.read(&mut buffer[..room]) {
+        let turn = match self.reader.ask(&mut buffer[..room]) {
             Ok(0) => Turn::End,
             Ok(count) => Turn::Bytes(count),
             Err(_) => Turn::Failed,

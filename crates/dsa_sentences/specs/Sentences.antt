@@ -42,8 +42,8 @@ of_plans n =
     if n == 42 then codes "the first of group # is fenced" else
     if n == 43 then codes "pieces # and $ of one group conflict without a fence between" else
     if n == 44 then codes "the portal's length is no multiple of 64" else
-    if n == 45 then codes "a byte of the batch entry of group # is not the one of its place" else
-    if n == 46 then codes "the staging's length is not 64 for each piece in a batch and 32 for each batch" else
+    if n == 45 then codes "the number of descriptors in the batch entry of group # is outside 2 to the greatest batch, or a byte is not the one of its place" else
+    if n == 46 then codes "the staging's length is not 64 for each piece in a batch and 32 for each batch, or there are more than 65,536 pieces" else
     if n == 47 then codes "piece # is refused" else
     if n == 48 then codes "the first piece of group # is fenced" else
     if n == 49 then codes "the 32 record bytes of batch # are not all zero" else
@@ -74,7 +74,7 @@ of_runs n =
     if n == 80 then codes "the text is no JSON" else
     if n == 81 then codes "a member is missing, of another kind, or not named for the job" else
     if n == 82 then codes "`do` is missing or names no job" else
-    if n == 83 then codes "a setting is outside its limits, or the table of prices has a wrong length" else
+    if n == 83 then codes "a setting is outside its limits, the version is neither 1 nor 2, or the table of prices has a wrong length" else
     if n == 84 then codes "bytes are no hexadecimal text of even length" else
     if n == 85 then codes "there are not 1 to 64 engines" else
     if n == 86 then codes "the text has more than 67,108,864 bytes" else
@@ -100,6 +100,19 @@ of_buffers n =
     if n == 111 then codes "the rows do not have the form of a prepared list" else
     []
 
+-- of settings, by the number of the one that is outside its limits; by another number what is right of each
+unfoldable pub of_settings : ℕ → List ℕ
+of_settings n =
+    if n == 1 then codes "the version of the settings is neither 1 nor 2" else
+    if n == 2 then codes "the greatest batch is not 2 to 1,024 pieces" else
+    if n == 3 then codes "the greatest transfer is not 8 to 2^31 bytes, or no multiple of 8" else
+    if n == 4 then codes "the price of a lone descriptor is above 1,000,000,000" else
+    if n == 5 then codes "the price of a batch is above 1,000,000,000" else
+    if n == 6 then codes "the price of a fence is above 1,000,000,000" else
+    if n == 7 then codes "the staging address is no multiple of 64, or above 2^63" else
+    if n == 8 then codes "the table does not have a price of at most 1,000,000,000 for each size of a batch from 2 to the greatest" else
+    codes "a setting is outside its limits, the version is neither 1 nor 2, or the table of prices has a wrong length"
+
 -- of any number
 abbrev pub sentence : ℕ → List ℕ
 sentence n =
@@ -109,3 +122,7 @@ sentence n =
     if nat_lt n 70 then of_certificates n else
     if nat_lt n 90 then of_runs n else
     of_buffers n
+
+-- of any number, where 83 names the setting by its first number
+abbrev pub said : ℕ → ℕ → List ℕ
+said number first = if number == 83 then of_settings first else sentence number

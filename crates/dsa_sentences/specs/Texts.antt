@@ -1,6 +1,6 @@
 -- The text of a refusal: the sentence of its cause, and behind it that of the cause within, with the numbers that it names.
 use Rattle.std.specs.Prelude.{ℕ, ◌+◌, ◌==◌, List, [], ◌∷◌, ◌++◌, codes, decimal, if◌then◌else◌}
-use Rattle.dsa_sentences.specs.Sentences.{sentence}
+use Rattle.dsa_sentences.specs.Sentences.{said, sentence}
 
 -- a byte, or the number that it stands for: `#` for the first, `$` for the second
 abbrev pub filled_byte : ℕ → ℕ → ℕ → List ℕ
@@ -21,7 +21,7 @@ with_inner [] inner = []
 with_inner (c ∷ cs) inner = (c ∷ cs) ++ within inner
 
 abbrev pub refusal_text : ℕ → ℕ → ℕ → ℕ → List ℕ
-refusal_text number inner first second = filled (with_inner (sentence number) (sentence inner)) first second
+refusal_text number inner first second = filled (with_inner (said number first) (sentence inner)) first second
 
 -- the most bytes that a sentence takes with its numbers, of which each has 20 digits at most
 abbrev pub longest_byte : ℕ → ℕ

@@ -2,7 +2,7 @@
 //! second. docs/FORMATS.md has the same sentences.
 
 ghost use Rattle.std.specs.Prelude.{◌≡◌, ◌≤◌};
-ghost use Rattle.dsa_sentences.specs.Sentences.{sentence, of_buffers, of_certificates, of_lists, of_operations, of_plans, of_runs};
+ghost use Rattle.dsa_sentences.specs.Sentences.{said, sentence, of_buffers, of_certificates, of_lists, of_operations, of_plans, of_runs, of_settings};
 ghost use Rattle.dsa_sentences.specs.Texts.{longest};
 
 /// The causes of a list.
@@ -65,8 +65,10 @@ fn of_plans(number: u64) -> &'static str
         42 => "the first of group # is fenced",
         43 => "pieces # and $ of one group conflict without a fence between",
         44 => "the portal's length is no multiple of 64",
-        45 => "a byte of the batch entry of group # is not the one of its place",
-        46 => "the staging's length is not 64 for each piece in a batch and 32 for each batch",
+        45 =>
+            "the number of descriptors in the batch entry of group # is outside 2 to the greatest batch, or a byte is not the one of its place",
+        46 =>
+            "the staging's length is not 64 for each piece in a batch and 32 for each batch, or there are more than 65,536 pieces",
         47 => "piece # is refused",
         48 => "the first piece of group # is fenced",
         49 => "the 32 record bytes of batch # are not all zero",
@@ -111,7 +113,8 @@ fn of_runs(number: u64) -> &'static str
         80 => "the text is no JSON",
         81 => "a member is missing, of another kind, or not named for the job",
         82 => "`do` is missing or names no job",
-        83 => "a setting is outside its limits, or the table of prices has a wrong length",
+        83 =>
+            "a setting is outside its limits, the version is neither 1 nor 2, or the table of prices has a wrong length",
         84 => "bytes are no hexadecimal text of even length",
         85 => "there are not 1 to 64 engines",
         86 => "the text has more than 67,108,864 bytes",
@@ -148,6 +151,27 @@ fn of_buffers(number: u64) -> &'static str
     }
 }
 
+/// Which setting is outside its limits, by its number; by another number what is right of each.
+#[tactic(auto, unfolding(crate::specs::Sentences::of_settings))]
+fn of_settings(number: u64) -> &'static str
+    ensures value { result.now ≡ of_settings number }
+    ensures short { longest result.now ≤ 200 }
+{
+    match number {
+        1 => "the version of the settings is neither 1 nor 2",
+        2 => "the greatest batch is not 2 to 1,024 pieces",
+        3 => "the greatest transfer is not 8 to 2^31 bytes, or no multiple of 8",
+        4 => "the price of a lone descriptor is above 1,000,000,000",
+        5 => "the price of a batch is above 1,000,000,000",
+        6 => "the price of a fence is above 1,000,000,000",
+        7 => "the staging address is no multiple of 64, or above 2^63",
+        8 =>
+            "the table does not have a price of at most 1,000,000,000 for each size of a batch from 2 to the greatest",
+        _ =>
+            "a setting is outside its limits, the version is neither 1 nor 2, or the table of prices has a wrong length",
+    }
+}
+
 /// What the cause of this number means; nothing where no cause has the number.
 pub fn sentence_of(number: u64) -> &'static str
     ensures value { result.now ≡ sentence number }
@@ -169,4 +193,15 @@ pub fn sentence_of(number: u64) -> &'static str
         return of_runs(number);
     }
     of_buffers(number)
+}
+
+/// What the cause of this number means. Of 83 the first number that the refusal names is that of the setting.
+pub(crate) fn said_of(number: u64, first: u64) -> &'static str
+    ensures value { result.now ≡ said number first }
+    ensures short { longest result.now ≤ 200 }
+{
+    if number == 83 {
+        return of_settings(first);
+    }
+    sentence_of(number)
 }

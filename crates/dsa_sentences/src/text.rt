@@ -3,7 +3,7 @@
 ghost use Rattle.std.specs.Prelude.{◌≡◌, ◌≤◌, ◌+◌, ◌++◌, length, decimal};
 ghost use Rattle.dsa_sentences.specs.Texts.{filled, filled_byte, longest, longest_byte, refusal_text as text_of_refusal};
 
-use crate::sentences::sentence_of;
+use crate::sentences::{said_of, sentence_of};
 use arrayvec::ArrayVec;
 use itoa::Buffer;
 
@@ -53,12 +53,12 @@ fn push_filled(text: &mut ArrayVec<u8, LONGEST_TEXT>, sentence: &[u8], first: u6
 }
 
 /// The text of a refusal of this number: the sentence of its cause, and where it has a cause within, a colon and that one's,
-/// with the numbers that it names. It is empty where no cause has the number.
+/// with the numbers that it names. Of 83 the first number is that of the setting. It is empty if no cause has the number.
 pub fn refusal_text(number: u32, inner: u32, first: u64, second: u64) -> ArrayVec<u8, LONGEST_TEXT>
     ensures { result.items ≡ text_of_refusal number inner first second }
 {
     let mut text = ArrayVec::new();
-    let said = sentence_of(u64::from(number)).as_bytes();
+    let said = said_of(u64::from(number), first).as_bytes();
     if said.is_empty() {
         return text;
     }

@@ -49,11 +49,20 @@ static uint8_t fill(struct work *w)
     return DSA_COMP_SUCCESS;
 }
 
-/// The offset of the first byte at which two regions, or a region and a repeated pattern, differ; else the size.
-static uint32_t first_difference(struct work *w, const uint8_t *one, const uint8_t *other, uint32_t period)
+/// The offset of the first byte at which `one` differs from what is compared with it; else the size. `other` is a region,
+/// or, for a pattern, a page of it over and over.
+static uint32_t first_difference(struct work *w, const uint8_t *one, const uint8_t *other, bool is_pattern)
 {
-    while (w->done < w->size && one[w->done] == other[period ? w->done % period : w->done])
-        w->done++;
+    for (size_t n; w->done < w->size; w->done += n) {
+        const uint8_t *second = is_pattern ? other + w->done % WORD : other + w->done;
+        n = within_pages((uint64_t)one + w->done, is_pattern ? 0 : (uint64_t)second, w->size - w->done);
+        n = least(n, PAGE - WORD);
+        if (memcmp(one + w->done, second, n) == 0)
+            continue;
+        while (one[w->done] == *second)
+            w->done++, second++;
+        break;
+    }
     return w->done;
 }
 
@@ -61,9 +70,11 @@ static uint8_t compare(struct work *w)
 {
     const descriptor *d = w->d;
     const bool is_pattern = d->opcode == DSA_OPCODE_COMPVAL;
-    const uint64_t pattern = d->comp_pattern;
-    const uint8_t *other = is_pattern ? (const uint8_t *)&pattern : (const uint8_t *)d->src2_addr;
-    const uint32_t at = first_difference(w, (const uint8_t *)d->src_addr, other, is_pattern ? WORD : 0);
+    uint64_t pattern[PAGE / WORD];
+    for (int i = 0; i < PAGE / WORD; i++)
+        pattern[i] = d->comp_pattern;
+    const uint8_t *other = is_pattern ? (const uint8_t *)pattern : (const uint8_t *)d->src2_addr;
+    const uint32_t at = first_difference(w, (const uint8_t *)d->src_addr, other, is_pattern);
     w->r->result = at < w->size;
     w->r->bytes_completed = at < w->size ? at : 0;
     return d->flags & IDXD_OP_FLAG_CR && d->expected_res != w->r->result ? DSA_COMP_SUCCESS_PRED : DSA_COMP_SUCCESS;

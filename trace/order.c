@@ -26,47 +26,10 @@ static struct order_state {
     struct submission *head, **tail, *unused;
     struct random choices, retries;
     struct pace pace;
-    struct seen seen[WATCHES];
     uint64_t submitted, batches, members, retried, dropped, records;
 } order = {.lock = PTHREAD_MUTEX_INITIALIZER, .tail = &order.head};
 
 static bool is_async(void) { return settings.order >= ORDER_DATA; }
-
-/// Events of completions that the program has looked at since.
-static void note_seen(void)
-{
-    for (int i = 0; i < WATCHES; i++)
-        if (order.seen[i].is_used && watch_count(i) > order.seen[i].touched) {
-            record_event('K', order.seen[i].number, -1, -1);
-            watch_close(i);
-            order.seen[i].is_used = false;
-        }
-}
-
-/// The event of a completion. It comes before the record, so what the program submits before it, it submits unaware.
-static void note_completion(const struct submission *s, unsigned status)
-{
-    record_event('C', s->number, -1, status);
-    if (s->watch >= 0)
-        order.seen[s->watch] = (struct seen){s->number, watch_count(s->watch), true};
-}
-
-/// Writes a record as the device does: the status last.
-static void publish(uint64_t address, const completion *r)
-{
-    uint8_t *to = (uint8_t *)address;
-    order.records++;
-    if (!memory_copy(to + 1, (const uint8_t *)r + 1, sizeof *r - 1, NULL) || !memory_copy(to, r, 1, NULL))
-        say("the completion record at %#lx can't be written, so the completion is lost", (unsigned long)address);
-}
-
-/// Writes the record of a descriptor, if it has one: one that is not requested is written on failures alone.
-static void publish_if_wanted(const descriptor *d, const completion *r)
-{
-    const bool is_wanted = d->flags & IDXD_OP_FLAG_RCR || r->status != DSA_COMP_SUCCESS;
-    if (d->flags & IDXD_OP_FLAG_CRAV && is_wanted)
-        publish(d->completion_addr, r);
-}
 
 static struct submission *take_unused(void)
 {
@@ -110,8 +73,10 @@ static void complete(struct submission *s, const completion *r)
     if (settings.order == ORDER_DATA)
         s = order.head;
     while (s && s->is_done) {
-        note_completion(s, s->last.status);
-        publish_if_wanted(&s->entry, &s->last);
+        record_event('C', s->number, -1, s->last.status); /* before the record: what comes before it comes unaware of it */
+        if (s->watch >= 0)
+            watch_completed(s->watch, s->number);
+        order.records += execute_record(&s->entry, &s->last);
         take_out(s);
         s = settings.order == ORDER_DATA ? order.head : NULL;
     }
@@ -125,39 +90,6 @@ static void find_epoch(struct submission *s)
         s->end++;
 }
 
-static bool is_record_misplaced(const descriptor *d)
-{
-    return d->flags & IDXD_OP_FLAG_CRAV && d->completion_addr % sizeof(completion);
-}
-
-/// Does one descriptor, after what the device refuses of it.
-static void execute(const struct submission *s, const descriptor *d, unsigned index, completion *r)
-{
-    uint32_t bad = 0;
-    memset(r, 0, sizeof *r);
-    if (is_record_misplaced(d)) {
-        r->status = DSA_COMP_CRA_ALIGN;
-        return;
-    }
-    r->status = valid_descriptor(d, s->queue, s->is_batch, &bad);
-    if (r->status == DSA_COMP_SUCCESS) {
-        device_run(d, r, random_at(settings.seed, s->number << 11 | index));
-        return;
-    }
-    r->invalid_flags = bad;
-    say("descriptor %u of submission %lu, operation %#x, is refused with status %#x%s", index, s->number, d->opcode,
-        r->status, bad ? ", invalid flags" : "");
-}
-
-/// Says what the device could only note in its own registers: there is no place for the record.
-static bool has_place(const descriptor *d, const struct submission *s)
-{
-    if (is_record_misplaced(d))
-        say("submission %lu: the completion record at %#lx is at no multiple of 32, so the device does nothing and writes none",
-            s->number, (unsigned long)d->completion_addr);
-    return !is_record_misplaced(d);
-}
-
 /// The next member of the batch, or the lone descriptor. Called with the lock, which it leaves while it works if other
 /// threads may submit meanwhile.
 static void step(struct submission *s)
@@ -169,24 +101,19 @@ static void step(struct submission *s)
     const uint16_t index = s->turn[place];
     s->turn[place] = s->turn[s->begun]; /* those before `begun` are done */
     s->turn[s->begun] = index;
-    const descriptor *d = &s->members[index];
     if (is_async())
         pthread_mutex_unlock(&order.lock);
-    execute(s, d, index, &r);
+    execute(s, index, &r);
     if (is_async())
         pthread_mutex_lock(&order.lock);
     s->begun++;
-    const bool is_placed = has_place(d, s);
     if (!s->is_batch) {
-        if (!is_placed)
-            s->entry.flags &= ~(IDXD_OP_FLAG_CRAV | IDXD_OP_FLAG_RCR);
         complete(s, &r);
         return;
     }
     s->has_failed |= r.status != DSA_COMP_SUCCESS;
     record_event('c', s->number, index, r.status);
-    if (is_placed)
-        publish_if_wanted(d, &r);
+    order.records += execute_record(&s->members[index], &r);
     if (s->begun < s->end)
         return;
     if (s->begun < s->count && !s->has_failed) {
@@ -311,7 +238,7 @@ static void begin_process(pid_t pid)
     order.arriving = 0;
     order.choices = (struct random){settings.seed, 0};
     order.retries = (struct random){~settings.seed, 0};
-    memset(order.seen, 0, sizeof order.seen);
+    watch_forget();
     order.submitted = order.batches = order.members = order.retried = order.dropped = order.records = 0;
     record_forget();
     order.pid = pid;
@@ -367,12 +294,11 @@ static void refuse_batch(struct submission *s, const completion *r)
 {
     descriptor empty = s->entry;
     empty.desc_count = 0;
-    say("batch %lu of %u descriptors at %#lx is refused with status %#x", s->number, s->entry.desc_count,
-        (unsigned long)s->entry.desc_list_addr, r->status);
+    say("batch %lu of %u descriptors at %#lx is refused with status %#x (%s)", s->number, s->entry.desc_count,
+        (unsigned long)s->entry.desc_list_addr, r->status, valid_name(r->status));
     record_submission(&(struct submitted){s->number, s->queue, &empty, NULL, 0});
     record_event('C', s->number, -1, r->status);
-    if (has_place(&s->entry, s))
-        publish_if_wanted(&s->entry, r);
+    order.records += execute_record(&s->entry, r);
     give_back(s);
 }
 
@@ -409,7 +335,7 @@ static void take_in(struct queue *q, const descriptor *d)
     s->count = 1;
     s->members[0] = *d;
     if (settings.watch)
-        note_seen();
+        watch_note_seen();
     if (s->is_batch && take_members(s, &r) != DSA_COMP_SUCCESS) {
         refuse_batch(s, &r);
         return;

@@ -18,8 +18,9 @@ struct submission {
     descriptor members[GREATEST_BATCH]; /* as they were when it was submitted; of a lone descriptor the entry */
 };
 
-/* A completion that is written and watched, and not yet known to have been seen. */
-struct seen { uint64_t number, touched; bool is_used; };
+/* ---- execute.c: one descriptor ---- */
+void execute(const struct submission *s, unsigned index, completion *r);
+bool execute_record(const descriptor *d, const completion *r);
 
 /* ---- random.c: numbers that depend on the seed and on how many were drawn before ---- */
 struct random { uint64_t seed, drawn; };

@@ -63,6 +63,7 @@ void memory_escape(const siginfo_t *info, const void *context);
 /* ---- valid.c: what the device refuses before it does anything ---- */
 /* DSA_COMP_SUCCESS, or the status with which the descriptor ends; of flags *bad has those that are invalid. */
 uint8_t valid_descriptor(const descriptor *d, const struct queue *q, bool is_member, uint32_t *bad);
+const char *valid_name(uint8_t status);
 
 /* ---- device.c, crc.c and dif.c: operations ---- */
 /* Does one operation, neither batch nor drain, and fills the record. `draw` is a random number, for --fault. */
@@ -96,7 +97,9 @@ void record_forget(void);
 enum { WATCHES = 4 };
 int watch_open(uint64_t record, pid_t except); /* a number, or -1 if there is none */
 uint64_t watch_count(int watch);                                /* how often the program touched the record */
-void watch_close(int watch);
+void watch_completed(int watch, uint64_t number);
+void watch_note_seen(void);
+void watch_forget(void);
 
 /* ---- signals.c ---- */
 void signals_install(void);

@@ -110,3 +110,17 @@ uint8_t valid_descriptor(const descriptor *d, const struct queue *q, bool is_mem
         return DSA_COMP_XFER_ERANGE;
     return valid_operation(d);
 }
+
+/// What a status means for which a descriptor is refused.
+const char *valid_name(uint8_t status)
+{
+    static const char *const names[] = {
+        "operation code", "invalid flags", "reserved bits or bytes", "transfer size", "number of descriptors",
+        "size of the delta record", "overlapping buffers", "bits 0 to 11 of a dualcast differ", "address of the list",
+        "interrupt handle", "record can't be reached", "address of the record", "alignment of an address",
+    };
+    const unsigned at = status - DSA_COMP_BAD_OPCODE;
+    if (status == DSA_COMP_BATCH_PAGE_FAULT)
+        return "its list can't be read";
+    return at < sizeof names / sizeof *names ? names[at] : "unknown";
+}

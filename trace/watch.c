@@ -14,7 +14,8 @@
 
 enum { THREADS = 32 };
 
-static struct watch { bool is_used; int threads, fd[THREADS]; } watches[WATCHES];
+/* `is_written`: its record is written, `touched` times it was touched before. */
+static struct watch { bool is_used, is_written; uint64_t number, touched; int threads, fd[THREADS]; } watches[WATCHES];
 
 static int open_for(pid_t thread, uint64_t record)
 {
@@ -43,6 +44,7 @@ int watch_open(uint64_t record, pid_t except)
         return -1;
     struct watch *w = &watches[at];
     w->threads = 0;
+    w->is_written = false;
     for (struct dirent *e; (e = readdir(list)) && w->threads < THREADS;) {
         const int thread = atoi(e->d_name);
         const int fd = thread && thread != except ? open_for(thread, record) : -1;
@@ -66,9 +68,37 @@ uint64_t watch_count(int watch)
     return sum;
 }
 
-void watch_close(int watch)
+static void close_all(struct watch *w)
 {
-    for (int i = 0; i < watches[watch].threads; i++)
-        syscall(SYS_close, watches[watch].fd[i]);
-    watches[watch].is_used = false;
+    for (int i = 0; i < w->threads; i++)
+        syscall(SYS_close, w->fd[i]);
+    w->is_used = false;
+}
+
+/// The record that is watched is about to be written, for this submission.
+void watch_completed(int watch, uint64_t number)
+{
+    watches[watch].number = number;
+    watches[watch].touched = watch_count(watch);
+    watches[watch].is_written = true;
+}
+
+/// Events of completions that the program has looked at since.
+void watch_note_seen(void)
+{
+    for (int i = 0; i < WATCHES; i++) {
+        struct watch *w = &watches[i];
+        if (!w->is_used || !w->is_written || watch_count(i) <= w->touched)
+            continue;
+        record_event('K', w->number, -1, -1);
+        close_all(w);
+    }
+}
+
+/// In a child of fork: the watches are of the parent's threads.
+void watch_forget(void)
+{
+    for (int i = 0; i < WATCHES; i++)
+        if (watches[i].is_used)
+            close_all(&watches[i]);
 }

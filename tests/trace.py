@@ -1,0 +1,530 @@
+"""Builds dsa_trace with gcc and clang, and small clients with gcc alone, and runs them: with and without what keeps their
+operations in order, under a hundred seeds each (SEEDS); each operation; what goes wrong; recordings; the decoder on every
+form of address. It uses dsa_text, the tests of accel-config-test and dpdk-dev, valgrind and the rights of root where they
+are, and says so where they aren't. The words are names of parts."""
+
+import itertools
+import os
+import re
+import shutil
+import signal
+import subprocess
+import sys
+import tempfile
+import time
+from pathlib import Path
+
+import common
+from common import ROOT, expect, named, run_test, side_by_side
+
+SEEDS = int(os.environ.get("SEEDS", "100"))
+STRICT = ["-std=c11", "-D_GNU_SOURCE", "-Wall", "-Wextra", "-Werror"]
+CLIENTS = ("ordered", "threads", "odd", "operations")
+skipped = 0
+
+
+def skip(why):
+    """Says what is not tried."""
+    global skipped
+    skipped += 1
+    print(f"skipped: {why}")
+
+
+def ran(*command, **how):
+    """How a command ended, and what it printed."""
+    how = {"capture_output": True, "text": True, "stdin": subprocess.DEVNULL, "timeout": 120, "errors": "replace"} | how
+    return subprocess.run([str(word) for word in command], **how)
+
+
+def traced(*words, **how):
+    """How dsa_trace ended."""
+    return ran(f"{WORK}/gcc/dsa_trace", *words, **how)
+
+
+def client(name):
+    return f"{WORK}/{name}"
+
+
+def told(what, end, status, *words):
+    """A case: the run has this status, and says these words."""
+    said = end.stdout + end.stderr
+    missing = [word for word in words if word not in said]
+    expect(end.returncode == status and not missing, f"{what}: status {end.returncode}, not {status}, or not {missing}:\n{said[-1500:]}")
+
+
+def built():
+    """No compiler has a warning, and each builds what works."""
+    for compiler in ("gcc", "clang"):
+        if not shutil.which(compiler):
+            skip(f"there is no {compiler}")
+            continue
+        folder = f"{WORK}/{compiler}"
+        told(f"the build by {compiler}", ran("make", "-C", ROOT / "trace", f"CC={compiler}", f"OUT={folder}"), 0)
+        end = ran(f"{folder}/dsa_trace", "--", client("operations"))
+        told(f"all operations on what {compiler} built", end, 0)
+
+
+# ---- order
+
+
+def wrong_of(mode, *options):
+    """Of so many seeds, how many end right, wrong and otherwise."""
+    words = [client("ordered"), mode]
+    statuses = side_by_side(lambda seed: traced("--seed", seed, *options, "--", *words).returncode, range(1, SEEDS + 1), 3)
+    return statuses.count(0), statuses.count(3), len([it for it in statuses if it not in (0, 3)])
+
+
+def ordered():
+    """A program with what keeps its operations in order is right under each seed; without it is wrong under many."""
+    for mode in ("fenced", "waited", "member", "drain", "polled"):
+        right, wrong, other = wrong_of(mode)
+        expect(right == SEEDS, f"{mode}: right under {right} seeds of {SEEDS}, wrong under {wrong}, otherwise under {other}")
+    for mode in ("fence", "wait"):
+        right, wrong, other = wrong_of(mode)
+        print(f"without {mode}: wrong under {wrong} of {SEEDS} seeds")
+        expect(wrong >= SEEDS / 5 and other == 0, f"{mode}: wrong under {wrong} seeds of {SEEDS}, otherwise under {other}")
+
+
+def orders():
+    """In plain order no run shows what is missing; in any order of records a program may not rely on theirs."""
+    for order, mode, wanted in (("fifo", "fence", 0), ("fifo", "wait", 0), ("members", "wait", 0)):
+        statuses = [traced("--order", order, "--seed", seed, "--", client("ordered"), mode).returncode for seed in range(1, 11)]
+        expect(set(statuses) == {wanted}, f"{mode} in the order {order} ends with {statuses}")
+    statuses = {traced("--order", "members", "--seed", seed, "--", client("ordered"), "fence").returncode for seed in range(1, 31)}
+    expect(statuses == {0, 3}, f"a missing fence in the order members ends with {statuses}")
+    for mode in ("fenced", "waited", "polled", "drain"):
+        statuses = {traced("--order", "all", "--seed", seed, "--", client("ordered"), mode).returncode for seed in range(1, 11)}
+        expect(statuses == {0}, f"{mode} in the order all ends with {statuses}")
+
+
+def repeated():
+    """The same seed gives the same order, and another one another."""
+    orders = set()
+    for seed in (1, 2, 3, 4):
+        found = {tuple(re.sub(r"tid \d+", "", line) for line in events(seed, "polled")) for _ in range(5)}
+        expect(len(found) == 1, f"seed {seed} gives {len(found)} orders of five runs")
+        orders |= found
+    for seed in (1, 2, 3, 4):
+        found = {tuple(line for line in events(seed, "fence") if line.startswith("c")) for _ in range(5)}
+        expect(len(found) == 1, f"seed {seed} gives {len(found)} orders of a batch")
+        orders |= found
+    expect(len(orders) > 2, "all seeds give the same order")
+
+
+def events(seed, mode):
+    """The events of a run."""
+    with tempfile.TemporaryDirectory(dir=WORK) as folder:
+        traced("--order", "all", "--seed", seed, "--out", folder, "--", client("ordered"), mode)
+        [path] = Path(folder, f"seed-{seed}").glob("*.events")
+        return path.read_text().splitlines()
+
+
+def seeds():
+    """--seeds stops at the first run that fails, and names the seed, under which it fails again."""
+    end = traced("--seeds", 60, "--", client("ordered"), "fence")
+    told("many seeds of a missing fence", end, 3, "the same again", "dsa_trace --seed ")
+    again = re.search(r"^dsa_trace (--seed \d+) -- (.*)$", end.stderr, re.M)
+    told("the seed that is named", traced(*again[0].split()[1:]) if again else end, 3)
+    end = traced("--seeds", 5, "--", client("ordered"), "fenced")
+    told("many seeds of a right program", end, 0, "5 runs, all with status 0")
+
+
+# ---- what the device does
+
+
+def operations():
+    """Each operation in each order, with threads, a child of fork and a handler of signals beside it."""
+    for order in ("fifo", "members", "data", "all"):
+        told(f"all operations in the order {order}", traced("--order", order, "--", client("operations")), 0)
+        told(f"threads in the order {order}", traced("--order", order, "--", client("threads")), 0)
+    told("operations without a namespace", traced("--no-namespace", "--", client("operations")), 0)
+    told("submitting in a handler", traced("--", client("odd"), "handler"), 0, "in a handler: status 0x1,")
+    told("a move that stops at pages", traced("--fault", 2, "--", client("odd"), "partial"), 0, "right, more than one part: 1")
+    told("a move that does not stop", traced("--", client("odd"), "partial"), 0, "right, more than one part: 0")
+    told("a queue that says retry", traced("--retry", 3, "--", client("odd"), "retried"), 0, "retries from 20 to 80: 1")
+    told("a queue that does not", traced("--", client("odd"), "retried"), 0, "retries from 20 to 80: 0")
+
+
+# The statuses are those of linux/idxd.h; 0x84 is 4 with the bit of a write. Two pages are there, and the next is missing.
+REFUSED = {
+    "pages": ["write, blocking: status 0x84, 0 bytes, at 0x2000", "write: status 0x83, 0 bytes, at 0x2000",
+              "read: status 0x3, 0 bytes, at 0x2000"],
+    "lists": ["missing list: status 0x6, 0 bytes, at 0x2000", "odd list: status 0x18,", "one member: status 0x14,",
+              "too many members: status 0x14,"],
+    "record": ["multiple of 32", "the next: status 0x1,", "moved 0, record 0"],
+    "refused": ["reserved flag: status 0x11,", "invalid flags 0x40\n", "check result of a move: status 0x11,",
+                "operation 0xa: status 0x10,", "no bytes: status 0x13,", "reserved byte: status 0x12,",
+                "reserved bits: status 0x12,", "dualcast bits: status 0x17,", "dualcast overlap: status 0x16,",
+                "delta of 12 bytes: status 0x13,", "delta record of 11 bytes: status 0x15,"],
+}
+
+
+def refused():
+    """Pages that are missing, lists that can't be read, records at odd places, and descriptors that no device takes."""
+    for (case, lines), order in itertools.product(REFUSED.items(), ("fifo", "data")):
+        told(f"{case} in the order {order}", traced("--order", order, "--", client("odd"), case), 0, *lines)
+
+
+def died():
+    """Programs that fault at the instruction, have children, are replaced, or are killed."""
+    told("a descriptor that can't be read", traced("--", client("odd"), "unreadable"), 42, "can't be read", "signal 11 at 0x2000")
+    told("a child of fork", traced("--", client("odd"), "child"), 0, "ends by signal 11", "in the parent: status 0x1")
+    with tempfile.TemporaryDirectory(dir=WORK) as folder:
+        told("a program that is replaced", traced("--out", folder, "--", client("odd"), "replaced"), 0, "before: status 0x1")
+        sizes = sorted(path.stat().st_size // 64 for path in Path(folder, "seed-1").glob("*.dsa"))
+        expect(sizes == [1, 10], f"the two programs of a process are recorded with {sizes} entries")
+    told("a program that is killed", traced("--", client("odd"), "killed", 3), 128 + signal.SIGKILL)
+
+
+# ---- recordings
+
+
+def recorded(*words, status=0, options=()):
+    """The bytes of the recordings, the events, and the lines of the index."""
+    with tempfile.TemporaryDirectory(dir=WORK) as folder:
+        end = traced("--out", folder, *options, "--", *words)
+        expect(end.returncode == status, f"{words}: status {end.returncode}, not {status}: {end.stderr[-500:]}")
+        run = Path(folder, "seed-1")
+        parts = sorted(run.glob("*.dsa"), key=lambda path: (len(path.name), path.name))
+        lines = [path.read_text() for path in run.glob("*.events")]
+        return [path.read_bytes() for path in parts], "".join(lines).splitlines(), (run / "processes.txt").read_text().splitlines()
+
+
+def recordings():
+    """What is recorded is what was submitted, with its reserved bits, also of a process that is killed or leaves early. A
+    recording of more than 65,536 entries is in parts, each of whole submissions."""
+    # word 0 has the reserved bits, word 1 the flags 0x0c of a no-op, and the source the number of the submission
+    for how, status in (("killed", 128 + signal.SIGKILL), ("left", 0)):
+        parts, lines, index = recorded(client("odd"), how, 5000, status=status)
+        entries = b"".join(parts)
+        heads = {entries[at : at + 8] for at in range(0, len(entries), 64)}
+        numbers = [int.from_bytes(entries[at + 16 : at + 24], "little") for at in range(0, len(entries), 64)]
+        expect(heads == {(0x2AA << 20).to_bytes(4, "little") + bytes([0x0C, 0, 0, 0])}, f"{how}: the entries begin with {heads}")
+        expect(numbers == list(range(5000)), f"{how}: {len(numbers)} submissions are recorded")
+        starts = [line for line in lines if line[0] == "S"]
+        ends = [line for line in lines if line[0] == "C"]
+        expect(len(starts) == len(ends) == 5000, f"{how}: {len(starts)} submissions and {len(ends)} completions have events")
+        expect(len(index) == 1 and index[0].split("\t")[3] == "odd", f"{how}: the index has {index}")
+    parts, lines, _ = recorded(client("odd"), "large", 70)
+    expect([len(part) // 64 for part in parts] == [65 * 1001, 5 * 1001], f"the parts have {[len(it) / 64 for it in parts]} entries")
+    counts = [int.from_bytes(part[at + 32 : at + 36], "little") for part in parts for at in range(0, len(part), 64 * 1001)]
+    expect(counts == [1000] * 70, "a part does not begin with a batch")
+    _, _, index = recorded(client("threads"))
+    expect(len(index) == 2 and index[0].split("\t")[1] == index[1].split("\t")[2], f"the index of a parent and a child: {index}")
+
+
+def full_disk():
+    """On a full disk the program goes on, and one sentence says that its recording ends."""
+    if os.getuid() != 0 or ran("unshare", "-m", "true").returncode:
+        skip("a full disk, which needs the right to mount one")
+        return
+    command = f"mount -t tmpfs -o size=400k none {WORK}/small && exec {WORK}/gcc/dsa_trace --out {WORK}/small -- {client('odd')} large 20"
+    Path(WORK, "small").mkdir()
+    end = ran("unshare", "-m", "sh", "-c", command)
+    told("a full disk", end, 0, "No space left on device", "not recorded")
+    expect(end.stdout.count("batch: status 0x1") == 20, f"on a full disk the program prints {end.stdout}")
+    expect(end.stderr.count("No space") == 1, f"on a full disk it is said again: {end.stderr}")
+
+
+def audited():
+    """--audit names the missing fence or wait, with status 1, and nothing else of a right program."""
+    text = os.environ.get("DSA_TEXT") or ROOT / "crates/dsa_text/out/dsa_text"
+    told("--audit without dsa_text", traced("--audit", "--", "/bin/true", env={"PATH": "/nowhere"}), 125, "needs the program dsa_text")
+    if not Path(text).exists():
+        skip("audits: crates/dsa_text is not built")
+        return
+    known = os.environ | {"DSA_TEXT": str(text)}
+    told("a missing fence", traced("--audit", "--", client("ordered"), "fence", env=known), 1, "missing fence, read after write")
+    told("a missing wait", traced("--audit", "--", client("ordered"), "wait", env=known), 1, "missing wait, read after write",
+         "submission 1 reads what submission 0", "0 missing")
+    for mode in ("fenced", "waited", "member", "drain", "polled"):
+        end = traced("--audit", "--", client("ordered"), mode, env=known)
+        told(mode, end, 0, " 0 missing")
+        expect("missing wait" not in end.stdout, f"{mode}: {end.stdout}")
+    told("a wait by chance", traced("--audit", "--watch", 100, "--", client("ordered"), "sleep", env=known), 1 if watches() else 0)
+    told("nothing submitted", traced("--audit", "--", "/bin/true", env=known), 0, "nothing was submitted")
+    end = traced("--audit", "--seeds", 60, "--", client("ordered"), "fence", env=known)
+    told("an audit of many seeds", end, 1, "the same again", "missing fence")
+
+
+def watches():
+    """Whether the kernel gives watchpoints."""
+    with tempfile.TemporaryDirectory(dir=WORK) as folder:
+        end = traced("--watch", 100, "--out", folder, "--", client("ordered"), "sleep")
+        if "gives no watchpoints" in end.stderr:
+            skip("watchpoints, which the kernel does not give")
+            return False
+        return True
+
+
+# ---- the launcher
+
+
+def statuses():
+    """The statuses of programs, and those of env for what can't be run, with sentences."""
+    told("the program's status", traced("--", client("odd"), "status", 7), 7)
+    told("a program that is not there", traced("--", "/nowhere/at_all"), 127, "/nowhere/at_all")
+    told("a name that is not found", traced("--", "no_such_program_at_all"), 127, "is not found")
+    told("a folder", traced("--", "/tmp"), 126, "/tmp")
+    Path(WORK, "plain").write_text("no program")
+    told("a file that may not be run", traced("--", f"{WORK}/plain"), 126, "may not be run")
+    Path(WORK, "empty.c").write_text("int main(void) { return 0; }\n")
+    if ran("gcc", "-static", "-o", f"{WORK}/static", f"{WORK}/empty.c").returncode == 0:
+        told("a static program", traced("--", f"{WORK}/static"), 126, "is a static program")
+        Path(WORK, "script").write_text(f"#!{WORK}/static\n")
+        Path(WORK, "script").chmod(0o755)
+        told("a script of one", traced("--", f"{WORK}/script"), 126, "is a static program")
+    else:
+        skip("static programs, which gcc does not build here")
+    if os.getuid() == 0:
+        shutil.copy("/bin/true", f"{WORK}/set_uid")
+        os.chown(f"{WORK}/set_uid", 65534, 65534)
+        os.chmod(f"{WORK}/set_uid", 0o4755)
+        told("a set-uid program", traced("--", f"{WORK}/set_uid"), 126, "runs with other rights")
+    else:
+        skip("set-uid programs, which need root to make")
+
+
+def options():
+    """Help, wrong options, and the page and the completion, which name each option."""
+    end = traced("--help")
+    told("--help", end, 0, "Usage: dsa_trace [OPTIONS] [--] PROGRAM", "Examples:")
+    for words, why in ((["--nonsense"], "no such option"), ([], "the program to run is missing"), (["--seed"], "whole number"),
+                       (["--seed", "x"], "whole number"), (["--order", "x"], "fifo, members, data or all"),
+                       (["--seeds", "0"], "at least one run"), (["--queue", "dedicated,0,x"], "a size from 1 to 128")):
+        told(f"the options {words}", traced(*words, *(["--", "true"] if words else [])), 125, why)
+    told("a value behind =", traced("--seed=7", "--order=all", "true"), 0)
+    names = re.findall(r"^ +(?:-h, )?(--[a-z-]+)", end.stdout, re.M)
+    expect(len(names) == 14, f"--help names {names}")
+    page = Path("bindings/package/dsa_trace.1").read_text().replace("\\-", "-")
+    completion = Path("bindings/package/dsa_trace.bash").read_text()
+    missing = [name for name in names if name not in page or name not in completion]
+    expect(not missing, f"the manual page or the completion does not name {missing}")
+    if shutil.which("man"):
+        end = ran("man", "--warnings", "-l", "bindings/package/dsa_trace.1", env=os.environ | {"MANWIDTH": "120", "LC_ALL": "C.UTF-8"})
+        expect(end.returncode == 0 and not end.stderr, f"man dsa_trace.1: {end.stderr[:500]}")
+
+
+SYSFS = """
+echo dsa0 > /sys/bus/dsa/drivers/idxd/unbind
+cat /sys/bus/dsa/devices/dsa0/state /sys/bus/dsa/devices/wq0.0/state
+echo dsa0 > /sys/bus/dsa/drivers/idxd/bind
+echo wq0.1 > /sys/bus/dsa/drivers/user/bind
+cat /sys/bus/dsa/devices/dsa0/state /sys/bus/dsa/devices/wq0.0/state /sys/bus/dsa/devices/wq0.1/state
+ls -d /dev/dsa/* /sys/module/idxd
+"""
+
+
+def files():
+    """What is written to the driver's files changes the states, by a shell's own output too. Other files are as before."""
+    wanted = "disabled disabled enabled disabled enabled"
+    other = "ls /sys/bus/pci/devices /sys/bus /dev /sys/module | grep -v -e dsa -e idxd | md5sum"
+    for how in (["--"], ["--no-namespace", "--"]):
+        end = traced(*how, "bash", "-c", SYSFS)
+        expect(" ".join(end.stdout.split()[:5]) == wanted, f"the states with {how}: {end.stdout} {end.stderr}")
+        seen = traced(*how, "sh", "-c", other).stdout
+        expect(seen == ran("sh", "-c", other).stdout, f"with {how} the program sees other files than we")
+    if shutil.which("setpriv") and os.getuid() == 0:
+        bare = ["setpriv", "--bounding-set=-all", "--inh-caps=-all"]
+        end = ran(*bare, f"{WORK}/gcc/dsa_trace", "--", client("operations"))
+        told("no right to a namespace", end, 0, "no namespace of mounts")
+        alone = ["setpriv", "--reuid=65534", "--regid=65534", "--clear-groups"]
+        os.chmod(WORK, 0o755)
+        told("another user than root", ran(*alone, f"{WORK}/gcc/dsa_trace", "--", client("operations")), 0)
+    else:
+        skip("users without rights, which need setpriv and root")
+
+
+def killed():
+    """Killed, it leaves nothing mounted, no file of its device, and no program."""
+    def mounts():
+        return Path("/proc/self/mountinfo").read_text().count("dsa_trace")
+
+    before, devices = mounts(), set(os.listdir("/dev"))
+    with tempfile.TemporaryDirectory(dir=WORK) as folder:
+        how = {"stdin": subprocess.DEVNULL, "env": os.environ | {"TMPDIR": folder}}
+        child = subprocess.Popen([f"{WORK}/gcc/dsa_trace", "--", client("odd"), "hang"], **how)
+        program = None
+        for _ in range(200):
+            time.sleep(0.02)
+            found = Path(f"/proc/{child.pid}/task/{child.pid}/children").read_text().split()
+            if found and Path(f"/proc/{found[0]}/comm").read_text() == "odd\n":
+                program = found[0]
+                break
+        expect(program and mounts() == before, "the program's mounts are seen outside, or it does not start")
+        child.kill()
+        child.wait()
+        for _ in range(200):
+            if not program or not Path(f"/proc/{program}").exists():
+                break
+            time.sleep(0.02)
+        expect(not Path(f"/proc/{program}").exists(), "the program outlives dsa_trace")
+    expect(mounts() == before and set(os.listdir("/dev")) == devices, "something is left in /dev, or mounted")
+    expect(not Path("/sys/bus/dsa").exists() or Path("/sys/bus/dsa/devices/dsa0/cdev_major").exists(), "the device's files are left")
+    with tempfile.TemporaryDirectory(dir=WORK) as folder:
+        traced("--", client("operations"), env=os.environ | {"TMPDIR": folder})
+        expect(not os.listdir(folder), f"a run leaves {os.listdir(folder)}")
+
+
+# ---- the decoder, beside the assembler
+
+WIDE = "rax rcx rdx rbx rsp rbp rsi rdi r8 r9 r10 r11 r12 r13 r14 r15".split()
+NARROW = "eax ecx edx ebx esp ebp esi edi r8d r9d r10d r11d r12d r13d r14d r15d".split()
+PLACE = 0x7F0012345000
+KINDS = {"movdir64b": 1, "enqcmd": 2}
+
+
+def value(register, is_narrow):
+    whole = 0x1111111111111111 * (register + 1) % 2**64
+    return whole % 2**32 if is_narrow else whole
+
+
+def forms():
+    """Each form of address: its text for the assembler, and its address, with which the registers are as in decode.c."""
+    for is_narrow in (False, True):
+        names, size = (NARROW, 32) if is_narrow else (WIDE, 64)
+        for base, index in itertools.product([None, *range(16)], [None, *(k for k in range(16) if k != 4)]):
+            for scale, offset in itertools.product((1, 2, 4, 8) if index is not None else (1,), (0, 0x7F, -0x80, 0x12345678)):
+                inside = names[base] if base is not None else ""
+                text = f"%{inside}" if inside else ""
+                text += f",%{names[index]},{scale}" if index is not None else ""
+                if not text:
+                    continue
+                address = offset + (value(base, is_narrow) if base is not None else 0)
+                address += value(index, is_narrow) * scale if index is not None else 0
+                yield f"{offset}({text})", address % 2**size, is_narrow, 0
+        yield f"{'%fs:' if is_narrow else ''}0x1000({'%' + names[3]})", (0x1000 + value(3, is_narrow)) % 2**size, is_narrow, int(is_narrow)
+    for segment, number in (("fs", 1), ("gs", 2)):
+        yield f"%{segment}:0x40", 0x40, False, number
+        yield f"%{segment}:8(%r13,%r14,2)", (8 + value(13, False) + 2 * value(14, False)) % 2**64, False, number
+
+
+def assembled(lines):
+    """The bytes of instructions, each at a multiple of 16, and the length of each."""
+    text = "".join(f".p2align 4,0x90\n1: {line}\n2: .pushsection .data\n.byte 2b-1b\n.popsection\n" for line in lines)
+    Path(WORK, "forms.s").write_text(text + ".p2align 4,0x90\n")
+    told("the assembler", ran("as", "-o", f"{WORK}/forms.o", f"{WORK}/forms.s"), 0)
+    for part in ("text", "data"):
+        ran("objcopy", "-O", "binary", "-j", f".{part}", f"{WORK}/forms.o", f"{WORK}/forms.{part}")
+    return Path(WORK, "forms.data").read_bytes()
+
+
+def decoded(lines):
+    """What the decoder says of each instruction, with the lengths that the assembler gives."""
+    lengths = assembled(lines)
+    end = ran(f"{WORK}/decode", f"{WORK}/forms.text", hex(PLACE))
+    return lengths, end.stdout.splitlines()
+
+
+def decoder():
+    """Each form of address with each register, of both instructions, as the assembler writes it; the others; and bytes that
+    are none of them."""
+    told("the build of the decoder", ran("gcc", *STRICT, "-I", "trace", "-o", f"{WORK}/decode", "tests/trace/decode.c", "trace/decode.c"), 0)
+    if not shutil.which("as") or not shutil.which("objcopy"):
+        skip("the decoder beside the assembler, which is not there")
+        return
+    lines, wanted = [], []
+    for (name, kind), (number, (text, address, is_narrow, segment)) in itertools.product(KINDS.items(), enumerate(forms())):
+        register = number % 16
+        lines.append(f"{name} {text}, %{(NARROW if is_narrow else WIDE)[register]}")
+        wanted.append((kind, register, address, segment, int(is_narrow)))
+    for name, kind in KINDS.items():
+        lines.append(f"{name} 0x1234(%rip), %r9")
+        wanted.append((kind, 9, None, 0, 0))
+    lengths, got = decoded(lines)
+    faults = []
+    for place, (line, (kind, register, address, segment, is_narrow), length, found) in enumerate(zip(lines, wanted, lengths, got)):
+        if address is None:
+            address = PLACE + 16 * place + length + 0x1234
+        right = f"{kind} {length} {register} {address:#x} {segment} {is_narrow}" if address else f"{kind} {length} {register} 0 {segment} {is_narrow}"
+        if found.rsplit(" ", 1)[0] != right:
+            faults.append(f"{line}: {found}, not {right}")
+    expect(len(got) == len(lines) > 10000 and not faults, f"{len(got)} of {len(lines)} forms decoded, {len(faults)} wrong: {faults[:3]}")
+    others = {"movdiri %rax, 8(%rbx)": "3 6 0 0x444444444444444c 0 0 1", "movdiri %r9d, (%rcx)": "3 5 9 0x2222222222222222 0 0 0",
+              "umonitor %r11": "4 5 11 0 0 0 0", "umwait %ecx": "5 4 1 0 0 0 0", "tpause %r15d": "6 5 15 0 0 0 0",
+              "mfence": "none", "clwb (%rax)": "none", "enqcmds (%rax), %rbx": "none", "ud2": "none", "crc32l %eax, %ebx": "none",
+              "movbe (%rax), %ebx": "none", "incsspd %eax": "none", ".byte 0x66,0x66,0x66,0x66,0x66,0x66,0x66,0x66,0x66,0x66,0x66,0x66,0x66,0x66,0x66,0x66": "none"}
+    lengths, got = decoded(others)
+    for (line, right), found in zip(others.items(), got):
+        expect(found == right, f"{line} is decoded as {found}, not {right}")
+
+
+# ---- speed, and large clients
+
+
+def cost():
+    """What an instruction takes: printed, not judged, since other work may run beside it."""
+    told("the build of cost", ran("gcc", *STRICT, "-O2", "-o", client("cost"), "tests/trace/cost.c"), 0)
+    for words in (["--order", "fifo"], [], ["--out", f"{WORK}/costs"]):
+        end = traced(*words, "--", client("cost"))
+        told("cost", end, 0)
+        print(f"dsa_trace {' '.join(words)}: {end.stdout.strip()}")
+    start = time.monotonic()
+    for _ in range(10):
+        traced("--", "/bin/true")
+    print(f"a start takes {(time.monotonic() - start) * 100:.0f} ms")
+
+
+def submit():
+    """The example bindings/c/submit.c plans with the proved library, and submits to the device."""
+    archive = ROOT / "crates/dsa_c/out/libdsa_c.a"
+    if not archive.exists():
+        skip("bindings/c/submit.c: crates/dsa_c is not built")
+        return
+    words = ["-O2", "-I", "bindings/c", "bindings/c/submit.c", "bindings/c/memory.c", archive, "-o", client("submit")]
+    told("the build of submit.c", ran("gcc", *STRICT, *words), 0)
+    for queue, kind in (("wq0.0", "dedicated"), ("wq0.1", "shared")):
+        for seed in range(1, 21):
+            told(f"submit to {queue}", traced("--seed", seed, "--", client("submit"), f"/dev/dsa/{queue}", kind), 0, "copied")
+
+
+def sanitized():
+    """valgrind names what the device writes to memory that is freed."""
+    if not shutil.which("valgrind"):
+        skip("there is no valgrind")
+        return
+    told("the build of freed", ran("gcc", *STRICT, "-g", "-o", client("freed"), "tests/trace/freed.c"), 0)
+    end = traced("--order", "fifo", "--", "valgrind", "-q", "--error-exitcode=9", client("freed"))
+    told("freed memory under valgrind", end, 9, "Invalid write", "free'd")
+
+
+def large():
+    """The programs of Intel and of DPDK that test the device and its drivers, where their packages are."""
+    test = Path("/usr/libexec/accel-config/test/dsa_test")
+    if not test.exists():
+        skip("dsa_test: there is no package accel-config-test")
+    for operation in ("0x0", "0x2", "0x3", "0x4", "0x5", "0x6", "0x9", "0x10", "0x11", "0x12", "0x13", "0x14", "0x15", "0x20") if test.exists() else ():
+        size = "4096" if int(operation, 0) & 0x1C != 0x14 and operation not in ("0x12", "0x13") else "512"
+        for queue, flags in itertools.product("01", ("0x0", "0x1")):
+            words = ["-w", queue, "-l", size, "-f", flags, "-t", "2000", "-v"]
+            told(f"dsa_test {operation} {words}", traced("--", test, *words, "-o", operation), 0)
+            if operation != "0x2":
+                told(f"dsa_test of a batch {operation} {words}", traced("--", test, *words, "-o", "0x1", "-b", operation, "-c", "16"), 0)
+    if not shutil.which("dpdk-test"):
+        skip("dmadev_autotest: there is no package dpdk-dev")
+        return
+    words = ["dpdk-test", "--no-huge", "-m", "512", "--no-pci", "-l", "0", "dmadev_autotest"]
+    told("dmadev_autotest", traced("--", *words), 0, "Test OK")
+
+
+PARTS = [built, decoder, ordered, orders, repeated, seeds, operations, refused, died, recordings, full_disk, audited, statuses]
+PARTS += [options, files, killed, submit, sanitized, cost, large]
+
+
+def main(words):
+    global WORK
+    parts = named(PARTS, words)
+    if not shutil.which("gcc") or not shutil.which("make"):
+        print("skipped, there is no gcc or no make")
+        sys.exit(0)
+    with tempfile.TemporaryDirectory() as WORK:
+        told("the build", ran("make", "-C", ROOT / "trace", "CC=gcc", f"OUT={WORK}/gcc"), 0)
+        for name in CLIENTS:
+            told(f"the build of {name}", ran("gcc", *STRICT, "-O1", "-o", client(name), f"tests/trace/{name}.c", "-lpthread"), 0)
+        for part in parts if common.failed == 0 else []:
+            part()
+    print(f"{skipped} skipped")
+
+
+if __name__ == "__main__":
+    run_test(main)

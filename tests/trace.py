@@ -151,7 +151,7 @@ REFUSED = {
               "read: status 0x3, 0 bytes, at 0x2000"],
     "lists": ["missing list: status 0x6, 0 bytes, at 0x2000", "odd list: status 0x18,", "one member: status 0x14,",
               "too many members: status 0x14,"],
-    "record": ["multiple of 32", "the next: status 0x1,", "moved 0, record 0"],
+    "record": ["no multiple of 32", "the next: status 0x1,", "moved 0, record 0"],
     "refused": ["reserved flag: status 0x11,", "invalid flags 0x40\n", "check result of a move: status 0x11,",
                 "operation 0xa: status 0x10,", "no bytes: status 0x13,", "reserved byte: status 0x12,",
                 "reserved bits: status 0x12,", "dualcast bits: status 0x17,", "dualcast overlap: status 0x16,",
@@ -328,6 +328,8 @@ def files():
         bare = ["setpriv", "--bounding-set=-all", "--inh-caps=-all"]
         end = ran(*bare, f"{WORK}/gcc/dsa_trace", "--", client("operations"))
         told("no right to a namespace", end, 0, "no namespace of mounts")
+        end = ran("unshare", "-m", "sh", "-c", f"umount -l /proc && exec {WORK}/gcc/dsa_trace true")
+        told("no /proc", end, 125, "dsa_trace: /proc, by which")
         alone = ["setpriv", "--reuid=65534", "--regid=65534", "--clear-groups"]
         os.chmod(WORK, 0o755)
         told("another user than root", ran(*alone, f"{WORK}/gcc/dsa_trace", "--", client("operations")), 0)
@@ -479,13 +481,21 @@ def submit():
 
 
 def sanitized():
-    """valgrind names what the device writes to memory that is freed."""
+    """valgrind and AddressSanitizer name what the device writes to memory that is freed."""
     if not shutil.which("valgrind"):
         skip("there is no valgrind")
         return
     told("the build of freed", ran("gcc", *STRICT, "-g", "-o", client("freed"), "tests/trace/freed.c"), 0)
-    end = traced("--order", "fifo", "--", "valgrind", "-q", "--error-exitcode=9", client("freed"))
-    told("freed memory under valgrind", end, 9, "Invalid write", "free'd")
+    for order in ("fifo", "data"):
+        end = traced("--order", order, "--", "valgrind", "-q", "--error-exitcode=9", client("freed"))
+        told(f"freed memory under valgrind in the order {order}", end, 9, "Invalid write", "free'd")
+    words = ["-g", "-fsanitize=address", "-o", client("freed_asan"), "tests/trace/freed.c"]
+    if ran("gcc", *STRICT, *words).returncode:
+        skip("AddressSanitizer, which gcc does not have here")
+        return
+    library = ran("gcc", "-print-file-name=libasan.so").stdout.strip()
+    end = traced("--", client("freed_asan"), env=os.environ | {"LD_PRELOAD": library})
+    told("freed memory with AddressSanitizer", end, 1, "heap-use-after-free", "WRITE of size 64")
 
 
 def large():

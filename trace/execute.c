@@ -1,12 +1,25 @@
-/* One descriptor, from what the device refuses of it to its completion record. */
+/* One descriptor, from what the device refuses of it to its completion record; and the members of a batch. */
 #include <stdio.h>
 #include <string.h>
 
 #include "order.h"
 
-static bool is_misplaced(const descriptor *d)
+/// Copies the members of a batch as they are now; answers the status of the batch.
+uint8_t execute_take(struct submission *s, completion *r)
 {
-    return d->flags & IDXD_OP_FLAG_CRAV && d->completion_addr % sizeof(completion);
+    uint32_t bad = 0;
+    struct fault fault;
+    memset(r, 0, sizeof *r);
+    r->status = valid_descriptor(&s->entry, s->queue, false, &bad);
+    r->invalid_flags = bad;
+    if (r->status != DSA_COMP_SUCCESS)
+        return r->status;
+    if (!memory_copy(s->members, (const void *)s->entry.desc_list_addr, sizeof(descriptor) * s->entry.desc_count, &fault)) {
+        r->fault_addr = fault.address & -4096ull;
+        return r->status = DSA_COMP_BATCH_PAGE_FAULT;
+    }
+    s->count = s->entry.desc_count;
+    return DSA_COMP_SUCCESS;
 }
 
 /// Says why a descriptor is refused, the first times.
@@ -31,7 +44,7 @@ void execute(const struct submission *s, unsigned index, completion *r)
     const descriptor *d = &s->members[index];
     uint32_t bad = 0;
     memset(r, 0, sizeof *r);
-    r->status = is_misplaced(d) ? DSA_COMP_CRA_ALIGN : valid_descriptor(d, s->queue, s->is_batch, &bad);
+    r->status = valid_descriptor(d, s->queue, s->is_batch, &bad);
     if (r->status == DSA_COMP_SUCCESS) {
         device_run(d, r, random_at(settings.seed, s->number << 11 | index));
         return;
@@ -57,7 +70,7 @@ bool execute_record(const descriptor *d, const completion *r)
     const bool is_wanted = d->flags & IDXD_OP_FLAG_RCR || r->status != DSA_COMP_SUCCESS;
     if (!(d->flags & IDXD_OP_FLAG_CRAV) || !is_wanted)
         return false;
-    if (!is_misplaced(d))
+    if (!valid_is_misplaced(d))
         return publish(d->completion_addr, r);
     say("the completion record at %#lx is at no multiple of 32, so the device does nothing and writes none",
         (unsigned long)d->completion_addr);

@@ -166,7 +166,7 @@ static ssize_t write_entries(struct queue *q, const uint8_t *from, size_t size)
             errno = EFAULT;
             return at ? (ssize_t)at : -1;
         }
-        if (order_submit(q, &d, true) == FULL) {
+        if (order_submit(q, &d, q->is_shared) == FULL) {
             errno = EAGAIN;
             return at ? (ssize_t)at : -1;
         }

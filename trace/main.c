@@ -82,6 +82,8 @@ int main(int argc, char **argv)
     const char *dsa_text = o.audits && !refused ? audit_find() : NULL;
     if (refused || (o.audits && !dsa_text))
         return refused ? refused : FAILED;
+    if (access("/proc/self/fd", X_OK))
+        fail("/proc, by which the library knows the files of a queue");
     make_own_folder(folder);
     int status = run_all(&o, folder, records, &is_recorded);
     const int missing = o.audits && is_recorded ? audit_run(dsa_text, records) : 0;

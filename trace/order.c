@@ -271,24 +271,6 @@ void order_start(void)
         usleep(10);
 }
 
-/// Copies the members of a batch as they are now; answers the status of the batch.
-static uint8_t take_members(struct submission *s, completion *r)
-{
-    uint32_t bad = 0;
-    struct fault fault;
-    memset(r, 0, sizeof *r);
-    r->status = valid_descriptor(&s->entry, s->queue, false, &bad);
-    r->invalid_flags = bad;
-    if (r->status != DSA_COMP_SUCCESS)
-        return r->status;
-    if (!memory_copy(s->members, (const void *)s->entry.desc_list_addr, sizeof(descriptor) * s->entry.desc_count, &fault)) {
-        r->fault_addr = fault.address & -4096ull;
-        return r->status = DSA_COMP_BATCH_PAGE_FAULT;
-    }
-    s->count = s->entry.desc_count;
-    return DSA_COMP_SUCCESS;
-}
-
 /// A batch without members: its list can't be read, or the device refuses it. It is recorded with none.
 static void refuse_batch(struct submission *s, const completion *r)
 {
@@ -336,7 +318,7 @@ static void take_in(struct queue *q, const descriptor *d)
     s->members[0] = *d;
     if (settings.watch)
         watch_note_seen();
-    if (s->is_batch && take_members(s, &r) != DSA_COMP_SUCCESS) {
+    if (s->is_batch && execute_take(s, &r) != DSA_COMP_SUCCESS) {
         refuse_batch(s, &r);
         return;
     }
@@ -366,6 +348,15 @@ static bool has_room(struct queue *q, bool is_enqueued)
     return false;
 }
 
+/// Says once of a queue that a device would not take what is submitted so; here it is taken.
+static void note_mode(struct queue *q, bool is_enqueued)
+{
+    if (is_enqueued != q->is_shared && !q->is_mistaken)
+        say("%s to wq%d.%d, which is %s: a device does not take it", is_enqueued ? "ENQCMD" : "MOVDIR64B", q->device, q->id,
+            q->is_shared ? "shared" : "dedicated");
+    q->is_mistaken |= is_enqueued != q->is_shared;
+}
+
 /// One submission, in the handler of signals or in a write to a queue's file.
 enum accepted order_submit(struct queue *q, const descriptor *d, bool is_enqueued)
 {
@@ -373,6 +364,7 @@ enum accepted order_submit(struct queue *q, const descriptor *d, bool is_enqueue
     order.arriving++;
     pthread_mutex_lock(&order.lock);
     order.arriving--;
+    note_mode(q, is_enqueued);
     const bool is_taken = has_room(q, is_enqueued);
     if (is_taken)
         take_in(q, d);

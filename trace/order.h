@@ -19,6 +19,7 @@ struct submission {
 };
 
 /* ---- execute.c: one descriptor ---- */
+uint8_t execute_take(struct submission *s, completion *r);
 void execute(const struct submission *s, unsigned index, completion *r);
 bool execute_record(const descriptor *d, const completion *r);
 

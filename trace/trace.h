@@ -26,7 +26,8 @@ struct queue {
     bool is_shared, may_block; /* block-on-fault is allowed */
     uint32_t size, greatest_batch;
     uint64_t greatest_transfer;
-    uint32_t in_flight; /* under the lock of order.c */
+    uint32_t in_flight; /* this and the next under the lock of order.c */
+    bool is_mistaken;   /* that the instruction is that of the other mode is said */
 };
 
 /* ---- say.c: sentences on standard error, safe in a handler of signals ---- */
@@ -64,6 +65,7 @@ void memory_escape(const siginfo_t *info, const void *context);
 /* DSA_COMP_SUCCESS, or the status with which the descriptor ends; of flags *bad has those that are invalid. */
 uint8_t valid_descriptor(const descriptor *d, const struct queue *q, bool is_member, uint32_t *bad);
 const char *valid_name(uint8_t status);
+bool valid_is_misplaced(const descriptor *d);
 
 /* ---- device.c, crc.c and dif.c: operations ---- */
 /* Does one operation, neither batch nor drain, and fills the record. `draw` is a random number, for --fault. */

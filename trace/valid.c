@@ -91,10 +91,18 @@ static uint8_t valid_operation(const descriptor *d)
     }
 }
 
+/// Whether the record of a descriptor is at a place where none can be written.
+bool valid_is_misplaced(const descriptor *d)
+{
+    return d->flags & IDXD_OP_FLAG_CRAV && d->completion_addr % sizeof(completion);
+}
+
 /// The first of the causes for which the device refuses a descriptor, or success.
 uint8_t valid_descriptor(const descriptor *d, const struct queue *q, bool is_member, uint32_t *bad)
 {
     const bool is_batch = d->opcode == DSA_OPCODE_BATCH;
+    if (valid_is_misplaced(d))
+        return DSA_COMP_CRA_ALIGN;
     if (!is_known(d) || (is_member && (is_batch || d->opcode == DSA_OPCODE_DRAIN)))
         return DSA_COMP_BAD_OPCODE;
     *bad = invalid_flags(d, q);

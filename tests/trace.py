@@ -4,6 +4,7 @@ form of address. It uses dsa_text, the tests of accel-config-test and dpdk-dev, 
 are, and says so where they aren't. The words are names of parts."""
 
 import itertools
+import json
 import os
 import re
 import shutil
@@ -226,10 +227,28 @@ def full_disk():
     expect(end.stderr.count("No space") == 1, f"on a full disk it is said again: {end.stderr}")
 
 
+def waits():
+    """--audit names submissions that conflict with one in flight, whatever dsa_text says: here /bin/true says nothing."""
+    known = os.environ | {"DSA_TEXT": "/bin/true"}
+    end = traced("--audit", "--", client("ordered"), "wait", env=known)
+    told("a missing wait", end, 1, "submission 1: error: missing wait, read after write: reads what submission 0, in flight, writes, at 0x")
+    expect(end.stdout.count("error") == 1, f"of one missing wait is said {end.stdout}")
+    for mode in ("fence", "fenced", "waited", "member", "drain", "polled"):
+        for order in ("data", "all"):
+            end = traced("--audit", "--order", order, "--", client("ordered"), mode, env=known)
+            expect("error" not in end.stdout, f"{mode} in the order {order}: {end.stdout}")
+    told("threads", traced("--audit", "--", client("threads"), env=known), 0)
+    told("a sleep is no wait", traced("--audit", "--watch", 100, "--", client("ordered"), "sleep", env=known), int(watches()),
+         *["missing wait"] * watches())
+    told("nothing submitted", traced("--audit", "--", "/bin/true", env=known), 0, "nothing was submitted")
+    told("an audit that fails", traced("--audit", "--", client("ordered"), "waited", env={"DSA_TEXT": "/bin/false"}), 1)
+    told("no such program", traced("--audit", "--", "/bin/true", env={"DSA_TEXT": "/nowhere"}), 125, "DSA_TEXT names /nowhere")
+    told("--audit without dsa_text", traced("--audit", "--", "/bin/true", env={"PATH": "/nowhere"}), 125, "needs the program dsa_text")
+
+
 def audited():
     """--audit names the missing fence or wait, with status 1, and nothing else of a right program."""
     text = os.environ.get("DSA_TEXT") or ROOT / "crates/dsa_text/out/dsa_text"
-    told("--audit without dsa_text", traced("--audit", "--", "/bin/true", env={"PATH": "/nowhere"}), 125, "needs the program dsa_text")
     if not Path(text).exists():
         skip("audits: crates/dsa_text is not built")
         return
@@ -241,8 +260,6 @@ def audited():
         end = traced("--audit", "--", client("ordered"), mode, env=known)
         told(mode, end, 0, " 0 missing")
         expect("missing wait" not in end.stdout, f"{mode}: {end.stdout}")
-    told("a wait by chance", traced("--audit", "--watch", 100, "--", client("ordered"), "sleep", env=known), 1 if watches() else 0)
-    told("nothing submitted", traced("--audit", "--", "/bin/true", env=known), 0, "nothing was submitted")
     end = traced("--audit", "--seeds", 60, "--", client("ordered"), "fence", env=known)
     told("an audit of many seeds", end, 1, "the same again", "missing fence")
 
@@ -467,6 +484,30 @@ def cost():
     print(f"a start takes {(time.monotonic() - start) * 100:.0f} ms")
 
 
+def prices():
+    """dsa_prices says that there is no device; under dsa_trace it measures the one in software, and says so."""
+    tool = f"{WORK}/gcc/dsa_prices"
+    if not Path("/dev/dsa").exists():
+        told("prices without a device", ran(tool), 1, "/dev/dsa/wq0.0: there is no such queue")
+    told("a wrong option", ran(tool, "--nonsense"), 2, "no such option")
+    told("a wrong size", ran(tool, "--greatest-batch", 1), 2, "a number from 2 to 1024")
+    for queue, greatest in (("wq0.0", 2), ("wq0.0", 23), ("wq0.1", 8)):
+        words = ["--order", "fifo", "--", tool, "--times", 30, "--greatest-batch", greatest, f"/dev/dsa/{queue}"]
+        end = traced(*words)
+        told(f"the prices of {queue}", end, 0, "prices of the emulation")
+        found = json.loads(end.stdout or "{}")
+        names = {"version", "greatest_batch", "greatest_transfer", "lone", "batch", "fence", "staging"}
+        right = set(found) == names and found["version"] == 2 and len(found["batch"]) == greatest - 1 and found["lone"] > 0
+        expect(right and found["greatest_transfer"] == 2**31, f"the settings of {queue} are {found}")
+        program = ROOT / "crates/dsa/out/dsa"
+        if program.exists():
+            job = {"do": "plan", "list": "", "settings": found}
+            told("a plan with these prices", ran(program, input=json.dumps(job), stdin=None), 0, '"cost":0')
+        end = traced(*words, "--options")
+        right = rf"--greatest-batch {greatest} --greatest-transfer {2**31} --lone \d+ --fence \d+ --batches \d+(,\d+){{{greatest - 2}}}\n"
+        expect(re.fullmatch(right, end.stdout), f"the options of {queue} are {end.stdout}")
+
+
 def submit():
     """The example bindings/c/submit.c plans with the proved library, and submits to the device."""
     archive = ROOT / "crates/dsa_c/out/libdsa_c.a"
@@ -517,8 +558,8 @@ def large():
     told("dmadev_autotest", traced("--", *words), 0, "Test OK")
 
 
-PARTS = [built, decoder, ordered, orders, repeated, seeds, operations, refused, died, recordings, full_disk, audited, statuses]
-PARTS += [options, files, killed, submit, sanitized, cost, large]
+PARTS = [built, decoder, ordered, orders, repeated, seeds, operations, refused, died, recordings, full_disk, waits, audited, statuses]
+PARTS += [options, files, killed, prices, submit, sanitized, cost, large]
 
 
 def main(words):

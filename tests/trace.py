@@ -361,7 +361,8 @@ def killed():
 
     before, devices = mounts(), set(os.listdir("/dev"))
     with tempfile.TemporaryDirectory(dir=WORK) as folder:
-        how = {"stdin": subprocess.DEVNULL, "env": os.environ | {"TMPDIR": folder}}
+        quiet = dict.fromkeys(("stdin", "stdout", "stderr"), subprocess.DEVNULL)
+        how = quiet | {"env": os.environ | {"TMPDIR": folder}}
         child = subprocess.Popen([f"{WORK}/gcc/dsa_trace", "--", client("odd"), "hang"], **how)
         program = None
         for _ in range(200):
@@ -377,7 +378,10 @@ def killed():
             if not program or not Path(f"/proc/{program}").exists():
                 break
             time.sleep(0.02)
-        expect(not Path(f"/proc/{program}").exists(), "the program outlives dsa_trace")
+        survives = program and Path(f"/proc/{program}").exists()
+        expect(not survives, "the program outlives dsa_trace")
+        if survives:
+            os.kill(int(program), signal.SIGKILL)
     expect(mounts() == before and set(os.listdir("/dev")) == devices, "something is left in /dev, or mounted")
     expect(not Path("/sys/bus/dsa").exists() or Path("/sys/bus/dsa/devices/dsa0/cdev_major").exists(), "the device's files are left")
     with tempfile.TemporaryDirectory(dir=WORK) as folder:

@@ -126,6 +126,10 @@ def seeds():
     told("many seeds of a missing fence", end, 3, "the same again", "dsa_trace --seed ")
     again = re.search(r"^dsa_trace (--seed \d+) -- (.*)$", end.stderr, re.M)
     told("the seed that is named", traced(*again[0].split()[1:]) if again else end, 3)
+    told("the example", ran("gcc", *STRICT, "-O2", "-mmovdir64b", "-o", client("copy_twice"), "examples/trace/copy_twice.c"), 0)
+    told("many seeds of the example", traced("--seeds", 40, "--", client("copy_twice")), 1, 'c is ""', "the same again")
+    end = traced("--seeds", 2, "--no-namespace", "--", client("ordered"), "fenced")
+    told("two seeds without a namespace", end, 0, "2 runs, all with status 0")
     end = traced("--seeds", 5, "--", client("ordered"), "fenced")
     told("many seeds of a right program", end, 0, "5 runs, all with status 0")
 

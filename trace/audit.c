@@ -34,7 +34,8 @@ const char *audit_find(void)
         if (access(found, X_OK) == 0)
             return found;
     }
-    fputs("dsa_trace: --audit needs the program dsa_text, beside this one, on the path, or named by DSA_TEXT\n", stderr);
+    fputs("dsa_trace: --audit needs the program dsa_text, beside this one, on the path, or named by DSA_TEXT\n",
+          stderr);
     return NULL;
 }
 

@@ -18,8 +18,8 @@ struct instruction {
     bool is_wide;         /* MOVDIRI stores 8 bytes and not 4 */
 };
 
-/* Decodes the instruction at `code`, which runs at address `at` with these registers, numbered as `reg` is. Answers false
- * if it is none of these. It reads no more bytes than the instruction has, nor more than 15. */
+/* Decodes the instruction at `code`, which runs at address `at` with these registers, numbered as `reg` is. Answers
+ * false if it is none of these. It reads no more bytes than the instruction has, nor more than 15. */
 bool decode(const uint8_t *code, uint64_t at, const uint64_t registers[16], struct instruction *out);
 
 #endif

@@ -49,8 +49,8 @@ static uint8_t fill(struct work *w)
     return DSA_COMP_SUCCESS;
 }
 
-/// The offset of the first byte at which `one` differs from what is compared with it; else the size. `other` is a region,
-/// or, for a pattern, a page of it over and over.
+/// The offset of the first byte at which `one` differs from what is compared with it; else the size. `other` is a
+/// region, or, for a pattern, a page of it over and over.
 static uint32_t first_difference(struct work *w, const uint8_t *one, const uint8_t *other, bool is_pattern)
 {
     for (size_t n; w->done < w->size; w->done += n) {

@@ -1,6 +1,7 @@
-/* The four operations on data integrity fields: blocks of data with 8 bytes each of guard, application tag and reference
- * tag. Flags as in Intel's specification 341204: of the source in byte 40 (of an update and a check), of the destination
- * in byte 41, of both in byte 42. Not done: fields that pass through an update, and the tags of the completion record. */
+/* The four operations on data integrity fields: blocks of data with 8 bytes each of guard, application tag and
+ * reference tag. Flags as in Intel's specification 341204: of the source in byte 40 (of an update and a check), of the
+ * destination in byte 41, of both in byte 42. Not done: fields that pass through an update, and the tags of the
+ * completion record. */
 #include <string.h>
 
 #include "trace.h"
@@ -9,7 +10,14 @@ enum { FIELD = 8 };
 /* byte 42 */
 enum { BLOCK_SIZE = 3, SEED_IS_ONES = 4, INVERTED = 8 };
 /* of the source: an all-ones tag means that the block is not checked; which checks are off; which tags stay the same */
-enum { APP_IS_F = 4, BOTH_ARE_F = 8, APP_COUNTS = 0x10, NO_GUARD = 0x20, NO_REFERENCE = 0x40, REFERENCE_IS_FIXED = 0x80 };
+enum {
+    APP_IS_F = 4,
+    BOTH_ARE_F = 8,
+    APP_COUNTS = 0x10,
+    NO_GUARD = 0x20,
+    NO_REFERENCE = 0x40,
+    REFERENCE_IS_FIXED = 0x80
+};
 /* what a check found */
 enum { WRONG_GUARD = 1, WRONG_APP = 2, WRONG_REFERENCE = 4 };
 

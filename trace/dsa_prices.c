@@ -1,5 +1,5 @@
-/* Measures what submissions cost on a work queue, as docs/PRICES.md says: a lone descriptor, batches by size, and a fence;
- * prints them as settings of the planner, in nanoseconds. */
+/* Measures what submissions cost on a work queue, as docs/PRICES.md says: a lone descriptor, batches by size, and a
+ * fence; prints them as settings of the planner, in nanoseconds. */
 #include <errno.h>
 #include <fcntl.h>
 #include <immintrin.h>
@@ -110,7 +110,8 @@ static void open_queue(struct bench *b, const struct asked *a)
     char mode[64] = "";
     const int file = open(a->queue, O_RDWR);
     if (file < 0)
-        fail(a->queue, errno == ENOENT ? "there is no such queue: no device, or it is not configured (accel-config)" : strerror(errno));
+        fail(a->queue, errno == ENOENT ? "there is no such queue: no device, or it is not configured (accel-config)"
+                                       : strerror(errno));
     b->portal = mmap(NULL, 4096, PROT_WRITE, MAP_SHARED | MAP_POPULATE, file, 0);
     if (b->portal == MAP_FAILED)
         fail(a->queue, strerror(errno));
@@ -179,7 +180,9 @@ static uint32_t measure(struct bench *b, const descriptor *d)
 
 static descriptor move_of(const struct bench *b, unsigned i)
 {
-    return (descriptor){.opcode = DSA_OPCODE_MEMMOVE, .xfer_size = MOVED, .src_addr = (uintptr_t)(b->data + 2 * MOVED * i),
+    return (descriptor){.opcode = DSA_OPCODE_MEMMOVE,
+                        .xfer_size = MOVED,
+                        .src_addr = (uintptr_t)(b->data + 2 * MOVED * i),
                         .dst_addr = (uintptr_t)(b->data + 2 * MOVED * i + MOVED)};
 }
 
@@ -254,9 +257,11 @@ int main(int argc, char **argv)
     measure_batches(&b, greatest, prices);
     const uint32_t of_fence = fence(&b, greatest);
     if (a.options)
-        printf("--greatest-batch %u --greatest-transfer %lu --lone %u --fence %u --batches ", greatest, transfer, of_lone, of_fence);
+        printf("--greatest-batch %u --greatest-transfer %lu --lone %u --fence %u --batches ", greatest, transfer,
+               of_lone, of_fence);
     else
-        printf("{\"version\":2,\"greatest_batch\":%u,\"greatest_transfer\":%lu,\"lone\":%u,\"fence\":%u,\"staging\":%d,\"batch\":[",
+        printf("{\"version\":2,\"greatest_batch\":%u,\"greatest_transfer\":%lu,\"lone\":%u,\"fence\":%u,\"staging\":%d,"
+               "\"batch\":[",
                greatest, transfer, of_lone, of_fence, STAGING);
     print_all(",", prices, greatest);
     puts(a.options ? "" : "]}");

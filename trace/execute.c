@@ -14,7 +14,8 @@ uint8_t execute_take(struct submission *s, completion *r)
     r->invalid_flags = bad;
     if (r->status != DSA_COMP_SUCCESS)
         return r->status;
-    if (!memory_copy(s->members, (const void *)s->entry.desc_list_addr, sizeof(descriptor) * s->entry.desc_count, &fault)) {
+    if (!memory_copy(s->members, (const void *)s->entry.desc_list_addr, sizeof(descriptor) * s->entry.desc_count,
+                     &fault)) {
         r->fault_addr = fault.address & -4096ull;
         return r->status = DSA_COMP_BATCH_PAGE_FAULT;
     }
@@ -34,8 +35,8 @@ static void say_refused(const struct submission *s, unsigned index, uint8_t stat
         snprintf(which, sizeof which, "member %u of ", index);
     if (flags)
         snprintf(what, sizeof what, ", flags %#x", flags);
-    say("%ssubmission %lu, operation %#x, is refused with status %#x (%s%s)%s", which, s->number, s->members[index].opcode,
-        status, valid_name(status), what, said == MOST ? "; more are not said" : "");
+    say("%ssubmission %lu, operation %#x, is refused with status %#x (%s%s)%s", which, s->number,
+        s->members[index].opcode, status, valid_name(status), what, said == MOST ? "; more are not said" : "");
 }
 
 /// Does a member of a batch, or the lone descriptor, and fills its record.

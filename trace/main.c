@@ -61,7 +61,8 @@ static int run_all(const struct options *o, const char *folder, char records[PAT
         *is_recorded = place_records(o, seed, folder, records);
         status = run_once(o, seed, folder, *is_recorded ? records : NULL);
         if (status && o->seeds > 1) {
-            fprintf(stderr, "dsa_trace: seed %llu, run %llu of %llu: the program ends with status %d; the same again:\n",
+            fprintf(stderr,
+                    "dsa_trace: seed %llu, run %llu of %llu: the program ends with status %d; the same again:\n",
                     (unsigned long long)seed, (unsigned long long)i + 1, (unsigned long long)o->seeds, status);
             options_repeat(o, seed);
         }

@@ -22,7 +22,8 @@ bool memory_copy(void *to, const void *from, size_t size, struct fault *fault)
     return true;
 }
 
-/// Called by the handler of SIGSEGV and SIGBUS. The mask of signals stays as it is: ours blocks the same ones everywhere.
+/// Called by the handler of SIGSEGV and SIGBUS. The mask of signals stays as it is: ours blocks the same ones
+/// everywhere.
 void memory_escape(const siginfo_t *info, const void *context)
 {
     if (!guard.is_set)

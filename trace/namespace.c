@@ -19,8 +19,8 @@ static void write_map(const char *path, const char *text)
     close(file);
 }
 
-/// Enters a namespace of mounts; without the right to make one, as the owner of a namespace of users of its own. False if
-/// neither is allowed.
+/// Enters a namespace of mounts; without the right to make one, as the owner of a namespace of users of its own. False
+/// if neither is allowed.
 bool namespace_enter(void)
 {
     const unsigned user = geteuid(), group = getegid();
@@ -66,8 +66,8 @@ static void carry_over(const char *old, const char *place, const char *name)
     bind_to(from, to);
 }
 
-/// Puts a folder of the tree beside what is in `place`, a file system that takes no new folders: a tmpfs over it, on which
-/// what was there is mounted again. A folder of this name that is there already is covered.
+/// Puts a folder of the tree beside what is in `place`, a file system that takes no new folders: a tmpfs over it, on
+/// which what was there is mounted again. A folder of this name that is there already is covered.
 static void add_to(const char *tree, const char *place, const char *name)
 {
     char old[PATH_MAX], from[PATH_MAX], to[PATH_MAX];

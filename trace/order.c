@@ -1,6 +1,6 @@
-/* Submissions in flight, and the order in which they are done. FIFO and MEMBERS do each at once, on the thread that submits.
- * DATA and ALL leave it to a thread of ours, which waits until the program has run on for a while (pace.c) and then draws
- * what comes next from all that fences and drains allow. */
+/* Submissions in flight, and the order in which they are done. FIFO and MEMBERS do each at once, on the thread that
+ * submits. DATA and ALL leave it to a thread of ours, which waits until the program has run on for a while (pace.c) and
+ * then draws what comes next from all that fences and drains allow. */
 #include "order.h"
 
 #include <errno.h>
@@ -73,7 +73,7 @@ static void complete(struct submission *s, const completion *r)
     if (settings.order == ORDER_DATA)
         s = order.head;
     while (s && s->is_done) {
-        record_event('C', s->number, -1, s->last.status); /* before the record: what comes before it comes unaware of it */
+        record_event('C', s->number, -1, s->last.status); /* before the record, so what comes earlier is unaware of it */
         if (s->watch >= 0)
             watch_completed(s->watch, s->number);
         order.records += execute_record(&s->entry, &s->last);
@@ -139,7 +139,8 @@ static bool may_go(const struct submission *s)
     return !s->is_done && !(s->entry.opcode == DSA_OPCODE_DRAIN && has_older_of_queue(s));
 }
 
-/// For --watch: whether all waits until the program looks at a record that is watched. Until then it does not wait for it.
+/// For --watch: whether all waits until the program looks at a record that is watched. Until then it does not wait for
+/// it.
 static bool is_held(void)
 {
     bool is_watched = false;
@@ -247,7 +248,8 @@ static void begin_process(pid_t pid)
 /// When the library is loaded.
 void order_begin(void) { begin_process(getpid()); }
 
-/// Starts the worker, once in a process. It is called when a portal is mapped, where more may be done than in a handler.
+/// Starts the worker, once in a process. It is called when a portal is mapped, where more may be done than in a
+/// handler.
 void order_start(void)
 {
     pthread_t thread;
@@ -352,8 +354,8 @@ static bool has_room(struct queue *q, bool is_enqueued)
 static void note_mode(struct queue *q, bool is_enqueued)
 {
     if (is_enqueued != q->is_shared && !q->is_mistaken)
-        say("%s to wq%d.%d, which is %s: a device does not take it", is_enqueued ? "ENQCMD" : "MOVDIR64B", q->device, q->id,
-            q->is_shared ? "shared" : "dedicated");
+        say("%s to wq%d.%d, which is %s: a device does not take it", is_enqueued ? "ENQCMD" : "MOVDIR64B", q->device,
+            q->id, q->is_shared ? "shared" : "dedicated");
     q->is_mistaken |= is_enqueued != q->is_shared;
 }
 
@@ -392,8 +394,8 @@ void order_finish(void)
     while (order.head && pthread_cond_timedwait(&order.idle, &order.lock, &until) != ETIMEDOUT)
         ;
     if (settings.verbose)
-        say("%lu submissions, %lu of them batches with %lu members; %lu retries, %lu lost, %lu records", order.submitted,
-            order.batches, order.members, order.retried, order.dropped, order.records);
+        say("%lu submissions, %lu of them batches with %lu members; %lu retries, %lu lost, %lu records",
+            order.submitted, order.batches, order.members, order.retried, order.dropped, order.records);
     record_finish();
     pthread_mutex_unlock(&order.lock);
 }

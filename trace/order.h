@@ -38,7 +38,8 @@ struct pace {
 void pace_begin(struct pace *p, pid_t thread);
 /* Nanoseconds since then. */
 int64_t pace_since(const struct pace *p);
-/* Whether the program has run for the delay since then, or waits; else *wait has the nanoseconds after which to ask again. */
+/* Whether the program has run for the delay since then, or waits; else *wait has the nanoseconds after which to ask
+ * again. */
 bool pace_is_quiet(const struct pace *p, int64_t *wait);
 
 #endif

@@ -1,5 +1,5 @@
-/* Whether the library can be loaded into a program: the loader does it for dynamic programs of the C library of GNU, and
- * not for those that run with other rights than the user's. */
+/* Whether the library can be loaded into a program: the loader does it for dynamic programs of the C library of GNU,
+ * and not for those that run with other rights than the user's. */
 #include <elf.h>
 #include <errno.h>
 #include <fcntl.h>
@@ -92,8 +92,10 @@ static int check_file(const char *path, char next[PATH_MAX])
     else if (access(path, X_OK))
         status = refused(path, "may not be run", NOT_RUN);
     else if (has_rights(file, &s))
-        status = refused(path, "runs with other rights than yours (set-uid, set-gid or capabilities), so the loader would "
-                               "not load the library into it", NOT_RUN);
+        status = refused(path,
+                         "runs with other rights than yours (set-uid, set-gid or capabilities), so the loader would "
+                         "not load the library into it",
+                         NOT_RUN);
     else if (length >= (ssize_t)sizeof head.elf && memcmp(head.text, ELFMAG, SELFMAG) == 0)
         status = check_elf(path, file, &head.elf);
     else if (length > 2 && memcmp(head.text, "#!", 2) == 0)

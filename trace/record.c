@@ -1,6 +1,6 @@
-/* The recording: entries of 64 bytes for `dsa_text audit`, in files of at most 65,536, and events as lines of text. Both
- * are shared mappings of files, so what is written stays when the process is killed. Files grow by blocks that the disk has
- * reserved, and are cut to their length at the end, by the launcher if the process can't. */
+/* The recording: entries of 64 bytes for `dsa_text audit`, in files of at most 65,536, and events as lines of text.
+ * Both are shared mappings of files, so what is written stays when the process is killed. Files grow by blocks that the
+ * disk has reserved, and are cut to their length at the end, by the launcher if the process can't. */
 #include <errno.h>
 #include <fcntl.h>
 #include <stdio.h>
@@ -55,7 +55,8 @@ static uint8_t *grown_room(struct grown *g, size_t size)
     if (g->used + size > g->start + g->window_size) {
         g->start = g->used & -(uint64_t)PAGE;
         syscall(SYS_munmap, g->window, g->window_size);
-        g->window = (uint8_t *)syscall(SYS_mmap, NULL, g->window_size, PROT_READ | PROT_WRITE, MAP_SHARED, g->fd, g->start);
+        g->window = (uint8_t *)syscall(SYS_mmap, NULL, g->window_size, PROT_READ | PROT_WRITE, MAP_SHARED, g->fd,
+                                       g->start);
         if (g->window == MAP_FAILED)
             return NULL;
     }
@@ -99,8 +100,8 @@ static void add_to_index(const char *name)
 {
     char path[PATH_MAX], line[PATH_MAX];
     snprintf(path, sizeof path, "%s/processes.txt", settings.out);
-    const int length = snprintf(line, sizeof line, "%s.dsa\t%d\t%d\t%s\n", strrchr(recording.base, '/') + 1, (int)getpid(),
-                                (int)getppid(), name);
+    const int length = snprintf(line, sizeof line, "%s.dsa\t%d\t%d\t%s\n", strrchr(recording.base, '/') + 1,
+                                (int)getpid(), (int)getppid(), name);
     const int fd = syscall(SYS_openat, AT_FDCWD, path, O_WRONLY | O_CREAT | O_APPEND | O_CLOEXEC, 0666);
     if (fd < 0 || syscall(SYS_write, fd, line, length) != length)
         give_up(path);

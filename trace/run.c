@@ -1,4 +1,5 @@
-/* One run: a folder of its own, the device's files in it, the program in a process of its own, and nothing left after it. */
+/* One run: a folder of its own, the device's files in it, the program in a process of its own, and nothing left after
+ * it. */
 #include <errno.h>
 #include <ftw.h>
 #include <signal.h>
@@ -71,7 +72,8 @@ static void become(const struct options *o, uint64_t seed, const char *folder, c
     s.seed = seed;
     make_folders(joined(tree, folder, "tree"));
     if (is_inside && !namespace_enter()) {
-        fprintf(stderr, "dsa_trace: no namespace of mounts (%s), so file names are turned in the library\n", strerror(errno));
+        fprintf(stderr, "dsa_trace: no namespace of mounts (%s), so file names are turned in the library\n",
+                strerror(errno));
         is_inside = false;
     }
     if (is_inside && mount("dsa_trace", tree, "tmpfs", 0, "mode=755"))

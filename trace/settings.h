@@ -1,12 +1,13 @@
-/* What the launcher tells the library: it goes by variables of the environment, so that each process of a run has it. */
+/* What the launcher tells the library: it goes by variables of the environment, so that each process of a run has it.
+ */
 #ifndef DSA_TRACE_SETTINGS_H
 #define DSA_TRACE_SETTINGS_H
 
 #include <limits.h>
 #include <stdint.h>
 
-/* FIFO and MEMBERS do each submission at once, MEMBERS with the members of an epoch in any order. DATA does those in flight
- * in any order but writes their records in theirs; ALL writes records in any order too. */
+/* FIFO and MEMBERS do each submission at once, MEMBERS with the members of an epoch in any order. DATA does those in
+ * flight in any order but writes their records in theirs; ALL writes records in any order too. */
 enum order { ORDER_FIFO, ORDER_MEMBERS, ORDER_DATA, ORDER_ALL };
 
 struct settings {

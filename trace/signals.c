@@ -74,7 +74,8 @@ static enum outcome move_64(greg_t *g, const struct instruction *in, uint64_t to
     if (to % sizeof d)
         return FAULTED;
     if (!memory_copy(&d, (const void *)in->address, sizeof d, fault)) {
-        say("%s: its descriptor at %#lx can't be read", is_enqueued ? "ENQCMD" : "MOVDIR64B", (unsigned long)in->address);
+        say("%s: its descriptor at %#lx can't be read", is_enqueued ? "ENQCMD" : "MOVDIR64B",
+            (unsigned long)in->address);
         return FAULTED;
     }
     if (!queue && is_enqueued)
@@ -156,8 +157,8 @@ static void pass_on(int number, siginfo_t *info, ucontext_t *u)
     pthread_sigmask(SIG_UNBLOCK, &only, NULL);
 }
 
-/// SIGILL: the CPU lacks the instruction. SIGSEGV: it has it, and the portal's page can't be touched, or ENQCMD has no PASID,
-/// which is a general protection fault and has no address.
+/// SIGILL: the CPU lacks the instruction. SIGSEGV: it has it, and the portal's page can't be touched, or ENQCMD has no
+/// PASID, which is a general protection fault and has no address.
 static void handler(int number, siginfo_t *info, void *context)
 {
     const int kept = errno;
@@ -179,8 +180,8 @@ static void handler(int number, siginfo_t *info, void *context)
     errno = kept;
 }
 
-/// Installs our handler for one signal. All others are blocked while it runs, so that it is not called while the thread has
-/// a lock of ours. It uses the program's other stack only if the program's own handler does.
+/// Installs our handler for one signal. All others are blocked while it runs, so that it is not called while the thread
+/// has a lock of ours. It uses the program's other stack only if the program's own handler does.
 static void install(int number)
 {
     REAL_OF(sigaction);

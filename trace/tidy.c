@@ -1,5 +1,5 @@
-/* Recordings of processes that could not cut their files to length, since they were killed or left by _exit: the events end
- * at the first zero byte, and their lines say how long the recordings are. */
+/* Recordings of processes that could not cut their files to length, since they were killed or left by _exit: the events
+ * end at the first zero byte, and their lines say how long the recordings are. */
 #include <dirent.h>
 #include <errno.h>
 #include <fcntl.h>
@@ -46,7 +46,8 @@ static void cut_parts(const char *records, const char *base, const char *events,
     for (const char *line = events; line < end; line = memchr(line, '\n', end - line) + 1) {
         unsigned members, part;
         unsigned long entry;
-        if (*line == 'S' && sscanf(line, "S %*u %*s op %*u members %u tid %*u part %u entry %lu", &members, &part, &entry) == 3) {
+        if (*line == 'S' &&
+            sscanf(line, "S %*u %*s op %*u members %u tid %*u part %u entry %lu", &members, &part, &entry) == 3) {
             if (part != last)
                 cut_part(records, base, last, length);
             last = part;

@@ -17,7 +17,8 @@ struct named { const char *name, *text; };
 
 static const char devices[] = "sys/bus/dsa/.devices/pci0000:6a/0000:6a:01.0";
 
-/* op_cap: the operations 0 to 9, 0x10 to 0x15 and 0x20. gen_cap: batches of 1,024, moves of 2 GiB, overlap, block on fault. */
+/* op_cap: the operations 0 to 9, 0x10 to 0x15 and 0x20. gen_cap: batches of 1,024, moves of 2 GiB, overlap, block on
+ * fault. */
 static const struct named of_device[] = {
     {"version", "0x100"}, {"cdev_major", "511"}, {"errors", "0x0 0x0 0x0 0x0"}, {"max_groups", "4"},
     {"max_engines", "4"}, {"max_work_queues", "8"}, {"max_work_queues_size", "128"}, {"max_batch_size", "1024"},

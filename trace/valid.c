@@ -1,5 +1,5 @@
-/* What the device refuses before it does anything, with the statuses of linux/idxd.h. Only what is certain is refused: a
- * flag or a byte whose meaning depends on the device's version is let pass. */
+/* What the device refuses before it does anything, with the statuses of linux/idxd.h. Only what is certain is refused:
+ * a flag or a byte whose meaning depends on the device's version is let pass. */
 #include <string.h>
 
 #include "trace.h"

@@ -1,5 +1,5 @@
-/* Missing waits: submissions that conflict with one that was in flight when they were made. The library writes the event
- * of a completion before its record, so a program cannot have known of a completion whose event comes after. */
+/* Missing waits: submissions that conflict with one that was in flight when they were made. The library writes the
+ * event of a completion before its record, so a program cannot have known of a completion whose event comes after. */
 #include <inttypes.h>
 #include <linux/idxd.h>
 #include <stdio.h>
@@ -64,8 +64,8 @@ static void add_descriptor(struct flying *f, const descriptor *d, int member)
         add(f, d->src_addr, d->delta_rec_size, member, false);
     if (op == DSA_OPCODE_COMPARE || op == DSA_OPCODE_CR_DELTA)
         add(f, d->src2_addr, size, member, false);
-    if (op == DSA_OPCODE_MEMMOVE || op == DSA_OPCODE_MEMFILL || op == DSA_OPCODE_AP_DELTA || op == DSA_OPCODE_DUALCAST ||
-        op == DSA_OPCODE_COPY_CRC)
+    if (op == DSA_OPCODE_MEMMOVE || op == DSA_OPCODE_MEMFILL || op == DSA_OPCODE_AP_DELTA ||
+        op == DSA_OPCODE_DUALCAST || op == DSA_OPCODE_COPY_CRC)
         add(f, d->dst_addr, size, member, true);
     if (op == DSA_OPCODE_DUALCAST)
         add(f, d->dest2, size, member, true);
@@ -189,8 +189,9 @@ static bool submitted(struct recorded *r, const char *line)
     unsigned long entry;
     uint64_t longest = 0;
     descriptor d;
-    if (sscanf(line, "S %" SCNu64 " %15s op %u members %u tid %*u part %u entry %lu", &f.number, f.queue, &op, &members, &part,
-               &entry) != 6 || !seek(r, part, entry))
+    if (sscanf(line, "S %" SCNu64 " %15s op %u members %u tid %*u part %u entry %lu", &f.number, f.queue, &op, &members,
+               &part, &entry) != 6 ||
+        !seek(r, part, entry))
         return false;
     f.is_drain = op == DSA_OPCODE_DRAIN;
     f.ranges = grown(NULL, sizeof *f.ranges * 4 * (members + 1ul));

@@ -1,6 +1,6 @@
 /* Hardware watchpoints on completion records: which completions the program has looked at. There are four at once, the
- * debug registers of the CPU; each is opened for every thread that the process has at that moment. The kernel counts reads
- * and writes of the record's first byte; those of the device's own thread are left out. */
+ * debug registers of the CPU; each is opened for every thread that the process has at that moment. The kernel counts
+ * reads and writes of the record's first byte; those of the device's own thread are left out. */
 #include <dirent.h>
 #include <errno.h>
 #include <linux/hw_breakpoint.h>

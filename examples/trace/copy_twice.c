@@ -22,8 +22,10 @@ int main(void)
     void *portal = mmap(NULL, 4096, PROT_WRITE, MAP_SHARED, open("/dev/dsa/wq0.0", O_RDWR), 0);
     if (portal == MAP_FAILED)
         return perror("/dev/dsa/wq0.0"), 1;
-    list[0] = (struct dsa_hw_desc){.opcode = DSA_OPCODE_MEMMOVE, .src_addr = (uintptr_t)a, .dst_addr = (uintptr_t)b, .xfer_size = SIZE};
-    list[1] = (struct dsa_hw_desc){.opcode = DSA_OPCODE_MEMMOVE, .src_addr = (uintptr_t)b, .dst_addr = (uintptr_t)c, .xfer_size = SIZE};
+    list[0] = (struct dsa_hw_desc){
+        .opcode = DSA_OPCODE_MEMMOVE, .src_addr = (uintptr_t)a, .dst_addr = (uintptr_t)b, .xfer_size = SIZE};
+    list[1] = (struct dsa_hw_desc){
+        .opcode = DSA_OPCODE_MEMMOVE, .src_addr = (uintptr_t)b, .dst_addr = (uintptr_t)c, .xfer_size = SIZE};
     struct dsa_hw_desc batch = {.opcode = DSA_OPCODE_BATCH, .flags = ASKS, .completion_addr = (uintptr_t)&done,
                                 .desc_list_addr = (uintptr_t)list, .desc_count = 2};
     _mm_sfence();

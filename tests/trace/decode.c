@@ -2,7 +2,8 @@
  *
  *     decode CODE ADDRESS       ADDRESS is where the code would run
  *
- * Register k has the value 0x1111111111111111 times (k + 1), of which the lower half is the one that a narrow address has. */
+ * Register k has the value 0x1111111111111111 times (k + 1), of which the lower half is the one that a narrow address
+ * has. */
 #include <stdio.h>
 #include <stdlib.h>
 
@@ -23,8 +24,8 @@ int main(int argc, char **argv)
     for (; fread(code, sizeof code, 1, file) == 1; at += APART) {
         struct instruction i;
         if (decode(code, at, registers, &i))
-            printf("%d %u %u %#llx %d %d %d\n", i.kind, i.length, i.reg, (unsigned long long)i.address, i.segment, i.is_narrow,
-                   i.is_wide);
+            printf("%d %u %u %#llx %d %d %d\n", i.kind, i.length, i.reg, (unsigned long long)i.address, i.segment,
+                   i.is_narrow, i.is_wide);
         else
             printf("none\n");
     }

@@ -206,9 +206,10 @@ int main(int argc, char **argv)
     r = fresh(PAGE);
     memory = fresh(3 * PAGE);
     munmap(memory + 2 * PAGE, PAGE);
-    struct { const char *name; void (*run)(void); } plain[] = {
-        {"pages", missing_pages}, {"lists", lists}, {"record", odd_record}, {"refused", refused}, {"unreadable", unreadable},
-        {"child", child}, {"partial", partial}, {"retried", retried}};
+    static const struct plain { const char *name; void (*run)(void); } plain[] = {
+        {"pages", missing_pages}, {"lists", lists}, {"record", odd_record}, {"refused", refused},
+        {"unreadable", unreadable}, {"child", child}, {"partial", partial}, {"retried", retried},
+    };
     for (size_t i = 0; i < sizeof plain / sizeof *plain; i++)
         if (strcmp(what, plain[i].name) == 0)
             plain[i].run();

@@ -1,5 +1,5 @@
-/* Each operation once, against values from elsewhere: the check values of CRC-32C and of the T10 checksum for the digits 1
- * to 9, and fields written by hand. Status 0 when all are right; else it says which are not. */
+/* Each operation once, against values from elsewhere: the check values of CRC-32C and of the T10 checksum for the
+ * digits 1 to 9, and fields written by hand. Status 0 when all are right; else it says which are not. */
 #include "client.h"
 
 static void *portal;
@@ -131,7 +131,8 @@ static void integrity(void)
     d.dest_app_tag_seed = 0x5678;
     d.dest_ref_tag_seed = 1;
     expect("updating them", done(d), DSA_COMP_SUCCESS);
-    expect("the new fields", memcmp(c + 512, "\xd0\xdb\x56\x78\0\0\0\1", 8) | memcmp(c + 1032, "\0\0\x56\x78\0\0\0\2", 8), 0);
+    expect("the new fields",
+           memcmp(c + 512, "\xd0\xdb\x56\x78\0\0\0\1", 8) | memcmp(c + 1032, "\0\0\x56\x78\0\0\0\2", 8), 0);
 }
 
 /* A member that fails, and what a fence after it stops. */

@@ -2,10 +2,11 @@
  *
  *     planned CASES
  *
- * A line of CASES is a case: the numbers version, greatest_batch, greatest_transfer, lone, batch, fence, the number of prices
- * by size and these, which entry of the staging area loses its fence (-1: none) and how often to try; then in hexadecimal the
- * list, the memory, the memory that is expected and the batch records that are. For each a line is printed: 0 if each try
- * left what is expected, else the first that did not, and the first byte that differs (of memory, then of the records). */
+ * A line of CASES is a case: the numbers version, greatest_batch, greatest_transfer, lone, batch, fence, the number of
+ * prices by size and these, which entry of the staging area loses its fence (-1: none) and how often to try; then in
+ * hexadecimal the list, the memory, the memory that is expected and the batch records that are. For each a line is
+ * printed: 0 if each try left what is expected, else the first that did not, and the first byte that differs (of
+ * memory, then of the records). */
 #define main example_main
 #include "../../bindings/c/submit.c"
 #undef main
@@ -114,8 +115,8 @@ static void try_case(void *page, const struct list_case *c)
     struct dsa_refusal refusal;
     long differs = -1;
     int try = 0;
-    const uint32_t code = dsa_plan_list(&c->settings, c->table, c->table_len, c->list, c->list_len, portal, sizeof portal,
-                                        planned_staging, sizeof planned_staging, &planned, &refusal);
+    const uint32_t code = dsa_plan_list(&c->settings, c->table, c->table_len, c->list, c->list_len, portal,
+                                        sizeof portal, planned_staging, sizeof planned_staging, &planned, &refusal);
     if (code) {
         printf("refused %u\n", code);
         return;

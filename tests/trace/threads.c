@@ -1,5 +1,5 @@
-/* Four threads, made after the first submission and with all signals blocked, each with moves of its own in flight on the
- * shared queue; then a child by fork, which maps a portal of its own. Status 0: all copies are right. */
+/* Four threads, made after the first submission and with all signals blocked, each with moves of its own in flight on
+ * the shared queue; then a child by fork, which maps a portal of its own. Status 0: all copies are right. */
 #include <pthread.h>
 #include <signal.h>
 #include <sys/wait.h>

@@ -135,6 +135,31 @@ static void integrity(void)
            memcmp(c + 512, "\xd0\xdb\x56\x78\0\0\0\1", 8) | memcmp(c + 1032, "\0\0\x56\x78\0\0\0\2", 8), 0);
 }
 
+__attribute__((target("movdir64b,movdiri"))) static void store(const uint8_t *from)
+{
+    _movdir64b(b, from);
+    _directstoreu_u32(b + 64, 0x64636261);
+    _directstoreu_u64(b + 72, 0x6c6b6a6968676665);
+}
+
+__attribute__((target("waitpkg"))) static void wait_a_little(void)
+{
+    _umonitor(b);
+    _umwait(0, __rdtsc() + 1000);
+    _tpause(1, __rdtsc() + 1000);
+}
+
+/* The instructions where no portal is: plain stores, and waits that end. */
+static void instructions(void)
+{
+    memset(b, 0, 80);
+    memset(a, 'm', 64);
+    store(a);
+    wait_a_little();
+    expect("MOVDIR64B to memory", memcmp(a, b, 64), 0);
+    expect("MOVDIRI", memcmp(b + 64, "abcd\0\0\0\0efghijkl", 16), 0);
+}
+
 /* A member that fails, and what a fence after it stops. */
 static void failing_batch(void)
 {
@@ -165,5 +190,6 @@ int main(void)
     checksums();
     integrity();
     failing_batch();
+    instructions();
     return faults ? WRONG : 0;
 }

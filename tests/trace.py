@@ -124,6 +124,7 @@ def seeds():
     """--seeds stops at the first run that fails, and names the seed, under which it fails again."""
     end = traced("--seeds", 60, "--", client("ordered"), "fence")
     told("many seeds of a missing fence", end, 3, "the same again", "dsa_trace --seed ")
+    expect(end.stderr.count("the same again") == 1, f"after a run that fails there are others: {end.stderr}")
     again = re.search(r"^dsa_trace (--seed \d+) -- (.*)$", end.stderr, re.M)
     told("the seed that is named", traced(*again[0].split()[1:]) if again else end, 3)
     told("the example", ran("gcc", *STRICT, "-O2", "-mmovdir64b", "-o", client("copy_twice"), "examples/trace/copy_twice.c"), 0)
@@ -210,6 +211,11 @@ def recordings():
         ends = [line for line in lines if line[0] == "C"]
         expect(len(starts) == len(ends) == 5000, f"{how}: {len(starts)} submissions and {len(ends)} completions have events")
         expect(len(index) == 1 and index[0].split("\t")[3] == "odd", f"{how}: the index has {index}")
+    with tempfile.TemporaryDirectory(dir=WORK) as folder:
+        end = traced("--out", folder, "--order", "fifo", "--", client("odd"), "closed", 5000)
+        told("a program that closes all files", end, 0, "my file has 32 bytes")
+        [size] = [path.stat().st_size for path in Path(folder, "seed-1").glob("*.dsa")]
+        expect(size == 64 * 10000, f"of a program that closes all files {size / 64} entries are recorded")
     parts, lines, _ = recorded(client("odd"), "large", 70)
     expect([len(part) // 64 for part in parts] == [65 * 1001, 5 * 1001], f"the parts have {[len(it) / 64 for it in parts]} entries")
     counts = [int.from_bytes(part[at + 32 : at + 36], "little") for part in parts for at in range(0, len(part), 64 * 1001)]

@@ -73,7 +73,7 @@ static void complete(struct submission *s, const completion *r)
     if (settings.order == ORDER_DATA)
         s = order.head;
     while (s && s->is_done) {
-        record_event('C', s->number, -1, s->last.status); /* before the record, so what comes earlier is unaware of it */
+        record_event('C', s->number, -1, s->last.status); /* before the record: what is earlier is unaware of it */
         if (s->watch >= 0)
             watch_completed(s->watch, s->number);
         order.records += execute_record(&s->entry, &s->last);

@@ -14,8 +14,9 @@
 
 enum { ENTRY = sizeof(descriptor), MOST_ENTRIES = 65536, BLOCK = 1 << 18, LONGEST_LINE = 160, NAME = 32 };
 
-/* One growing file: `window` maps `BLOCK` bytes (or all of a part) of it from `start` on. */
-struct grown { int fd; uint8_t *window; uint64_t start, used, reserved; size_t window_size; };
+/* One growing file, of which `window` maps some bytes from `start` on. It is opened by its name for each growth: a
+ * program that closes all its files closes those of others too, and the next file that it opens has their number. */
+struct grown { char path[PATH_MAX]; uint8_t *window; uint64_t start, used, reserved; size_t window_size; };
 
 static struct recording {
     bool is_open, is_off;
@@ -31,49 +32,75 @@ static bool give_up(const char *what)
     return false;
 }
 
+static int open_plain(const char *path, int flags)
+{
+    return syscall(SYS_openat, AT_FDCWD, path, flags | O_CLOEXEC, 0666);
+}
+
+/// Maps the window from `start` on.
+static bool grown_map(struct grown *g, int fd)
+{
+    if (g->window)
+        syscall(SYS_munmap, g->window, g->window_size);
+    g->window =
+        (uint8_t *)syscall(SYS_mmap, NULL, g->window_size, PROT_READ | PROT_WRITE, MAP_SHARED, fd, (off_t)g->start);
+    if (g->window != MAP_FAILED)
+        return true;
+    g->window = NULL;
+    return false;
+}
+
+/// Makes the file; false, with errno, if it can't be made.
 static bool grown_open(struct grown *g, const char *path, size_t window_size)
 {
-    *g = (struct grown){.fd = syscall(SYS_openat, AT_FDCWD, path, O_RDWR | O_CREAT | O_EXCL | O_CLOEXEC, 0666)};
-    if (g->fd < 0)
-        return false;
-    g->window_size = window_size;
-    g->window = (uint8_t *)syscall(SYS_mmap, NULL, window_size, PROT_READ | PROT_WRITE, MAP_SHARED, g->fd, 0l);
-    return g->window != MAP_FAILED;
+    *g = (struct grown){.window_size = window_size};
+    snprintf(g->path, sizeof g->path, "%s", path);
+    const int fd = open_plain(path, O_RDWR | O_CREAT | O_EXCL);
+    const bool is_open = fd >= 0 && grown_map(g, fd);
+    if (fd >= 0)
+        syscall(SYS_close, fd);
+    return is_open;
 }
 
 static void grown_close(struct grown *g)
 {
-    (void)!syscall(SYS_ftruncate, g->fd, g->used);
+    syscall(SYS_truncate, g->path, g->used);
     syscall(SYS_munmap, g->window, g->window_size);
-    syscall(SYS_close, g->fd);
+    g->window = NULL;
 }
 
-/// A place for so many bytes more, or NULL. The window moves on in whole pages if they do not fit.
-static uint8_t *grown_room(struct grown *g, size_t size)
+/// Makes place for so many bytes more: the disk reserves them, and the window moves on in whole pages if they do not
+/// fit.
+static bool grow(struct grown *g, size_t size)
 {
     enum { PAGE = 4096 };
-    if (g->used + size > g->start + g->window_size) {
-        g->start = g->used & -(uint64_t)PAGE;
-        syscall(SYS_munmap, g->window, g->window_size);
-        g->window = (uint8_t *)syscall(SYS_mmap, NULL, g->window_size, PROT_READ | PROT_WRITE, MAP_SHARED, g->fd,
-                                       g->start);
-        if (g->window == MAP_FAILED)
-            return NULL;
-    }
-    if (g->used + size > g->reserved) {
-        const uint64_t more = (size / BLOCK + 1) * BLOCK;
-        errno = posix_fallocate(g->fd, g->reserved, more);
-        if (errno)
-            return NULL;
+    const uint64_t more = (size / BLOCK + 1) * BLOCK;
+    const int fd = open_plain(g->path, O_RDWR);
+    if (fd < 0)
+        return false;
+    int fault = g->used + size > g->reserved ? posix_fallocate(fd, g->reserved, more) : 0;
+    if (!fault && g->used + size > g->reserved)
         g->reserved += more;
+    if (!fault && g->used + size > g->start + g->window_size) {
+        g->start = g->used & -(uint64_t)PAGE;
+        fault = grown_map(g, fd) ? 0 : errno;
     }
-    return g->window + (g->used - g->start);
+    syscall(SYS_close, fd);
+    errno = fault;
+    return !fault;
+}
+
+/// A place for so many bytes more, or NULL.
+static uint8_t *grown_room(struct grown *g, size_t size)
+{
+    const bool fits = g->used + size <= g->reserved && g->used + size <= g->start + g->window_size;
+    return fits || grow(g, size) ? g->window + (g->used - g->start) : NULL;
 }
 
 /// The name of this program, as Linux has it, of letters that a file's name may have.
 static void own_name(char name[NAME])
 {
-    const int fd = syscall(SYS_openat, AT_FDCWD, "/proc/self/comm", O_RDONLY | O_CLOEXEC, 0);
+    const int fd = open_plain("/proc/self/comm", O_RDONLY);
     const ssize_t length = fd < 0 ? 0 : syscall(SYS_read, fd, name, NAME - 1);
     if (fd >= 0)
         syscall(SYS_close, fd);
@@ -102,7 +129,7 @@ static void add_to_index(const char *name)
     snprintf(path, sizeof path, "%s/processes.txt", settings.out);
     const int length = snprintf(line, sizeof line, "%s.dsa\t%d\t%d\t%s\n", strrchr(recording.base, '/') + 1,
                                 (int)getpid(), (int)getppid(), name);
-    const int fd = syscall(SYS_openat, AT_FDCWD, path, O_WRONLY | O_CREAT | O_APPEND | O_CLOEXEC, 0666);
+    const int fd = open_plain(path, O_WRONLY | O_CREAT | O_APPEND);
     if (fd < 0 || syscall(SYS_write, fd, line, length) != length)
         give_up(path);
     syscall(SYS_close, fd);
@@ -225,8 +252,6 @@ void record_forget(void)
     if (recording.is_open && !recording.is_off) {
         syscall(SYS_munmap, recording.entries.window, recording.entries.window_size);
         syscall(SYS_munmap, recording.events.window, recording.events.window_size);
-        syscall(SYS_close, recording.entries.fd);
-        syscall(SYS_close, recording.events.fd);
     }
     memset(&recording, 0, sizeof recording);
 }

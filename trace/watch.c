@@ -3,6 +3,7 @@
  * reads and writes of the record's first byte; those of the device's own thread are left out. */
 #include <dirent.h>
 #include <errno.h>
+#include <fcntl.h>
 #include <linux/hw_breakpoint.h>
 #include <linux/perf_event.h>
 #include <stdlib.h>
@@ -12,7 +13,7 @@
 
 #include "trace.h"
 
-enum { THREADS = 32 };
+enum { THREADS = 32, LOWEST = 600 };
 
 /* `is_written`: its record is written, `touched` times it was touched before. */
 static struct watch { bool is_used, is_written; uint64_t number, touched; int threads, fd[THREADS]; } watches[WATCHES];
@@ -21,7 +22,12 @@ static int open_for(pid_t thread, uint64_t record)
 {
     struct perf_event_attr a = {.type = PERF_TYPE_BREAKPOINT, .size = sizeof a, .bp_type = HW_BREAKPOINT_RW,
                                 .bp_addr = record, .bp_len = HW_BREAKPOINT_LEN_1, .exclude_kernel = 1, .exclude_hv = 1};
-    return syscall(SYS_perf_event_open, &a, thread, -1, -1, PERF_FLAG_FD_CLOEXEC);
+    const int low = syscall(SYS_perf_event_open, &a, thread, -1, -1, PERF_FLAG_FD_CLOEXEC);
+    if (low < 0)
+        return -1;
+    const int high = fcntl(low, F_DUPFD_CLOEXEC, LOWEST); /* out of the way of the program's files */
+    syscall(SYS_close, low);
+    return high;
 }
 
 /// Says once that there are no watchpoints here.

@@ -155,6 +155,25 @@ static void many(int count, const char *how)
     _exit(0);
 }
 
+/* Closes all files, and opens its own with their numbers, which nobody else may write to or cut. */
+static void closed(int count)
+{
+    char path[] = "/tmp/trace_closed.XXXXXX";
+    for (int i = 0; i < 2; i++) {
+        if (i == 1)
+            close_range(3, ~0u, 0);
+        for (int k = 0; k < (i ? 8 : 0); k++)
+            (void)!write(k ? dup(3) : mkstemp(path), "mine", 4);
+        for (int k = 0; k < count; k++) {
+            memset((void *)r, 0, sizeof *r);
+            submit(portal, &(descriptor){.flags = ASKS, .completion_addr = (uintptr_t)r});
+            await(r);
+        }
+    }
+    printf("my file has %ld bytes\n", (long)lseek(3, 0, SEEK_END));
+    unlink(path);
+}
+
 /* Batches of 1,000 no-ops. */
 static void large(int count)
 {
@@ -223,6 +242,8 @@ int main(int argc, char **argv)
         replaced(argv);
     if (strcmp(what, "left") == 0 || strcmp(what, "killed") == 0)
         many(count, what);
+    if (strcmp(what, "closed") == 0)
+        closed(count);
     if (strcmp(what, "large") == 0)
         large(count);
     if (strcmp(what, "status") == 0)

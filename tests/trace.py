@@ -16,19 +16,11 @@ import time
 from pathlib import Path
 
 import common
-from common import ROOT, expect, named, run_test, side_by_side
+from common import ROOT, expect, named, run_test, side_by_side, skip
 
 SEEDS = int(os.environ.get("SEEDS", "100"))
 STRICT = ["-std=c11", "-D_GNU_SOURCE", "-Wall", "-Wextra", "-Werror"]
 CLIENTS = ("ordered", "threads", "odd", "operations")
-skipped = 0
-
-
-def skip(why):
-    """Says what is not tried."""
-    global skipped
-    skipped += 1
-    print(f"skipped: {why}")
 
 
 def ran(*command, **how):
@@ -588,7 +580,6 @@ def main(words):
             told(f"the build of {name}", ran("gcc", *STRICT, "-O1", "-o", client(name), f"tests/trace/{name}.c", "-lpthread"), 0)
         for part in parts if common.failed == 0 else []:
             part()
-    print(f"{skipped} skipped")
 
 
 if __name__ == "__main__":

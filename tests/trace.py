@@ -69,7 +69,7 @@ def wrong_of(mode, *options):
 
 def ordered():
     """A program with what keeps its operations in order is right under each seed; without it is wrong under many."""
-    for mode in ("fenced", "waited", "member", "drain", "polled"):
+    for mode in ("fenced", "waited", "member", "drain", "polled", "behind"):
         right, wrong, other = wrong_of(mode)
         expect(right == SEEDS, f"{mode}: right under {right} seeds of {SEEDS}, wrong under {wrong}, otherwise under {other}")
     for mode in ("fence", "wait"):
@@ -235,13 +235,16 @@ def waits():
     end = traced("--audit", "--", client("ordered"), "wait", env=known)
     told("a missing wait", end, 1, "submission 1: error: missing wait, read after write: reads what submission 0, in flight, writes, at 0x")
     expect(end.stdout.count("error") == 1, f"of one missing wait is said {end.stdout}")
-    for mode in ("fence", "fenced", "waited", "member", "drain", "polled"):
+    for mode in ("fence", "fenced", "waited", "member", "drain", "polled", "behind"):
         for order in ("data", "all"):
             end = traced("--audit", "--order", order, "--", client("ordered"), mode, env=known)
             expect("error" not in end.stdout, f"{mode} in the order {order}: {end.stdout}")
     told("threads", traced("--audit", "--", client("threads"), env=known), 0)
-    told("a sleep is no wait", traced("--audit", "--watch", 100, "--", client("ordered"), "sleep", env=known), int(watches()),
-         *["missing wait"] * watches())
+    told("a sleep after a move without a record", traced("--audit", "--", client("ordered"), "blind", env=known), 1, "missing wait")
+    is_watched = watches()
+    for held in (5, 100) if is_watched else ():
+        end = traced("--audit", "--watch", held, "--", client("ordered"), "sleep", env=known)
+        told(f"a sleep is no wait, held for {held} ms", end, 1, "missing wait")
     told("nothing submitted", traced("--audit", "--", "/bin/true", env=known), 0, "nothing was submitted")
     told("an audit that fails", traced("--audit", "--", client("ordered"), "waited", env={"DSA_TEXT": "/bin/false"}), 1)
     told("no such program", traced("--audit", "--", "/bin/true", env={"DSA_TEXT": "/nowhere"}), 125, "DSA_TEXT names /nowhere")

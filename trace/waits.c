@@ -15,7 +15,16 @@ typedef struct dsa_hw_desc descriptor;
 /* Bytes from `low` to below `high`; of a member, or -1 of the descriptor itself. */
 struct range { uint64_t low, high; int member; bool writes, is_record; };
 
-struct flying { uint64_t number; char queue[16]; bool is_drain, is_watched; size_t count; struct range *ranges; };
+/* `tells`: its end is told by a record or an interrupt, or else by a drain alone. Of a member `epoch` has the first
+ * member of its epoch, or -1 if its end is not told; `unknown` counts members of which the program does not know. */
+struct flying {
+    uint64_t number;
+    char queue[16];
+    bool is_drain, is_watched, tells;
+    size_t count;
+    struct range *ranges;
+    int members, unknown, *epoch;
+};
 
 struct recorded {
     const char *records, *base;
@@ -82,6 +91,7 @@ static void add_descriptor(struct flying *f, const descriptor *d, int member)
 static void land(struct recorded *r, size_t at)
 {
     free(r->flying[at].ranges);
+    free(r->flying[at].epoch);
     memmove(r->flying + at, r->flying + at + 1, (--r->count - at) * sizeof *r->flying);
 }
 
@@ -106,15 +116,27 @@ static void end_of(struct recorded *r, uint64_t number)
             land(r, i);
 }
 
+/// A member has ended and told so: the program knows of it, and of all before the fence that it waited for.
 static void end_of_member(struct recorded *r, uint64_t number, int member)
 {
     struct flying *f = find(r, number);
     size_t kept = 0;
-    for (size_t i = 0; f && i < f->count; i++)
-        if (f->ranges[i].member != member)
-            f->ranges[kept++] = f->ranges[i];
-    if (f)
-        f->count = kept;
+    if (!f || member < 0 || member >= f->members || f->epoch[member] < 0)
+        return;
+    const int before = f->epoch[member];
+    for (size_t i = 0; i < f->count; i++) {
+        const struct range *it = &f->ranges[i];
+        if (it->member < 0 || (it->member != member && it->member >= before))
+            f->ranges[kept++] = *it;
+    }
+    f->count = kept;
+    for (int i = 0; i < f->members; i++)
+        if (i == member || i < before) {
+            f->unknown -= f->epoch[i] != INT_MAX;
+            f->epoch[i] = INT_MAX;
+        }
+    if (f->unknown == 0) /* it has read its list too */
+        land(r, f - r->flying);
 }
 
 static void name_of(char to[64], uint64_t number, int member)
@@ -181,6 +203,32 @@ static bool seek(struct recorded *r, unsigned part, unsigned long entry)
     return r->entries && fseek(r->entries, (long)entry * ENTRY, SEEK_SET) == 0;
 }
 
+/// Whether the end of a descriptor is told: by a record, or by an interrupt.
+static bool tells(const descriptor *d)
+{
+    const unsigned asks = IDXD_OP_FLAG_CRAV | IDXD_OP_FLAG_RCR;
+    return (d->flags & asks) == asks || d->flags & IDXD_OP_FLAG_RCI;
+}
+
+/// The descriptor of a submission and its members.
+static bool read_descriptors(struct recorded *r, struct flying *f)
+{
+    descriptor d;
+    int epoch = 0;
+    for (int i = -1; i < f->members; i++) {
+        if (fread(&d, sizeof d, 1, r->entries) != 1)
+            return false;
+        add_descriptor(f, &d, i);
+        if (i < 0)
+            f->tells = tells(&d);
+        else {
+            epoch = d.flags & IDXD_OP_FLAG_FENCE ? i : epoch;
+            f->epoch[i] = tells(&d) ? epoch : -1;
+        }
+    }
+    return true;
+}
+
 /// A submission: compared with all in flight, and then one of them.
 static bool submitted(struct recorded *r, const char *line)
 {
@@ -188,19 +236,18 @@ static bool submitted(struct recorded *r, const char *line)
     unsigned op, members, part;
     unsigned long entry;
     uint64_t longest = 0;
-    descriptor d;
     if (sscanf(line, "S %" SCNu64 " %15s op %u members %u tid %*u part %u entry %lu", &f.number, f.queue, &op, &members,
                &part, &entry) != 6 ||
         !seek(r, part, entry))
         return false;
     f.is_drain = op == DSA_OPCODE_DRAIN;
+    f.members = f.unknown = (int)members;
     f.ranges = grown(NULL, sizeof *f.ranges * 4 * (members + 1ul));
-    for (int i = -1; i < (int)members; i++) {
-        if (fread(&d, sizeof d, 1, r->entries) != 1) {
-            free(f.ranges);
-            return false;
-        }
-        add_descriptor(&f, &d, i);
+    f.epoch = grown(NULL, sizeof *f.epoch * (members + 1ul));
+    if (!read_descriptors(r, &f)) {
+        free(f.ranges);
+        free(f.epoch);
+        return false;
     }
     qsort(f.ranges, f.count, sizeof *f.ranges, by_low);
     for (size_t i = 0; i < f.count; i++)
@@ -228,7 +275,7 @@ static bool event(struct recorded *r, const char *line)
         end_of_member(r, number, member);
     else if (*line == 'W' && f)
         f->is_watched = true;
-    else if (*line == 'K' || (*line == 'C' && !(f && f->is_watched)))
+    else if (*line == 'K' || (*line == 'C' && f && f->tells && !f->is_watched))
         end_of(r, number);
     return true;
 }

@@ -5,6 +5,8 @@
  *   drain   the first has no record; a drain follows, and the second comes after the record of the drain
  *   polled  eight moves at once, apart, then their records are polled
  *   sleep   does not wait, but sleeps for 20 ms between the two
+ *   blind   the same, and the first has no record
+ *   behind  a batch of three, of which the third is behind a fence and has the only record; the second comes after it
  * Status 0: c is right, 3: c is wrong. */
 #include "client.h"
 
@@ -43,21 +45,39 @@ static void in_a_batch(void *portal, const char *mode, uint8_t *a, volatile comp
     await(&r[0]);
 }
 
+static void behind_a_fence(void *portal, uint8_t *a, volatile completion *r)
+{
+    uint8_t *b = a + SIZE, *c = b + SIZE, *other = c + SIZE;
+    descriptor *list = fresh(4096);
+    list[0] = move(a, b, SIZE, NULL);
+    list[1] = move(a, other, 64, NULL);
+    list[2] = move(a, other, 64, &r[0]);
+    list[2].flags |= IDXD_OP_FLAG_FENCE;
+    descriptor all = batch(list, 3, NULL);
+    all.flags = 0;
+    const descriptor second = move(b, c, SIZE, &r[1]);
+    submit(portal, &all);
+    await(&r[0]);
+    submit(portal, &second);
+    await(&r[1]);
+}
+
 static void alone(void *portal, const char *mode, uint8_t *a, volatile completion *r)
 {
     uint8_t *b = a + SIZE, *c = b + SIZE;
-    const int drains = strcmp(mode, "drain") == 0;
-    const descriptor first = move(a, b, SIZE, drains ? NULL : &r[0]), second = move(b, c, SIZE, &r[1]);
+    const int drains = strcmp(mode, "drain") == 0, is_blind = strcmp(mode, "blind") == 0;
+    const descriptor first = move(a, b, SIZE, drains || is_blind ? NULL : &r[0]), second = move(b, c, SIZE, &r[1]);
     const descriptor drain = {.opcode = DSA_OPCODE_DRAIN, .flags = ASKS, .completion_addr = (uintptr_t)&r[0]};
     submit(portal, &first);
     if (drains)
         submit(portal, &drain);
     if (drains || strcmp(mode, "waited") == 0)
         await(&r[0]);
-    if (strcmp(mode, "sleep") == 0)
+    if (strcmp(mode, "sleep") == 0 || is_blind)
         usleep(20000);
     submit(portal, &second);
-    await(&r[0]);
+    if (!is_blind)
+        await(&r[0]);
     await(&r[1]);
 }
 
@@ -71,7 +91,9 @@ int main(int argc, char **argv)
         memset(a + i * SIZE, 'a' + i, SIZE);
     if (strcmp(mode, "polled") == 0)
         return copied_apart(portal, r);
-    if (strncmp(mode, "fence", 5) == 0 || strcmp(mode, "member") == 0)
+    if (strcmp(mode, "behind") == 0)
+        behind_a_fence(portal, a, r);
+    else if (strncmp(mode, "fence", 5) == 0 || strcmp(mode, "member") == 0)
         in_a_batch(portal, mode, a, r);
     else
         alone(portal, mode, a, r);

@@ -344,6 +344,7 @@ def files():
     for how in (["--"], ["--no-namespace", "--"]):
         end = traced(*how, "bash", "-c", SYSFS)
         expect(" ".join(end.stdout.split()[:5]) == wanted, f"the states with {how}: {end.stdout} {end.stderr}")
+        told(f"the device's files with {how}", end, 0, "/dev/dsa/wq0.0", "/sys/module/idxd")
         seen = traced(*how, "sh", "-c", other).stdout
         expect(seen == ran("sh", "-c", other).stdout, f"with {how} the program sees other files than we")
     if shutil.which("setpriv") and os.getuid() == 0:
@@ -504,6 +505,7 @@ def prices():
         words = ["--order", "fifo", "--", tool, "--times", 30, "--greatest-batch", greatest, f"/dev/dsa/{queue}"]
         end = traced(*words)
         told(f"the prices of {queue}", end, 0, "prices of the emulation")
+        expect("does not take it" not in end.stderr, f"the prices of {queue} are measured with the wrong instruction")
         found = json.loads(end.stdout or "{}")
         names = {"version", "greatest_batch", "greatest_transfer", "lone", "batch", "fence", "staging"}
         right = set(found) == names and found["version"] == 2 and len(found["batch"]) == greatest - 1 and found["lone"] > 0

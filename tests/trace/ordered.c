@@ -6,7 +6,7 @@
  *   polled  eight moves at once, apart, then their records are polled
  *   sleep   does not wait, but sleeps for 20 ms between the two
  *   blind   the same, and the first has no record
- *   behind  a batch of three, of which the third is behind a fence and has the only record; the second comes after it
+ *   behind  a batch of four, of which the third is behind a fence and has the only record; the second comes after it
  * Status 0: c is right, 3: c is wrong. */
 #include "client.h"
 
@@ -53,7 +53,8 @@ static void behind_a_fence(void *portal, uint8_t *a, volatile completion *r)
     list[1] = move(a, other, 64, NULL);
     list[2] = move(a, other, 64, &r[0]);
     list[2].flags |= IDXD_OP_FLAG_FENCE;
-    descriptor all = batch(list, 3, NULL);
+    list[3] = move(a, other + 64, 64, NULL);
+    descriptor all = batch(list, 4, NULL);
     all.flags = 0;
     const descriptor second = move(b, c, SIZE, &r[1]);
     submit(portal, &all);

@@ -246,6 +246,8 @@ def device():
     trace, prices = f"{PREFIX}/bin/dsa_trace", f"{PREFIX}/bin/dsa_prices"
     tried("dsa_trace --audit", trace, "--audit", "--seeds", 5, "--", "./ordered", "fenced")
     refused("a missing fence", ["missing fence, read after write"], trace, "--audit", "--", "./ordered", "fence")
+    tried("the build of the example", "cc", "-O2", "-mmovdir64b", EXAMPLES / "copy_twice.c", "-o", "copy_twice")
+    refused("the example", ["missing fence, read after write"], trace, "--audit", "--seeds", 20, "--", "./copy_twice")
     refused("a missing wait", ["missing wait, read after write"], trace, "--audit", "--", "./ordered", "wait")
     if not Path("/dev/dsa").exists():
         refused("prices without a device", ["there is no such queue"], prices)

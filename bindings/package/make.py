@@ -235,6 +235,7 @@ def tree(root, places):
     for page in ("USING.md", "FORMATS.md", "PRICES.md", "jobs.schema.json"):
         shutil.copy(ROOT / f"docs/{page}", docs)
     shutil.copy(ROOT / "CHANGELOG.md", docs)
+    shutil.copy(ROOT / "trace/README.md", docs / "TRACE.md")
     examples(docs / "examples")
     crate = root / "share/dsa-planner/rust"
     ignored = shutil.ignore_patterns("target", "Cargo.lock", ".gitignore", "*.stdout")
@@ -263,7 +264,7 @@ def examples(to):
     """Examples of the calls, of jobs, of operations as text and of recordings, and rows for tests of a caller's own, with three readers."""
     for name in ("two_moves.c", "own_memory.c", "submit.c"):
         shutil.copy(ROOT / "bindings/c" / name, to)
-    for path in (ROOT / "examples").glob("*.job"):
+    for path in [*(ROOT / "examples").glob("*.job"), ROOT / "examples/trace/copy_twice.c"]:
         shutil.copy(path, to)
     for folder, names in (("text", "*.txt"), ("audit", "*.xxd")):
         (to / folder).mkdir()

@@ -334,6 +334,8 @@ echo dsa0 > /sys/bus/dsa/drivers/idxd/bind
 echo wq0.1 > /sys/bus/dsa/drivers/user/bind
 cat /sys/bus/dsa/devices/dsa0/state /sys/bus/dsa/devices/wq0.0/state /sys/bus/dsa/devices/wq0.1/state
 ls -d /dev/dsa/* /sys/module/idxd
+echo wq0.1 > /sys/bus/dsa/drivers/user/unbind
+ls /dev/dsa | wc -l
 """
 
 
@@ -344,7 +346,8 @@ def files():
     for how in (["--"], ["--no-namespace", "--"]):
         end = traced(*how, "bash", "-c", SYSFS)
         expect(" ".join(end.stdout.split()[:5]) == wanted, f"the states with {how}: {end.stdout} {end.stderr}")
-        told(f"the device's files with {how}", end, 0, "/dev/dsa/wq0.0", "/sys/module/idxd")
+        right = "/dev/dsa/wq0.1\n/sys/module/idxd\n0\n"
+        expect(end.stdout.endswith(right), f"the device's files with {how}: {end.stdout} {end.stderr}")
         seen = traced(*how, "sh", "-c", other).stdout
         expect(seen == ran("sh", "-c", other).stdout, f"with {how} the program sees other files than we")
     if shutil.which("setpriv") and os.getuid() == 0:
@@ -392,6 +395,7 @@ def killed():
     expect(not Path("/sys/bus/dsa").exists() or Path("/sys/bus/dsa/devices/dsa0/cdev_major").exists(), "the device's files are left")
     with tempfile.TemporaryDirectory(dir=WORK) as folder:
         traced("--", client("operations"), env=os.environ | {"TMPDIR": folder})
+        told("no folder for recordings", traced("--out", "/proc/x", "true", env=os.environ | {"TMPDIR": folder}), 125, "/proc/x")
         expect(not os.listdir(folder), f"a run leaves {os.listdir(folder)}")
 
 

@@ -63,27 +63,45 @@ char *files_unturned(char *path)
     return path;
 }
 
-/// What a device or queue is after its name was written to a driver's bind or unbind: its state and the link to the
-/// driver. With a device its queues go off.
+/// The file by which programs reach a queue: it is there while the queue is bound.
+static void make_node(const char *name, bool is_on)
+{
+    char path[PATH_MAX];
+    snprintf(path, sizeof path, "%s/dev/dsa/%s", settings.root, name);
+    if (!is_on)
+        unlink(path);
+    else if (syscall(SYS_mknod, path, S_IFREG | 0666, 0) && errno != EEXIST)
+        say("%s: %s", path, strerror(errno));
+}
+
+/// A queue or a device, in this folder, is bound to the driver or unbound: its state, and the link to the driver.
+static void set_state(const char *folder, const char *driver, bool is_device, bool is_on)
+{
+    char path[PATH_MAX], to[64];
+    write_plain(folder, "state", is_on ? "enabled\n" : "disabled\n");
+    snprintf(path, sizeof path, "%s/driver", folder);
+    unlink(path);
+    snprintf(to, sizeof to, "%s../../../../drivers/%s", is_device ? "" : "../", driver);
+    if (is_on)
+        (void)!symlink(to, path);
+}
+
+/// A name was written to a driver's bind or unbind. With a device its queues go off.
 static void bind(const char *name, const char *driver, bool is_on)
 {
-    char path[PATH_MAX], folder[PATH_MAX / 2], to[64];
+    char path[PATH_MAX], folder[PATH_MAX / 2], queue[64];
     const bool is_device = strncmp(name, "dsa", 3) == 0;
     snprintf(path, sizeof path, "%s/sys/bus/dsa/devices/%s", settings.root, name);
     if (!files_real_path(path, folder, sizeof folder))
         return;
-    write_plain(folder, "state", is_on ? "enabled\n" : "disabled\n");
-    snprintf(path, sizeof path, "%s/driver", folder);
-    unlink(path);
-    if (is_on) {
-        snprintf(to, sizeof to, "%s../../../../drivers/%s", is_device ? "" : "../", driver);
-        (void)!symlink(to, path);
-    }
+    set_state(folder, driver, is_device, is_on);
+    if (!is_device && strcmp(driver, "user") == 0)
+        make_node(name, is_on);
     for (int i = 0; is_device && !is_on && i < 8; i++) {
-        snprintf(path, sizeof path, "%s/wq%s.%d", folder, name + 3, i);
-        write_plain(path, "state", "disabled\n");
-        strcat(path, "/driver");
-        unlink(path);
+        snprintf(queue, sizeof queue, "wq%s.%d", name + 3, i);
+        snprintf(path, sizeof path, "%s/%s", folder, queue);
+        set_state(path, "user", false, false);
+        make_node(queue, false);
     }
 }
 

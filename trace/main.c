@@ -9,14 +9,25 @@
 
 #include "launcher.h"
 
-/// A folder of our own, where temporary files go.
-static void make_own_folder(char folder[PATH_MAX])
+/* Our own folder, for the end of this process, and not for that of a child. */
+static struct own { pid_t process; char folder[PATH_MAX]; } own;
+
+static void remove_own_folder(void)
+{
+    if (getpid() == own.process)
+        run_remove(own.folder);
+}
+
+/// A folder of our own, where temporary files go. It is removed at the end, also after a failure.
+static void make_own_folder(void)
 {
     const char *where = getenv("TMPDIR");
-    snprintf(folder, PATH_MAX, "%s/dsa_trace.XXXXXX", where && *where == '/' ? where : "/tmp");
-    if (!mkdtemp(folder))
-        fail(folder);
-    chmod(folder, 0755);
+    snprintf(own.folder, sizeof own.folder, "%s/dsa_trace.XXXXXX", where && *where == '/' ? where : "/tmp");
+    if (!mkdtemp(own.folder))
+        fail(own.folder);
+    chmod(own.folder, 0755);
+    own.process = getpid();
+    atexit(remove_own_folder);
 }
 
 /// Removes what an earlier run has recorded in this folder.
@@ -75,7 +86,7 @@ static int run_all(const struct options *o, const char *folder, char records[PAT
 int main(int argc, char **argv)
 {
     struct options o;
-    char folder[PATH_MAX], records[PATH_MAX];
+    char records[PATH_MAX];
     bool is_recorded = false;
     (void)argc;
     options_read(argv, &o);
@@ -85,9 +96,8 @@ int main(int argc, char **argv)
         return refused ? refused : FAILED;
     if (access("/proc/self/fd", X_OK))
         fail("/proc, by which the library knows the files of a queue");
-    make_own_folder(folder);
-    int status = run_all(&o, folder, records, &is_recorded);
+    make_own_folder();
+    const int status = run_all(&o, own.folder, records, &is_recorded);
     const int missing = o.audits && is_recorded ? audit_run(dsa_text, records) : 0;
-    run_remove(folder);
     return missing ? missing : status;
 }

@@ -129,8 +129,9 @@ static void make_queue(const char *tree, const char *device, int i, const char *
     put(folder, "driver_name", text ? "user" : "");
     put(folder, "cdev_minor", "%d", text ? i : -1);
     put(folder, "block_on_fault", text ? "1" : "0");
-    if (text)
-        put_link("../../../../../drivers/user", folder, "driver");
+    if (!text)
+        return;
+    put_link("../../../../../drivers/user", folder, "driver");
     put(joined(nodes, tree, "dev/dsa"), name, "%s", "");
 }
 

@@ -143,6 +143,21 @@ def operations():
     told("a queue that does not", traced("--", client("odd"), "retried"), 0, "retries from 20 to 80: 0")
 
 
+def queues():
+    """Queues of a size and a mode, what is written to their files, and what the driver refuses of maps."""
+    for how in ([], ["--no-namespace"], ["--order", "fifo"]):
+        told(f"writing to a queue's file {how}", traced(*how, "--", client("odd"), "written"), 0,
+             "written 64 64, moved 5 5, unreadable -1 1")
+    told("a full queue", traced("--", client("odd"), "full"), 0, "all kept 0, 16 at least 1, retried 1",
+         "wq0.0 is full (16 in flight): MOVDIR64B is lost")
+    words = ["--queue", "dedicated,40,a", "--queue", "shared,40,b"]
+    told("a larger queue", traced(*words, "--", client("odd"), "full"), 0, "all kept 1, 16 at least 1, retried 0")
+    told("the driver's maps", traced("--", client("odd"), "maps"), 128 + signal.SIGSEGV, "refused 1 1, two 1", "the second: status 0x1,")
+    files = ["/sys/bus/dsa/devices/wq0.0/mode", "/sys/bus/dsa/devices/wq0.0/size", "/sys/bus/dsa/devices/wq0.0/name"]
+    told("the files of a queue", traced("--queue", "shared,8,mine", "--", "cat", *files), 0, "shared\n8\nmine\n")
+    told("another mode", traced("--queue", "shared,8,mine", "--", client("ordered"), "fenced"), 0, "a device does not take it")
+
+
 # The statuses are those of linux/idxd.h; 0x84 is 4 with the bit of a write. Two pages are there, and the next is missing.
 REFUSED = {
     "pages": ["write, blocking: status 0x84, 0 bytes, at 0x2000", "write: status 0x83, 0 bytes, at 0x2000",
@@ -573,7 +588,7 @@ def large():
     told("dmadev_autotest", traced("--", *words), 0, "Test OK")
 
 
-PARTS = [built, decoder, ordered, orders, repeated, seeds, operations, refused, died, recordings, full_disk, waits, audited, statuses]
+PARTS = [built, decoder, ordered, orders, repeated, seeds, operations, queues, refused, died, recordings, full_disk, waits, audited, statuses]
 PARTS += [options, files, killed, prices, submit, sanitized, cost, large]
 
 

@@ -7,7 +7,7 @@
 
 static void *portal;
 static volatile completion *r;
-static uint8_t *memory; /* three pages, of which the last is not there */
+static uint8_t *memory; /* three pages, of which the last can't be touched */
 
 enum { PAGE = 4096 };
 
@@ -202,6 +202,61 @@ static void partial(void)
     printf("%s, more than one part: %d\n", memcmp(from, to, SIZE) ? "wrong" : "right", stops > 1);
 }
 
+/* Submits by writing to the queue's file, two at once, and one of which not all can be read. */
+static void written(void)
+{
+    const int file = open("/dev/dsa/wq0.1", O_RDWR);
+    descriptor *two = fresh(PAGE);
+    memset(memory, 5, 64);
+    two[0] = move(memory, memory + PAGE, 64, r);
+    two[1] = move(memory + PAGE, memory + 128, 64, r + 1);
+    two[1].flags |= IDXD_OP_FLAG_BOF;
+    printf("written %zd", write(file, two, sizeof *two));
+    await(r);
+    printf(" %zd", write(file, two + 1, sizeof *two));
+    await(r + 1);
+    printf(", moved %d %d", memory[PAGE], memory[128]);
+    errno = 0;
+    const ssize_t unreadable = write(file, memory + 2 * PAGE, 128);
+    printf(", unreadable %zd %d\n", unreadable, errno == EFAULT);
+}
+
+/* More at once than the queue takes: MOVDIR64B is lost, ENQCMD says so. */
+static void full(void)
+{
+    enum { MANY = 40 };
+    void *shared = portal_of("/dev/dsa/wq0.1");
+    int kept = 0, retries = 0;
+    for (int i = 0; i < MANY; i++)
+        submit(portal, &(descriptor){.flags = ASKS, .completion_addr = (uintptr_t)(r + i)});
+    usleep(100000);
+    for (int i = 0; i < MANY; i++)
+        kept += r[i].status == DSA_COMP_SUCCESS;
+    memset((void *)r, 0, sizeof *r * MANY);
+    for (int i = 0; i < MANY; i++)
+        while (enqueue(shared, &(descriptor){.flags = ASKS, .completion_addr = (uintptr_t)(r + i)}))
+            retries++;
+    for (int i = 0; i < MANY; i++)
+        await(r + i);
+    printf("all kept %d, 16 at least %d, retried %d\n", kept == MANY, kept >= 16, retries > 0);
+}
+
+/* Maps that the driver refuses, and a portal that is unmapped. */
+static void maps(void)
+{
+    const int file = open("/dev/dsa/wq0.0", O_RDWR);
+    void *large = mmap(NULL, 2 * PAGE, PROT_WRITE, MAP_SHARED, file, 0);
+    void *private = mmap(NULL, PAGE, PROT_WRITE, MAP_PRIVATE, file, 0);
+    void *second = portal_of("/dev/dsa/wq0.0");
+    printf("refused %d %d, two %d\n", large == MAP_FAILED, private == MAP_FAILED, second != portal);
+    munmap(portal, PAGE);
+    portal = second;
+    done(move(memory, memory + PAGE, 64, r), "the second");
+    munmap(second, PAGE);
+    fflush(stdout);
+    done(move(memory, memory + PAGE, 64, r), "none");
+}
+
 /* How often ENQCMD says retry. */
 static void retried(void)
 {
@@ -224,10 +279,11 @@ int main(int argc, char **argv)
     portal = portal_of("/dev/dsa/wq0.0");
     r = fresh(PAGE);
     memory = fresh(3 * PAGE);
-    munmap(memory + 2 * PAGE, PAGE);
+    mprotect(memory + 2 * PAGE, PAGE, PROT_NONE);
     static const struct plain { const char *name; void (*run)(void); } plain[] = {
         {"pages", missing_pages}, {"lists", lists}, {"record", odd_record}, {"refused", refused},
         {"unreadable", unreadable}, {"child", child}, {"partial", partial}, {"retried", retried},
+        {"written", written}, {"full", full}, {"maps", maps},
     };
     for (size_t i = 0; i < sizeof plain / sizeof *plain; i++)
         if (strcmp(what, plain[i].name) == 0)

@@ -69,7 +69,7 @@ def wrong_of(mode, *options):
 
 def ordered():
     """A program with what keeps its operations in order is right under each seed; without it is wrong under many."""
-    for mode in ("fenced", "waited", "member", "drain", "polled", "behind"):
+    for mode in ("fenced", "waited", "member", "drain", "polled", "after"):
         right, wrong, other = wrong_of(mode)
         expect(right == SEEDS, f"{mode}: right under {right} seeds of {SEEDS}, wrong under {wrong}, otherwise under {other}")
     for mode in ("fence", "wait"):
@@ -250,7 +250,7 @@ def waits():
     end = traced("--audit", "--", client("ordered"), "wait", env=known)
     told("a missing wait", end, 1, "submission 1: error: missing wait, read after write: reads what submission 0, in flight, writes, at 0x")
     expect(end.stdout.count("error") == 1, f"of one missing wait is said {end.stdout}")
-    for mode in ("fence", "fenced", "waited", "member", "drain", "polled", "behind"):
+    for mode in ("fence", "fenced", "waited", "member", "drain", "polled", "after"):
         for order in ("data", "all"):
             end = traced("--audit", "--order", order, "--", client("ordered"), mode, env=known)
             expect("error" not in end.stdout, f"{mode} in the order {order}: {end.stdout}")
@@ -330,7 +330,7 @@ def options():
                        (["--seed", "x"], "whole number"), (["--order", "x"], "fifo, members, data or all"),
                        (["--seeds", "0"], "at least one run"), (["--queue", "dedicated,0,x"], "a size from 1 to 128")):
         told(f"the options {words}", traced(*words, *(["--", "true"] if words else [])), 125, why)
-    told("a value behind =", traced("--seed=7", "--order=all", "true"), 0)
+    told("a value after =", traced("--seed=7", "--order=all", "true"), 0)
     names = re.findall(r"^ +(?:-h, )?(--[a-z-]+)", end.stdout, re.M)
     expect(len(names) == 14, f"--help names {names}")
     page = Path("bindings/package/dsa_trace.1").read_text().replace("\\-", "-")

@@ -15,7 +15,7 @@ __attribute__((constructor)) static void make_table(void)
     }
 }
 
-/// CRC-32C of bytes behind those of `crc`, without the inversion at both ends.
+/// CRC-32C of bytes after those of `crc`, without the inversion at both ends.
 uint32_t crc32c(uint32_t crc, const uint8_t *from, size_t size)
 {
     while (size--)

@@ -1,4 +1,4 @@
-/* The instructions that software uses for the device, and where they stand in the code. */
+/* The instructions that software uses for the device, and their operands. */
 #ifndef DSA_TRACE_DECODE_H
 #define DSA_TRACE_DECODE_H
 

@@ -105,7 +105,7 @@ static void bind(const char *name, const char *driver, bool is_on)
     }
 }
 
-/// Applies what stands in the bind and unbind files, and empties them. A program that writes there by stdio does it in
+/// Applies what is in the bind and unbind files, and empties them. A program that writes there by stdio does it in
 /// the C library, where we do not see it; so this is done when the next of the device's files is opened.
 void files_settle(const char *path)
 {
@@ -204,7 +204,7 @@ ssize_t write(int fd, const void *from, size_t size)
         errno = kept;
         return syscall(SYS_write, fd, from, size);
     }
-    (void)!syscall(SYS_ftruncate, fd, 0); /* an attribute has what was written last, and nothing behind it */
+    (void)!syscall(SYS_ftruncate, fd, 0); /* an attribute has what was written last, and nothing after it */
     const ssize_t written = syscall(SYS_pwrite64, fd, from, size, 0);
     if (written > 0)
         files_settle(path);

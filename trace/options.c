@@ -116,7 +116,7 @@ static void take_value(struct options *o, const char *name, const char *value)
         add_queue(o, value);
 }
 
-/// Reads the words of the command line behind the program's own name.
+/// Reads the words of the command line after the program's own name.
 void options_read(char **words, struct options *o)
 {
     char name[32];

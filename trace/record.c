@@ -209,7 +209,7 @@ void record_event(char letter, uint64_t number, int64_t member, int64_t status)
     add_line(line, to - line);
 }
 
-/// The entries of a submission, and its event, which names the part and the entry where it stands.
+/// The entries of a submission, and its event, which names the part and the entry at which it begins.
 void record_submission(const struct submitted *s)
 {
     char line[LONGEST_LINE], *to;

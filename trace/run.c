@@ -36,7 +36,7 @@ void run_remove(const char *folder)
     nftw(folder, forget, 32, FTW_DEPTH | FTW_PHYS | FTW_MOUNT);
 }
 
-/// The library stands beside this program, or in the folder lib beside that of programs.
+/// The library is beside this program, or in the folder lib beside that of programs.
 static void library_path(char path[PATH_MAX])
 {
     char self[PATH_MAX - 64];

@@ -1,4 +1,4 @@
-/* Sentences on standard error, and the functions of the C library that ours stand before. */
+/* Sentences on standard error, and the functions of the C library that ours come before. */
 #include <dlfcn.h>
 #include <stdarg.h>
 #include <stdio.h>
@@ -25,7 +25,7 @@ void say(const char *format, ...)
     (void)!syscall(SYS_write, STDERR_FILENO, text, length);
 }
 
-/// The next function of this name behind this library's.
+/// The function of this name that comes after this library's.
 void *real(const char *name, void **found)
 {
     if (!*found)

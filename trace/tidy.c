@@ -15,7 +15,7 @@
 
 enum { ENTRY = 64 };
 
-/// Whether the process of these events still runs: its number stands before the end of the name.
+/// Whether the process of these events still runs: its number is the end of the name.
 static bool is_alive(const char *base)
 {
     char name[NAME_MAX + 1];

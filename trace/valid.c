@@ -40,7 +40,7 @@ static uint32_t invalid_flags(const descriptor *d, const struct queue *q)
     return bad;
 }
 
-/// Whether bytes that the operation does not use are zero: 38 and 39, and those behind the last of its own from 40 on.
+/// Whether bytes that the operation does not use are zero: 38 and 39, and those after the last of its own from 40 on.
 static bool reserved_is_zero(const descriptor *d)
 {
     static const uint8_t zero[24];

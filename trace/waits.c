@@ -189,7 +189,7 @@ static void compare(struct recorded *r, const struct flying *f, uint64_t longest
     }
 }
 
-/// The entries of a submission, which stand in its part of the recording.
+/// The entries of a submission, in its part of the recording.
 static bool seek(struct recorded *r, unsigned part, unsigned long entry)
 {
     char name[NAME_MAX + 32], path[PATH_MAX];

@@ -1,4 +1,4 @@
-/* Decodes instructions that stand at every 16th byte of a file, and prints what each is:
+/* Decodes instructions at every 16th byte of a file, and prints what each is:
  *
  *     decode CODE ADDRESS       ADDRESS is where the code would run
  *

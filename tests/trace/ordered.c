@@ -6,7 +6,7 @@
  *   polled  eight moves at once, apart, then their records are polled
  *   sleep   does not wait, but sleeps for 20 ms between the two
  *   blind   the same, and the first has no record
- *   behind  a batch of four, of which the third is behind a fence and has the only record; the second comes after it
+ *   after   a batch of four, of which the third comes after a fence and has the only record; the second comes after it
  * Status 0: c is right, 3: c is wrong. */
 #include "client.h"
 
@@ -45,7 +45,7 @@ static void in_a_batch(void *portal, const char *mode, uint8_t *a, volatile comp
     await(&r[0]);
 }
 
-static void behind_a_fence(void *portal, uint8_t *a, volatile completion *r)
+static void after_a_fence(void *portal, uint8_t *a, volatile completion *r)
 {
     uint8_t *b = a + SIZE, *c = b + SIZE, *other = c + SIZE;
     descriptor *list = fresh(4096);
@@ -92,8 +92,8 @@ int main(int argc, char **argv)
         memset(a + i * SIZE, 'a' + i, SIZE);
     if (strcmp(mode, "polled") == 0)
         return copied_apart(portal, r);
-    if (strcmp(mode, "behind") == 0)
-        behind_a_fence(portal, a, r);
+    if (strcmp(mode, "after") == 0)
+        after_a_fence(portal, a, r);
     else if (strncmp(mode, "fence", 5) == 0 || strcmp(mode, "member") == 0)
         in_a_batch(portal, mode, a, r);
     else

@@ -72,8 +72,8 @@ static uint64_t take_scaled(struct cursor *c, unsigned mod)
     return address + c->registers[base];
 }
 
-/// The address of the memory operand. One relative to the instruction pointer counts from the end of the instruction, which
-/// ends with it, since none of these has an immediate.
+/// The address of the memory operand. One relative to the instruction pointer counts from the end of the instruction,
+/// which ends with it, since none of these has an immediate.
 static uint64_t take_address(struct cursor *c, uint8_t modrm)
 {
     const unsigned mod = modrm >> 6, rm = modrm & 7;

@@ -3,6 +3,7 @@
 
 #include <errno.h>
 #include <fcntl.h>
+#include <signal.h>
 #include <stdio.h>
 #include <stdlib.h>
 #include <string.h>
@@ -175,19 +176,27 @@ struct queue *files_queue(int fd)
     return found;
 }
 
+/// Submits one entry, with signals blocked as in our handler, so that none finds its thread with a lock of ours.
+static enum accepted submit_blocked(struct queue *q, const descriptor *d)
+{
+    sigset_t all, old;
+    sigfillset(&all);
+    pthread_sigmask(SIG_BLOCK, &all, &old);
+    const enum accepted accepted = order_submit(q, d, q->is_shared);
+    pthread_sigmask(SIG_SETMASK, &old, NULL);
+    return accepted;
+}
+
 /// Submits what is written to a queue's file, as newer drivers take descriptors.
 static ssize_t write_entries(struct queue *q, const uint8_t *from, size_t size)
 {
     for (size_t at = 0; at + sizeof(descriptor) <= size; at += sizeof(descriptor)) {
         descriptor d;
-        if (!memory_copy(&d, from + at, sizeof d, NULL)) {
-            errno = EFAULT;
-            return at ? (ssize_t)at : -1;
-        }
-        if (order_submit(q, &d, q->is_shared) == FULL) {
-            errno = EAGAIN;
-            return at ? (ssize_t)at : -1;
-        }
+        const bool is_read = memory_copy(&d, from + at, sizeof d, NULL);
+        if (is_read && submit_blocked(q, &d) == ACCEPTED)
+            continue;
+        errno = is_read ? EAGAIN : EFAULT;
+        return at ? (ssize_t)at : -1;
     }
     return size;
 }

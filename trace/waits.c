@@ -1,6 +1,7 @@
-/* Missing waits: submissions that conflict with one that was in flight when they were made, for all that the program could
- * know. The library writes the event of a completion before its record, so a program can't have known of a completion
- * whose event comes after. Of one that has no record it knows by a drain alone, or by a member after a fence. */
+/* Missing waits: submissions that conflict with one that was in flight when they were made, for all that the program
+ * could know. The library writes the event of a completion before its record, so a program can't have known of a
+ * completion whose event comes after. Of one that has no record it knows by a drain alone, or by a member after a
+ * fence. */
 #include <inttypes.h>
 #include <linux/idxd.h>
 #include <stdio.h>

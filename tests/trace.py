@@ -107,7 +107,7 @@ def repeated():
 def events(seed, mode):
     """The events of a run."""
     with tempfile.TemporaryDirectory(dir=WORK) as folder:
-        traced("--order", "all", "--seed", seed, "--out", folder, "--", client("ordered"), mode)
+        traced("--order", "all", "--delay", 400, "--seed", seed, "--out", folder, "--", client("ordered"), mode)
         [path] = Path(folder, f"seed-{seed}").glob("*.events")
         return path.read_text().splitlines()
 

@@ -182,7 +182,9 @@ static enum accepted submit_blocked(struct queue *q, const descriptor *d)
     sigset_t all, old;
     sigfillset(&all);
     pthread_sigmask(SIG_BLOCK, &all, &old);
+    order_arrive();
     const enum accepted accepted = order_submit(q, d, q->is_shared);
+    order_leave();
     pthread_sigmask(SIG_SETMASK, &old, NULL);
     return accepted;
 }

@@ -18,7 +18,7 @@ static const char help[] =
     "      --seeds <N>      run the program N times, each with the next seed, up to the first that fails\n"
     "      --order <ORDER>  fifo, members (of a batch in any order), data (submissions too, but records in order)\n"
     "                       or all (records too) [default: data]\n"
-    "      --delay <US>     microseconds that the program runs on before what is in flight is done [default: 50]\n"
+    "      --delay <US>     microseconds that the program runs on before what is in flight is done [default: 100]\n"
     "      --retry <N>      ENQCMD says retry once in N times; 0: only when the queue is full [default: 0]\n"
     "      --fault <N>      a move without block-on-fault stops at a page once in N times; 0: never [default: 0]\n"
     "      --watch <MS>     hold what is in flight until its record is looked at, at most so many milliseconds\n"

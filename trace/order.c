@@ -29,6 +29,8 @@ static struct order_state {
     uint64_t submitted, batches, members, retried, dropped, records;
 } order = {.lock = PTHREAD_MUTEX_INITIALIZER, .tail = &order.head};
 
+static __thread bool is_arriving; /* this thread is counted by `arriving` */
+
 static bool is_async(void) { return settings.order >= ORDER_DATA; }
 
 static struct submission *take_unused(void)
@@ -208,7 +210,7 @@ static void *work(void *unused)
             continue;
         }
         rests = 0;
-        if (order.arriving || !pace_is_quiet(&order.pace, &wait))
+        if (!order.pace.waits && (order.arriving || !pace_is_quiet(&order.pace, &wait)))
             wait_for_work(order.arriving ? AGAIN / 10 : wait);
         else if (!(s = choose()))
             wait_for_work(AGAIN);
@@ -236,7 +238,7 @@ static void begin_process(pid_t pid)
     order.unused = NULL;
     order.has_worker = order.sleeps = false;
     order.worker = 0;
-    order.arriving = 0;
+    order.arriving = is_arriving;
     order.choices = (struct random){settings.seed, 0};
     order.retries = (struct random){~settings.seed, 0};
     watch_forget();
@@ -363,15 +365,26 @@ static void note_mode(struct queue *q, bool is_enqueued)
 enum accepted order_submit(struct queue *q, const descriptor *d, bool is_enqueued)
 {
     order_start();
-    order.arriving++;
     pthread_mutex_lock(&order.lock);
-    order.arriving--;
     note_mode(q, is_enqueued);
     const bool is_taken = has_room(q, is_enqueued);
     if (is_taken)
         take_in(q, d);
     pthread_mutex_unlock(&order.lock);
     return is_taken || !is_enqueued ? ACCEPTED : FULL;
+}
+
+/// This thread is about to submit, from before it takes the lock on: the program does not wait meanwhile.
+void order_arrive(void)
+{
+    is_arriving = true;
+    order.arriving++;
+}
+
+void order_leave(void)
+{
+    is_arriving = false;
+    order.arriving--;
 }
 
 /// The program waits by UMWAIT or TPAUSE.

@@ -37,7 +37,7 @@ static bool is_asleep(pid_t thread)
     syscall(SYS_close, fd);
     text[length > 0 ? length : 0] = 0;
     const char *state = strrchr(text, ')');
-    return state && strlen(state) > 2 && state[2] != 'R';
+    return state && strlen(state) > 2 && strchr("STtZX", state[2]); /* not D, which a page fault may be */
 }
 
 /// A submission by this thread, or with 0 a record.

@@ -19,7 +19,7 @@ enum { NUMBERS = sizeof numbers / sizeof *numbers };
 /// The settings when no option is given.
 struct settings settings_default(void)
 {
-    return (struct settings){.order = ORDER_DATA, .seed = 1, .delay = 50};
+    return (struct settings){.order = ORDER_DATA, .seed = 1, .delay = 100};
 }
 
 /// Sets the variables of the environment, for the program that is started next.

@@ -168,8 +168,11 @@ static void handler(int number, siginfo_t *info, void *context)
     if (number != SIGILL)
         memory_escape(info, context);
     const bool may_be = number == SIGILL || info->si_code == SI_KERNEL || portals_at((uintptr_t)info->si_addr);
-    if (number != SIGBUS && info->si_code > 0 && may_be)
+    if (number != SIGBUS && info->si_code > 0 && may_be) {
+        order_arrive();
         outcome = emulate(u, &fault);
+        order_leave();
+    }
     if (outcome == NOT_OURS)
         pass_on(number, info, u);
     else if (outcome == FAULTED) {

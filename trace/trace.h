@@ -80,6 +80,9 @@ enum accepted { ACCEPTED, FULL };
 void order_begin(void);
 /* Starts the thread that does the work, if it does not run in this process. */
 void order_start(void);
+/* Around order_submit, from as early as possible: a thread of the program is about to submit. */
+void order_arrive(void);
+void order_leave(void);
 enum accepted order_submit(struct queue *q, const descriptor *d, bool is_enqueued);
 /* The program waits by an instruction: what is in flight need not wait for it. */
 void order_program_waits(void);

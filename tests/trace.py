@@ -26,7 +26,10 @@ CLIENTS = ("ordered", "threads", "odd", "operations")
 def ran(*command, **how):
     """How a command ended, and what it printed."""
     how = {"capture_output": True, "text": True, "stdin": subprocess.DEVNULL, "timeout": 120, "errors": "replace"} | how
-    return subprocess.run([str(word) for word in command], **how)
+    try:
+        return subprocess.run([str(word) for word in command], **how)
+    except subprocess.TimeoutExpired:
+        return subprocess.CompletedProcess(command, -1, "", f"it runs for more than {how['timeout']} seconds")
 
 
 def traced(*words, **how):
@@ -569,6 +572,24 @@ def sanitized():
     told("freed memory with AddressSanitizer", end, 1, "heap-use-after-free", "WRITE of size 64")
 
 
+def undefined():
+    """The library with the sanitizer of undefined behaviour, and the launcher with that of addresses too, find nothing."""
+    folder = f"{WORK}/undefined"
+    flags = ["-O1 -g -Wno-error -fsanitize=undefined -static-libubsan", "-O1 -g -Wno-error -fsanitize=address,undefined"]
+    for target, words in (("libdsa_trace.so", flags[0]), ("dsa_trace", flags[1])):
+        end = ran("make", "-C", ROOT / "trace", "CC=gcc", f"OUT={folder}", f"CFLAGS={words}", f"{folder}/{target}")
+        if end.returncode:
+            skip(f"sanitizers, with which gcc does not build here: {end.stderr[-300:]}")
+            return
+    known = os.environ | {"DSA_TEXT": "/bin/true"}
+    runs = [["operations"], ["threads"], ["odd", "large", "70"], ["odd", "killed", "50"], ["ordered", "wait"], ["ordered", "after"]]
+    for words in [*runs, *(["odd", case] for case in [*REFUSED, "child", "unreadable", "written", "full", "maps"])]:
+        for how in ([], ["--order", "fifo"], ["--watch", "5", "--fault", "2", "--no-namespace"]):
+            end = ran(f"{folder}/dsa_trace", "--audit", *how, "--", client(words[0]), *words[1:], env=known)
+            said = [line for line in end.stderr.splitlines() if "runtime error" in line or "Sanitizer" in line]
+            expect(not said, f"{words} {how}: {said[:3]}")
+
+
 def large():
     """The programs of Intel and of DPDK that test the device and its drivers, where their packages are."""
     test = Path("/usr/libexec/accel-config/test/dsa_test")
@@ -589,7 +610,7 @@ def large():
 
 
 PARTS = [built, decoder, ordered, orders, repeated, seeds, operations, queues, refused, died, recordings, full_disk, waits, audited, statuses]
-PARTS += [options, files, killed, prices, submit, sanitized, cost, large]
+PARTS += [options, files, killed, prices, submit, sanitized, undefined, cost, large]
 
 
 def main(words):

@@ -22,7 +22,7 @@ static int64_t clock_of(clockid_t id)
 static int64_t cpu_of(pid_t thread)
 {
     enum { OF_THREAD = 4, OF_SCHEDULER = 2 };
-    return clock_of((~(clockid_t)thread << 3) | OF_THREAD | OF_SCHEDULER);
+    return clock_of((clockid_t)(~(unsigned)thread << 3 | OF_THREAD | OF_SCHEDULER));
 }
 
 /// Whether the thread is neither running nor waiting for a processor.

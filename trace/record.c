@@ -226,7 +226,8 @@ void record_submission(const struct submitted *s)
         return;
     }
     memcpy(room, s->entry, ENTRY);
-    memcpy(room + ENTRY, s->members, ENTRY * (size_t)s->count);
+    if (s->count)
+        memcpy(room + ENTRY, s->members, ENTRY * (size_t)s->count);
     to = put_pair(put_pair(put_pair(line, "S ", s->number), " wq", s->queue->device), ".", s->queue->id);
     to = put_pair(put_pair(to, " op ", s->entry->opcode), " members ", s->count);
     to = put_pair(put_pair(to, " tid ", syscall(SYS_gettid)), " part ", recording.part);

@@ -1,7 +1,7 @@
-"""Builds dsa_trace with gcc and clang, and small clients with gcc alone, and runs them: with and without what keeps their
-operations in order, under a hundred seeds each (SEEDS); each operation; what goes wrong; recordings; the decoder on every
-form of address. It uses dsa_text, the tests of accel-config-test and dpdk-dev, valgrind and the rights of root where they
-are, and says so where they aren't. The words are names of parts."""
+"""Builds dsa_trace with gcc and clang, and small clients with gcc alone, and runs them: with and without what keeps
+their operations in order, under a hundred seeds each (SEEDS); each operation; what goes wrong; recordings; the decoder on
+every form of address. It uses dsa_text, the tests of accel-config-test and dpdk-dev, valgrind, sanitizers and the rights
+of root where they are, and says so where they aren't. The words are names of parts."""
 
 import itertools
 import json
@@ -45,7 +45,8 @@ def told(what, end, status, *words):
     """A case: the run has this status, and says these words."""
     said = end.stdout + end.stderr
     missing = [word for word in words if word not in said]
-    expect(end.returncode == status and not missing, f"{what}: status {end.returncode}, not {status}, or not {missing}:\n{said[-1500:]}")
+    fault = f"{what}: status {end.returncode}, not {status}, or not {missing}:\n{said[-1500:]}"
+    expect(end.returncode == status and not missing, fault)
 
 
 def built():
@@ -66,7 +67,8 @@ def built():
 def wrong_of(mode, *options):
     """Of so many seeds, how many end right, wrong and otherwise."""
     words = [client("ordered"), mode]
-    statuses = side_by_side(lambda seed: traced("--seed", seed, *options, "--", *words).returncode, range(1, SEEDS + 1), 3)
+    statuses = side_by_side(lambda seed: traced("--seed", seed, *options, "--", *words).returncode,
+                            range(1, SEEDS + 1), 3)
     return statuses.count(0), statuses.count(3), len([it for it in statuses if it not in (0, 3)])
 
 
@@ -84,12 +86,15 @@ def ordered():
 def orders():
     """In plain order no run shows what is missing; in any order of records a program may not rely on theirs."""
     for order, mode, wanted in (("fifo", "fence", 0), ("fifo", "wait", 0), ("members", "wait", 0)):
-        statuses = [traced("--order", order, "--seed", seed, "--", client("ordered"), mode).returncode for seed in range(1, 11)]
+        statuses = [traced("--order", order, "--seed", seed, "--", client("ordered"),
+                           mode).returncode for seed in range(1, 11)]
         expect(set(statuses) == {wanted}, f"{mode} in the order {order} ends with {statuses}")
-    statuses = {traced("--order", "members", "--seed", seed, "--", client("ordered"), "fence").returncode for seed in range(1, 31)}
+    statuses = {traced("--order", "members", "--seed", seed, "--", client("ordered"),
+                       "fence").returncode for seed in range(1, 31)}
     expect(statuses == {0, 3}, f"a missing fence in the order members ends with {statuses}")
     for mode in ("fenced", "waited", "polled", "drain"):
-        statuses = {traced("--order", "all", "--seed", seed, "--", client("ordered"), mode).returncode for seed in range(1, 11)}
+        statuses = {traced("--order", "all", "--seed", seed, "--", client("ordered"),
+                           mode).returncode for seed in range(1, 11)}
         expect(statuses == {0}, f"{mode} in the order all ends with {statuses}")
 
 
@@ -122,7 +127,8 @@ def seeds():
     expect(end.stderr.count("the same again") == 1, f"after a run that fails there are others: {end.stderr}")
     again = re.search(r"^dsa_trace (--seed \d+) -- (.*)$", end.stderr, re.M)
     told("the seed that is named", traced(*again[0].split()[1:]) if again else end, 3)
-    told("the example", ran("gcc", *STRICT, "-O2", "-mmovdir64b", "-o", client("copy_twice"), "examples/trace/copy_twice.c"), 0)
+    words = ["-O2", "-mmovdir64b", "-o", client("copy_twice"), "examples/trace/copy_twice.c"]
+    told("the example", ran("gcc", *STRICT, *words), 0)
     told("many seeds of the example", traced("--seeds", 40, "--", client("copy_twice")), 1, 'c is ""', "the same again")
     end = traced("--seeds", 2, "--no-namespace", "--", client("ordered"), "fenced")
     told("two seeds without a namespace", end, 0, "2 runs, all with status 0")
@@ -140,7 +146,8 @@ def operations():
         told(f"threads in the order {order}", traced("--order", order, "--", client("threads")), 0)
     told("operations without a namespace", traced("--no-namespace", "--", client("operations")), 0)
     told("submitting in a handler", traced("--", client("odd"), "handler"), 0, "in a handler: status 0x1,")
-    told("a move that stops at pages", traced("--fault", 2, "--", client("odd"), "partial"), 0, "right, more than one part: 1")
+    told("a move that stops at pages", traced("--fault", 2, "--", client("odd"), "partial"), 0,
+         "right, more than one part: 1")
     told("a move that does not stop", traced("--", client("odd"), "partial"), 0, "right, more than one part: 0")
     told("a queue that says retry", traced("--retry", 3, "--", client("odd"), "retried"), 0, "retries from 20 to 80: 1")
     told("a queue that does not", traced("--", client("odd"), "retried"), 0, "retries from 20 to 80: 0")
@@ -155,10 +162,12 @@ def queues():
          "wq0.0 is full (16 in flight): MOVDIR64B is lost")
     words = ["--queue", "dedicated,40,a", "--queue", "shared,40,b"]
     told("a larger queue", traced(*words, "--", client("odd"), "full"), 0, "all kept 1, 16 at least 1, retried 0")
-    told("the driver's maps", traced("--", client("odd"), "maps"), 128 + signal.SIGSEGV, "refused 1 1, two 1", "the second: status 0x1,")
+    told("the driver's maps", traced("--", client("odd"), "maps"), 128 + signal.SIGSEGV, "refused 1 1, two 1",
+         "the second: status 0x1,")
     files = ["/sys/bus/dsa/devices/wq0.0/mode", "/sys/bus/dsa/devices/wq0.0/size", "/sys/bus/dsa/devices/wq0.0/name"]
     told("the files of a queue", traced("--queue", "shared,8,mine", "--", "cat", *files), 0, "shared\n8\nmine\n")
-    told("another mode", traced("--queue", "shared,8,mine", "--", client("ordered"), "fenced"), 0, "a device does not take it")
+    told("another mode", traced("--queue", "shared,8,mine", "--", client("ordered"), "fenced"), 0,
+         "a device does not take it")
 
 
 # The statuses are those of linux/idxd.h; 0x84 is 4 with the bit of a write. Two pages are there, and the next is missing.
@@ -183,10 +192,12 @@ def refused():
 
 def died():
     """Programs that fault at the instruction, have children, are replaced, or are killed."""
-    told("a descriptor that can't be read", traced("--", client("odd"), "unreadable"), 42, "can't be read", "signal 11 at 0x2000")
+    told("a descriptor that can't be read", traced("--", client("odd"), "unreadable"), 42, "can't be read",
+         "signal 11 at 0x2000")
     told("a child of fork", traced("--", client("odd"), "child"), 0, "ends by signal 11", "in the parent: status 0x1")
     with tempfile.TemporaryDirectory(dir=WORK) as folder:
-        told("a program that is replaced", traced("--out", folder, "--", client("odd"), "replaced"), 0, "before: status 0x1")
+        told("a program that is replaced", traced("--out", folder, "--", client("odd"), "replaced"), 0,
+             "before: status 0x1")
         sizes = sorted(path.stat().st_size // 64 for path in Path(folder, "seed-1").glob("*.dsa"))
         expect(sizes == [1, 10], f"the two programs of a process are recorded with {sizes} entries")
     told("a program that is killed", traced("--", client("odd"), "killed", 3), 128 + signal.SIGKILL)
@@ -203,7 +214,8 @@ def recorded(*words, status=0, options=()):
         run = Path(folder, "seed-1")
         parts = sorted(run.glob("*.dsa"), key=lambda path: (len(path.name), path.name))
         lines = [path.read_text() for path in run.glob("*.events")]
-        return [path.read_bytes() for path in parts], "".join(lines).splitlines(), (run / "processes.txt").read_text().splitlines()
+        index = (run / "processes.txt").read_text().splitlines()
+        return [path.read_bytes() for path in parts], "".join(lines).splitlines(), index
 
 
 def recordings():
@@ -215,7 +227,8 @@ def recordings():
         entries = b"".join(parts)
         heads = {entries[at : at + 8] for at in range(0, len(entries), 64)}
         numbers = [int.from_bytes(entries[at + 16 : at + 24], "little") for at in range(0, len(entries), 64)]
-        expect(heads == {(0x2AA << 20).to_bytes(4, "little") + bytes([0x0C, 0, 0, 0])}, f"{how}: the entries begin with {heads}")
+        expect(heads == {(0x2AA << 20).to_bytes(4, "little") + bytes([0x0C, 0, 0, 0])},
+               f"{how}: the entries begin with {heads}")
         expect(numbers == list(range(5000)), f"{how}: {len(numbers)} submissions are recorded")
         starts = [line for line in lines if line[0] == "S"]
         ends = [line for line in lines if line[0] == "C"]
@@ -227,11 +240,14 @@ def recordings():
         [size] = [path.stat().st_size for path in Path(folder, "seed-1").glob("*.dsa")]
         expect(size == 64 * 10000, f"of a program that closes all files {size / 64} entries are recorded")
     parts, lines, _ = recorded(client("odd"), "large", 70)
-    expect([len(part) // 64 for part in parts] == [65 * 1001, 5 * 1001], f"the parts have {[len(it) / 64 for it in parts]} entries")
-    counts = [int.from_bytes(part[at + 32 : at + 36], "little") for part in parts for at in range(0, len(part), 64 * 1001)]
+    expect([len(part) // 64 for part in parts] == [65 * 1001, 5 * 1001],
+           f"the parts have {[len(it) / 64 for it in parts]} entries")
+    places = [(part, at) for part in parts for at in range(0, len(part), 64 * 1001)]
+    counts = [int.from_bytes(part[at + 32 : at + 36], "little") for part, at in places]
     expect(counts == [1000] * 70, "a part does not begin with a batch")
     _, _, index = recorded(client("threads"))
-    expect(len(index) == 2 and index[0].split("\t")[1] == index[1].split("\t")[2], f"the index of a parent and a child: {index}")
+    expect(len(index) == 2 and index[0].split("\t")[1] == index[1].split("\t")[2],
+           f"the index of a parent and a child: {index}")
 
 
 def full_disk():
@@ -239,7 +255,8 @@ def full_disk():
     if os.getuid() != 0 or ran("unshare", "-m", "true").returncode:
         skip("a full disk, which needs the right to mount one")
         return
-    command = f"mount -t tmpfs -o size=400k none {WORK}/small && exec {WORK}/gcc/dsa_trace --out {WORK}/small -- {client('odd')} large 20"
+    command = f"mount -t tmpfs -o size=400k none {WORK}/small && exec {WORK}/gcc/dsa_trace --out {WORK}/small"
+    command += f" -- {client('odd')} large 20"
     Path(WORK, "small").mkdir()
     end = ran("unshare", "-m", "sh", "-c", command)
     told("a full disk", end, 0, "No space left on device", "not recorded")
@@ -251,22 +268,26 @@ def waits():
     """--audit names submissions that conflict with one in flight, whatever dsa_text says: here /bin/true says nothing."""
     known = os.environ | {"DSA_TEXT": "/bin/true"}
     end = traced("--audit", "--", client("ordered"), "wait", env=known)
-    told("a missing wait", end, 1, "submission 1: error: missing wait, read after write: reads what submission 0, in flight, writes, at 0x")
+    wanted = "submission 1: error: missing wait, read after write: reads what submission 0, in flight, writes, at 0x"
+    told("a missing wait", end, 1, wanted)
     expect(end.stdout.count("error") == 1, f"of one missing wait is said {end.stdout}")
     for mode in ("fence", "fenced", "waited", "member", "drain", "polled", "after"):
         for order in ("data", "all"):
             end = traced("--audit", "--order", order, "--", client("ordered"), mode, env=known)
             expect("error" not in end.stdout, f"{mode} in the order {order}: {end.stdout}")
     told("threads", traced("--audit", "--", client("threads"), env=known), 0)
-    told("a sleep after a move without a record", traced("--audit", "--", client("ordered"), "blind", env=known), 1, "missing wait")
+    told("a sleep after a move without a record", traced("--audit", "--", client("ordered"), "blind", env=known), 1,
+         "missing wait")
     is_watched = watches()
     for held in (5, 100) if is_watched else ():
         end = traced("--audit", "--watch", held, "--", client("ordered"), "sleep", env=known)
         told(f"a sleep is no wait, held for {held} ms", end, 1, "missing wait")
     told("nothing submitted", traced("--audit", "--", "/bin/true", env=known), 0, "nothing was submitted")
     told("an audit that fails", traced("--audit", "--", client("ordered"), "waited", env={"DSA_TEXT": "/bin/false"}), 1)
-    told("no such program", traced("--audit", "--", "/bin/true", env={"DSA_TEXT": "/nowhere"}), 125, "DSA_TEXT names /nowhere")
-    told("--audit without dsa_text", traced("--audit", "--", "/bin/true", env={"PATH": "/nowhere"}), 125, "needs the program dsa_text")
+    told("no such program", traced("--audit", "--", "/bin/true", env={"DSA_TEXT": "/nowhere"}), 125,
+         "DSA_TEXT names /nowhere")
+    told("--audit without dsa_text", traced("--audit", "--", "/bin/true", env={"PATH": "/nowhere"}), 125,
+         "needs the program dsa_text")
 
 
 def audited():
@@ -276,8 +297,10 @@ def audited():
         skip("audits: crates/dsa_text is not built")
         return
     known = os.environ | {"DSA_TEXT": str(text)}
-    told("a missing fence", traced("--audit", "--", client("ordered"), "fence", env=known), 1, "missing fence, read after write")
-    told("a missing wait", traced("--audit", "--", client("ordered"), "wait", env=known), 1, "missing wait, read after write",
+    told("a missing fence", traced("--audit", "--", client("ordered"), "fence", env=known), 1,
+         "missing fence, read after write")
+    told("a missing wait", traced("--audit", "--", client("ordered"), "wait", env=known), 1,
+         "missing wait, read after write",
          "submission 1 reads what submission 0", "0 missing")
     for mode in ("fenced", "waited", "member", "drain", "polled"):
         end = traced("--audit", "--", client("ordered"), mode, env=known)
@@ -329,7 +352,8 @@ def options():
     """Help, wrong options, and the page and the completion, which name each option."""
     end = traced("--help")
     told("--help", end, 0, "Usage: dsa_trace [OPTIONS] [--] PROGRAM", "Examples:")
-    for words, why in ((["--nonsense"], "no such option"), ([], "the program to run is missing"), (["--seed"], "whole number"),
+    for words, why in ((["--nonsense"], "no such option"), ([], "the program to run is missing"),
+                       (["--seed"], "whole number"),
                        (["--seed", "x"], "whole number"), (["--order", "x"], "fifo, members, data or all"),
                        (["--seeds", "0"], "at least one run"), (["--queue", "dedicated,0,x"], "a size from 1 to 128")):
         told(f"the options {words}", traced(*words, *(["--", "true"] if words else [])), 125, why)
@@ -341,7 +365,8 @@ def options():
     missing = [name for name in names if name not in page or name not in completion]
     expect(not missing, f"the manual page or the completion does not name {missing}")
     if shutil.which("man"):
-        end = ran("man", "--warnings", "-l", "bindings/package/dsa_trace.1", env=os.environ | {"MANWIDTH": "120", "LC_ALL": "C.UTF-8"})
+        end = ran("man", "--warnings", "-l", "bindings/package/dsa_trace.1",
+                  env=os.environ | {"MANWIDTH": "120", "LC_ALL": "C.UTF-8"})
         expect(end.returncode == 0 and not end.stderr, f"man dsa_trace.1: {end.stderr[:500]}")
 
 
@@ -410,10 +435,12 @@ def killed():
         if survives:
             os.kill(int(program), signal.SIGKILL)
     expect(mounts() == before and set(os.listdir("/dev")) == devices, "something is left in /dev, or mounted")
-    expect(not Path("/sys/bus/dsa").exists() or Path("/sys/bus/dsa/devices/dsa0/cdev_major").exists(), "the device's files are left")
+    expect(not Path("/sys/bus/dsa").exists() or Path("/sys/bus/dsa/devices/dsa0/cdev_major").exists(),
+           "the device's files are left")
     with tempfile.TemporaryDirectory(dir=WORK) as folder:
         traced("--", client("operations"), env=os.environ | {"TMPDIR": folder})
-        told("no folder for recordings", traced("--out", "/proc/x", "true", env=os.environ | {"TMPDIR": folder}), 125, "/proc/x")
+        told("no folder for recordings", traced("--out", "/proc/x", "true", env=os.environ | {"TMPDIR": folder}), 125,
+             "/proc/x")
         expect(not os.listdir(folder), f"a run leaves {os.listdir(folder)}")
 
 
@@ -435,7 +462,8 @@ def forms():
     for is_narrow in (False, True):
         names, size = (NARROW, 32) if is_narrow else (WIDE, 64)
         for base, index in itertools.product([None, *range(16)], [None, *(k for k in range(16) if k != 4)]):
-            for scale, offset in itertools.product((1, 2, 4, 8) if index is not None else (1,), (0, 0x7F, -0x80, 0x12345678)):
+            for scale, offset in itertools.product((1, 2, 4, 8) if index is not None else (1,),
+                                                   (0, 0x7F, -0x80, 0x12345678)):
                 inside = names[base] if base is not None else ""
                 text = f"%{inside}" if inside else ""
                 text += f",%{names[index]},{scale}" if index is not None else ""
@@ -444,7 +472,8 @@ def forms():
                 address = offset + (value(base, is_narrow) if base is not None else 0)
                 address += value(index, is_narrow) * scale if index is not None else 0
                 yield f"{offset}({text})", address % 2**size, is_narrow, 0
-        yield f"{'%fs:' if is_narrow else ''}0x1000({'%' + names[3]})", (0x1000 + value(3, is_narrow)) % 2**size, is_narrow, int(is_narrow)
+        prefix, address = "%fs:" if is_narrow else "", (0x1000 + value(3, is_narrow)) % 2**size
+        yield f"{prefix}0x1000(%{names[3]})", address, is_narrow, int(is_narrow)
     for segment, number in (("fs", 1), ("gs", 2)):
         yield f"%{segment}:0x40", 0x40, False, number
         yield f"%{segment}:8(%r13,%r14,2)", (8 + value(13, False) + 2 * value(14, False)) % 2**64, False, number
@@ -470,12 +499,14 @@ def decoded(lines):
 def decoder():
     """Each form of address with each register, of both instructions, as the assembler writes it; the others; and bytes that
     are none of them."""
-    told("the build of the decoder", ran("gcc", *STRICT, "-I", "trace", "-o", f"{WORK}/decode", "tests/trace/decode.c", "trace/decode.c"), 0)
+    sources = ["tests/trace/decode.c", "trace/decode.c"]
+    told("the build of the decoder", ran("gcc", *STRICT, "-I", "trace", "-o", f"{WORK}/decode", *sources), 0)
     if not shutil.which("as") or not shutil.which("objcopy"):
         skip("the decoder beside the assembler, which is not there")
         return
     lines, wanted = [], []
-    for (name, kind), (number, (text, address, is_narrow, segment)) in itertools.product(KINDS.items(), enumerate(forms())):
+    for (name, kind), (number, form) in itertools.product(KINDS.items(), enumerate(forms())):
+        text, address, is_narrow, segment = form
         register = number % 16
         lines.append(f"{name} {text}, %{(NARROW if is_narrow else WIDE)[register]}")
         wanted.append((kind, register, address, segment, int(is_narrow)))
@@ -484,17 +515,23 @@ def decoder():
         wanted.append((kind, 9, None, 0, 0))
     lengths, got = decoded(lines)
     faults = []
-    for place, (line, (kind, register, address, segment, is_narrow), length, found) in enumerate(zip(lines, wanted, lengths, got)):
+    for place, (line, (kind, register, address, segment, is_narrow), length,
+                found) in enumerate(zip(lines, wanted, lengths, got)):
         if address is None:
             address = PLACE + 16 * place + length + 0x1234
-        right = f"{kind} {length} {register} {address:#x} {segment} {is_narrow}" if address else f"{kind} {length} {register} 0 {segment} {is_narrow}"
+        shown = f"{address:#x}" if address else "0"
+        right = f"{kind} {length} {register} {shown} {segment} {is_narrow}"
         if found.rsplit(" ", 1)[0] != right:
             faults.append(f"{line}: {found}, not {right}")
-    expect(len(got) == len(lines) > 10000 and not faults, f"{len(got)} of {len(lines)} forms decoded, {len(faults)} wrong: {faults[:3]}")
-    others = {"movdiri %rax, 8(%rbx)": "3 6 0 0x444444444444444c 0 0 1", "movdiri %r9d, (%rcx)": "3 5 9 0x2222222222222222 0 0 0",
+    fault = f"{len(got)} of {len(lines)} forms decoded, {len(faults)} wrong: {faults[:3]}"
+    expect(len(got) == len(lines) > 10000 and not faults, fault)
+    others = {"movdiri %rax, 8(%rbx)": "3 6 0 0x444444444444444c 0 0 1",
+              "movdiri %r9d, (%rcx)": "3 5 9 0x2222222222222222 0 0 0",
               "umonitor %r11": "4 5 11 0 0 0 0", "umwait %ecx": "5 4 1 0 0 0 0", "tpause %r15d": "6 5 15 0 0 0 0",
-              "mfence": "none", "clwb (%rax)": "none", "enqcmds (%rax), %rbx": "none", "ud2": "none", "crc32l %eax, %ebx": "none",
-              "movbe (%rax), %ebx": "none", "incsspd %eax": "none", ".byte 0x66,0x66,0x66,0x66,0x66,0x66,0x66,0x66,0x66,0x66,0x66,0x66,0x66,0x66,0x66,0x66": "none"}
+              "mfence": "none", "clwb (%rax)": "none", "enqcmds (%rax), %rbx": "none", "ud2": "none",
+              "crc32l %eax, %ebx": "none",
+              "movbe (%rax), %ebx": "none", "incsspd %eax": "none",
+              ".byte 0x66,0x66,0x66,0x66,0x66,0x66,0x66,0x66,0x66,0x66,0x66,0x66,0x66,0x66,0x66,0x66": "none"}
     lengths, got = decoded(others)
     for (line, right), found in zip(others.items(), got):
         expect(found == right, f"{line} is decoded as {found}, not {right}")
@@ -537,7 +574,8 @@ def prices():
             job = {"do": "plan", "list": "", "settings": found}
             told("a plan with these prices", ran(program, input=json.dumps(job), stdin=None), 0, '"cost":0')
         end = traced(*words, "--options")
-        right = rf"--greatest-batch {greatest} --greatest-transfer {2**31} --lone \d+ --fence \d+ --batches \d+(,\d+){{{greatest - 2}}}\n"
+        right = rf"--greatest-batch {greatest} --greatest-transfer {2**31} --lone \d+ --fence \d+ --batches "
+        right += rf"\d+(,\d+){{{greatest - 2}}}\n"
         expect(re.fullmatch(right, end.stdout), f"the options of {queue} are {end.stdout}")
 
 
@@ -551,7 +589,8 @@ def submit():
     told("the build of submit.c", ran("gcc", *STRICT, *words), 0)
     for queue, kind in (("wq0.0", "dedicated"), ("wq0.1", "shared")):
         for seed in range(1, 21):
-            told(f"submit to {queue}", traced("--seed", seed, "--", client("submit"), f"/dev/dsa/{queue}", kind), 0, "copied")
+            told(f"submit to {queue}", traced("--seed", seed, "--", client("submit"), f"/dev/dsa/{queue}", kind), 0,
+                 "copied")
 
 
 def sanitized():
@@ -575,14 +614,16 @@ def sanitized():
 def undefined():
     """The library with the sanitizer of undefined behaviour, and the launcher with that of addresses too, find nothing."""
     folder = f"{WORK}/undefined"
-    flags = ["-O1 -g -Wno-error -fsanitize=undefined -static-libubsan", "-O1 -g -Wno-error -fsanitize=address,undefined"]
+    flags = ["-O1 -g -Wno-error -fsanitize=undefined -static-libubsan",
+             "-O1 -g -Wno-error -fsanitize=address,undefined"]
     for target, words in (("libdsa_trace.so", flags[0]), ("dsa_trace", flags[1])):
         end = ran("make", "-C", ROOT / "trace", "CC=gcc", f"OUT={folder}", f"CFLAGS={words}", f"{folder}/{target}")
         if end.returncode:
             skip(f"sanitizers, with which gcc does not build here: {end.stderr[-300:]}")
             return
     known = os.environ | {"DSA_TEXT": "/bin/true"}
-    runs = [["operations"], ["threads"], ["odd", "large", "70"], ["odd", "killed", "50"], ["ordered", "wait"], ["ordered", "after"]]
+    runs = [["operations"], ["threads"], ["odd", "large", "70"], ["odd", "killed", "50"], ["ordered", "wait"],
+            ["ordered", "after"]]
     for words in [*runs, *(["odd", case] for case in [*REFUSED, "child", "unreadable", "written", "full", "maps"])]:
         for how in ([], ["--order", "fifo"], ["--watch", "5", "--fault", "2", "--no-namespace"]):
             end = ran(f"{folder}/dsa_trace", "--audit", *how, "--", client(words[0]), *words[1:], env=known)
@@ -595,13 +636,15 @@ def large():
     test = Path("/usr/libexec/accel-config/test/dsa_test")
     if not test.exists():
         skip("dsa_test: there is no package accel-config-test")
-    for operation in ("0x0", "0x2", "0x3", "0x4", "0x5", "0x6", "0x9", "0x10", "0x11", "0x12", "0x13", "0x14", "0x15", "0x20") if test.exists() else ():
+    for operation in ("0x0", "0x2", "0x3", "0x4", "0x5", "0x6", "0x9", "0x10", "0x11", "0x12", "0x13", "0x14", "0x15",
+                      "0x20") if test.exists() else ():
         size = "4096" if int(operation, 0) & 0x1C != 0x14 and operation not in ("0x12", "0x13") else "512"
         for queue, flags in itertools.product("01", ("0x0", "0x1")):
             words = ["-w", queue, "-l", size, "-f", flags, "-t", "2000", "-v"]
             told(f"dsa_test {operation} {words}", traced("--", test, *words, "-o", operation), 0)
             if operation != "0x2":
-                told(f"dsa_test of a batch {operation} {words}", traced("--", test, *words, "-o", "0x1", "-b", operation, "-c", "16"), 0)
+                told(f"dsa_test of a batch {operation} {words}",
+                     traced("--", test, *words, "-o", "0x1", "-b", operation, "-c", "16"), 0)
     if not shutil.which("dpdk-test"):
         skip("dmadev_autotest: there is no package dpdk-dev")
         return
@@ -609,7 +652,8 @@ def large():
     told("dmadev_autotest", traced("--", *words), 0, "Test OK")
 
 
-PARTS = [built, decoder, ordered, orders, repeated, seeds, operations, queues, refused, died, recordings, full_disk, waits, audited, statuses]
+PARTS = [built, decoder, ordered, orders, repeated, seeds, operations, queues, refused, died, recordings, full_disk,
+         waits, audited, statuses]
 PARTS += [options, files, killed, prices, submit, sanitized, undefined, cost, large]
 
 
@@ -622,7 +666,8 @@ def main(words):
     with tempfile.TemporaryDirectory() as WORK:
         told("the build", ran("make", "-C", ROOT / "trace", "CC=gcc", f"OUT={WORK}/gcc"), 0)
         for name in CLIENTS:
-            told(f"the build of {name}", ran("gcc", *STRICT, "-O1", "-o", client(name), f"tests/trace/{name}.c", "-lpthread"), 0)
+            words = ["-O1", "-o", client(name), f"tests/trace/{name}.c", "-lpthread"]
+            told(f"the build of {name}", ran("gcc", *STRICT, *words), 0)
         for part in parts if common.failed == 0 else []:
             part()
 

@@ -41,7 +41,8 @@ def moved(op):
 
 def left_by_dsa(case):
     """What `run` leaves: the memory and the batch records."""
-    members = {"list": case.digits(map(moved, case.operations)), "image": {"base": BASE, "bytes": case.memory.hex()}, "engines": 2}
+    members = {"list": case.digits(map(moved, case.operations)), "image": {"base": BASE, "bytes": case.memory.hex()},
+               "engines": 2}
     ran = subprocess.run([PROGRAM], input=json.dumps(case.job("run", **members)), capture_output=True, text=True)
     answer = json.loads(ran.stdout)
     return bytes.fromhex(answer["image"]), [bytes.fromhex(it) for it in answer["batch_records"]]
@@ -87,7 +88,8 @@ class Listed:
         """The case for planned.c."""
         s, case = self.case.settings, self.case
         table = s.batch if s.version == 2 else []
-        numbers = [s.version, s.greatest_batch, s.greatest_transfer, s.lone, 0 if table else s.batch, s.fence, len(table), *table]
+        numbers = [s.version, s.greatest_batch, s.greatest_transfer, s.lone, 0 if table else s.batch, s.fence,
+                   len(table), *table]
         words = [*map(str, numbers), str(unfenced + 1), str(tries), case.digits(map(moved, case.operations)) + "00"]
         memory, records = self.left
         return " ".join([*words, case.memory.hex(), memory.hex(), b"".join(records).hex() + "00"]) + "\n"
@@ -96,7 +98,8 @@ class Listed:
 def answers(folder, cases, seed):
     """What the device leaves of the cases, with one seed."""
     Path(folder, "cases").write_text("".join(cases))
-    command = [f"{folder}/dsa_trace", "--order", "data", "--seed", str(seed), "--", f"{folder}/planned", f"{folder}/cases"]
+    command = [f"{folder}/dsa_trace", "--order", "data", "--seed", str(seed), "--", f"{folder}/planned",
+               f"{folder}/cases"]
     ran = subprocess.run(command, capture_output=True, text=True, timeout=1200)
     expect(ran.returncode == 0, f"the submissions of seed {seed} end with status {ran.returncode}: {ran.stderr[-500:]}")
     return ran.stdout.splitlines()

@@ -631,20 +631,29 @@ def undefined():
             expect(not said, f"{words} {how}: {said[:3]}")
 
 
+def runner():
+    """Intel's script, which configures the device by accel-config and runs dsa_test some hundred times: sizes and
+    operations, alone and in batches, on both queues. Loading the module is left out: the device is there, and off."""
+    script = Path("/usr/libexec/accel-config/test/dsa_user_test_runner.sh")
+    if not script.exists() or not shutil.which("accel-config"):
+        skip("dsa_user_test_runner.sh: there is no package accel-config or accel-config-test")
+        return
+    stubs = Path(WORK, "stubs")
+    stubs.mkdir()
+    for name, does in (("modprobe", "accel-config disable-device dsa0 > /dev/null 2>&1"), ("rmmod", ":"), ("lsmod", ":")):
+        (stubs / name).write_text(f"#!/bin/sh\n{does}\nexit 0\n")
+        (stubs / name).chmod(0o755)
+    known = os.environ | {"PATH": f"{stubs}:{os.environ['PATH']}", "DSA_TEXT": "/bin/true"}
+    end = traced("--audit", "--out", f"{WORK}/runner", "--", script, env=known, timeout=600)
+    told("dsa_user_test_runner.sh", end, 0)
+    expect("missing wait" not in end.stdout, f"dsa_test lacks a wait: {end.stdout[-500:]}")
+    index = Path(WORK, "runner/seed-1/processes.txt").read_text().splitlines()
+    expect(len(index) >= 400, f"the script ran {len(index)} programs that submit")
+
+
 def large():
     """The programs of Intel and of DPDK that test the device and its drivers, where their packages are."""
-    test = Path("/usr/libexec/accel-config/test/dsa_test")
-    if not test.exists():
-        skip("dsa_test: there is no package accel-config-test")
-    for operation in ("0x0", "0x2", "0x3", "0x4", "0x5", "0x6", "0x9", "0x10", "0x11", "0x12", "0x13", "0x14", "0x15",
-                      "0x20") if test.exists() else ():
-        size = "4096" if int(operation, 0) & 0x1C != 0x14 and operation not in ("0x12", "0x13") else "512"
-        for queue, flags in itertools.product("01", ("0x0", "0x1")):
-            words = ["-w", queue, "-l", size, "-f", flags, "-t", "2000", "-v"]
-            told(f"dsa_test {operation} {words}", traced("--", test, *words, "-o", operation), 0)
-            if operation != "0x2":
-                told(f"dsa_test of a batch {operation} {words}",
-                     traced("--", test, *words, "-o", "0x1", "-b", operation, "-c", "16"), 0)
+    runner()
     if not shutil.which("dpdk-test"):
         skip("dmadev_autotest: there is no package dpdk-dev")
         return

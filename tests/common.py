@@ -26,7 +26,7 @@ NUMBERS = {
     "staging": 0x10000,
 }
 
-passed = failed = 0
+passed = failed = skipped = 0
 
 # ---- cases, and the end of a test
 
@@ -62,6 +62,13 @@ def expect_status(command, status, **how):
     ran = subprocess.run(command, **(quiet | how))
     right = ran.returncode == status and not ran.stdout
     expect(right, f"{command}: wanted status {status} and no line, got {ran.returncode} and {ran.stdout}")
+
+
+def skip(reason):
+    """Says what is not tried, and why."""
+    global skipped
+    skipped += 1
+    print(f"skipped: {reason}", flush=True)
 
 
 def stop(reason):
@@ -102,7 +109,7 @@ def run_test(main):
         signal.signal(number, end_early)
     os.chdir(ROOT)
     main(sys.argv[1:])
-    print(f"{passed} passed, {failed} failed")
+    print(f"{passed} passed, {failed} failed" + (f", {skipped} skipped" if skipped else ""))
     sys.exit(int(failed > 0 or passed == 0))
 
 

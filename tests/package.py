@@ -3,6 +3,7 @@ folder without the repository, with a path of /usr/bin and /bin (and cargo's). T
 dpkg, man, cmake, g++, clang and cargo where they are, and says so where they aren't. The words are names of parts."""
 
 import gzip
+import json
 import os
 import re
 import shutil
@@ -194,7 +195,8 @@ def debian():
     module = {"PYTHONPATH": f"{root}/usr/lib/python3/dist-packages", "DSA_PLANNER_LIBRARY": str(library)}
     tried("Python from the Debian package", "python3", "-c", "import dsa_planner", **module)
     pages = {path.name for path in root.rglob("*.gz")}
-    expect(pages == {"dsa.1.gz", "dsa_text.1.gz", "dsa_planner.3.gz"}, f"the Debian package has the pages {pages}")
+    wanted = {"dsa.1.gz", "dsa_text.1.gz", "dsa_planner.3.gz", "dsa_trace.1.gz", "dsa_prices.1.gz"}
+    expect(pages == wanted, f"the Debian package has the pages {pages}")
     tried("dpkg --purge", *dpkg, "--purge", "dsa-planner", **tools)
     rest = {path for path in {*root.rglob("*")} - before if "var/lib/dpkg" not in str(path)}
     expect(not rest, f"dpkg --purge leaves {rest}")
@@ -219,7 +221,8 @@ def symbols():
     expect(needed == MEMORY | COPYING, f"the shared object needs {needed}")
     soname = f"Library soname: [libdsa_planner.so.{make.version()[0]}]"
     expect(soname in tried("readelf", "readelf", "-dW", shared), f"the shared object has no {soname}")
-    for path in (shared, Path(PREFIX, "bin/dsa"), Path(PREFIX, "bin/dsa_text")):
+    built = [Path(PREFIX, f"bin/{name}") for name in ("dsa", "dsa_text", "dsa_trace", "dsa_prices")]
+    for path in (shared, Path(PREFIX, "lib/dsa-planner/libdsa_trace.so"), *built):
         said = tried("readelf", "readelf", "-dlW", path)
         stack = re.search(r"GNU_STACK +(?:\S+ +){5}(R?W?E?) ", said)
         right = stack and stack[1] == "RW" and "GNU_RELRO" in said and "BIND_NOW" in said and "TEXTREL" not in said
@@ -231,7 +234,7 @@ def pages():
     if not has("man"):
         return
     shown = {}
-    for page in ("man1/dsa.1", "man1/dsa_text.1", "man3/dsa_planner.3"):
+    for page in ("man1/dsa.1", "man1/dsa_text.1", "man1/dsa_trace.1", "man1/dsa_prices.1", "man3/dsa_planner.3"):
         source = Path(FOLDER, Path(page).name)
         source.write_bytes(gzip.decompress(Path(PREFIX, f"share/man/{page}.gz").read_bytes()))
         end = ran("man", "--warnings", "-l", source, MANWIDTH="200", LC_ALL="C.UTF-8")
@@ -239,6 +242,7 @@ def pages():
         shown[page] = end.stdout
     words = {"man1/dsa.1": ["no arguments", "nothing to standard error", "Unfenced", "greatest_transfer", "DualcastBits"], "man3/dsa_planner.3": make.exported()}
     words["man1/dsa_text.1"] = ["--greatest-batch", "--svg", "--at", "dualcast"]
+    words |= {"man1/dsa_trace.1": ["--seeds", "--no-namespace"], "man1/dsa_prices.1": ["--options"]}
     for page, wanted in words.items():
         missing = [word for word in wanted if word not in shown[page]]
         expect(not missing, f"{page} does not say {missing}")
@@ -263,6 +267,30 @@ def completion():
         line_is = f"COMP_WORDS=({words}); COMP_CWORD={len(line.split(' ')) - 1}"
         ask = f'. "{script}"; {line_is}; _dsa_text; echo "${{COMPREPLY[*]}}"'
         tried(f"completion of {line!r}", "bash", "-c", ask, printed=f"{offered}\n")
+
+
+def device():
+    """The installed dsa_trace finds its library and dsa_text: it names what a client lacks that gcc alone has built. dsa_prices
+    says that there is no device, and measures the one in software."""
+    strict = ["-std=c11", "-D_GNU_SOURCE", *STRICT[:2], "-Werror", "-O1"]
+    tried("the build of ordered", "cc", *strict, ROOT / "tests/trace/ordered.c", "-o", "ordered")
+    trace, prices = f"{PREFIX}/bin/dsa_trace", f"{PREFIX}/bin/dsa_prices"
+    tried("dsa_trace --audit", trace, "--audit", "--seeds", 5, "--", "./ordered", "fenced")
+    refused("a missing fence", ["missing fence, read after write"], trace, "--audit", "--", "./ordered", "fence")
+    tried("the build of the example", "cc", "-O2", "-mmovdir64b", EXAMPLES / "copy_twice.c", "-o", "copy_twice")
+    refused("the example", ["missing fence, read after write"], trace, "--audit", "--seeds", 20, "--", "./copy_twice")
+    refused("a missing wait", ["missing wait, read after write"], trace, "--audit", "--", "./ordered", "wait")
+    if not Path("/dev/dsa").exists():
+        refused("prices without a device", ["there is no such queue"], prices)
+    for queue in ("wq0.0", "wq0.1"):
+        words = [prices, "--greatest-batch", 8, "--times", 20, f"/dev/dsa/{queue}"]
+        found = json.loads(tried("prices", trace, "--order", "fifo", "--", *words) or "{}")
+        right = found.get("version") == 2 and len(found["batch"]) == 7 and found["lone"] > 0
+        expect(right, f"dsa_prices measures {found}")
+        options = tried("prices as options", trace, "--order", "fifo", "--", *words[:1], "--options", *words[1:]).split()
+        text = "move 0x1000 -> 0x2000, 64 bytes, record 0x8000\n"
+        Path(FOLDER, "one.txt").write_text(text)
+        tried("a plan with these prices", f"{PREFIX}/bin/dsa_text", "explain", *options, "one.txt")
 
 
 def said():
@@ -497,7 +525,7 @@ def threads():
         tried(f"threads {kind}", "./threads", os.environ.get("LISTS", "100"), 8, 20261124)
 
 
-PARTS = [version, causes, reproduced, unproved, installed, debian, symbols, pages, completion, said]
+PARTS = [version, causes, reproduced, unproved, installed, debian, symbols, pages, completion, device, said]
 PARTS += [c, cmake, rust, python, sentences, readme, threads]
 
 

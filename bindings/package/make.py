@@ -4,7 +4,7 @@
     bindings/package/make.py [FOLDER]
 
 It needs the archive and both programs, as the gate proved and recorded them (`tests/gate/gate.py --kept --proofs dsa dsa_text
-dsa_c`), the toolchain, a C compiler (CC names it), binutils, and dpkg-deb for the second. If the folder is given, the packages
+dsa_c`), the toolchain, a C compiler (CC names it), make, binutils, and dpkg-deb for the second. If the folder is given, the packages
 are written there. Equal inputs give equal packages, byte for byte."""
 
 import gzip
@@ -99,6 +99,18 @@ def libraries(to):
     (to / "libdsa_planner.so").symlink_to(soname)
 
 
+def device(root):
+    """The software device: dsa_trace, the library that it loads into programs, and dsa_prices."""
+    with tempfile.TemporaryDirectory() as work:
+        flags = f"-O2 -ffile-prefix-map={ROOT}=."
+        run("make", "-C", ROOT / "trace", f"OUT={work}", f"CFLAGS={flags}", f"CC={os.environ.get('CC', 'cc')}")
+        (root / "lib/dsa-planner").mkdir(parents=True, exist_ok=True)
+        places = {"dsa_trace": "bin", "dsa_prices": "bin", "libdsa_trace.so": "lib/dsa-planner"}
+        for name, place in places.items():
+            run("strip", "--strip-unneeded", f"{work}/{name}")
+            shutil.copy(f"{work}/{name}", root / place)
+
+
 def filled(template, **values):
     """A template with its `@name@` filled in."""
     return re.sub(r"@(\w+)@", lambda mark: str(values[mark[1]]), (HERE / template).read_text())
@@ -163,6 +175,7 @@ Their SHA-256 sums:
 libdsa_planner.a, libdsa_planner_own_memory.a and libdsa_planner.so have the code of libdsa_c.a as it is. Not proved, and
 in this package beside it: memory.c (three functions over malloc, realloc and free; not in libdsa_planner_own_memory.a),
 version.c (one function), the Rust crate, the Python module, and that a caller in C keeps what dsa_planner.h asks of it.
+Nor are dsa_trace, its library and dsa_prices.
 
 Promises, for all inputs, with the functions whose clauses carry them:
 
@@ -183,14 +196,17 @@ def tree(root, places, records):
             sys.exit(f"make.py: {name} changed while it was packaged")
     shutil.copy(HEADER, root / "include")
     libraries(library)
+    device(root)
     build_files(library, places)
     manuals(root / "share/man", numbers)
     script = completion.bash(str(PROVED["dsa_text"]), "dsa_text")
     write(root / "share/bash-completion/completions/dsa_text", script)
     write(docs / "PROVED", proved(records))
+    shutil.copy(HERE / "dsa_trace.bash", root / "share/bash-completion/completions/dsa_trace")
     for page in ("USING.md", "FORMATS.md", "PRICES.md", "jobs.schema.json"):
         shutil.copy(ROOT / f"docs/{page}", docs)
     shutil.copy(ROOT / "CHANGELOG.md", docs)
+    shutil.copy(ROOT / "trace/README.md", docs / "TRACE.md")
     examples(docs / "examples")
     crate = root / "share/dsa-planner/rust"
     ignored = shutil.ignore_patterns("target", "Cargo.lock", ".gitignore", "*.stdout")
@@ -206,6 +222,8 @@ def manuals(to, numbers):
         "dsa.1": manual.dsa(head),
         "dsa_text.1": manual.dsa_text(head, str(PROVED["dsa_text"])),
         "dsa_planner.3": manual.dsa_planner(head),
+        "dsa_trace.1": filled("dsa_trace.1", **head),
+        "dsa_prices.1": filled("dsa_prices.1", **head),
     }
     for name, text in pages.items():
         path = to / f"man{name[-1]}" / f"{name}.gz"
@@ -217,7 +235,7 @@ def examples(to):
     """Examples of the calls, of jobs, of operations as text and of recordings, and rows for tests of a caller's own, with three readers."""
     for name in ("two_moves.c", "own_memory.c", "submit.c"):
         shutil.copy(ROOT / "bindings/c" / name, to)
-    for path in (ROOT / "examples").glob("*.job"):
+    for path in [*(ROOT / "examples").glob("*.job"), ROOT / "examples/trace/copy_twice.c"]:
         shutil.copy(path, to)
     for folder, names in (("text", "*.txt"), ("audit", "*.xxd")):
         (to / folder).mkdir()
@@ -263,7 +281,7 @@ def replace(path, content):
 def debian(root, to, numbers):
     """Packs a tree, which has usr, for Debian."""
     files = [path for path in root.rglob("*") if path.is_file() and not path.is_symlink()]
-    built = [path for path in files if path.parent.name == "bin" or ".so." in path.name]
+    built = [path for path in files if path.parent.name == "bin" or ".so" in path.suffixes]
     needed = {tuple(map(int, it.split("."))) for path in built
               for it in re.findall(r"GLIBC_([\d.]+)", run("readelf", "-VW", path))}
     libc = ".".join(map(str, max(needed)))

@@ -38,8 +38,9 @@ TIMES_LONGER = {"dsa_text": 2.4, "dsa_report": 1.6}
 COUNTS = re.compile(r"^(?:[\w./-]+: )?(\d+) passed[,;] (\d+) failed", re.M)
 KINDS = ("proofs", "edits", "tests", "scripts")
 # What the scripts need built; those that are not named need the two programs.
-NEEDS = {name: () for name in ("engines", "hostile", "names", "schema")}
+NEEDS = {name: () for name in ("engines", "hostile", "names", "schema", "trace")}
 NEEDS |= {"bindings": ("dsa", "dsa_c"), "limits": ("dsa",), "package": ("dsa", "dsa_text", "dsa_c")}
+NEEDS |= {"trace_campaign": ("dsa", "dsa_c")}
 PROGRAMS = ("dsa", "dsa_text")
 # Of how many crates edits that change nothing are tried beside the others, at the least.
 FEWEST_CONTROLS = 5

@@ -1,0 +1,33 @@
+# bash completion for dsa_trace: its options, then what bash offers for the program and its arguments.
+_dsa_trace()
+{
+    local word=${COMP_WORDS[COMP_CWORD]} before=${COMP_WORDS[COMP_CWORD-1]} at
+    COMPREPLY=()
+    for ((at = 1; at < COMP_CWORD; at++)); do
+        case ${COMP_WORDS[at]} in
+            --out | --seed | --seeds | --order | --delay | --retry | --fault | --watch | --queue) ((at++)) ;;
+            --) ((at++)); break ;;
+            -*) ;;
+            *) break ;;
+        esac
+    done
+    if ((at < COMP_CWORD)) && declare -F _command_offset > /dev/null; then
+        _command_offset "$at"
+        return
+    fi
+    case $before in
+        --order) COMPREPLY=($(compgen -W "fifo members data all" -- "$word")) ;;
+        --queue) COMPREPLY=($(compgen -W "dedicated,16,name shared,16,name" -- "$word")) ;;
+        --out) COMPREPLY=($(compgen -d -- "$word")) ;;
+        --seed | --seeds | --delay | --retry | --fault | --watch) ;;
+        *)
+            if [[ $word == -* ]]; then
+                COMPREPLY=($(compgen -W "--audit --cpuid --delay --fault --help --no-namespace --order --out --queue
+                    --retry --seed --seeds --verbose --watch" -- "$word"))
+            else
+                COMPREPLY=($(compgen -c -- "$word"))
+            fi
+            ;;
+    esac
+}
+complete -o default -F _dsa_trace dsa_trace

@@ -1,0 +1,685 @@
+"""Builds dsa_trace with gcc and clang, and small clients with gcc alone, and runs them: with and without what keeps
+their operations in order, under a hundred seeds each (SEEDS); each operation; what goes wrong; recordings; the decoder on
+every form of address. It uses dsa_text, the tests of accel-config-test and dpdk-dev, valgrind, sanitizers and the rights
+of root where they are, and says so where they aren't. The words are names of parts."""
+
+import itertools
+import json
+import os
+import re
+import shutil
+import signal
+import subprocess
+import sys
+import tempfile
+import time
+from pathlib import Path
+
+import common
+from common import ROOT, expect, named, run_test, side_by_side, skip
+
+SEEDS = int(os.environ.get("SEEDS", "100"))
+STRICT = ["-std=c11", "-D_GNU_SOURCE", "-Wall", "-Wextra", "-Werror"]
+CLIENTS = ("ordered", "threads", "odd", "operations")
+
+
+def ran(*command, **how):
+    """How a command ended, and what it printed."""
+    how = {"capture_output": True, "text": True, "stdin": subprocess.DEVNULL, "timeout": 120, "errors": "replace"} | how
+    try:
+        return subprocess.run([str(word) for word in command], **how)
+    except subprocess.TimeoutExpired:
+        return subprocess.CompletedProcess(command, -1, "", f"it runs for more than {how['timeout']} seconds")
+
+
+def traced(*words, **how):
+    """How dsa_trace ended."""
+    return ran(f"{WORK}/gcc/dsa_trace", *words, **how)
+
+
+def client(name):
+    return f"{WORK}/{name}"
+
+
+def told(what, end, status, *words):
+    """A case: the run has this status, and says these words."""
+    said = end.stdout + end.stderr
+    missing = [word for word in words if word not in said]
+    fault = f"{what}: status {end.returncode}, not {status}, or not {missing}:\n{said[-1500:]}"
+    expect(end.returncode == status and not missing, fault)
+
+
+def built():
+    """No compiler has a warning, and each builds what works."""
+    for compiler in ("gcc", "clang"):
+        if not shutil.which(compiler):
+            skip(f"there is no {compiler}")
+            continue
+        folder = f"{WORK}/{compiler}"
+        told(f"the build by {compiler}", ran("make", "-C", ROOT / "trace", f"CC={compiler}", f"OUT={folder}"), 0)
+        end = ran(f"{folder}/dsa_trace", "--", client("operations"))
+        told(f"all operations on what {compiler} built", end, 0)
+
+
+# ---- order
+
+
+def wrong_of(mode, *options):
+    """Of so many seeds, how many end right, wrong and otherwise."""
+    words = [client("ordered"), mode]
+    statuses = side_by_side(lambda seed: traced("--seed", seed, *options, "--", *words).returncode,
+                            range(1, SEEDS + 1), 3)
+    return statuses.count(0), statuses.count(3), len([it for it in statuses if it not in (0, 3)])
+
+
+def ordered():
+    """A program with what keeps its operations in order is right under each seed; without it is wrong under many."""
+    for mode in ("fenced", "waited", "member", "drain", "polled", "after"):
+        right, wrong, other = wrong_of(mode)
+        expect(right == SEEDS, f"{mode}: right under {right} seeds of {SEEDS}, wrong under {wrong}, otherwise under {other}")
+    for mode in ("fence", "wait"):
+        right, wrong, other = wrong_of(mode)
+        print(f"without {mode}: wrong under {wrong} of {SEEDS} seeds")
+        expect(wrong >= SEEDS / 5 and other == 0, f"{mode}: wrong under {wrong} seeds of {SEEDS}, otherwise under {other}")
+
+
+def orders():
+    """In plain order no run shows what is missing; in any order of records a program may not rely on theirs."""
+    for order, mode, wanted in (("fifo", "fence", 0), ("fifo", "wait", 0), ("members", "wait", 0)):
+        statuses = [traced("--order", order, "--seed", seed, "--", client("ordered"),
+                           mode).returncode for seed in range(1, 11)]
+        expect(set(statuses) == {wanted}, f"{mode} in the order {order} ends with {statuses}")
+    statuses = {traced("--order", "members", "--seed", seed, "--", client("ordered"),
+                       "fence").returncode for seed in range(1, 31)}
+    expect(statuses == {0, 3}, f"a missing fence in the order members ends with {statuses}")
+    for mode in ("fenced", "waited", "polled", "drain"):
+        statuses = {traced("--order", "all", "--seed", seed, "--", client("ordered"),
+                           mode).returncode for seed in range(1, 11)}
+        expect(statuses == {0}, f"{mode} in the order all ends with {statuses}")
+
+
+def repeated():
+    """The same seed gives the same order, and another one another."""
+    orders = set()
+    for seed in (1, 2, 3, 4):
+        found = {tuple(re.sub(r"tid \d+", "", line) for line in events(seed, "polled")) for _ in range(5)}
+        expect(len(found) == 1, f"seed {seed} gives {len(found)} orders of five runs")
+        orders |= found
+    for seed in (1, 2, 3, 4):
+        found = {tuple(line for line in events(seed, "fence") if line.startswith("c")) for _ in range(5)}
+        expect(len(found) == 1, f"seed {seed} gives {len(found)} orders of a batch")
+        orders |= found
+    expect(len(orders) > 2, "all seeds give the same order")
+
+
+def events(seed, mode):
+    """The events of a run."""
+    with tempfile.TemporaryDirectory(dir=WORK) as folder:
+        traced("--order", "all", "--delay", 400, "--seed", seed, "--out", folder, "--", client("ordered"), mode)
+        [path] = Path(folder, f"seed-{seed}").glob("*.events")
+        return path.read_text().splitlines()
+
+
+def seeds():
+    """--seeds stops at the first run that fails, and names the seed, under which it fails again."""
+    end = traced("--seeds", 60, "--", client("ordered"), "fence")
+    told("many seeds of a missing fence", end, 3, "the same again", "dsa_trace --seed ")
+    expect(end.stderr.count("the same again") == 1, f"after a run that fails there are others: {end.stderr}")
+    again = re.search(r"^dsa_trace (--seed \d+) -- (.*)$", end.stderr, re.M)
+    told("the seed that is named", traced(*again[0].split()[1:]) if again else end, 3)
+    words = ["-O2", "-mmovdir64b", "-o", client("copy_twice"), "examples/trace/copy_twice.c"]
+    told("the example", ran("gcc", *STRICT, *words), 0)
+    told("many seeds of the example", traced("--seeds", 40, "--", client("copy_twice")), 1, 'c is ""', "the same again")
+    end = traced("--seeds", 2, "--no-namespace", "--", client("ordered"), "fenced")
+    told("two seeds without a namespace", end, 0, "2 runs, all with status 0")
+    end = traced("--seeds", 5, "--", client("ordered"), "fenced")
+    told("many seeds of a right program", end, 0, "5 runs, all with status 0")
+
+
+# ---- what the device does
+
+
+def operations():
+    """Each operation in each order, with threads, a child of fork and a handler of signals beside it."""
+    for order in ("fifo", "members", "data", "all"):
+        told(f"all operations in the order {order}", traced("--order", order, "--", client("operations")), 0)
+        told(f"threads in the order {order}", traced("--order", order, "--", client("threads")), 0)
+    told("operations without a namespace", traced("--no-namespace", "--", client("operations")), 0)
+    told("submitting in a handler", traced("--", client("odd"), "handler"), 0, "in a handler: status 0x1,")
+    told("a move that stops at pages", traced("--fault", 2, "--", client("odd"), "partial"), 0,
+         "right, more than one part: 1")
+    told("a move that does not stop", traced("--", client("odd"), "partial"), 0, "right, more than one part: 0")
+    told("a queue that says retry", traced("--retry", 3, "--", client("odd"), "retried"), 0, "retries from 20 to 80: 1")
+    told("a queue that does not", traced("--", client("odd"), "retried"), 0, "retries from 20 to 80: 0")
+
+
+def queues():
+    """Queues of a size and a mode, what is written to their files, and what the driver refuses of maps."""
+    for how in ([], ["--no-namespace"], ["--order", "fifo"]):
+        told(f"writing to a queue's file {how}", traced(*how, "--", client("odd"), "written"), 0,
+             "written 64 64, moved 5 5, unreadable -1 1")
+    told("a full queue", traced("--", client("odd"), "full"), 0, "all kept 0, 16 at least 1, retried 1",
+         "wq0.0 is full (16 in flight): MOVDIR64B is lost")
+    words = ["--queue", "dedicated,40,a", "--queue", "shared,40,b"]
+    told("a larger queue", traced(*words, "--", client("odd"), "full"), 0, "all kept 1, 16 at least 1, retried 0")
+    told("the driver's maps", traced("--", client("odd"), "maps"), 128 + signal.SIGSEGV, "refused 1 1, two 1",
+         "the second: status 0x1,")
+    files = ["/sys/bus/dsa/devices/wq0.0/mode", "/sys/bus/dsa/devices/wq0.0/size", "/sys/bus/dsa/devices/wq0.0/name"]
+    told("the files of a queue", traced("--queue", "shared,8,mine", "--", "cat", *files), 0, "shared\n8\nmine\n")
+    told("another mode", traced("--queue", "shared,8,mine", "--", client("ordered"), "fenced"), 0,
+         "a device does not take it")
+
+
+# The statuses are those of linux/idxd.h; 0x84 is 4 with the bit of a write. Two pages are there, and the next is missing.
+REFUSED = {
+    "pages": ["write, blocking: status 0x84, 0 bytes, at 0x2000", "write: status 0x83, 0 bytes, at 0x2000",
+              "read: status 0x3, 0 bytes, at 0x2000"],
+    "lists": ["missing list: status 0x6, 0 bytes, at 0x2000", "odd list: status 0x18,", "one member: status 0x14,",
+              "too many members: status 0x14,"],
+    "record": ["no multiple of 32", "the next: status 0x1,", "moved 0, record 0"],
+    "refused": ["reserved flag: status 0x11,", "invalid flags 0x40\n", "check result of a move: status 0x11,",
+                "operation 0xa: status 0x10,", "no bytes: status 0x13,", "reserved byte: status 0x12,",
+                "reserved bits: status 0x12,", "dualcast bits: status 0x17,", "dualcast overlap: status 0x16,",
+                "delta of 12 bytes: status 0x13,", "delta record of 11 bytes: status 0x15,"],
+}
+
+
+def refused():
+    """Pages that are missing, lists that can't be read, records at odd places, and descriptors that no device takes."""
+    for (case, lines), order in itertools.product(REFUSED.items(), ("fifo", "data")):
+        told(f"{case} in the order {order}", traced("--order", order, "--", client("odd"), case), 0, *lines)
+
+
+def died():
+    """Programs that fault at the instruction, have children, are replaced, or are killed."""
+    told("a descriptor that can't be read", traced("--", client("odd"), "unreadable"), 42, "can't be read",
+         "signal 11 at 0x2000")
+    told("a child of fork", traced("--", client("odd"), "child"), 0, "ends by signal 11", "in the parent: status 0x1")
+    with tempfile.TemporaryDirectory(dir=WORK) as folder:
+        told("a program that is replaced", traced("--out", folder, "--", client("odd"), "replaced"), 0,
+             "before: status 0x1")
+        sizes = sorted(path.stat().st_size // 64 for path in Path(folder, "seed-1").glob("*.dsa"))
+        expect(sizes == [1, 10], f"the two programs of a process are recorded with {sizes} entries")
+    told("a program that is killed", traced("--", client("odd"), "killed", 3), 128 + signal.SIGKILL)
+
+
+# ---- recordings
+
+
+def recorded(*words, status=0, options=()):
+    """The bytes of the recordings, the events, and the lines of the index."""
+    with tempfile.TemporaryDirectory(dir=WORK) as folder:
+        end = traced("--out", folder, *options, "--", *words)
+        expect(end.returncode == status, f"{words}: status {end.returncode}, not {status}: {end.stderr[-500:]}")
+        run = Path(folder, "seed-1")
+        parts = sorted(run.glob("*.dsa"), key=lambda path: (len(path.name), path.name))
+        lines = [path.read_text() for path in run.glob("*.events")]
+        index = (run / "processes.txt").read_text().splitlines()
+        return [path.read_bytes() for path in parts], "".join(lines).splitlines(), index
+
+
+def recordings():
+    """What is recorded is what was submitted, with its reserved bits, also of a process that is killed or leaves early. A
+    recording of more than 65,536 entries is in parts, each of whole submissions."""
+    # word 0 has the reserved bits, word 1 the flags 0x0c of a no-op, and the source the number of the submission
+    for how, status in (("killed", 128 + signal.SIGKILL), ("left", 0)):
+        parts, lines, index = recorded(client("odd"), how, 5000, status=status)
+        entries = b"".join(parts)
+        heads = {entries[at : at + 8] for at in range(0, len(entries), 64)}
+        numbers = [int.from_bytes(entries[at + 16 : at + 24], "little") for at in range(0, len(entries), 64)]
+        expect(heads == {(0x2AA << 20).to_bytes(4, "little") + bytes([0x0C, 0, 0, 0])},
+               f"{how}: the entries begin with {heads}")
+        expect(numbers == list(range(5000)), f"{how}: {len(numbers)} submissions are recorded")
+        starts = [line for line in lines if line[0] == "S"]
+        ends = [line for line in lines if line[0] == "C"]
+        expect(len(starts) == len(ends) == 5000, f"{how}: {len(starts)} submissions and {len(ends)} completions have events")
+        expect(len(index) == 1 and index[0].split("\t")[3] == "odd", f"{how}: the index has {index}")
+    with tempfile.TemporaryDirectory(dir=WORK) as folder:
+        end = traced("--out", folder, "--order", "fifo", "--", client("odd"), "closed", 5000)
+        told("a program that closes all files", end, 0, "my file has 32 bytes")
+        [size] = [path.stat().st_size for path in Path(folder, "seed-1").glob("*.dsa")]
+        expect(size == 64 * 10000, f"of a program that closes all files {size / 64} entries are recorded")
+    parts, lines, _ = recorded(client("odd"), "large", 70)
+    expect([len(part) // 64 for part in parts] == [65 * 1001, 5 * 1001],
+           f"the parts have {[len(it) / 64 for it in parts]} entries")
+    places = [(part, at) for part in parts for at in range(0, len(part), 64 * 1001)]
+    counts = [int.from_bytes(part[at + 32 : at + 36], "little") for part, at in places]
+    expect(counts == [1000] * 70, "a part does not begin with a batch")
+    _, _, index = recorded(client("threads"))
+    expect(len(index) == 2 and index[0].split("\t")[1] == index[1].split("\t")[2],
+           f"the index of a parent and a child: {index}")
+
+
+def full_disk():
+    """On a full disk the program goes on, and one sentence says that its recording ends."""
+    if os.getuid() != 0 or ran("unshare", "-m", "true").returncode:
+        skip("a full disk, which needs the right to mount one")
+        return
+    command = f"mount -t tmpfs -o size=400k none {WORK}/small && exec {WORK}/gcc/dsa_trace --out {WORK}/small"
+    command += f" -- {client('odd')} large 20"
+    Path(WORK, "small").mkdir()
+    end = ran("unshare", "-m", "sh", "-c", command)
+    told("a full disk", end, 0, "No space left on device", "not recorded")
+    expect(end.stdout.count("batch: status 0x1") == 20, f"on a full disk the program prints {end.stdout}")
+    expect(end.stderr.count("No space") == 1, f"on a full disk it is said again: {end.stderr}")
+
+
+def waits():
+    """--audit names submissions that conflict with one in flight, whatever dsa_text says: here /bin/true says nothing."""
+    known = os.environ | {"DSA_TEXT": "/bin/true"}
+    end = traced("--audit", "--", client("ordered"), "wait", env=known)
+    wanted = "submission 1: error: missing wait, read after write: reads what submission 0, in flight, writes, at 0x"
+    told("a missing wait", end, 1, wanted)
+    expect(end.stdout.count("error") == 1, f"of one missing wait is said {end.stdout}")
+    for mode in ("fence", "fenced", "waited", "member", "drain", "polled", "after"):
+        for order in ("data", "all"):
+            end = traced("--audit", "--order", order, "--", client("ordered"), mode, env=known)
+            expect("error" not in end.stdout, f"{mode} in the order {order}: {end.stdout}")
+    told("threads", traced("--audit", "--", client("threads"), env=known), 0)
+    told("a sleep after a move without a record", traced("--audit", "--", client("ordered"), "blind", env=known), 1,
+         "missing wait")
+    is_watched = watches()
+    for held in (5, 100) if is_watched else ():
+        end = traced("--audit", "--watch", held, "--", client("ordered"), "sleep", env=known)
+        told(f"a sleep is no wait, held for {held} ms", end, 1, "missing wait")
+    told("nothing submitted", traced("--audit", "--", "/bin/true", env=known), 0, "nothing was submitted")
+    told("an audit that fails", traced("--audit", "--", client("ordered"), "waited", env={"DSA_TEXT": "/bin/false"}), 1)
+    told("no such program", traced("--audit", "--", "/bin/true", env={"DSA_TEXT": "/nowhere"}), 125,
+         "DSA_TEXT names /nowhere")
+    told("--audit without dsa_text", traced("--audit", "--", "/bin/true", env={"PATH": "/nowhere"}), 125,
+         "needs the program dsa_text")
+
+
+def audited():
+    """--audit names the missing fence or wait, with status 1, and nothing else of a right program."""
+    text = os.environ.get("DSA_TEXT") or ROOT / "crates/dsa_text/out/dsa_text"
+    if not Path(text).exists():
+        skip("audits: crates/dsa_text is not built")
+        return
+    known = os.environ | {"DSA_TEXT": str(text)}
+    told("a missing fence", traced("--audit", "--", client("ordered"), "fence", env=known), 1,
+         "missing fence, read after write")
+    told("a missing wait", traced("--audit", "--", client("ordered"), "wait", env=known), 1,
+         "missing wait, read after write",
+         "submission 1 reads what submission 0", "0 missing")
+    for mode in ("fenced", "waited", "member", "drain", "polled"):
+        end = traced("--audit", "--", client("ordered"), mode, env=known)
+        told(mode, end, 0, " 0 missing")
+        expect("missing wait" not in end.stdout, f"{mode}: {end.stdout}")
+    end = traced("--audit", "--seeds", 60, "--", client("ordered"), "fence", env=known)
+    told("an audit of many seeds", end, 1, "the same again", "missing fence")
+
+
+def watches():
+    """Whether the kernel gives watchpoints."""
+    with tempfile.TemporaryDirectory(dir=WORK) as folder:
+        end = traced("--watch", 100, "--out", folder, "--", client("ordered"), "sleep")
+        if "gives no watchpoints" in end.stderr:
+            skip("watchpoints, which the kernel does not give")
+            return False
+        return True
+
+
+# ---- the launcher
+
+
+def statuses():
+    """The statuses of programs, and those of env for what can't be run, with sentences."""
+    told("the program's status", traced("--", client("odd"), "status", 7), 7)
+    told("a program that is not there", traced("--", "/nowhere/at_all"), 127, "/nowhere/at_all")
+    told("a name that is not found", traced("--", "no_such_program_at_all"), 127, "is not found")
+    told("a folder", traced("--", "/tmp"), 126, "/tmp")
+    Path(WORK, "plain").write_text("no program")
+    told("a file that may not be run", traced("--", f"{WORK}/plain"), 126, "may not be run")
+    Path(WORK, "empty.c").write_text("int main(void) { return 0; }\n")
+    if ran("gcc", "-static", "-o", f"{WORK}/static", f"{WORK}/empty.c").returncode == 0:
+        told("a static program", traced("--", f"{WORK}/static"), 126, "is a static program")
+        Path(WORK, "script").write_text(f"#!{WORK}/static\n")
+        Path(WORK, "script").chmod(0o755)
+        told("a script of one", traced("--", f"{WORK}/script"), 126, "is a static program")
+    else:
+        skip("static programs, which gcc does not build here")
+    if os.getuid() == 0:
+        shutil.copy("/bin/true", f"{WORK}/set_uid")
+        os.chown(f"{WORK}/set_uid", 65534, 65534)
+        os.chmod(f"{WORK}/set_uid", 0o4755)
+        told("a set-uid program", traced("--", f"{WORK}/set_uid"), 126, "runs with other rights")
+    else:
+        skip("set-uid programs, which need root to make")
+
+
+def options():
+    """Help, wrong options, and the page and the completion, which name each option."""
+    end = traced("--help")
+    told("--help", end, 0, "Usage: dsa_trace [OPTIONS] [--] PROGRAM", "Examples:")
+    for words, why in ((["--nonsense"], "no such option"), ([], "the program to run is missing"),
+                       (["--seed"], "whole number"),
+                       (["--seed", "x"], "whole number"), (["--order", "x"], "fifo, members, data or all"),
+                       (["--seeds", "0"], "at least one run"), (["--queue", "dedicated,0,x"], "a size from 1 to 128")):
+        told(f"the options {words}", traced(*words, *(["--", "true"] if words else [])), 125, why)
+    told("a value after =", traced("--seed=7", "--order=all", "true"), 0)
+    names = re.findall(r"^ +(?:-h, )?(--[a-z-]+)", end.stdout, re.M)
+    expect(len(names) == 14, f"--help names {names}")
+    page = Path("bindings/package/dsa_trace.1").read_text().replace("\\-", "-")
+    completion = Path("bindings/package/dsa_trace.bash").read_text()
+    missing = [name for name in names if name not in page or name not in completion]
+    expect(not missing, f"the manual page or the completion does not name {missing}")
+    if shutil.which("man"):
+        end = ran("man", "--warnings", "-l", "bindings/package/dsa_trace.1",
+                  env=os.environ | {"MANWIDTH": "120", "LC_ALL": "C.UTF-8"})
+        expect(end.returncode == 0 and not end.stderr, f"man dsa_trace.1: {end.stderr[:500]}")
+
+
+SYSFS = """
+echo dsa0 > /sys/bus/dsa/drivers/idxd/unbind
+cat /sys/bus/dsa/devices/dsa0/state /sys/bus/dsa/devices/wq0.0/state
+echo dsa0 > /sys/bus/dsa/drivers/idxd/bind
+echo wq0.1 > /sys/bus/dsa/drivers/user/bind
+cat /sys/bus/dsa/devices/dsa0/state /sys/bus/dsa/devices/wq0.0/state /sys/bus/dsa/devices/wq0.1/state
+ls -d /dev/dsa/* /sys/module/idxd
+echo wq0.1 > /sys/bus/dsa/drivers/user/unbind
+ls /dev/dsa | wc -l
+"""
+
+
+def files():
+    """What is written to the driver's files changes the states, by a shell's own output too. Other files are as before."""
+    wanted = "disabled disabled enabled disabled enabled"
+    other = "ls /sys/bus/pci/devices /sys/bus /dev /sys/module | grep -v -e dsa -e idxd | md5sum"
+    for how in (["--"], ["--no-namespace", "--"]):
+        end = traced(*how, "bash", "-c", SYSFS)
+        expect(" ".join(end.stdout.split()[:5]) == wanted, f"the states with {how}: {end.stdout} {end.stderr}")
+        right = "/dev/dsa/wq0.1\n/sys/module/idxd\n0\n"
+        expect(end.stdout.endswith(right), f"the device's files with {how}: {end.stdout} {end.stderr}")
+        seen = traced(*how, "sh", "-c", other).stdout
+        expect(seen == ran("sh", "-c", other).stdout, f"with {how} the program sees other files than we")
+    if shutil.which("setpriv") and os.getuid() == 0:
+        bare = ["setpriv", "--bounding-set=-all", "--inh-caps=-all"]
+        end = ran(*bare, f"{WORK}/gcc/dsa_trace", "--", client("operations"))
+        told("no right to a namespace", end, 0, "no namespace of mounts")
+        end = ran("unshare", "-m", "sh", "-c", f"umount -l /proc && exec {WORK}/gcc/dsa_trace true")
+        told("no /proc", end, 125, "dsa_trace: /proc, by which")
+        alone = ["setpriv", "--reuid=65534", "--regid=65534", "--clear-groups"]
+        os.chmod(WORK, 0o755)
+        told("another user than root", ran(*alone, f"{WORK}/gcc/dsa_trace", "--", client("operations")), 0)
+    else:
+        skip("users without rights, which need setpriv and root")
+
+
+def killed():
+    """Killed, it leaves nothing mounted, no file of its device, and no program."""
+    def mounts():
+        return Path("/proc/self/mountinfo").read_text().count("dsa_trace")
+
+    before, devices = mounts(), set(os.listdir("/dev"))
+    with tempfile.TemporaryDirectory(dir=WORK) as folder:
+        quiet = dict.fromkeys(("stdin", "stdout", "stderr"), subprocess.DEVNULL)
+        how = quiet | {"env": os.environ | {"TMPDIR": folder}}
+        child = subprocess.Popen([f"{WORK}/gcc/dsa_trace", "--", client("odd"), "hang"], **how)
+        program = None
+        for _ in range(200):
+            time.sleep(0.02)
+            found = Path(f"/proc/{child.pid}/task/{child.pid}/children").read_text().split()
+            if found and Path(f"/proc/{found[0]}/comm").read_text() == "odd\n":
+                program = found[0]
+                break
+        expect(program and mounts() == before, "the program's mounts are seen outside, or it does not start")
+        child.kill()
+        child.wait()
+        for _ in range(200):
+            if not program or not Path(f"/proc/{program}").exists():
+                break
+            time.sleep(0.02)
+        survives = program and Path(f"/proc/{program}").exists()
+        expect(not survives, "the program outlives dsa_trace")
+        if survives:
+            os.kill(int(program), signal.SIGKILL)
+    expect(mounts() == before and set(os.listdir("/dev")) == devices, "something is left in /dev, or mounted")
+    expect(not Path("/sys/bus/dsa").exists() or Path("/sys/bus/dsa/devices/dsa0/cdev_major").exists(),
+           "the device's files are left")
+    with tempfile.TemporaryDirectory(dir=WORK) as folder:
+        traced("--", client("operations"), env=os.environ | {"TMPDIR": folder})
+        told("no folder for recordings", traced("--out", "/proc/x", "true", env=os.environ | {"TMPDIR": folder}), 125,
+             "/proc/x")
+        expect(not os.listdir(folder), f"a run leaves {os.listdir(folder)}")
+
+
+# ---- the decoder, beside the assembler
+
+WIDE = "rax rcx rdx rbx rsp rbp rsi rdi r8 r9 r10 r11 r12 r13 r14 r15".split()
+NARROW = "eax ecx edx ebx esp ebp esi edi r8d r9d r10d r11d r12d r13d r14d r15d".split()
+PLACE = 0x7F0012345000
+KINDS = {"movdir64b": 1, "enqcmd": 2}
+
+
+def value(register, is_narrow):
+    whole = 0x1111111111111111 * (register + 1) % 2**64
+    return whole % 2**32 if is_narrow else whole
+
+
+def forms():
+    """Each form of address: its text for the assembler, and its address, with which the registers are as in decode.c."""
+    for is_narrow in (False, True):
+        names, size = (NARROW, 32) if is_narrow else (WIDE, 64)
+        for base, index in itertools.product([None, *range(16)], [None, *(k for k in range(16) if k != 4)]):
+            for scale, offset in itertools.product((1, 2, 4, 8) if index is not None else (1,),
+                                                   (0, 0x7F, -0x80, 0x12345678)):
+                inside = names[base] if base is not None else ""
+                text = f"%{inside}" if inside else ""
+                text += f",%{names[index]},{scale}" if index is not None else ""
+                if not text:
+                    continue
+                address = offset + (value(base, is_narrow) if base is not None else 0)
+                address += value(index, is_narrow) * scale if index is not None else 0
+                yield f"{offset}({text})", address % 2**size, is_narrow, 0
+        prefix, address = "%fs:" if is_narrow else "", (0x1000 + value(3, is_narrow)) % 2**size
+        yield f"{prefix}0x1000(%{names[3]})", address, is_narrow, int(is_narrow)
+    for segment, number in (("fs", 1), ("gs", 2)):
+        yield f"%{segment}:0x40", 0x40, False, number
+        yield f"%{segment}:8(%r13,%r14,2)", (8 + value(13, False) + 2 * value(14, False)) % 2**64, False, number
+
+
+def assembled(lines):
+    """The bytes of instructions, each at a multiple of 16, and the length of each."""
+    text = "".join(f".p2align 4,0x90\n1: {line}\n2: .pushsection .data\n.byte 2b-1b\n.popsection\n" for line in lines)
+    Path(WORK, "forms.s").write_text(text + ".p2align 4,0x90\n")
+    told("the assembler", ran("as", "-o", f"{WORK}/forms.o", f"{WORK}/forms.s"), 0)
+    for part in ("text", "data"):
+        ran("objcopy", "-O", "binary", "-j", f".{part}", f"{WORK}/forms.o", f"{WORK}/forms.{part}")
+    return Path(WORK, "forms.data").read_bytes()
+
+
+def decoded(lines):
+    """What the decoder says of each instruction, with the lengths that the assembler gives."""
+    lengths = assembled(lines)
+    end = ran(f"{WORK}/decode", f"{WORK}/forms.text", hex(PLACE))
+    return lengths, end.stdout.splitlines()
+
+
+def decoder():
+    """Each form of address with each register, of both instructions, as the assembler writes it; the others; and bytes that
+    are none of them."""
+    sources = ["tests/trace/decode.c", "trace/decode.c"]
+    told("the build of the decoder", ran("gcc", *STRICT, "-I", "trace", "-o", f"{WORK}/decode", *sources), 0)
+    if not shutil.which("as") or not shutil.which("objcopy"):
+        skip("the decoder beside the assembler, which is not there")
+        return
+    lines, wanted = [], []
+    for (name, kind), (number, form) in itertools.product(KINDS.items(), enumerate(forms())):
+        text, address, is_narrow, segment = form
+        register = number % 16
+        lines.append(f"{name} {text}, %{(NARROW if is_narrow else WIDE)[register]}")
+        wanted.append((kind, register, address, segment, int(is_narrow)))
+    for name, kind in KINDS.items():
+        lines.append(f"{name} 0x1234(%rip), %r9")
+        wanted.append((kind, 9, None, 0, 0))
+    lengths, got = decoded(lines)
+    faults = []
+    for place, (line, (kind, register, address, segment, is_narrow), length,
+                found) in enumerate(zip(lines, wanted, lengths, got)):
+        if address is None:
+            address = PLACE + 16 * place + length + 0x1234
+        shown = f"{address:#x}" if address else "0"
+        right = f"{kind} {length} {register} {shown} {segment} {is_narrow}"
+        if found.rsplit(" ", 1)[0] != right:
+            faults.append(f"{line}: {found}, not {right}")
+    fault = f"{len(got)} of {len(lines)} forms decoded, {len(faults)} wrong: {faults[:3]}"
+    expect(len(got) == len(lines) > 10000 and not faults, fault)
+    others = {"movdiri %rax, 8(%rbx)": "3 6 0 0x444444444444444c 0 0 1",
+              "movdiri %r9d, (%rcx)": "3 5 9 0x2222222222222222 0 0 0",
+              "umonitor %r11": "4 5 11 0 0 0 0", "umwait %ecx": "5 4 1 0 0 0 0", "tpause %r15d": "6 5 15 0 0 0 0",
+              "mfence": "none", "clwb (%rax)": "none", "enqcmds (%rax), %rbx": "none", "ud2": "none",
+              "crc32l %eax, %ebx": "none",
+              "movbe (%rax), %ebx": "none", "incsspd %eax": "none",
+              ".byte 0x66,0x66,0x66,0x66,0x66,0x66,0x66,0x66,0x66,0x66,0x66,0x66,0x66,0x66,0x66,0x66": "none"}
+    lengths, got = decoded(others)
+    for (line, right), found in zip(others.items(), got):
+        expect(found == right, f"{line} is decoded as {found}, not {right}")
+
+
+# ---- speed, and large clients
+
+
+def cost():
+    """What an instruction takes: printed, not judged, since other work may run beside it."""
+    told("the build of cost", ran("gcc", *STRICT, "-O2", "-o", client("cost"), "tests/trace/cost.c"), 0)
+    for words in (["--order", "fifo"], [], ["--out", f"{WORK}/costs"]):
+        end = traced(*words, "--", client("cost"))
+        told("cost", end, 0)
+        print(f"dsa_trace {' '.join(words)}: {end.stdout.strip()}")
+    start = time.monotonic()
+    for _ in range(10):
+        traced("--", "/bin/true")
+    print(f"a start takes {(time.monotonic() - start) * 100:.0f} ms")
+
+
+def prices():
+    """dsa_prices says that there is no device; under dsa_trace it measures the one in software, and says so."""
+    tool = f"{WORK}/gcc/dsa_prices"
+    if not Path("/dev/dsa").exists():
+        told("prices without a device", ran(tool), 1, "/dev/dsa/wq0.0: there is no such queue")
+    told("a wrong option", ran(tool, "--nonsense"), 2, "no such option")
+    told("a wrong size", ran(tool, "--greatest-batch", 1), 2, "a number from 2 to 1024")
+    for queue, greatest in (("wq0.0", 2), ("wq0.0", 23), ("wq0.1", 8)):
+        words = ["--order", "fifo", "--", tool, "--times", 30, "--greatest-batch", greatest, f"/dev/dsa/{queue}"]
+        end = traced(*words)
+        told(f"the prices of {queue}", end, 0, "prices of the emulation")
+        expect("does not take it" not in end.stderr, f"the prices of {queue} are measured with the wrong instruction")
+        found = json.loads(end.stdout or "{}")
+        names = {"version", "greatest_batch", "greatest_transfer", "lone", "batch", "fence", "staging"}
+        right = set(found) == names and found["version"] == 2 and len(found["batch"]) == greatest - 1 and found["lone"] > 0
+        expect(right and found["greatest_transfer"] == 2**31, f"the settings of {queue} are {found}")
+        program = ROOT / "crates/dsa/out/dsa"
+        if program.exists():
+            job = {"do": "plan", "list": "", "settings": found}
+            told("a plan with these prices", ran(program, input=json.dumps(job), stdin=None), 0, '"cost":0')
+        end = traced(*words, "--options")
+        right = rf"--greatest-batch {greatest} --greatest-transfer {2**31} --lone \d+ --fence \d+ --batches "
+        right += rf"\d+(,\d+){{{greatest - 2}}}\n"
+        expect(re.fullmatch(right, end.stdout), f"the options of {queue} are {end.stdout}")
+
+
+def submit():
+    """The example bindings/c/submit.c plans with the proved library, and submits to the device."""
+    archive = ROOT / "crates/dsa_c/out/libdsa_c.a"
+    if not archive.exists():
+        skip("bindings/c/submit.c: crates/dsa_c is not built")
+        return
+    words = ["-O2", "-I", "bindings/c", "bindings/c/submit.c", "bindings/c/memory.c", archive, "-o", client("submit")]
+    told("the build of submit.c", ran("gcc", *STRICT, *words), 0)
+    for queue, kind in (("wq0.0", "dedicated"), ("wq0.1", "shared")):
+        for seed in range(1, 21):
+            told(f"submit to {queue}", traced("--seed", seed, "--", client("submit"), f"/dev/dsa/{queue}", kind), 0,
+                 "copied")
+
+
+def sanitized():
+    """valgrind and AddressSanitizer name what the device writes to memory that is freed."""
+    if not shutil.which("valgrind"):
+        skip("there is no valgrind")
+        return
+    told("the build of freed", ran("gcc", *STRICT, "-g", "-o", client("freed"), "tests/trace/freed.c"), 0)
+    for order in ("fifo", "data"):
+        end = traced("--order", order, "--", "valgrind", "-q", "--error-exitcode=9", client("freed"))
+        told(f"freed memory under valgrind in the order {order}", end, 9, "Invalid write", "free'd")
+    words = ["-g", "-fsanitize=address", "-o", client("freed_asan"), "tests/trace/freed.c"]
+    if ran("gcc", *STRICT, *words).returncode:
+        skip("AddressSanitizer, which gcc does not have here")
+        return
+    library = ran("gcc", "-print-file-name=libasan.so").stdout.strip()
+    end = traced("--", client("freed_asan"), env=os.environ | {"LD_PRELOAD": library})
+    told("freed memory with AddressSanitizer", end, 1, "heap-use-after-free", "WRITE of size 64")
+
+
+def undefined():
+    """The library with the sanitizer of undefined behaviour, and the launcher with that of addresses too, find nothing."""
+    folder = f"{WORK}/undefined"
+    flags = ["-O1 -g -Wno-error -fsanitize=undefined -static-libubsan",
+             "-O1 -g -Wno-error -fsanitize=address,undefined"]
+    for target, words in (("libdsa_trace.so", flags[0]), ("dsa_trace", flags[1])):
+        end = ran("make", "-C", ROOT / "trace", "CC=gcc", f"OUT={folder}", f"CFLAGS={words}", f"{folder}/{target}")
+        if end.returncode:
+            skip(f"sanitizers, with which gcc does not build here: {end.stderr[-300:]}")
+            return
+    known = os.environ | {"DSA_TEXT": "/bin/true"}
+    runs = [["operations"], ["threads"], ["odd", "large", "70"], ["odd", "killed", "50"], ["ordered", "wait"],
+            ["ordered", "after"]]
+    for words in [*runs, *(["odd", case] for case in [*REFUSED, "child", "unreadable", "written", "full", "maps"])]:
+        for how in ([], ["--order", "fifo"], ["--watch", "5", "--fault", "2", "--no-namespace"]):
+            end = ran(f"{folder}/dsa_trace", "--audit", *how, "--", client(words[0]), *words[1:], env=known)
+            said = [line for line in end.stderr.splitlines() if "runtime error" in line or "Sanitizer" in line]
+            expect(not said, f"{words} {how}: {said[:3]}")
+
+
+def runner():
+    """Intel's script, which configures the device by accel-config and runs dsa_test some hundred times: sizes and
+    operations, alone and in batches, on both queues. Loading the module is left out: the device is there, and off."""
+    script = Path("/usr/libexec/accel-config/test/dsa_user_test_runner.sh")
+    if not script.exists() or not shutil.which("accel-config"):
+        skip("dsa_user_test_runner.sh: there is no package accel-config or accel-config-test")
+        return
+    stubs = Path(WORK, "stubs")
+    stubs.mkdir()
+    for name, does in (("modprobe", "accel-config disable-device dsa0 > /dev/null 2>&1"), ("rmmod", ":"), ("lsmod", ":")):
+        (stubs / name).write_text(f"#!/bin/sh\n{does}\nexit 0\n")
+        (stubs / name).chmod(0o755)
+    known = os.environ | {"PATH": f"{stubs}:{os.environ['PATH']}", "DSA_TEXT": "/bin/true"}
+    end = traced("--audit", "--out", f"{WORK}/runner", "--", script, env=known, timeout=600)
+    told("dsa_user_test_runner.sh", end, 0)
+    expect("missing wait" not in end.stdout, f"dsa_test lacks a wait: {end.stdout[-500:]}")
+    index = Path(WORK, "runner/seed-1/processes.txt").read_text().splitlines()
+    expect(len(index) >= 400, f"the script ran {len(index)} programs that submit")
+
+
+def large():
+    """The programs of Intel and of DPDK that test the device and its drivers, where their packages are."""
+    runner()
+    if not shutil.which("dpdk-test"):
+        skip("dmadev_autotest: there is no package dpdk-dev")
+        return
+    words = ["dpdk-test", "--no-huge", "-m", "512", "--no-pci", "-l", "0", "dmadev_autotest"]
+    told("dmadev_autotest", traced("--", *words), 0, "Test OK")
+
+
+PARTS = [built, decoder, ordered, orders, repeated, seeds, operations, queues, refused, died, recordings, full_disk,
+         waits, audited, statuses]
+PARTS += [options, files, killed, prices, submit, sanitized, undefined, cost, large]
+
+
+def main(words):
+    global WORK
+    parts = named(PARTS, words)
+    if not shutil.which("gcc") or not shutil.which("make"):
+        print("skipped, there is no gcc or no make")
+        sys.exit(0)
+    with tempfile.TemporaryDirectory() as WORK:
+        told("the build", ran("make", "-C", ROOT / "trace", "CC=gcc", f"OUT={WORK}/gcc"), 0)
+        for name in CLIENTS:
+            words = ["-O1", "-o", client(name), f"tests/trace/{name}.c", "-lpthread"]
+            told(f"the build of {name}", ran("gcc", *STRICT, *words), 0)
+        for part in parts if common.failed == 0 else []:
+            part()
+
+
+if __name__ == "__main__":
+    run_test(main)

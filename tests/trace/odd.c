@@ -1,0 +1,310 @@
+/* What goes wrong, one case for each word; most print what they see, for tests/trace.py to compare. */
+#include <errno.h>
+#include <signal.h>
+#include <sys/wait.h>
+
+#include "client.h"
+
+static void *portal;
+static volatile completion *r;
+static uint8_t *memory; /* three pages, of which the last can't be touched */
+
+enum { PAGE = 4096 };
+
+static void show(const char *what)
+{
+    printf("%s: status %#x, %u bytes, at %#llx\n", what, r->status, r->bytes_completed,
+           (unsigned long long)(r->fault_addr ? r->fault_addr - (uintptr_t)memory : 0));
+}
+
+static void done(descriptor d, const char *what)
+{
+    memset((void *)r, 0, sizeof *r);
+    d.completion_addr = (uintptr_t)r;
+    submit(portal, &d);
+    await(r);
+    show(what);
+}
+
+/* Moves from and to a page that is missing, with and without block-on-fault. */
+static void missing_pages(void)
+{
+    descriptor d = move(memory, memory + PAGE, 2 * PAGE, r);
+    done(d, "write, blocking");
+    d.flags &= ~IDXD_OP_FLAG_BOF;
+    done(d, "write");
+    d = move(memory + PAGE, memory, 2 * PAGE, r);
+    d.flags &= ~IDXD_OP_FLAG_BOF;
+    done(d, "read");
+}
+
+/* Batches whose list is not there, begins at an odd place, or has too few or too many members. */
+static void lists(void)
+{
+    const descriptor *list = (const descriptor *)memory;
+    done(batch((const descriptor *)(memory + 2 * PAGE), 2, r), "missing list");
+    done(batch((const descriptor *)(memory + 32), 2, r), "odd list");
+    done(batch(list, 1, r), "one member");
+    done(batch(list, 1025, r), "too many members");
+}
+
+/* The device does nothing, and has no place to say so. */
+static void odd_record(void)
+{
+    descriptor d = move(memory, memory + PAGE, 64, r);
+    memset(memory, 1, PAGE);
+    d.completion_addr = (uintptr_t)r + 8;
+    submit(portal, &d);
+    done(move(memory, memory + 128, 8, r), "the next");
+    printf("moved %d, record %d\n", memory[PAGE], ((uint8_t *)r)[8]);
+}
+
+/* Descriptors that the device refuses. */
+static void refused(void)
+{
+    descriptor d = move(memory, memory + PAGE, 64, r);
+    d.flags |= 0x40;
+    done(d, "reserved flag");
+    printf("invalid flags %#x\n", r->invalid_flags);
+    d = move(memory, memory + PAGE, 64, r);
+    d.flags |= IDXD_OP_FLAG_CR;
+    done(d, "check result of a move");
+    d = move(memory, memory + PAGE, 64, r);
+    d.opcode = 0x0a;
+    done(d, "operation 0xa");
+    d = move(memory, memory + PAGE, 0, r);
+    done(d, "no bytes");
+    d = move(memory, memory + PAGE, 64, r);
+    d.op_specific[23] = 1;
+    done(d, "reserved byte");
+    d = move(memory, memory + PAGE, 64, r);
+    d.rsvd = 5;
+    done(d, "reserved bits");
+    d = move(memory, memory + 1024, 64, r);
+    d.opcode = DSA_OPCODE_DUALCAST;
+    d.dest2 = (uintptr_t)memory + PAGE + 1032;
+    done(d, "dualcast bits");
+    d.dest2 = d.dst_addr;
+    done(d, "dualcast overlap");
+    d = move(memory, memory + PAGE, 12, r);
+    d.opcode = DSA_OPCODE_AP_DELTA;
+    d.delta_rec_size = 10;
+    done(d, "delta of 12 bytes");
+    d.xfer_size = 16;
+    d.delta_rec_size = 11;
+    done(d, "delta record of 11 bytes");
+}
+
+static void caught(int number, siginfo_t *info, void *context)
+{
+    (void)context;
+    printf("signal %d at %#llx\n", number, (unsigned long long)((uintptr_t)info->si_addr - (uintptr_t)memory));
+    fflush(stdout);
+    _exit(42);
+}
+
+/* A descriptor that can't be read is a fault of the program, which its own handler sees. */
+static void unreadable(void)
+{
+    struct sigaction a = {.sa_sigaction = caught, .sa_flags = SA_SIGINFO};
+    sigfillset(&a.sa_mask);
+    sigaction(SIGSEGV, &a, NULL);
+    submit(portal, (const descriptor *)(memory + 2 * PAGE));
+}
+
+/* The handler of another signal submits, with all signals blocked. */
+static void in_handler(int number)
+{
+    (void)number;
+    done(move(memory, memory + PAGE, 64, r), "in a handler");
+}
+
+/* A child of fork has no portal, as with the driver's mapping. */
+static void child(void)
+{
+    int status;
+    const pid_t pid = fork();
+    if (pid == 0) {
+        done(move(memory, memory + PAGE, 64, r), "in the child");
+        _exit(0);
+    }
+    waitpid(pid, &status, 0);
+    printf("the child ends by signal %d\n", WIFSIGNALED(status) ? WTERMSIG(status) : 0);
+    done(move(memory, memory + PAGE, 64, r), "in the parent");
+}
+
+/* Another program in the same process, which submits too. */
+static void replaced(char **argv)
+{
+    done(move(memory, memory + PAGE, 64, r), "before");
+    fflush(stdout);
+    execl("/proc/self/exe", argv[0], "refused", (char *)NULL);
+}
+
+/* Submits many no-ops of reserved bits, and leaves without running what is to run at the end. */
+static void many(int count, const char *how)
+{
+    for (int i = 0; i < count; i++) {
+        const descriptor d = {.rsvd = 0x2aa, .flags = ASKS, .completion_addr = (uintptr_t)r, .src_addr = i};
+        memset((void *)r, 0, sizeof *r);
+        submit(portal, &d);
+        await(r);
+    }
+    if (strcmp(how, "killed") == 0)
+        kill(getpid(), SIGKILL);
+    _exit(0);
+}
+
+/* Closes all files, and opens its own with their numbers, which nobody else may write to or cut. */
+static void closed(int count)
+{
+    char path[] = "/tmp/trace_closed.XXXXXX";
+    for (int i = 0; i < 2; i++) {
+        if (i == 1)
+            close_range(3, ~0u, 0);
+        for (int k = 0; k < (i ? 8 : 0); k++)
+            (void)!write(k ? dup(3) : mkstemp(path), "mine", 4);
+        for (int k = 0; k < count; k++) {
+            memset((void *)r, 0, sizeof *r);
+            submit(portal, &(descriptor){.flags = ASKS, .completion_addr = (uintptr_t)r});
+            await(r);
+        }
+    }
+    printf("my file has %ld bytes\n", (long)lseek(3, 0, SEEK_END));
+    unlink(path);
+}
+
+/* Batches of 1,000 no-ops. */
+static void large(int count)
+{
+    descriptor *list = fresh(1000 * sizeof *list);
+    for (int i = 0; i < 1000; i++)
+        list[i].src_addr = i;
+    for (int i = 0; i < count; i++)
+        done(batch(list, 1000, r), "batch");
+}
+
+/* A move in parts, each of which may stop at a page. */
+static void partial(void)
+{
+    enum { SIZE = 64 * PAGE };
+    uint8_t *from = fresh(SIZE), *to = fresh(SIZE);
+    unsigned stops = 0;
+    for (int i = 0; i < SIZE; i++)
+        from[i] = i / 13;
+    for (uint32_t at = 0; at < SIZE; stops++) {
+        descriptor d = move(from + at, to + at, SIZE - at, r);
+        d.flags &= ~IDXD_OP_FLAG_BOF;
+        memset((void *)r, 0, sizeof *r);
+        submit(portal, &d);
+        at = await(r) == DSA_COMP_PAGE_FAULT_NOBOF ? at + r->bytes_completed : SIZE;
+    }
+    printf("%s, more than one part: %d\n", memcmp(from, to, SIZE) ? "wrong" : "right", stops > 1);
+}
+
+/* Submits by writing to the queue's file, two at once, and one of which not all can be read. */
+static void written(void)
+{
+    const int file = open("/dev/dsa/wq0.1", O_RDWR);
+    descriptor *two = fresh(PAGE);
+    memset(memory, 5, 64);
+    two[0] = move(memory, memory + PAGE, 64, r);
+    two[1] = move(memory + PAGE, memory + 128, 64, r + 1);
+    two[1].flags |= IDXD_OP_FLAG_BOF;
+    printf("written %zd", write(file, two, sizeof *two));
+    await(r);
+    printf(" %zd", write(file, two + 1, sizeof *two));
+    await(r + 1);
+    printf(", moved %d %d", memory[PAGE], memory[128]);
+    errno = 0;
+    const ssize_t unreadable = write(file, memory + 2 * PAGE, 128);
+    printf(", unreadable %zd %d\n", unreadable, errno == EFAULT);
+}
+
+/* More at once than the queue takes: MOVDIR64B is lost, ENQCMD says so. */
+static void full(void)
+{
+    enum { MANY = 40 };
+    void *shared = portal_of("/dev/dsa/wq0.1");
+    int kept = 0, retries = 0;
+    for (int i = 0; i < MANY; i++)
+        submit(portal, &(descriptor){.flags = ASKS, .completion_addr = (uintptr_t)(r + i)});
+    usleep(100000);
+    for (int i = 0; i < MANY; i++)
+        kept += r[i].status == DSA_COMP_SUCCESS;
+    memset((void *)r, 0, sizeof *r * MANY);
+    for (int i = 0; i < MANY; i++)
+        while (enqueue(shared, &(descriptor){.flags = ASKS, .completion_addr = (uintptr_t)(r + i)}))
+            retries++;
+    for (int i = 0; i < MANY; i++)
+        await(r + i);
+    printf("all kept %d, 16 at least %d, retried %d\n", kept == MANY, kept >= 16, retries > 0);
+}
+
+/* Maps that the driver refuses, and a portal that is unmapped. */
+static void maps(void)
+{
+    const int file = open("/dev/dsa/wq0.0", O_RDWR);
+    void *large = mmap(NULL, 2 * PAGE, PROT_WRITE, MAP_SHARED, file, 0);
+    void *private = mmap(NULL, PAGE, PROT_WRITE, MAP_PRIVATE, file, 0);
+    void *second = portal_of("/dev/dsa/wq0.0");
+    printf("refused %d %d, two %d\n", large == MAP_FAILED, private == MAP_FAILED, second != portal);
+    munmap(portal, PAGE);
+    portal = second;
+    done(move(memory, memory + PAGE, 64, r), "the second");
+    munmap(second, PAGE);
+    fflush(stdout);
+    done(move(memory, memory + PAGE, 64, r), "none");
+}
+
+/* How often ENQCMD says retry. */
+static void retried(void)
+{
+    void *shared = portal_of("/dev/dsa/wq0.1");
+    int retries = 0;
+    for (int i = 0; i < 100; i++) {
+        const descriptor d = {.flags = ASKS, .completion_addr = (uintptr_t)r};
+        memset((void *)r, 0, sizeof *r);
+        while (enqueue(shared, &d))
+            retries++;
+        await(r);
+    }
+    printf("retries from 20 to 80: %d\n", retries >= 20 && retries <= 80);
+}
+
+int main(int argc, char **argv)
+{
+    const char *what = argc > 1 ? argv[1] : "";
+    const int count = argc > 2 ? atoi(argv[2]) : 0;
+    portal = portal_of("/dev/dsa/wq0.0");
+    r = fresh(PAGE);
+    memory = fresh(3 * PAGE);
+    mprotect(memory + 2 * PAGE, PAGE, PROT_NONE);
+    static const struct plain { const char *name; void (*run)(void); } plain[] = {
+        {"pages", missing_pages}, {"lists", lists}, {"record", odd_record}, {"refused", refused},
+        {"unreadable", unreadable}, {"child", child}, {"partial", partial}, {"retried", retried},
+        {"written", written}, {"full", full}, {"maps", maps},
+    };
+    for (size_t i = 0; i < sizeof plain / sizeof *plain; i++)
+        if (strcmp(what, plain[i].name) == 0)
+            plain[i].run();
+    if (strcmp(what, "handler") == 0) {
+        struct sigaction a = {.sa_handler = in_handler};
+        sigfillset(&a.sa_mask);
+        sigaction(SIGUSR1, &a, NULL);
+        raise(SIGUSR1);
+    }
+    if (strcmp(what, "replaced") == 0)
+        replaced(argv);
+    if (strcmp(what, "left") == 0 || strcmp(what, "killed") == 0)
+        many(count, what);
+    if (strcmp(what, "closed") == 0)
+        closed(count);
+    if (strcmp(what, "large") == 0)
+        large(count);
+    if (strcmp(what, "status") == 0)
+        return count;
+    if (strcmp(what, "hang") == 0)
+        pause();
+    return 0;
+}

@@ -1,0 +1,223 @@
+/* The device's files: where they are, what is written to them, and which queue a file is of. */
+#include "files.h"
+
+#include <errno.h>
+#include <fcntl.h>
+#include <signal.h>
+#include <stdio.h>
+#include <stdlib.h>
+#include <string.h>
+#include <sys/stat.h>
+#include <sys/syscall.h>
+#include <unistd.h>
+
+#include "trace.h"
+
+static const char *const drivers[] = {"idxd", "user", "dmaengine"};
+
+static int open_plain(const char *path, int flags) { return syscall(SYS_openat, AT_FDCWD, path, flags | O_CLOEXEC, 0); }
+
+/// Reads a small file; answers how many bytes it has, and -1 if it can't be read.
+static ssize_t read_plain(const char *path, char *to, size_t room)
+{
+    const int fd = open_plain(path, O_RDONLY);
+    const ssize_t length = fd < 0 ? -1 : syscall(SYS_read, fd, to, room - 1);
+    if (fd >= 0)
+        syscall(SYS_close, fd);
+    to[length > 0 ? length : 0] = 0;
+    return length;
+}
+
+static void write_plain(const char *folder, const char *name, const char *text)
+{
+    char path[PATH_MAX];
+    snprintf(path, sizeof path, "%s/%s", folder, name);
+    const int fd = open_plain(path, O_WRONLY | O_TRUNC);
+    if (fd < 0)
+        return;
+    (void)!syscall(SYS_write, fd, text, strlen(text));
+    syscall(SYS_close, fd);
+}
+
+/// The path in the tree, if names are turned and this is one of the device's; else the path itself.
+const char *files_turned(const char *path, char room[PATH_MAX])
+{
+    static const char *const places[] = {"/dev/dsa", "/sys/bus/dsa", "/sys/module/idxd"};
+    if (!settings.root[0] || !path || path[0] != '/')
+        return path;
+    for (size_t i = 0; i < sizeof places / sizeof *places; i++) {
+        const size_t length = strlen(places[i]);
+        if (strncmp(path, places[i], length) == 0 && (path[length] == 0 || path[length] == '/')) {
+            snprintf(room, PATH_MAX, "%s%s", settings.root, path);
+            return room;
+        }
+    }
+    return path;
+}
+
+/// The path as the program knows it, of one that may lie in the tree.
+char *files_unturned(char *path)
+{
+    const size_t length = strlen(settings.root);
+    if (path && length && strncmp(path, settings.root, length) == 0)
+        memmove(path, path + length, strlen(path + length) + 1);
+    return path;
+}
+
+/// The file by which programs reach a queue: it is there while the queue is bound.
+static void make_node(const char *name, bool is_on)
+{
+    char path[PATH_MAX];
+    snprintf(path, sizeof path, "%s/dev/dsa/%s", settings.root, name);
+    if (!is_on)
+        unlink(path);
+    else if (syscall(SYS_mknod, path, S_IFREG | 0666, 0) && errno != EEXIST)
+        say("%s: %s", path, strerror(errno));
+}
+
+/// A queue or a device, in this folder, is bound to the driver or unbound: its state, and the link to the driver.
+static void set_state(const char *folder, const char *driver, bool is_device, bool is_on)
+{
+    char path[PATH_MAX], to[64];
+    write_plain(folder, "state", is_on ? "enabled\n" : "disabled\n");
+    snprintf(path, sizeof path, "%s/driver", folder);
+    unlink(path);
+    snprintf(to, sizeof to, "%s../../../../drivers/%s", is_device ? "" : "../", driver);
+    if (is_on)
+        (void)!symlink(to, path);
+}
+
+/// A name was written to a driver's bind or unbind. With a device its queues go off.
+static void bind(const char *name, const char *driver, bool is_on)
+{
+    char path[PATH_MAX], folder[PATH_MAX / 2], queue[64];
+    const bool is_device = strncmp(name, "dsa", 3) == 0;
+    snprintf(path, sizeof path, "%s/sys/bus/dsa/devices/%s", settings.root, name);
+    if (!files_real_path(path, folder, sizeof folder))
+        return;
+    set_state(folder, driver, is_device, is_on);
+    if (!is_device && strcmp(driver, "user") == 0)
+        make_node(name, is_on);
+    for (int i = 0; is_device && !is_on && i < 8; i++) {
+        snprintf(queue, sizeof queue, "wq%s.%d", name + 3, i);
+        snprintf(path, sizeof path, "%s/%s", folder, queue);
+        set_state(path, "user", false, false);
+        make_node(queue, false);
+    }
+}
+
+/// Applies what is in the bind and unbind files, and empties them. A program that writes there by stdio does it in
+/// the C library, where we do not see it; so this is done when the next of the device's files is opened.
+void files_settle(const char *path)
+{
+    char file[PATH_MAX], name[32];
+    if (!path || !strstr(path, "/dsa"))
+        return;
+    const int kept = errno;
+    for (size_t i = 0; i < 2 * sizeof drivers / sizeof *drivers; i++) {
+        const char *driver = drivers[i / 2];
+        const bool is_on = i % 2 == 0;
+        snprintf(file, sizeof file, "%s/sys/bus/dsa/drivers/%s/%s", settings.root, driver, is_on ? "bind" : "unbind");
+        if (read_plain(file, name, sizeof name) < 2)
+            continue;
+        name[strcspn(name, " \n")] = 0;
+        (void)!truncate(file, 0);
+        bind(name, driver, is_on);
+    }
+    errno = kept;
+}
+
+/// A number of a queue's folder, or the other one if there is none.
+static uint64_t attribute(const struct queue *q, const char *name, uint64_t otherwise)
+{
+    char path[PATH_MAX], text[32];
+    snprintf(path, sizeof path, "%s/sys/bus/dsa/devices/wq%d.%d/%s", settings.root, q->device, q->id, name);
+    return read_plain(path, text, sizeof text) > 0 ? strtoull(text, NULL, 0) : otherwise;
+}
+
+/// Reads what a queue is; false if there is none. A number that is missing is that of the device.
+static bool fill(struct queue *q)
+{
+    char path[PATH_MAX], mode[32];
+    snprintf(path, sizeof path, "%s/sys/bus/dsa/devices/wq%d.%d/mode", settings.root, q->device, q->id);
+    if (read_plain(path, mode, sizeof mode) < 1)
+        return false;
+    q->is_shared = mode[0] == 's';
+    q->size = attribute(q, "size", 16);
+    q->may_block = attribute(q, "block_on_fault", 1);
+    q->greatest_transfer = attribute(q, "max_transfer_size", 1ull << 31);
+    q->greatest_batch = attribute(q, "max_batch_size", GREATEST_BATCH);
+    if (q->greatest_batch > GREATEST_BATCH)
+        q->greatest_batch = GREATEST_BATCH;
+    return true;
+}
+
+/// Where an open file is, or false.
+static bool path_of(int fd, char path[PATH_MAX])
+{
+    char link[40];
+    snprintf(link, sizeof link, "/proc/self/fd/%d", fd);
+    const ssize_t length = syscall(SYS_readlink, link, path, PATH_MAX - 1);
+    path[length > 0 ? length : 0] = 0;
+    return length > 0;
+}
+
+/// The queue of an open file, or NULL.
+struct queue *files_queue(int fd)
+{
+    char path[PATH_MAX];
+    int device, id;
+    const int kept = errno;
+    const char *name = path_of(fd, path) ? strstr(path, "/dev/dsa/wq") : NULL;
+    struct queue *found = NULL;
+    if (name && sscanf(name, "/dev/dsa/wq%d.%d", &device, &id) == 2)
+        found = portals_queue(device, id, fill);
+    errno = kept;
+    return found;
+}
+
+/// Submits one entry, with signals blocked as in our handler, so that none finds its thread with a lock of ours.
+static enum accepted submit_blocked(struct queue *q, const descriptor *d)
+{
+    sigset_t all, old;
+    sigfillset(&all);
+    pthread_sigmask(SIG_BLOCK, &all, &old);
+    order_arrive();
+    const enum accepted accepted = order_submit(q, d, q->is_shared);
+    order_leave();
+    pthread_sigmask(SIG_SETMASK, &old, NULL);
+    return accepted;
+}
+
+/// Submits what is written to a queue's file, as newer drivers take descriptors.
+static ssize_t write_entries(struct queue *q, const uint8_t *from, size_t size)
+{
+    for (size_t at = 0; at + sizeof(descriptor) <= size; at += sizeof(descriptor)) {
+        descriptor d;
+        const bool is_read = memory_copy(&d, from + at, sizeof d, NULL);
+        if (is_read && submit_blocked(q, &d) == ACCEPTED)
+            continue;
+        errno = is_read ? EAGAIN : EFAULT;
+        return at ? (ssize_t)at : -1;
+    }
+    return size;
+}
+
+ssize_t write(int fd, const void *from, size_t size)
+{
+    char path[PATH_MAX];
+    struct queue *queue = fd > STDERR_FILENO && size && size % sizeof(descriptor) == 0 ? files_queue(fd) : NULL;
+    if (queue)
+        return write_entries(queue, from, size);
+    const bool is_small = fd > STDERR_FILENO && size && size < 4096;
+    const int kept = errno;
+    if (!is_small || !path_of(fd, path) || !strstr(path, "/sys/bus/dsa/")) {
+        errno = kept;
+        return syscall(SYS_write, fd, from, size);
+    }
+    (void)!syscall(SYS_ftruncate, fd, 0); /* an attribute has what was written last, and nothing after it */
+    const ssize_t written = syscall(SYS_pwrite64, fd, from, size, 0);
+    if (written > 0)
+        files_settle(path);
+    return written;
+}

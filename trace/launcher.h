@@ -1,0 +1,65 @@
+/* The parts of the program dsa_trace, which puts the device's files in place and starts programs with the library. */
+#ifndef DSA_TRACE_LAUNCHER_H
+#define DSA_TRACE_LAUNCHER_H
+
+#include <stdbool.h>
+
+#include "settings.h"
+
+/* Statuses as those of env: this program fails, the other can't be run, the other is not found. */
+enum { FAILED = 125, NOT_RUN = 126, NOT_FOUND = 127 };
+enum { MOST_QUEUES = 8 };
+
+struct options {
+    struct settings settings;
+    uint64_t seeds;     /* how many runs, from the seed of the settings on */
+    const char *out;    /* the folder of the recordings, or NULL */
+    const char *queues[MOST_QUEUES];
+    int queue_count;
+    bool has_namespace, audits;
+    char **program;     /* its name and arguments */
+    char **words;       /* all words of the command line */
+};
+
+/* ---- options.c: what the command line says; it ends the program if that is wrong, and for --help ---- */
+void options_read(char **words, struct options *o);
+/* The command line with another seed and one run, on standard error. */
+void options_repeat(const struct options *o, uint64_t seed);
+
+/* ---- run.c: one run ---- */
+/* The status of the program with this seed, 128 and more if a signal ended it; its recordings go to `records`. */
+int run_once(const struct options *o, uint64_t seed, const char *folder, const char *records);
+/* Removes a folder and what is in it, on its own file system. */
+void run_remove(const char *folder);
+
+/* ---- program.c: whether the library can be loaded into a program ---- */
+/* 0, or the status with which to end; then a sentence says why. */
+int program_check(const char *name);
+
+/* ---- tree.c: the device's files ---- */
+void tree_make(const char *tree, const char *const *queues, int count);
+/* Whether the text describes a queue. */
+bool tree_is_queue(const char *text);
+
+/* ---- namespace.c: mounts that only the program sees ---- */
+bool namespace_enter(void);
+void namespace_mount(const char *tree);
+
+/* ---- tidy.c: recordings of processes that were killed ---- */
+void tidy(const char *records);
+
+/* ---- audit.c and waits.c: what is missing ---- */
+/* The program dsa_text; NULL, after a sentence, if there is none. */
+const char *audit_find(void);
+/* The status of all recordings of a run: 0, 1 if fences or waits are missing, 125 if they can't be audited. */
+int audit_run(const char *dsa_text, const char *records);
+/* How many conflicts one recording has between submissions in flight at once; -1 if it can't be read. */
+long waits_missing(const char *records, const char *name);
+
+/* ---- fail.c ---- */
+void fail(const char *what) __attribute__((noreturn)); /* with the reason that errno has */
+void make_folders(const char *path);
+/* Joins a folder and a name; the path is too long only with a sentence and the end. */
+const char *joined(char room[PATH_MAX], const char *folder, const char *name);
+
+#endif

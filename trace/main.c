@@ -1,0 +1,103 @@
+/* dsa_trace: runs a program that uses Intel DSA on a machine without it. README.md says how. */
+#include <dirent.h>
+#include <errno.h>
+#include <stdio.h>
+#include <stdlib.h>
+#include <string.h>
+#include <sys/stat.h>
+#include <unistd.h>
+
+#include "launcher.h"
+
+/* Our own folder, for the end of this process, and not for that of a child. */
+static struct own { pid_t process; char folder[PATH_MAX]; } own;
+
+static void remove_own_folder(void)
+{
+    if (getpid() == own.process)
+        run_remove(own.folder);
+}
+
+/// A folder of our own, where temporary files go. It is removed at the end, also after a failure.
+static void make_own_folder(void)
+{
+    const char *where = getenv("TMPDIR");
+    snprintf(own.folder, sizeof own.folder, "%s/dsa_trace.XXXXXX", where && *where == '/' ? where : "/tmp");
+    if (!mkdtemp(own.folder))
+        fail(own.folder);
+    chmod(own.folder, 0755);
+    own.process = getpid();
+    atexit(remove_own_folder);
+}
+
+/// Removes what an earlier run has recorded in this folder.
+static void empty(const char *records)
+{
+    DIR *list = opendir(records);
+    char path[PATH_MAX];
+    for (struct dirent *e; list && (e = readdir(list));) {
+        const char *end = strrchr(e->d_name, '.');
+        const bool is_ours = end && (!strcmp(end, ".dsa") || !strcmp(end, ".events"));
+        if (is_ours || strcmp(e->d_name, "processes.txt") == 0)
+            unlink(joined(path, records, e->d_name));
+    }
+    if (list)
+        closedir(list);
+}
+
+/// Where one run records: in its own folder of --out, or in a temporary one for an audit; false if it records nothing.
+static bool place_records(const struct options *o, uint64_t seed, const char *folder, char records[PATH_MAX])
+{
+    char name[32], path[PATH_MAX];
+    if (!o->out && !o->audits)
+        return false;
+    snprintf(name, sizeof name, "seed-%llu", (unsigned long long)seed);
+    make_folders(o->out ? joined(path, o->out, name) : joined(path, folder, "recorded"));
+    if (!realpath(path, records))
+        fail(path);
+    if (strlen(records) >= sizeof o->settings.out) {
+        errno = ENAMETOOLONG;
+        fail(records);
+    }
+    empty(records);
+    return true;
+}
+
+/// Runs the program with one seed after another, up to the first that fails. Answers its status.
+static int run_all(const struct options *o, const char *folder, char records[PATH_MAX], bool *is_recorded)
+{
+    int status = 0;
+    for (uint64_t i = 0; i < o->seeds && status == 0; i++) {
+        const uint64_t seed = o->settings.seed + i;
+        *is_recorded = place_records(o, seed, folder, records);
+        status = run_once(o, seed, folder, *is_recorded ? records : NULL);
+        if (status && o->seeds > 1) {
+            fprintf(stderr,
+                    "dsa_trace: seed %llu, run %llu of %llu: the program ends with status %d; the same again:\n",
+                    (unsigned long long)seed, (unsigned long long)i + 1, (unsigned long long)o->seeds, status);
+            options_repeat(o, seed);
+        }
+    }
+    if (status == 0 && o->seeds > 1)
+        fprintf(stderr, "dsa_trace: %llu runs, all with status 0\n", (unsigned long long)o->seeds);
+    return status;
+}
+
+int main(int argc, char **argv)
+{
+    struct options o;
+    char records[PATH_MAX];
+    bool is_recorded = false;
+    (void)argc;
+    options_read(argv, &o);
+    const int refused = program_check(o.program[0]);
+    const char *dsa_text = o.audits && !refused ? audit_find() : NULL;
+    if (refused || (o.audits && !dsa_text))
+        return refused ? refused : FAILED;
+    if (access("/proc/self/fd", X_OK))
+        fail("/proc, by which the library knows the files of a queue");
+    make_own_folder();
+    const int status = run_all(&o, own.folder, records, &is_recorded);
+    const int missing = o.audits && is_recorded ? audit_run(dsa_text, records) : 0;
+    return missing ? missing : status;
+}

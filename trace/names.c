@@ -1,0 +1,108 @@
+/* Functions of the C library that take a path: the device's paths are turned to the tree's, if no namespace has put the
+ * tree in their place. What is opened also applies what was written before (files_settle). */
+#include <dirent.h>
+#include <errno.h>
+#include <fcntl.h>
+#include <stdarg.h>
+#include <stdio.h>
+#include <stdlib.h>
+#include <string.h>
+#include <sys/stat.h>
+#include <unistd.h>
+
+#include "files.h"
+#include "trace.h"
+
+static mode_t mode_of(int flags, va_list more)
+{
+    return flags & O_CREAT || (flags & O_TMPFILE) == O_TMPFILE ? va_arg(more, mode_t) : 0;
+}
+
+#define OPEN(name)                                                                                                     \
+    int name(const char *path, int flags, ...)                                                                         \
+    {                                                                                                                  \
+        REAL_OF(name);                                                                                                 \
+        char room[PATH_MAX];                                                                                           \
+        va_list more;                                                                                                  \
+        va_start(more, flags);                                                                                         \
+        const mode_t mode = mode_of(flags, more);                                                                      \
+        va_end(more);                                                                                                  \
+        files_settle(path);                                                                                            \
+        return REAL(name)(files_turned(path, room), flags, mode);                                                      \
+    }
+#define OPENAT(name)                                                                                                   \
+    int name(int at, const char *path, int flags, ...)                                                                 \
+    {                                                                                                                  \
+        REAL_OF(name);                                                                                                 \
+        char room[PATH_MAX];                                                                                           \
+        va_list more;                                                                                                  \
+        va_start(more, flags);                                                                                         \
+        const mode_t mode = mode_of(flags, more);                                                                      \
+        va_end(more);                                                                                                  \
+        files_settle(path);                                                                                            \
+        return REAL(name)(at, files_turned(path, room), flags, mode);                                                  \
+    }
+/* A function of a path and what follows it. */
+#define ONE(type, name, parameters, arguments)                                                                         \
+    type name parameters                                                                                               \
+    {                                                                                                                  \
+        REAL_OF(name);                                                                                                 \
+        char room[PATH_MAX];                                                                                           \
+        files_settle(path);                                                                                            \
+        return REAL(name) arguments;                                                                                   \
+    }
+#define TURNED files_turned(path, room)
+
+OPEN(open)
+OPEN(open64)
+OPENAT(openat)
+OPENAT(openat64)
+ONE(FILE *, fopen, (const char *path, const char *mode), (TURNED, mode))
+ONE(FILE *, fopen64, (const char *path, const char *mode), (TURNED, mode))
+ONE(DIR *, opendir, (const char *path), (TURNED))
+ONE(int, access, (const char *path, int mode), (TURNED, mode))
+ONE(int, faccessat, (int at, const char *path, int mode, int flags), (at, TURNED, mode, flags))
+ONE(int, stat, (const char *path, struct stat *s), (TURNED, s))
+ONE(int, lstat, (const char *path, struct stat *s), (TURNED, s))
+ONE(int, stat64, (const char *path, struct stat64 *s), (TURNED, s))
+ONE(int, lstat64, (const char *path, struct stat64 *s), (TURNED, s))
+ONE(int, fstatat, (int at, const char *path, struct stat *s, int flags), (at, TURNED, s, flags))
+ONE(int, fstatat64, (int at, const char *path, struct stat64 *s, int flags), (at, TURNED, s, flags))
+ONE(int, statx, (int at, const char *path, int flags, unsigned mask, struct statx *s), (at, TURNED, flags, mask, s))
+ONE(ssize_t, readlink, (const char *path, char *to, size_t size), (TURNED, to, size))
+ONE(ssize_t, readlinkat, (int at, const char *path, char *to, size_t size), (at, TURNED, to, size))
+ONE(int, chdir, (const char *path), (TURNED))
+
+typedef int filter(const struct dirent *);
+typedef int compare(const struct dirent **, const struct dirent **);
+ONE(int, scandir, (const char *path, struct dirent ***list, filter *f, compare *c), (TURNED, list, f, c))
+
+/* The names by which programs that were built with _FORTIFY_SOURCE open files. */
+int __open_2(const char *path, int flags) { return open(path, flags); }
+int __open64_2(const char *path, int flags) { return open64(path, flags); }
+int __openat_2(int at, const char *path, int flags) { return openat(at, path, flags); }
+int __openat64_2(int at, const char *path, int flags) { return openat64(at, path, flags); }
+
+char *realpath(const char *path, char *to)
+{
+    REAL_OF(realpath);
+    char room[PATH_MAX];
+    return files_unturned(REAL(realpath)(files_turned(path, room), to));
+}
+
+char *__realpath_chk(const char *path, char *to, size_t size)
+{
+    (void)size;
+    return realpath(path, to);
+}
+
+/// The path without links, of the tree's own files.
+bool files_real_path(const char *path, char *to, size_t room)
+{
+    REAL_OF(realpath);
+    char found[PATH_MAX];
+    if (!REAL(realpath)(path, found) || strlen(found) >= room)
+        return false;
+    strcpy(to, found);
+    return true;
+}

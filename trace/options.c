@@ -1,0 +1,159 @@
+/* The command line. */
+#include <errno.h>
+#include <stdio.h>
+#include <stdlib.h>
+#include <string.h>
+
+#include "launcher.h"
+
+static const char help[] =
+    "Runs a program for Intel DSA without the device: records what it submits, and does it in software.\n"
+    "\n"
+    "Usage: dsa_trace [OPTIONS] [--] PROGRAM [ARGUMENTS]\n"
+    "\n"
+    "Options:\n"
+    "      --audit          at the end, what the recording lacks: fences and waits; status 1 if some are missing\n"
+    "      --out <DIR>      keep the recordings, those of each run in DIR/seed-N\n"
+    "      --seed <N>       the order that this number draws [default: 1]\n"
+    "      --seeds <N>      run the program N times, each with the next seed, up to the first that fails\n"
+    "      --order <ORDER>  fifo, members (of a batch in any order), data (submissions too, but records in order)\n"
+    "                       or all (records too) [default: data]\n"
+    "      --delay <US>     microseconds that the program runs on before what is in flight is done [default: 100]\n"
+    "      --retry <N>      ENQCMD says retry once in N times; 0: only when the queue is full [default: 0]\n"
+    "      --fault <N>      a move without block-on-fault stops at a page once in N times; 0: never [default: 0]\n"
+    "      --watch <MS>     hold what is in flight until its record is looked at, at most so many milliseconds\n"
+    "      --queue <QUEUE>  dedicated,SIZE,NAME or shared,SIZE,NAME; once for each of wq0.0, wq0.1 and so on\n"
+    "                       [default: dedicated,16,dpdk_wq0.0 and shared,16,app1]\n"
+    "      --cpuid          let CPUID say that MOVDIR64B, ENQCMD and UMWAIT are there\n"
+    "      --no-namespace   turn file names in the library, and mount nothing\n"
+    "      --verbose        a line of counts at the end of each process\n"
+    "  -h, --help           print this\n"
+    "\n"
+    "Examples:\n"
+    "  dsa_trace --audit --seeds 20 -- ./my_test\n"
+    "  dsa_trace --seed 7 --out recorded -- ./my_test && dsa_text audit recorded/seed-7/my_test.*.dsa\n";
+
+static void refuse(const char *why, const char *word) __attribute__((noreturn));
+
+static void refuse(const char *why, const char *word)
+{
+    fprintf(stderr, "dsa_trace: %s: %s (see dsa_trace --help)\n", word, why);
+    exit(FAILED);
+}
+
+static uint64_t number_of(const char *option, const char *text)
+{
+    char *end;
+    errno = 0;
+    const unsigned long long number = strtoull(text, &end, 10);
+    if (*text < '0' || *text > '9' || *end || errno)
+        refuse("a whole number comes after this option", option);
+    return number;
+}
+
+static enum order order_of(const char *text)
+{
+    for (int i = 0; i < 4; i++)
+        if (strcmp(text, order_names[i]) == 0)
+            return (enum order)i;
+    refuse("an order is fifo, members, data or all", text);
+}
+
+static void add_queue(struct options *o, const char *text)
+{
+    if (o->queue_count == MOST_QUEUES)
+        refuse("there are at most eight queues", text);
+    if (!tree_is_queue(text))
+        refuse("a queue is dedicated,SIZE,NAME or shared,SIZE,NAME with a size from 1 to 128", text);
+    o->queues[o->queue_count++] = text;
+}
+
+/// The setting of a number of this option, or NULL.
+static uint64_t *number_at(struct options *o, const char *name)
+{
+    struct { const char *name; uint64_t *at; } numbers[] = {
+        {"--seed", &o->settings.seed},   {"--seeds", &o->seeds},          {"--delay", &o->settings.delay},
+        {"--retry", &o->settings.retry}, {"--fault", &o->settings.fault}, {"--watch", &o->settings.watch},
+    };
+    for (size_t i = 0; i < sizeof numbers / sizeof *numbers; i++)
+        if (strcmp(name, numbers[i].name) == 0)
+            return numbers[i].at;
+    return NULL;
+}
+
+/// An option without a value; false if it is none.
+static bool take_flag(struct options *o, const char *name)
+{
+    if (strcmp(name, "--audit") == 0)
+        o->audits = true;
+    else if (strcmp(name, "--cpuid") == 0)
+        o->settings.cpuid = 1;
+    else if (strcmp(name, "--no-namespace") == 0)
+        o->has_namespace = false;
+    else if (strcmp(name, "--verbose") == 0)
+        o->settings.verbose = 1;
+    else
+        return false;
+    return true;
+}
+
+/// An option with its value.
+static void take_value(struct options *o, const char *name, const char *value)
+{
+    uint64_t *number = number_at(o, name);
+    const bool is_known = number || !strcmp(name, "--out") || !strcmp(name, "--order") || !strcmp(name, "--queue");
+    if (!is_known)
+        refuse("there is no such option", name);
+    if (!value)
+        refuse("a value comes after this option", name);
+    if (number)
+        *number = number_of(name, value);
+    else if (strcmp(name, "--out") == 0)
+        o->out = value;
+    else if (strcmp(name, "--order") == 0)
+        o->settings.order = order_of(value);
+    else
+        add_queue(o, value);
+}
+
+/// Reads the words of the command line after the program's own name.
+void options_read(char **words, struct options *o)
+{
+    char name[32];
+    *o = (struct options){.settings = settings_default(), .seeds = 1, .has_namespace = true, .words = words};
+    char **word = words + 1;
+    for (; *word && **word == '-' && strcmp(*word, "--"); word++) {
+        const char *equals = strchr(*word, '=');
+        snprintf(name, sizeof name, "%.*s", equals ? (int)(equals - *word) : (int)strlen(*word), *word);
+        if (strcmp(name, "--help") == 0 || strcmp(name, "-h") == 0) {
+            fputs(help, stdout);
+            exit(0);
+        }
+        if (take_flag(o, name))
+            continue;
+        const char *value = equals ? equals + 1 : word[1];
+        take_value(o, name, value);
+        word += !equals;
+    }
+    o->program = *word && strcmp(*word, "--") == 0 ? word + 1 : word;
+    if (!*o->program)
+        refuse("the program to run is missing", words[0]);
+    if (o->seeds == 0)
+        refuse("at least one run is needed", "--seeds");
+}
+
+/// The command line that runs the program once more with one seed.
+void options_repeat(const struct options *o, uint64_t seed)
+{
+    fprintf(stderr, "dsa_trace --seed %llu", (unsigned long long)seed);
+    for (char **word = o->words + 1; word < o->program; word++) {
+        if (strcmp(*word, "--seed") == 0 || strcmp(*word, "--seeds") == 0)
+            word++;
+        else if (strncmp(*word, "--seed", 6) && strcmp(*word, "--"))
+            fprintf(stderr, " %s", *word);
+    }
+    fputs(" --", stderr);
+    for (char **word = o->program; *word; word++)
+        fprintf(stderr, " %s", *word);
+    fputs("\n", stderr);
+}

@@ -1,0 +1,414 @@
+/* Submissions in flight, and the order in which they are done. FIFO and MEMBERS do each at once, on the thread that
+ * submits. DATA and ALL leave it to a thread of ours, which waits until the program has run on for a while (pace.c) and
+ * then draws what comes next from all that fences and drains allow. */
+#include "order.h"
+
+#include <errno.h>
+#include <pthread.h>
+#include <stdatomic.h>
+#include <stdio.h>
+#include <stdlib.h>
+#include <string.h>
+#include <sys/mman.h>
+#include <sys/prctl.h>
+#include <sys/syscall.h>
+#include <time.h>
+#include <unistd.h>
+
+static struct order_state {
+    pthread_mutex_t lock;
+    pthread_cond_t work, idle;
+    pid_t pid;                /* the process whose state this is */
+    _Atomic bool has_worker;
+    bool sleeps;              /* the worker waits for a signal on `work` */
+    _Atomic pid_t worker;
+    _Atomic int arriving;     /* threads that are about to submit */
+    struct submission *head, **tail, *unused;
+    struct random choices, retries;
+    struct pace pace;
+    uint64_t submitted, batches, members, retried, dropped, records;
+} order = {.lock = PTHREAD_MUTEX_INITIALIZER, .tail = &order.head};
+
+static __thread bool is_arriving; /* this thread is counted by `arriving` */
+
+static bool is_async(void) { return settings.order >= ORDER_DATA; }
+
+static struct submission *take_unused(void)
+{
+    struct submission *s = order.unused;
+    if (s) {
+        order.unused = s->next;
+        return s;
+    }
+    s = mmap(NULL, sizeof *s, PROT_READ | PROT_WRITE, MAP_PRIVATE | MAP_ANONYMOUS, -1, 0);
+    if (s != MAP_FAILED)
+        return s;
+    say("no memory for another submission in flight");
+    return NULL;
+}
+
+static void give_back(struct submission *s)
+{
+    s->next = order.unused;
+    order.unused = s;
+}
+
+static void take_out(struct submission *s)
+{
+    struct submission **at = &order.head;
+    while (*at != s)
+        at = &(*at)->next;
+    *at = s->next;
+    if (!*at)
+        order.tail = at;
+    s->queue->in_flight--;
+    give_back(s);
+    if (!order.head)
+        pthread_cond_broadcast(&order.idle);
+}
+
+/// A submission is done: its completion follows, in DATA after those of all submissions before it.
+static void complete(struct submission *s, const completion *r)
+{
+    s->is_done = true;
+    s->last = *r;
+    if (settings.order == ORDER_DATA)
+        s = order.head;
+    while (s && s->is_done) {
+        record_event('C', s->number, -1, s->last.status); /* before the record: what is earlier is unaware of it */
+        if (s->watch >= 0)
+            watch_completed(s->watch, s->number);
+        order.records += execute_record(&s->entry, &s->last);
+        take_out(s);
+        s = settings.order == ORDER_DATA ? order.head : NULL;
+    }
+}
+
+/// The epoch that begins at member `begun`: up to the next fence.
+static void find_epoch(struct submission *s)
+{
+    s->end = s->begun + 1;
+    while (s->end < s->count && !(s->members[s->end].flags & IDXD_OP_FLAG_FENCE))
+        s->end++;
+}
+
+/// The next member of the batch, or the lone descriptor. Called with the lock, which it leaves while it works if other
+/// threads may submit meanwhile.
+static void step(struct submission *s)
+{
+    completion r;
+    unsigned place = s->begun;
+    if (s->is_batch && settings.order != ORDER_FIFO)
+        place += random_next(&order.choices) % (s->end - s->begun);
+    const uint16_t index = s->turn[place];
+    s->turn[place] = s->turn[s->begun]; /* those before `begun` are done */
+    s->turn[s->begun] = index;
+    if (is_async())
+        pthread_mutex_unlock(&order.lock);
+    execute(s, index, &r);
+    if (is_async())
+        pthread_mutex_lock(&order.lock);
+    s->begun++;
+    if (!s->is_batch) {
+        complete(s, &r);
+        return;
+    }
+    s->has_failed |= r.status != DSA_COMP_SUCCESS;
+    record_event('c', s->number, index, r.status);
+    order.records += execute_record(&s->members[index], &r);
+    if (s->begun < s->end)
+        return;
+    if (s->begun < s->count && !s->has_failed) {
+        find_epoch(s);
+        return;
+    }
+    memset(&r, 0, sizeof r); /* all are done, or a fence stops the rest */
+    r.status = s->has_failed ? DSA_COMP_BATCH_FAIL : DSA_COMP_SUCCESS;
+    r.bytes_completed = s->begun;
+    complete(s, &r);
+}
+
+static bool has_older_of_queue(const struct submission *s)
+{
+    for (const struct submission *o = order.head; o != s; o = o->next)
+        if (o->queue == s->queue)
+            return true;
+    return false;
+}
+
+static bool may_go(const struct submission *s)
+{
+    return !s->is_done && !(s->entry.opcode == DSA_OPCODE_DRAIN && has_older_of_queue(s));
+}
+
+/// For --watch: whether all waits until the program looks at a record that is watched. Until then it does not wait for
+/// it.
+static bool is_held(void)
+{
+    bool is_watched = false;
+    for (const struct submission *s = order.head; s; s = s->next) {
+        if (s->watch >= 0 && watch_count(s->watch))
+            return false;
+        is_watched |= s->watch >= 0;
+    }
+    return is_watched && pace_since(&order.pace) < (int64_t)settings.watch * 1000000;
+}
+
+/// Draws one of the submissions that may go.
+static struct submission *choose(void)
+{
+    unsigned count = 0;
+    for (const struct submission *s = order.head; s; s = s->next)
+        count += may_go(s);
+    if (!count || (settings.watch && is_held()))
+        return NULL;
+    unsigned left = random_next(&order.choices) % count;
+    struct submission *s = order.head;
+    while (!may_go(s) || left--)
+        s = s->next;
+    return s;
+}
+
+static void wait_for_work(int64_t nanoseconds)
+{
+    struct timespec until;
+    clock_gettime(CLOCK_MONOTONIC, &until);
+    until.tv_nsec += nanoseconds % 1000000000;
+    until.tv_sec += nanoseconds / 1000000000 + until.tv_nsec / 1000000000;
+    until.tv_nsec %= 1000000000;
+    pthread_cond_timedwait(&order.work, &order.lock, &until);
+}
+
+/// Nothing is in flight: looks again every now and then before it sleeps, since waking it costs the program time.
+static void rest(unsigned *rests)
+{
+    enum { LOOKS = 20, NANOSECONDS = 50000 };
+    if (++*rests < LOOKS) {
+        wait_for_work(NANOSECONDS);
+        return;
+    }
+    order.sleeps = true;
+    pthread_cond_wait(&order.work, &order.lock);
+    order.sleeps = false;
+}
+
+/// The thread that does the work. Signals are not for it.
+static void *work(void *unused)
+{
+    enum { AGAIN = 100000 };
+    unsigned rests = 0;
+    int64_t wait;
+    prctl(PR_SET_TIMERSLACK, 1);
+    prctl(PR_SET_NAME, "dsa_trace");
+    order.worker = (pid_t)syscall(SYS_gettid);
+    pthread_mutex_lock(&order.lock);
+    for (;;) {
+        struct submission *s = NULL;
+        const uint64_t records = order.records;
+        if (!order.head) {
+            rest(&rests);
+            continue;
+        }
+        rests = 0;
+        if (!order.pace.waits && (order.arriving || !pace_is_quiet(&order.pace, &wait)))
+            wait_for_work(order.arriving ? AGAIN / 10 : wait);
+        else if (!(s = choose()))
+            wait_for_work(AGAIN);
+        if (s)
+            step(s);
+        if (s && order.records != records) /* what the program does with a record comes first */
+            pace_begin(&order.pace, 0);
+    }
+    return unused;
+}
+
+/// A child of fork has neither the worker nor what was in flight. Called without the lock, which may be in any state.
+static void begin_process(pid_t pid)
+{
+    pthread_condattr_t clock;
+    pthread_condattr_init(&clock);
+    pthread_condattr_setclock(&clock, CLOCK_MONOTONIC);
+    pthread_mutex_init(&order.lock, NULL);
+    pthread_cond_init(&order.work, &clock);
+    pthread_cond_init(&order.idle, &clock);
+    for (struct submission *s = order.head; s; s = s->next)
+        s->queue->in_flight = 0;
+    order.head = NULL;
+    order.tail = &order.head;
+    order.unused = NULL;
+    order.has_worker = order.sleeps = false;
+    order.worker = 0;
+    order.arriving = is_arriving;
+    order.choices = (struct random){settings.seed, 0};
+    order.retries = (struct random){~settings.seed, 0};
+    watch_forget();
+    order.submitted = order.batches = order.members = order.retried = order.dropped = order.records = 0;
+    record_forget();
+    order.pid = pid;
+}
+
+/// When the library is loaded.
+void order_begin(void) { begin_process(getpid()); }
+
+/// Starts the worker, once in a process. It is called when a portal is mapped, where more may be done than in a
+/// handler.
+void order_start(void)
+{
+    pthread_t thread;
+    sigset_t all, old;
+    const pid_t pid = getpid();
+    if (order.pid != pid)
+        begin_process(pid);
+    if (!is_async() || atomic_exchange(&order.has_worker, true))
+        return;
+    sigfillset(&all);
+    pthread_sigmask(SIG_BLOCK, &all, &old);
+    const int fault = pthread_create(&thread, NULL, work, NULL);
+    pthread_sigmask(SIG_SETMASK, &old, NULL);
+    if (fault) {
+        say("no thread for the device (%s), so submissions are done as they come", strerror(fault));
+        settings.order = ORDER_MEMBERS;
+        return;
+    }
+    pthread_detach(thread);
+    while (!order.worker)
+        usleep(10);
+}
+
+/// A batch without members: its list can't be read, or the device refuses it. It is recorded with none.
+static void refuse_batch(struct submission *s, const completion *r)
+{
+    descriptor empty = s->entry;
+    empty.desc_count = 0;
+    say("batch %lu of %u descriptors at %#lx is refused with status %#x (%s)", s->number, s->entry.desc_count,
+        (unsigned long)s->entry.desc_list_addr, r->status, valid_name(r->status));
+    record_submission(&(struct submitted){s->number, s->queue, &empty, NULL, 0});
+    record_event('C', s->number, -1, r->status);
+    order.records += execute_record(&s->entry, r);
+    give_back(s);
+}
+
+static void put_in(struct submission *s)
+{
+    for (unsigned i = 0; i < s->count; i++)
+        s->turn[i] = i;
+    find_epoch(s);
+    s->next = NULL;
+    *order.tail = s;
+    order.tail = &s->next;
+    s->queue->in_flight++;
+    const unsigned asks = IDXD_OP_FLAG_CRAV | IDXD_OP_FLAG_RCR;
+    if (settings.watch && (s->entry.flags & asks) == asks)
+        s->watch = watch_open(s->entry.completion_addr, order.worker);
+    if (s->watch >= 0)
+        record_event('W', s->number, -1, -1);
+}
+
+/// Takes what is submitted: copies, records, and does it or leaves it to the worker. Called with the lock.
+static void take_in(struct queue *q, const descriptor *d)
+{
+    completion r;
+    struct submission *s = take_unused();
+    if (!s)
+        return;
+    s->number = order.submitted++;
+    s->queue = q;
+    s->entry = *d;
+    s->is_batch = d->opcode == DSA_OPCODE_BATCH;
+    s->has_failed = s->is_done = false;
+    s->watch = -1;
+    s->begun = 0;
+    s->count = 1;
+    s->members[0] = *d;
+    if (settings.watch)
+        watch_note_seen();
+    if (s->is_batch && execute_take(s, &r) != DSA_COMP_SUCCESS) {
+        refuse_batch(s, &r);
+        return;
+    }
+    order.batches += s->is_batch;
+    order.members += s->is_batch ? s->count : 0;
+    record_submission(&(struct submitted){s->number, q, d, s->members, s->is_batch ? s->count : 0});
+    put_in(s);
+    if (is_async()) {
+        pace_begin(&order.pace, (pid_t)syscall(SYS_gettid));
+        if (order.sleeps)
+            pthread_cond_signal(&order.work);
+        return;
+    }
+    while (!s->is_done)
+        step(s);
+}
+
+/// Whether the queue has room for it; MOVDIR64B does not learn that it has none.
+static bool has_room(struct queue *q, bool is_enqueued)
+{
+    if (q->in_flight < q->size && !(is_enqueued && settings.retry && random_next(&order.retries) % settings.retry == 0))
+        return true;
+    if (is_enqueued)
+        order.retried++;
+    else if (!order.dropped++)
+        say("wq%d.%d is full (%u in flight): MOVDIR64B is lost", q->device, q->id, q->size);
+    return false;
+}
+
+/// Says once of a queue that a device would not take what is submitted so; here it is taken.
+static void note_mode(struct queue *q, bool is_enqueued)
+{
+    if (is_enqueued != q->is_shared && !q->is_mistaken)
+        say("%s to wq%d.%d, which is %s: a device does not take it", is_enqueued ? "ENQCMD" : "MOVDIR64B", q->device,
+            q->id, q->is_shared ? "shared" : "dedicated");
+    q->is_mistaken |= is_enqueued != q->is_shared;
+}
+
+/// One submission, in the handler of signals or in a write to a queue's file.
+enum accepted order_submit(struct queue *q, const descriptor *d, bool is_enqueued)
+{
+    order_start();
+    pthread_mutex_lock(&order.lock);
+    note_mode(q, is_enqueued);
+    const bool is_taken = has_room(q, is_enqueued);
+    if (is_taken)
+        take_in(q, d);
+    pthread_mutex_unlock(&order.lock);
+    return is_taken || !is_enqueued ? ACCEPTED : FULL;
+}
+
+/// This thread is about to submit, from before it takes the lock on: the program does not wait meanwhile.
+void order_arrive(void)
+{
+    is_arriving = true;
+    order.arriving++;
+}
+
+void order_leave(void)
+{
+    is_arriving = false;
+    order.arriving--;
+}
+
+/// The program waits by UMWAIT or TPAUSE.
+void order_program_waits(void) { order.pace.waits = true; }
+
+/// At the end of the process: what is in flight has a second.
+void order_finish(void)
+{
+    struct timespec until;
+    unsigned left = 0;
+    if (order.pid != getpid())
+        return;
+    clock_gettime(CLOCK_MONOTONIC, &until);
+    until.tv_sec++;
+    pthread_mutex_lock(&order.lock);
+    for (struct submission *s = order.head; s; s = s->next)
+        left++;
+    if (left)
+        say("%u submissions are in flight at the end of the process", left);
+    while (order.head && pthread_cond_timedwait(&order.idle, &order.lock, &until) != ETIMEDOUT)
+        ;
+    if (settings.verbose)
+        say("%lu submissions, %lu of them batches with %lu members; %lu retries, %lu lost, %lu records",
+            order.submitted, order.batches, order.members, order.retried, order.dropped, order.records);
+    record_finish();
+    pthread_mutex_unlock(&order.lock);
+}

@@ -1,0 +1,135 @@
+/* One run: a folder of its own, the device's files in it, the program in a process of its own, and nothing left after
+ * it. */
+#include <errno.h>
+#include <ftw.h>
+#include <signal.h>
+#include <stdio.h>
+#include <stdlib.h>
+#include <string.h>
+#include <sys/mount.h>
+#include <sys/prctl.h>
+#include <sys/stat.h>
+#include <sys/wait.h>
+#include <unistd.h>
+
+#include "launcher.h"
+
+/* The process of the program, for signals that are passed on to it. */
+static volatile sig_atomic_t running;
+
+static void pass_on(int number)
+{
+    if (running > 0)
+        kill(running, number);
+}
+
+static int forget(const char *path, const struct stat *s, int kind, struct FTW *at)
+{
+    (void)s, (void)kind, (void)at;
+    remove(path);
+    return 0;
+}
+
+/// Removes a folder and what is in it, on its own file system.
+void run_remove(const char *folder)
+{
+    nftw(folder, forget, 32, FTW_DEPTH | FTW_PHYS | FTW_MOUNT);
+}
+
+/// The library is beside this program, or in the folder lib beside that of programs.
+static void library_path(char path[PATH_MAX])
+{
+    char self[PATH_MAX - 64];
+    const ssize_t length = readlink("/proc/self/exe", self, sizeof self - 1);
+    if (length < 0)
+        fail("/proc/self/exe");
+    self[length] = 0;
+    *strrchr(self, '/') = 0;
+    snprintf(path, PATH_MAX, "%s/libdsa_trace.so", self);
+    if (access(path, R_OK) == 0)
+        return;
+    snprintf(path, PATH_MAX, "%s/../lib/dsa-planner/libdsa_trace.so", self);
+    if (access(path, R_OK))
+        fail(path);
+}
+
+/// Has the loader load our library, after those that are asked for already, such as a sanitizer's.
+static void preload(void)
+{
+    char library[PATH_MAX], all[2 * PATH_MAX];
+    const char *before = getenv("LD_PRELOAD");
+    library_path(library);
+    snprintf(all, sizeof all, "%s%s%s", before ? before : "", before && *before ? ":" : "", library);
+    setenv("LD_PRELOAD", all, 1);
+}
+
+/// In the process of the program: puts the files in place and starts it.
+static void become(const struct options *o, uint64_t seed, const char *folder, const char *records)
+{
+    struct settings s = o->settings;
+    char tree[PATH_MAX];
+    bool is_inside = o->has_namespace;
+    s.seed = seed;
+    make_folders(joined(tree, folder, "tree"));
+    if (is_inside && !namespace_enter()) {
+        fprintf(stderr, "dsa_trace: no namespace of mounts (%s), so file names are turned in the library\n",
+                strerror(errno));
+        is_inside = false;
+    }
+    if (is_inside && mount("dsa_trace", tree, "tmpfs", 0, "mode=755"))
+        fail(tree);
+    tree_make(tree, o->queues, o->queue_count);
+    if (is_inside)
+        namespace_mount(tree);
+    if (snprintf(s.root, sizeof s.root, "%s", is_inside ? "" : tree) >= (int)sizeof s.root)
+        fail(tree);
+    if (records && snprintf(s.out, sizeof s.out, "%s", records) >= (int)sizeof s.out)
+        fail(records);
+    settings_export(&s);
+    preload();
+    execvp(o->program[0], o->program);
+    const int status = errno == ENOENT ? NOT_FOUND : NOT_RUN;
+    fprintf(stderr, "dsa_trace: %s: %s\n", o->program[0], strerror(errno));
+    _exit(status);
+}
+
+/// The status of the program, which gets the signals that end us; those of the terminal it gets by itself.
+static int wait_for(pid_t child)
+{
+    static const int passed[] = {SIGTERM, SIGHUP, SIGINT, SIGQUIT};
+    struct sigaction old[4];
+    int status;
+    running = child;
+    for (int i = 0; i < 4; i++) {
+        struct sigaction a = {.sa_handler = i < 2 ? pass_on : SIG_IGN};
+        sigaction(passed[i], &a, &old[i]);
+    }
+    while (waitpid(child, &status, 0) < 0 && errno == EINTR)
+        ;
+    running = 0;
+    for (int i = 0; i < 4; i++)
+        sigaction(passed[i], &old[i], NULL);
+    return WIFSIGNALED(status) ? 128 + WTERMSIG(status) : WEXITSTATUS(status);
+}
+
+/// Runs the program once.
+int run_once(const struct options *o, uint64_t seed, const char *folder, const char *records)
+{
+    char tree[PATH_MAX];
+    const pid_t self = getpid();
+    fflush(NULL);
+    const pid_t child = fork(); /* we stay outside of the namespace, and remove the folder at the end */
+    if (child < 0)
+        fail("a new process");
+    if (child == 0) {
+        prctl(PR_SET_PDEATHSIG, SIGKILL); /* if we are killed, so is the program, and its namespace goes with it */
+        if (getppid() != self)
+            _exit(FAILED);
+        become(o, seed, folder, records);
+    }
+    const int status = wait_for(child);
+    run_remove(joined(tree, folder, "tree"));
+    if (records)
+        tidy(records);
+    return status;
+}

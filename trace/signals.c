@@ -1,0 +1,264 @@
+/* The instructions that the CPU does not take, or that touch a portal: the handler of SIGILL and SIGSEGV does them. The
+ * program's own handlers come after it. */
+#include <asm/prctl.h>
+#include <cpuid.h>
+#include <errno.h>
+#include <pthread.h>
+#include <sched.h>
+#include <string.h>
+#include <sys/syscall.h>
+#include <ucontext.h>
+#include <unistd.h>
+
+#include "decode.h"
+#include "trace.h"
+
+enum { HIGHEST = 64, CARRY_AND_LIKE = 0x8d5, ZERO_FLAG = 0x40 };
+
+/* What the program asked for; written by its calls of sigaction alone. */
+static struct signals {
+    struct sigaction theirs[HIGHEST + 1];
+    bool fakes_cpuid;
+} signals;
+
+static bool is_ours(int number) { return number == SIGILL || number == SIGSEGV || number == SIGBUS; }
+
+/// A fault that comes while its signal is blocked kills the process, so these are never blocked.
+static void unblock_ours(sigset_t *set)
+{
+    sigdelset(set, SIGILL);
+    sigdelset(set, SIGSEGV);
+    sigdelset(set, SIGBUS);
+}
+
+static greg_t *register_at(ucontext_t *u, unsigned number)
+{
+    static const int at[16] = {REG_RAX, REG_RCX, REG_RDX, REG_RBX, REG_RSP, REG_RBP, REG_RSI, REG_RDI,
+                               REG_R8, REG_R9, REG_R10, REG_R11, REG_R12, REG_R13, REG_R14, REG_R15};
+    return &u->uc_mcontext.gregs[at[number]];
+}
+
+static uint64_t base_of(enum segment segment)
+{
+    uint64_t base = 0;
+    if (segment != NO_SEGMENT)
+        syscall(SYS_arch_prctl, segment == SEGMENT_FS ? ARCH_GET_FS : ARCH_GET_GS, &base);
+    return base;
+}
+
+/// CPUID, which faults while it is asked to: the answer of the CPU, with our instructions beside its own.
+static void answer_cpuid(greg_t *g)
+{
+    enum { FEATURES = 7, WAITPKG = 1u << 5, MOVES = 7u << 27 };
+    const unsigned leaf = g[REG_RAX], sub = g[REG_RCX];
+    unsigned a, b, c, d;
+    syscall(SYS_arch_prctl, ARCH_SET_CPUID, 1l);
+    __cpuid_count(leaf, sub, a, b, c, d);
+    syscall(SYS_arch_prctl, ARCH_SET_CPUID, 0l);
+    if (leaf == FEATURES && sub == 0)
+        c |= WAITPKG | MOVES;
+    g[REG_RAX] = a, g[REG_RBX] = b, g[REG_RCX] = c, g[REG_RDX] = d;
+    g[REG_RIP] += 2;
+}
+
+/* What an instruction came to: done, none of ours, or a fault of the program at an address. */
+enum outcome { DONE, NOT_OURS, FAULTED };
+
+/// MOVDIR64B or ENQCMD. To a portal it is a submission; elsewhere MOVDIR64B is a plain store of 64 bytes.
+static enum outcome move_64(greg_t *g, const struct instruction *in, uint64_t to, struct fault *fault)
+{
+    _Alignas(64) descriptor d;
+    const bool is_enqueued = in->kind == ENQCMD;
+    struct queue *queue = portals_at(to);
+    fault->address = 0; /* of a general protection fault */
+    if (to % sizeof d)
+        return FAULTED;
+    if (!memory_copy(&d, (const void *)in->address, sizeof d, fault)) {
+        say("%s: its descriptor at %#lx can't be read", is_enqueued ? "ENQCMD" : "MOVDIR64B",
+            (unsigned long)in->address);
+        return FAULTED;
+    }
+    if (!queue && is_enqueued)
+        say("ENQCMD: no portal is mapped at %#lx (a child of fork has to map its own)", (unsigned long)to);
+    if (!queue)
+        return is_enqueued || !memory_copy((void *)to, &d, sizeof d, fault) ? FAULTED : DONE;
+    const enum accepted accepted = order_submit(queue, &d, is_enqueued);
+    if (is_enqueued)
+        g[REG_EFL] = (g[REG_EFL] & ~CARRY_AND_LIKE) | (accepted == FULL ? ZERO_FLAG : 0);
+    return DONE;
+}
+
+/// Does the instruction at which the program has stopped, if it is one of ours.
+static enum outcome emulate(ucontext_t *u, struct fault *fault)
+{
+    greg_t *g = u->uc_mcontext.gregs;
+    const uint8_t *code = (const uint8_t *)g[REG_RIP];
+    uint64_t registers[16];
+    struct instruction in;
+    if (signals.fakes_cpuid && memcmp(code, "\x0f\xa2", 2) == 0) {
+        answer_cpuid(g);
+        return DONE;
+    }
+    for (unsigned i = 0; i < 16; i++)
+        registers[i] = *register_at(u, i);
+    if (!decode(code, (uint64_t)code, registers, &in))
+        return NOT_OURS;
+    const uint64_t operand = in.is_narrow ? (uint32_t)registers[in.reg] : registers[in.reg];
+    enum outcome outcome = DONE;
+    in.address += base_of(in.segment);
+    if (in.kind == MOVDIR64B || in.kind == ENQCMD)
+        outcome = move_64(g, &in, operand, fault);
+    else if (in.kind == MOVDIRI)
+        outcome = memory_copy((void *)in.address, &registers[in.reg], in.is_wide ? 8 : 4, fault) ? DONE : FAULTED;
+    else if (in.kind != UMONITOR) { /* a wait may end at any time; no carry: not by the system's limit */
+        order_program_waits();
+        sched_yield();
+        g[REG_EFL] &= ~CARRY_AND_LIKE;
+    }
+    if (outcome == DONE)
+        g[REG_RIP] += in.length;
+    return outcome;
+}
+
+/// The program's own handler, with the mask that it asked for.
+static void call_theirs(int number, siginfo_t *info, ucontext_t *u)
+{
+    struct sigaction a = signals.theirs[number];
+    sigset_t mask;
+    sigorset(&mask, &u->uc_sigmask, &a.sa_mask);
+    if (!(a.sa_flags & SA_NODEFER))
+        sigaddset(&mask, number);
+    if (a.sa_flags & (int)SA_RESETHAND)
+        signals.theirs[number].sa_handler = SIG_DFL;
+    pthread_sigmask(SIG_SETMASK, &mask, NULL);
+    if (a.sa_flags & SA_SIGINFO)
+        a.sa_sigaction(number, info, u);
+    else
+        a.sa_handler(number);
+}
+
+/// The signal is the program's: its own handler, or its death as the signal's default has it.
+static void pass_on(int number, siginfo_t *info, ucontext_t *u)
+{
+    REAL_OF(sigaction);
+    const struct sigaction *a = &signals.theirs[number], by_default = {.sa_handler = SIG_DFL};
+    const bool is_sent = info->si_code <= 0;
+    if (!(a->sa_flags & SA_SIGINFO) && a->sa_handler == SIG_IGN && is_sent)
+        return;
+    if (a->sa_flags & SA_SIGINFO || (a->sa_handler != SIG_DFL && a->sa_handler != SIG_IGN)) {
+        call_theirs(number, info, u);
+        return;
+    }
+    sigset_t only;
+    sigemptyset(&only);
+    sigaddset(&only, number);
+    REAL(sigaction)(number, &by_default, NULL);
+    syscall(SYS_tgkill, getpid(), (pid_t)syscall(SYS_gettid), number);
+    pthread_sigmask(SIG_UNBLOCK, &only, NULL);
+}
+
+/// SIGILL: the CPU lacks the instruction. SIGSEGV: it has it, and the portal's page can't be touched, or ENQCMD has no
+/// PASID, which is a general protection fault and has no address.
+static void handler(int number, siginfo_t *info, void *context)
+{
+    const int kept = errno;
+    ucontext_t *u = context;
+    struct fault fault = {0};
+    enum outcome outcome = NOT_OURS;
+    if (number != SIGILL)
+        memory_escape(info, context);
+    const bool may_be = number == SIGILL || info->si_code == SI_KERNEL || portals_at((uintptr_t)info->si_addr);
+    if (number != SIGBUS && info->si_code > 0 && may_be) {
+        order_arrive();
+        outcome = emulate(u, &fault);
+        order_leave();
+    }
+    if (outcome == NOT_OURS)
+        pass_on(number, info, u);
+    else if (outcome == FAULTED) {
+        siginfo_t theirs = {.si_signo = SIGSEGV, .si_code = fault.address ? SEGV_MAPERR : SI_KERNEL};
+        theirs.si_addr = (void *)fault.address;
+        pass_on(SIGSEGV, &theirs, u);
+    }
+    errno = kept;
+}
+
+/// Installs our handler for one signal. All others are blocked while it runs, so that it is not called while the thread
+/// has a lock of ours. It uses the program's other stack only if the program's own handler does.
+static void install(int number)
+{
+    REAL_OF(sigaction);
+    struct sigaction ours = {.sa_sigaction = handler, .sa_flags = SA_SIGINFO | SA_NODEFER};
+    ours.sa_flags |= number == SIGILL ? 0 : signals.theirs[number].sa_flags & SA_ONSTACK;
+    sigfillset(&ours.sa_mask);
+    sigdelset(&ours.sa_mask, SIGSEGV);
+    sigdelset(&ours.sa_mask, SIGBUS);
+    REAL(sigaction)(number, &ours, NULL);
+}
+
+/// Puts our handlers before those that are there, and lets CPUID fault if that is asked for.
+void signals_install(void)
+{
+    REAL_OF(sigaction);
+    static const int ours[] = {SIGILL, SIGSEGV, SIGBUS};
+    for (int i = 0; i < 3; i++) {
+        REAL(sigaction)(ours[i], NULL, &signals.theirs[ours[i]]);
+        install(ours[i]);
+    }
+    if (!settings.cpuid)
+        return;
+    signals.fakes_cpuid = syscall(SYS_arch_prctl, ARCH_SET_CPUID, 0l) == 0; /* threads inherit it */
+    if (!signals.fakes_cpuid)
+        say("--cpuid: this processor or kernel can't let CPUID fault, so programs see the processor's own answer");
+}
+
+int sigaction(int number, const struct sigaction *new, struct sigaction *old)
+{
+    REAL_OF(sigaction);
+    if (!is_ours(number) && !new)
+        return REAL(sigaction)(number, NULL, old);
+    if (!is_ours(number)) {
+        struct sigaction less = *new;
+        unblock_ours(&less.sa_mask);
+        return REAL(sigaction)(number, &less, old);
+    }
+    const struct sigaction before = signals.theirs[number];
+    if (new) {
+        signals.theirs[number] = *new;
+        install(number);
+    }
+    if (old)
+        *old = before;
+    return 0;
+}
+
+sighandler_t signal(int number, sighandler_t action)
+{
+    REAL_OF(signal);
+    if (!is_ours(number))
+        return REAL(signal)(number, action);
+    const struct sigaction new = {.sa_handler = action, .sa_flags = SA_RESTART};
+    struct sigaction old;
+    sigaction(number, &new, &old);
+    return old.sa_handler;
+}
+
+int pthread_sigmask(int how, const sigset_t *set, sigset_t *old)
+{
+    REAL_OF(pthread_sigmask);
+    sigset_t less;
+    if (set && how != SIG_UNBLOCK) {
+        less = *set;
+        unblock_ours(&less);
+        set = &less;
+    }
+    return REAL(pthread_sigmask)(how, set, old);
+}
+
+int sigprocmask(int how, const sigset_t *set, sigset_t *old)
+{
+    const int fault = pthread_sigmask(how, set, old);
+    if (fault)
+        errno = fault;
+    return fault ? -1 : 0;
+}

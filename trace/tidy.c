@@ -1,0 +1,97 @@
+/* Recordings of processes that could not cut their files to length, since they were killed or left by _exit: the events
+ * end at the first zero byte, and their lines say how long the recordings are. */
+#include <dirent.h>
+#include <errno.h>
+#include <fcntl.h>
+#include <signal.h>
+#include <stdio.h>
+#include <stdlib.h>
+#include <string.h>
+#include <sys/mman.h>
+#include <sys/stat.h>
+#include <unistd.h>
+
+#include "launcher.h"
+
+enum { ENTRY = 64 };
+
+/// Whether the process of these events still runs: its number is the end of the name.
+static bool is_alive(const char *base)
+{
+    char name[NAME_MAX + 1];
+    snprintf(name, sizeof name, "%s", base);
+    char *image = strrchr(name, '-'), *dot = strrchr(name, '.');
+    if (image && dot && image > dot)
+        *image = 0;
+    const long process = dot ? atol(dot + 1) : 0;
+    return process > 0 && (kill((pid_t)process, 0) == 0 || errno == EPERM);
+}
+
+static void cut_part(const char *records, const char *base, unsigned part, off_t length)
+{
+    char name[NAME_MAX + 32], path[PATH_MAX];
+    if (part == 1)
+        snprintf(name, sizeof name, "%s.dsa", base);
+    else
+        snprintf(name, sizeof name, "%s.part%u.dsa", base, part);
+    if (part && truncate(joined(path, records, name), length))
+        fprintf(stderr, "dsa_trace: %s: %s\n", path, strerror(errno));
+}
+
+/// Cuts the parts to what the events name of them.
+static void cut_parts(const char *records, const char *base, const char *events, const char *end)
+{
+    unsigned last = 0;
+    off_t length = 0;
+    for (const char *line = events; line < end; line = memchr(line, '\n', end - line) + 1) {
+        unsigned members, part;
+        unsigned long entry;
+        if (*line == 'S' &&
+            sscanf(line, "S %*u %*s op %*u members %u tid %*u part %u entry %lu", &members, &part, &entry) == 3) {
+            if (part != last)
+                cut_part(records, base, last, length);
+            last = part;
+            length = (off_t)ENTRY * (entry + 1 + members);
+        }
+        if (!memchr(line, '\n', end - line))
+            break;
+    }
+    cut_part(records, base, last, length);
+}
+
+static void tidy_one(const char *records, const char *name)
+{
+    char path[PATH_MAX], base[NAME_MAX + 1];
+    struct stat s;
+    snprintf(base, sizeof base, "%.*s", (int)(strlen(name) - strlen(".events")), name);
+    const int file = open(joined(path, records, name), O_RDWR | O_CLOEXEC);
+    if (file < 0 || fstat(file, &s) || s.st_size == 0 || is_alive(base)) {
+        if (file >= 0)
+            close(file);
+        return;
+    }
+    const char *events = mmap(NULL, s.st_size, PROT_READ, MAP_PRIVATE, file, 0);
+    const char *end = events == MAP_FAILED ? NULL : memchr(events, 0, s.st_size);
+    if (end) {
+        const off_t length = end - events;
+        cut_parts(records, base, events, end);
+        munmap((void *)events, s.st_size);
+        if (ftruncate(file, length))
+            fprintf(stderr, "dsa_trace: %s: %s\n", path, strerror(errno));
+    } else if (events != MAP_FAILED)
+        munmap((void *)events, s.st_size);
+    close(file);
+}
+
+/// Cuts what is left of all recordings of a run.
+void tidy(const char *records)
+{
+    DIR *list = opendir(records);
+    for (struct dirent *e; list && (e = readdir(list));) {
+        const char *end = strrchr(e->d_name, '.');
+        if (end && strcmp(end, ".events") == 0)
+            tidy_one(records, e->d_name);
+    }
+    if (list)
+        closedir(list);
+}

@@ -5,23 +5,13 @@ use Rattle.std.proofs.lemmas.Bool.{cases_lt}
 use Rattle.dsa_settings.specs.Plan.{Group, fence_count}
 use Rattle.dsa_settings.specs.Legal.{SeparatesConflicts}
 use Rattle.dsa_audit.specs.declared.member.Member.{Member}
-use Rattle.dsa_audit.specs.declared.member.Member.TheVariants.{Known, Unknown}
 use Rattle.dsa_audit.specs.declared.missing.FencePlace.{FencePlace}
 use Rattle.dsa_audit.specs.declared.missing.FencePlace.TheVariants.{NoFence, Given, Missing}
 use Rattle.dsa_audit.specs.declared.needless.FenceUse.{FenceUse}
-use Rattle.dsa_audit.specs.Members.{AreKnownToConflict, CanConflict, KnownConflict, PossibleConflict}
+use Rattle.dsa_audit.specs.Members.{KnownConflict, PossibleConflict}
 use Rattle.dsa_audit.specs.Audits.{HasFence, IsMissing, PlaceHolds, CanFail, Shows, IsCorrected, IsReduced, Separates}
 use Rattle.dsa_audit.specs.Laws.{IsBetween, AllCanFail, Starts, Holds}
 use Rattle.dsa_audit.proofs.Flags.{fence_within}
-
-known_can : (m n : Member) → AreKnownToConflict m n → CanConflict m n
-known_can (Known t) (Known u) c = c
-known_can (Known t) (Unknown why) c = tt
-known_can (Unknown why) (Known u) c = tt
-known_can (Unknown why) (Unknown other) c = tt
-
-known_possible : (ms : List Member) (i j : ℕ) → KnownConflict ms i j → PossibleConflict ms i j
-known_possible ms i j c = (c.0, c.1, c.2, c.3, known_can c.0 c.1 c.4)
 
 spare : (ms : List Member) (bs vs : List Bool) (T : ℕ → ℕ → Type 0) (h k : Group) (uses : List FenceUse) → ((i j : ℕ) → T i j → PossibleConflict ms i j)
     → IsReduced (PossibleConflict ms) bs vs h uses k → Separates T h → Separates T k
@@ -29,12 +19,12 @@ spare ms bs vs T h k uses may reduced separates a b ordered within conflict =
     let inside : b < length h = omega (arith, reduced.less.same_length) in
     reduced.separates a b ordered inside (may a b conflict) (separates a b ordered inside conflict)
 
-given_at : (ms : List Member) (bs vs : List Bool) (g h k : Group) (uses : List FenceUse) (m : ℕ) (place : FencePlace) → length h ≡ length g → m < length g
-    → IsReduced (PossibleConflict ms) bs vs h uses k → HasFence h m → ¬ HasFence k m → PlaceHolds (KnownConflict ms) g h m place → HasFence g m
-given_at ms bs vs g h k uses m NoFence same within reduced here gone is = absurd (is.1 here)
-given_at ms bs vs g h k uses m Given same within reduced here gone is = is.0
-given_at ms bs vs g h k uses m (Missing i) same within reduced here gone is =
-    let p = reduced.separates i m is.before (omega arith) (known_possible ms i m is.conflict) (record { at = m; behind = is.before; up_to = omega arith; fence = here }) in
+given_at : (ds ms : List Member) (bs vs : List Bool) (g h k : Group) (uses : List FenceUse) (m : ℕ) (place : FencePlace) → ((i j : ℕ) → KnownConflict ds i j → PossibleConflict ms i j)
+    → length h ≡ length g → m < length g → IsReduced (PossibleConflict ms) bs vs h uses k → HasFence h m → ¬ HasFence k m → PlaceHolds (KnownConflict ds) g h m place → HasFence g m
+given_at ds ms bs vs g h k uses m NoFence can same within reduced here gone is = absurd (is.1 here)
+given_at ds ms bs vs g h k uses m Given can same within reduced here gone is = is.0
+given_at ds ms bs vs g h k uses m (Missing i) can same within reduced here gone is =
+    let p = reduced.separates i m is.before (omega arith) (can i m is.conflict) (record { at = m; behind = is.before; up_to = omega arith; fence = here }) in
     elim (cases_lt p.at m) [
       | inl before ↦ absurd (is.alone p.at p.behind before (reduced.less.fences p.at p.fence))
       | inr from ↦ let e : p.at ≡ m = omega (arith, p.up_to) in absurd (gone (subst (HasFence k) e p.fence))
@@ -50,18 +40,19 @@ same_starts ms bs vs h k uses failed b reduced can = (
       starts a fails (record { at = q.at; behind = q.behind; up_to = omega (arith, q.up_to, p.up_to); fence = q.fence })),
 )
 
-pub held : (ms : List Member) (bs vs : List Bool) (T : ℕ → ℕ → Type 0) (g h k : Group) (places : List FencePlace) (uses : List FenceUse)
-    → IsBetween ms T → IsCorrected (KnownConflict ms) g places h → IsReduced (PossibleConflict ms) bs vs h uses k → Holds T ms bs vs g h k places
-held ms bs vs T g h k places uses between corrected reduced =
+pub held : (ds ms : List Member) (bs vs : List Bool) (T : ℕ → ℕ → Type 0) (g h k : Group) (places : List FencePlace) (uses : List FenceUse)
+    → IsBetween ds ms T → IsCorrected (KnownConflict ds) g places h → IsReduced (PossibleConflict ms) bs vs h uses k → Holds T ds bs vs g h k places
+held ds ms bs vs T g h k places uses between corrected reduced =
+    let can : (i j : ℕ) → KnownConflict ds i j → PossibleConflict ms i j = λ i j c. between.possible i j (between.known i j c) in
     record {
       missing = λ i m within is.
-          let found : IsMissing (KnownConflict ms) g h i m = subst (PlaceHolds (KnownConflict ms) g h m) is (corrected.each m within) in
+          let found : IsMissing (KnownConflict ds) g h i m = subst (PlaceHolds (KnownConflict ds) g h m) is (corrected.each m within) in
           (found.before, between.known i m found.conflict, found.unseparated);
       spared = spare ms bs vs T h k uses between.possible reduced;
       given = λ m here gone.
           let w : m < length g = omega (arith, fence_within h m here, corrected.more.same_length) in
-          given_at ms bs vs g h k uses m (get_or places m NoFence) corrected.more.same_length w reduced here gone (corrected.each m w);
-      legal = spare ms bs vs (KnownConflict ms) h k uses (known_possible ms) reduced corrected.separates;
+          given_at ds ms bs vs g h k uses m (get_or places m NoFence) can corrected.more.same_length w reduced here gone (corrected.each m w);
+      legal = spare ms bs vs (KnownConflict ds) h k uses can reduced corrected.separates;
       starts = λ failed b can. same_starts ms bs vs h k uses failed b reduced can;
       shows = λ a b shows within. (
         reduced.signals a b shows (omega (arith, within, corrected.more.same_length)),

@@ -1,7 +1,7 @@
 -- Last conflicts of the members of a batch.
 use Rattle.std.proofs.Common.{◌≡◌, ℕ, ◌+◌, ◌<◌, ◌≤◌, ◌⊎◌, inl, inr, List, [], ◌∷◌, ◌++◌, length, get_or, Option, Some, None, refl, sym, ap, subst, ◌∙◌, arith}
-use Rattle.std.specs.Prelude.{slice_get}
-use Rattle.std.proofs.lemmas.Bool.{cases_eq}
+use Rattle.std.specs.Prelude.{slice_get, MatchOption}
+use Rattle.std.proofs.lemmas.Bool.{cases_eq, cases_lt}
 use Rattle.std.proofs.lemmas.Option.{slice_get-get_or, slice_get_within}
 use Rattle.dsa_ranges.specs.declared.span.Touched.{Touched}
 use Rattle.dsa_ranges.specs.Ranges.{SpansConflict}
@@ -39,6 +39,18 @@ last_inside C from before b last le begun ends greatest =
       conflict = greatest.0.1;
       last = λ k behind up_to conflict. omega (arith, behind, greatest.1 k (omega (arith, up_to, le), conflict));
     }
+
+-- the last conflict from the first member on is the last of all
+pub greatest_of : (C : ℕ → ℕ → Type 0) (k : ℕ) (o : Option ℕ) → MatchOption o (NoneFrom C 0 k k) (λ i. IsLastFrom C 0 k k i) → IsGreatest (λ a. (a < k) × C a k) o
+greatest_of C k None none = λ i (lt, conflict). none i (omega arith) lt conflict
+greatest_of C k (Some i) is = (
+  (is.ends, is.conflict),
+  λ other (lt, conflict).
+      elim (cases_lt i other) [
+        | inl later ↦ absurd (is.last other later lt conflict)
+        | inr le ↦ le
+      ],
+)
 
 -- ---- known conflicts are those of the spans that are known
 

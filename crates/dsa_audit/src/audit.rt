@@ -19,21 +19,25 @@ pub struct Audit {
     pub reduced: Reduced,
 }
 
-/// The fences that are missing by what is known of the members; and of all fences then, those that are needless whatever
-/// the members do of which nothing is known, whichever of those fail that can, and whichever software sees that have ended.
+/// The fences that are missing by the `operands` of members, the data that these are known to read and write; and of all fences then, those that
+/// are needless by all that the `members` are known to touch, their completion records too, whatever those do of which
+/// nothing is known, whichever fail that can, and whichever software sees that have ended.
 pub fn audit_fences(
     alloc: Global,
     fences: &[bool],
+    operands: &[Member],
     members: &[Member],
     effects: Effects,
 ) -> Result<Audit, AllocError>
-    requires { length fences.now ≡ length members.now }
-    ensures { IfOk result (λ a. IsAudit members.now effects.entry.fallible.now effects.entry.visible.now
+    requires operands { length fences.now ≡ length operands.now }
+    requires members { length fences.now ≡ length members.now }
+    ensures { IfOk result (λ a. IsAudit operands.now members.now effects.entry.fallible.now effects.entry.visible.now
         fences.now a) }
 {
-    let known = known_lasts(alloc, members)?;
-    let corrected = add_missing(alloc, fences, &KnownConflicts { members }, &known)?;
-    let lasts = possible_lasts(alloc, members, &known)?;
+    let known = known_lasts(alloc, operands)?;
+    let corrected = add_missing(alloc, fences, &KnownConflicts { members: operands }, &known)?;
+    drop(known);
+    let lasts = possible_lasts(alloc, members, &known_lasts(alloc, members)?)?;
     let possible = PossibleConflicts { members };
     let reduced = drop_needless(alloc, &corrected.fences, &possible, &lasts, effects)?;
     Ok(Audit { corrected, reduced })

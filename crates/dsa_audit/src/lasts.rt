@@ -9,6 +9,7 @@ ghost use Rattle.dsa_audit.specs.Members.{FitsMemory, IsUnknownAt, KnownConflict
 ghost use Rattle.dsa_audit.specs.Steps.{AreLasts};
 
 use crate::member::Member;
+use crate::relation::{KnownConflicts, last_conflict};
 use arrayvec::ArrayVec;
 use dsa_conflicts::Sweep;
 use dsa_descriptor::are_addressable;
@@ -156,6 +157,20 @@ pub(crate) fn possible_lasts(
     for k in 0..known.len() {
         lasts.push(possible_last(members, k, unknown, known[k]))?;
         unknown = last_unknown(members, k, unknown);
+    }
+    Ok(lasts)
+}
+
+/// For each member the last one before it that is known to conflict with it.
+pub fn all_lasts(alloc: Global, members: &[Member]) -> Result<Vec<Option<usize>>, AllocError>
+    ensures count { IfOk result (λ lasts. length lasts.items ≡ length members.now) }
+    ensures lasts { IfOk result (λ lasts. AreLasts (KnownConflict members.now) lasts.items) }
+{
+    let known = known_lasts(alloc, members)?;
+    let relation = KnownConflicts { members };
+    let mut lasts = Vec::with_capacity(alloc, members.len())?;
+    for k in 0..members.len() {
+        lasts.push(last_conflict(&relation, &known, 0, k, k))?;
     }
     Ok(lasts)
 }

@@ -11,7 +11,7 @@ mod relation;
 
 pub use audit::{Audit, assumptions_free, audit_fences, audits_hold, separated_is_legal};
 pub use hazard::hazard_between;
-pub use lasts::known_lasts;
+pub use lasts::{all_lasts, known_lasts};
 pub use member::{Member, Unseen, are_known_to_conflict, can_conflict};
 pub use missing::{Corrected, FencePlace, add_missing};
 pub use needless::{Effects, FenceUse, Reduced, drop_needless};

@@ -8,6 +8,8 @@ use dsa_ranges::{Touched, in_conflict};
 /// Why a member of a recorded batch is not looked at.
 #[derive(Clone, Copy, Debug, PartialEq, Eq)]
 pub enum Unseen {
+    /// Its 64 bytes are all zero, as in memory that nobody wrote.
+    Blank,
     /// What its operation reads and writes is not known here.
     Operation,
     /// It is a batch in a batch.

@@ -1,9 +1,11 @@
 -- Each finding of a report is of an entry.
-use Rattle.std.proofs.Common.{◌≡◌, ℕ, zero, suc, ◌+◌, ◌-◌, ◌<◌, ◌≤◌, List, [], ◌∷◌, ◌++◌, Some, length, get_or, slice_get, drop, min, refl, sym, ap, subst, ◌∙◌, arith}
+use Rattle.std.specs.Prelude.{nat_lt, if◌then◌else◌}
+use Rattle.std.proofs.lemmas.Option.{slice_get-get_or}
+use Rattle.std.proofs.Common.{Bool, true, false, Option, None, ◌≡◌, ℕ, zero, suc, ◌+◌, ◌-◌, ◌<◌, ◌≤◌, List, [], ◌∷◌, ◌++◌, Some, length, get_or, slice_get, drop, min, refl, sym, ap, subst, ◌∙◌, arith}
 use Rattle.std.specs.List.{AllByRecursion}
 use Rattle.std.proofs.lemmas.List.{length-take, length-drop}
 use Rattle.dsa_descriptor.specs.Lists.{entries}
-use Rattle.dsa_audit.specs.declared.member.Member.{Member}
+use Rattle.dsa_audit.specs.declared.member.Member.{Member as KnownMember}
 use Rattle.dsa_audit.specs.declared.member.Member.TheVariants as member
 use Rattle.dsa_audit.specs.declared.member.Unseen.TheVariants.{Operation}
 use Rattle.dsa_audit.specs.declared.missing.FencePlace.{FencePlace}
@@ -12,6 +14,7 @@ use Rattle.dsa_audit.specs.declared.needless.FenceUse.{FenceUse}
 use Rattle.dsa_audit.specs.declared.needless.FenceUse.TheVariants as fence_use
 use Rattle.dsa_audit.specs.Members.{KnownConflict, PossibleConflict}
 use Rattle.dsa_audit.specs.Audits.{PlaceHolds, UseHolds}
+use Rattle.dsa_audit.specs.Steps.{AreLasts}
 use Rattle.dsa_recording.specs.declared.assumptions.Assumptions.{Assumptions}
 use Rattle.dsa_recording.specs.declared.stream.Submission.{Submission}
 use Rattle.dsa_recording.specs.declared.submission.Audited.{Audited}
@@ -19,8 +22,15 @@ use Rattle.dsa_recording.specs.declared.findings.Finding.{Finding}
 use Rattle.dsa_recording.specs.declared.report.Report.{Report}
 use Rattle.dsa_recording.specs.Streams.{end_of}
 use Rattle.dsa_recording.specs.Submissions.{IsWithin, IsAudited, AreAudited, members_in}
-use Rattle.dsa_recording.specs.Findings.{unseen_kind, missing_kind, use_kind, finding_of, member_findings, findings_upto, submission_findings, recording_findings}
-use Rattle.dsa_recording.specs.Details.{IsOf, IsPlaced}
+use Rattle.dsa_recording.specs.declared.findings.FindingKind.{FindingKind}
+use Rattle.dsa_recording.specs.declared.findings.FindingKind.TheVariants.{Flawed}
+use Rattle.dsa_recording.specs.declared.findings.Flaw.{Flaw}
+use Rattle.dsa_recording.specs.declared.findings.Flaw.TheVariants.{OverwritesBatch, DataOverRecord, MisalignedRecord, SmallBatch, FenceWithoutEffect}
+use Rattle.dsa_recording.specs.declared.findings.Place.{Place}
+use Rattle.dsa_recording.specs.declared.findings.Place.TheVariants.{Head, Member}
+use Rattle.dsa_recording.specs.Flaws.{no_flaws}
+use Rattle.dsa_recording.specs.Findings.{unseen_kind, missing_kind, use_kind, shared_kind, flaw_kind, head_kinds, member_kinds, all_found, head_findings, findings_upto, submission_findings, recording_findings}
+use Rattle.dsa_recording.specs.Details.{IsOf, IsPlaceOf, IsPlaced, entry_at}
 use Rattle.dsa_recording.specs.Reports.{IsReport}
 use Rattle.dsa_recording.proofs.Within.{each_within, has_all}
 
@@ -34,53 +44,121 @@ all_map P Q (x ∷ xs) step (here, all) = (step x here, all_map P Q xs step all)
 
 -- ---- in one submission
 
-record IsAt (number : ℕ) (ms : List Member) (f : Finding) : Type 0 where
+-- the place is the descriptor, or one of so many members
+abbrev IsInside : ℕ → Place → Type 0
+IsInside count Head = Unit
+IsInside count (Member k) = k < count
+
+record IsAt (number : ℕ) (ms : List KnownMember) (f : Finding) : Type 0 where
   pub number_is : f.submission ≡ number
-  pub member_is : f.member < length ms
-  pub kind : IsOf ms f.member f.kind
+  pub place : IsInside (length ms) f.place
+  pub kind : IsOf ms f.place f.kind
 
-found_unseen : (number k : ℕ) (ms : List Member) (m : Member) → k < length ms → AllByRecursion (IsAt number ms) (finding_of number k (unseen_kind m))
-found_unseen number k ms (member.Known t) lt = tt
-found_unseen number k ms (member.Unknown why) lt = (record { number_is = refl; member_is = lt; kind = tt }, tt)
+-- what may be found fits the place
+abbrev Fits : List KnownMember → Place → Option FindingKind → Type 0
+Fits ms place None = Unit
+Fits ms place (Some kind) = IsOf ms place kind
 
-found_missing : (number k : ℕ) (ms : List Member) (g h : List _) (p : FencePlace) → k < length ms → PlaceHolds (KnownConflict ms) g h k p
-    → AllByRecursion (IsAt number ms) (finding_of number k (missing_kind p))
-found_missing number k ms g h fence_place.NoFence lt holds = tt
-found_missing number k ms g h fence_place.Given lt holds = tt
-found_missing number k ms g h (fence_place.Missing i) lt holds = (record { number_is = refl; member_is = lt; kind = (holds.before, lt, holds.conflict) }, tt)
+found_all : (number : ℕ) (ms : List KnownMember) (place : Place) (kinds : List (Option FindingKind)) → IsInside (length ms) place
+    → AllByRecursion (Fits ms place) kinds → AllByRecursion (IsAt number ms) (all_found number place kinds)
+found_all number ms place [] inside fit = tt
+found_all number ms place (None ∷ kinds) inside (here, fit) = found_all number ms place kinds inside fit
+found_all number ms place (Some kind ∷ kinds) inside (here, fit) = (record { number_is = refl; place = inside; kind = here }, found_all number ms place kinds inside fit)
 
-found_use : (number k : ℕ) (ms : List Member) (bs vs g h : List _) (u : FenceUse) → k < length ms → length ms ≡ length g → UseHolds (PossibleConflict ms) bs vs g h k u → AllByRecursion (IsAt number ms) (finding_of number k (use_kind u))
-found_use number k ms bs vs g h fence_use.NoFence lt count holds = tt
-found_use number k ms bs vs g h (fence_use.Guarding m) lt count (spared, first, mute) = (record { number_is = refl; member_is = lt; kind = first.guard.before }, tt)
-found_use number k ms bs vs g h (fence_use.Signalling j) lt count (spared, safe, first) =
-    (record { number_is = refl; member_is = lt; kind = (first.signal.from, omega (arith, count, first.signal.within)) }, tt)
-found_use number k ms bs vs g h (fence_use.GuardingAndSignalling m j) lt count (spared, guards, signals) =
-    (record { number_is = refl; member_is = lt; kind = (guards.guard.before, signals.signal.from, omega (arith, count, signals.signal.within)) }, tt)
-found_use number k ms bs vs g h fence_use.Needless lt count holds = (record { number_is = refl; member_is = lt; kind = tt }, tt)
-found_use number k ms bs vs g h (fence_use.Needed i j) lt count holds = tt
+fits_unseen : (k : ℕ) (ms : List KnownMember) (m : KnownMember) → Fits ms (Member k) (unseen_kind m)
+fits_unseen k ms (member.Known t) = tt
+fits_unseen k ms (member.Unknown why) = tt
+
+fits_flaw : (ms : List KnownMember) (place : Place) (flaw : Flaw) (is_there : Bool) → IsOf ms place (Flawed flaw) → Fits ms place (flaw_kind flaw is_there)
+fits_flaw ms place flaw true fits = fits
+fits_flaw ms place flaw false fits = tt
+
+fits_missing : (k : ℕ) (ms : List KnownMember) (g h : List _) (p : FencePlace) → k < length ms → PlaceHolds (KnownConflict ms) g h k p
+    → Fits ms (Member k) (missing_kind p)
+fits_missing k ms g h fence_place.NoFence lt holds = tt
+fits_missing k ms g h fence_place.Given lt holds = tt
+fits_missing k ms g h (fence_place.Missing i) lt holds = (holds.before, lt, holds.conflict)
+
+fits_needless : (ms : List KnownMember) (k : ℕ) (is_batch : Bool) → Fits ms (Member k) (use_kind is_batch fence_use.Needless)
+fits_needless ms k true = tt
+fits_needless ms k false = tt
+
+fits_use : (k : ℕ) (is_batch : Bool) (ms : List KnownMember) (C : ℕ → ℕ → Type 0) (bs vs g h : List _) (u : FenceUse) → length ms ≡ length g → UseHolds C bs vs g h k u
+    → Fits ms (Member k) (use_kind is_batch u)
+fits_use k is_batch ms C bs vs g h fence_use.NoFence count holds = tt
+fits_use k is_batch ms C bs vs g h (fence_use.Guarding m) count (spared, first, mute) = first.guard.before
+fits_use k is_batch ms C bs vs g h (fence_use.Signalling j) count (spared, safe, first) = (first.signal.from, omega (arith, count, first.signal.within))
+fits_use k is_batch ms C bs vs g h (fence_use.GuardingAndSignalling m j) count (spared, guards, signals) =
+    (guards.guard.before, signals.signal.from, omega (arith, count, signals.signal.within))
+fits_use k is_batch ms C bs vs g h fence_use.Needless count holds = fits_needless ms k is_batch
+fits_use k is_batch ms C bs vs g h (fence_use.Needed i j) count holds = tt
+
+-- the last conflict of a member is an earlier one
+fits_shared : (k : ℕ) (ms rs : List KnownMember) (shared : List (Option ℕ)) (o : Option ℕ) → AreLasts (KnownConflict rs) shared → slice_get shared k ≡ Some o
+    → Fits ms (Member k) (shared_kind o)
+fits_shared k ms rs shared None lasts at = tt
+fits_shared k ms rs shared (Some i) lasts at = (lasts k (Some i) at).0.0
 
 found_upto : (assumed : Assumptions) (es : List (List ℕ)) (s : Submission) (number : ℕ) (a : Audited) (k : ℕ) → IsAudited assumed es s a → k ≤ length a.members.items
-    → AllByRecursion (IsAt number a.members.items) (findings_upto number a k)
+    → AllByRecursion (IsAt number a.operands.items) (findings_upto number a k)
 found_upto assumed es s number a zero is le = tt
 found_upto assumed es s number a (suc k) is le =
-    let ms : List Member = a.members.items in
-    let m : Member = get_or ms k (member.Unknown Operation) in
+    let ms : List KnownMember = a.operands.items in
     let p : FencePlace = get_or a.audit.corrected.places.items k fence_place.NoFence in
     let u : FenceUse = get_or a.audit.reduced.uses.items k fence_use.NoFence in
-    let lt : k < length ms = omega (arith, le) in
     let has = has_all assumed es s a is in
+    let members : length a.members.items ≡ length (members_in es s) = is.members.count in
+    let operands : length ms ≡ length (members_in es s) = is.operands.count in
+    let lt : k < length ms = omega (arith, le, members, operands) in
     let places : length a.audit.corrected.places.items ≡ length a.fences.items = is.audit.corrected.count in
-    let within : k < length a.fences.items = omega (arith, lt, has.places, places) in
+    let within : k < length a.fences.items = omega (arith, le, has.places, places) in
     let holds = is.audit.corrected.each k within in
     let more : length a.audit.corrected.fences.items ≡ length a.fences.items = is.audit.corrected.more.same_length in
     let used = is.audit.reduced.each k (omega (arith, within, more)) in
-    let here : AllByRecursion (IsAt number ms) (member_findings number k m p u) =
-    all_append (IsAt number ms) (finding_of number k (unseen_kind m) ++ finding_of number k (missing_kind p)) (finding_of number k (use_kind u))
-    (all_append (IsAt number ms) (finding_of number k (unseen_kind m)) (finding_of number k (missing_kind p))
-    (found_unseen number k ms m lt) (found_missing number k ms a.fences.items a.audit.corrected.fences.items p lt holds))
-    (found_use number k ms a.fallible.items a.visible.items a.audit.corrected.fences.items a.audit.reduced.fences.items u lt (omega (arith, has.places, places, more)) used) in
-    all_append (IsAt number ms) (findings_upto number a k) (member_findings number k m p u)
-    (found_upto assumed es s number a k is (omega (arith, le))) here
+    let o : Option ℕ = get_or a.shared.items k None in
+    let there : slice_get a.shared.items k ≡ Some o = slice_get-get_or a.shared.items k None (omega (arith, le, has.shared)) in
+    let kinds : AllByRecursion (Fits ms (Member k)) (member_kinds a k) = (
+      fits_unseen k ms (get_or a.members.items k (member.Unknown Operation)),
+      (
+        fits_shared k ms is.shared.records a.shared.items o is.shared.lasts there,
+        (
+          fits_flaw ms (Member k) OverwritesBatch (get_or a.flaws.items k no_flaws).overwrites_batch tt,
+          (
+            fits_flaw ms (Member k) DataOverRecord (get_or a.flaws.items k no_flaws).data_over_record tt,
+            (
+              fits_flaw ms (Member k) MisalignedRecord (get_or a.flaws.items k no_flaws).misaligned_record tt,
+              (
+                fits_missing k ms a.fences.items a.audit.corrected.fences.items p lt holds,
+                (
+                  fits_use k a.is_batch ms (PossibleConflict a.members.items) a.fallible.items a.visible.items a.audit.corrected.fences.items a.audit.reduced.fences.items u
+                      (omega (arith, members, operands, has.places, places, more)) used,
+                  tt,
+                ),
+              ),
+            ),
+          ),
+        ),
+      ),
+    ) in
+    all_append (IsAt number ms) (findings_upto number a k) (all_found number (Member k) (member_kinds a k))
+    (found_upto assumed es s number a k is (omega (arith, le))) (found_all number ms (Member k) (member_kinds a k) lt kinds)
+
+found_head : (b : Bool) (number : ℕ) (ms : List KnownMember) (a : Audited) → AllByRecursion (IsAt number ms) (if b then all_found number Head (head_kinds a) else [])
+found_head true number ms a =
+    found_all number ms Head (head_kinds a) tt (
+      fits_flaw ms Head (SmallBatch (length a.members.items)) (nat_lt (length a.members.items) 2) tt,
+      (
+        fits_flaw ms Head MisalignedRecord a.is_head_misaligned tt,
+        (fits_flaw ms Head FenceWithoutEffect a.is_head_fenced tt, tt),
+      ),
+    )
+found_head false number ms a = tt
+
+found_in : (assumed : Assumptions) (es : List (List ℕ)) (s : Submission) (number : ℕ) (a : Audited) → IsAudited assumed es s a
+    → AllByRecursion (IsAt number a.operands.items) (submission_findings number a)
+found_in assumed es s number a is =
+    all_append (IsAt number a.operands.items) (head_findings number a) (findings_upto number a (length a.members.items))
+    (found_head a.is_batch number a.operands.items a) (found_upto assumed es s number a (length a.members.items) is (omega arith))
 
 -- ---- in submissions, of which the first has this number
 
@@ -93,10 +171,10 @@ record IsFrom (assumed : Assumptions) (es : List (List ℕ)) (number : ℕ) (ss 
   pub audited_is : slice_get audits at ≡ Some audited
   pub is_within : IsWithin es submission
   pub is_audited : IsAudited assumed es submission audited
-  pub is_at : IsAt f.submission audited.members.items f
+  pub is_at : IsAt f.submission audited.operands.items f
 
 from_first : (assumed : Assumptions) (es : List (List ℕ)) (number : ℕ) (s : Submission) (ss : List Submission) (a : Audited) (audits : List Audited) → IsWithin es s → IsAudited assumed es s a
-    → (f : Finding) → IsAt number a.members.items f → IsFrom assumed es number (s ∷ ss) (a ∷ audits) f
+    → (f : Finding) → IsAt number a.operands.items f → IsFrom assumed es number (s ∷ ss) (a ∷ audits) f
 from_first assumed es number s ss a audits within is f at = record {
   at = 0;
   submission = s;
@@ -106,7 +184,7 @@ from_first assumed es number s ss a audits within is f at = record {
   audited_is = refl;
   is_within = within;
   is_audited = is;
-  is_at = record { number_is = refl; member_is = at.member_is; kind = at.kind };
+  is_at = record { number_is = refl; place = at.place; kind = at.kind };
 }
 
 from_next : (assumed : Assumptions) (es : List (List ℕ)) (number : ℕ) (s : Submission) (ss : List Submission) (a : Audited) (audits : List Audited)
@@ -128,8 +206,8 @@ found_from : (assumed : Assumptions) (es : List (List ℕ)) (number : ℕ) (ss :
 found_from assumed es number [] [] within all = tt
 found_from assumed es number (s ∷ ss) (a ∷ audits) (inside, within) (is, all) =
     all_append (IsFrom assumed es number (s ∷ ss) (a ∷ audits)) (submission_findings number a) (recording_findings (suc number) audits)
-    (all_map (IsAt number a.members.items) (IsFrom assumed es number (s ∷ ss) (a ∷ audits)) (submission_findings number a)
-    (from_first assumed es number s ss a audits inside is) (found_upto assumed es s number a (length a.members.items) is (omega arith)))
+    (all_map (IsAt number a.operands.items) (IsFrom assumed es number (s ∷ ss) (a ∷ audits)) (submission_findings number a)
+    (from_first assumed es number s ss a audits inside is) (found_in assumed es s number a is))
     (all_map (IsFrom assumed es (suc number) ss audits) (IsFrom assumed es number (s ∷ ss) (a ∷ audits)) (recording_findings (suc number) audits)
     (from_next assumed es number s ss a audits) (found_from assumed es (suc number) ss audits within all))
 found_from assumed es number [] (a ∷ audits) within all = absurd all
@@ -145,16 +223,27 @@ entry_within assumed es s a k within is lt =
     let count : length a.members.items ≡ length (members_in es s) = is.members.count in
     (omega (arith, count, size, lt), omega (arith, count, rest, size, lt, ends))
 
+-- the place is one of the submission, and an entry
+place_within : (assumed : Assumptions) (es : List (List ℕ)) (s : Submission) (a : Audited) (place : Place) → IsWithin es s → IsAudited assumed es s a → IsInside (length a.operands.items) place
+    → IsPlaceOf s place × (entry_at s place < length es)
+place_within assumed es s a Head within is inside = (tt, within.head)
+place_within assumed es s a (Member k) within is inside =
+    let members : length a.members.items ≡ length (members_in es s) = is.members.count in
+    let operands : length a.operands.items ≡ length (members_in es s) = is.operands.count in
+    let lt : k < length a.operands.items = inside in
+    let both = entry_within assumed es s a k within is (omega (arith, lt, members, operands)) in
+    (both.0, both.1)
+
 from_report : (assumed : Assumptions) (es : List (List ℕ)) (r : Report) (f : Finding) → IsFrom assumed es 0 r.submissions.items r.audits.items f → IsPlaced es r f
 from_report assumed es r f there =
     let number : f.submission ≡ there.at = there.number_is ∙ (omega arith) in
-    let inside = entry_within assumed es there.submission there.audited f.member there.is_within there.is_audited there.is_at.member_is in
+    let inside = place_within assumed es there.submission there.audited f.place there.is_within there.is_audited there.is_at.place in
     let s_is : slice_get r.submissions.items f.submission ≡ Some there.submission = ap (slice_get r.submissions.items) number ∙ there.submission_is in
     let a_is : slice_get r.audits.items f.submission ≡ Some there.audited = ap (slice_get r.audits.items) number ∙ there.audited_is in (
       there.submission,
-      there.audited.members.items,
+      there.audited.operands.items,
       record { submission = s_is; audited = there.audited; audited_is = a_is; members = refl },
-      record { member = inside.0; within = inside.1; head = there.is_within.head; kind = there.is_at.kind },
+      record { place = inside.0; within = inside.1; head = there.is_within.head; kind = there.is_at.kind },
     )
 
 pub report_placed : (assumed : Assumptions) (bytes : List ℕ) (r : Report) → IsReport assumed bytes r → AllByRecursion (IsPlaced (entries bytes) r) r.findings.items

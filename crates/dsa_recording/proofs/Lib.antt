@@ -16,3 +16,4 @@ pub mod StreamOf
 pub mod ListingLines
 pub mod StandIns
 pub mod ListingRead
+mod Flawed

@@ -1,5 +1,5 @@
 -- The entries of listed descriptors.
-use Rattle.std.proofs.Common.{◌≡◌, ℕ, ◌+◌, ◌*◌, ◌^◌, ◌<◌, List, [], ◌∷◌, ◌++◌, Some, None, refl, sym, subst, ◌∙◌, arith}
+use Rattle.std.proofs.Common.{◌≡◌, ℕ, ◌+◌, ◌*◌, ◌^◌, ◌<◌, List, [], ◌∷◌, ◌++◌, Some, None, replicate, refl, sym, ap, subst, ◌∙◌, arith}
 use Rattle.std.specs.Prelude.{Option, bit_and, if◌then◌else◌, ◌==◌}
 use Rattle.std.specs.List.{AllByRecursion}
 use Rattle.dsa_descriptor.specs.declared.descriptor.Descriptor.{Descriptor}
@@ -19,7 +19,7 @@ use Rattle.dsa_descriptor.proofs.Rules.{spelling_stands, op_spelt}
 use Rattle.dsa_ranges.specs.declared.span.Touched.{Touched}
 use Rattle.dsa_ranges.specs.Ranges.{read_spans, written_spans}
 use Rattle.dsa_audit.specs.declared.member.Unseen.{Unseen}
-use Rattle.dsa_audit.specs.declared.member.Unseen.TheVariants.{Operation, Nested, Owner, Empty, Wrap}
+use Rattle.dsa_audit.specs.declared.member.Unseen.TheVariants.{Blank, Operation, Nested, Owner, Empty, Wrap}
 use Rattle.dsa_audit.specs.declared.member.Member.{Member}
 use Rattle.dsa_audit.specs.declared.member.Member.TheVariants.{Known, Unknown}
 use Rattle.dsa_recording.specs.Entries.{sources_of, targets_of, entry_reads, entry_writes, Applies, IsMember}
@@ -36,6 +36,18 @@ unlike_batch (Compare src src2 expected) e = absurd (omega (arith, e))
 unlike_batch (ComparePattern src pattern expected) e = absurd (omega (arith, e))
 unlike_batch (ApplyDelta delta dst record_size) e = absurd (omega (arith, e))
 unlike_batch (Dualcast src dst dst2) e = absurd (omega (arith, e))
+
+unlike_blank : (op : Op) → (code_of op ≡ 0) → ⊥
+unlike_blank (Move src dst) e = absurd (omega (arith, e))
+unlike_blank (Fill pattern dst) e = absurd (omega (arith, e))
+unlike_blank (Compare src src2 expected) e = absurd (omega (arith, e))
+unlike_blank (ComparePattern src pattern expected) e = absurd (omega (arith, e))
+unlike_blank (ApplyDelta delta dst record_size) e = absurd (omega (arith, e))
+unlike_blank (Dualcast src dst dst2) e = absurd (omega (arith, e))
+
+blank_code : code_at (replicate 64 0) ≡ 0
+unfolding u32_at
+blank_code = refl
 
 reads_by : (o : Option Op) (n : ℕ) (op : Op) (size : ℕ) → o ≡ Some op → n ≡ size → sources_of o n ≡ sources op size
 reads_by o n op size a b = rw (a, b) refl
@@ -73,6 +85,7 @@ writes f h =
     rw (records, ranges) refl
 
 none : (f : Fields) (head : List ℕ) → IsListed f → AgreeOnOwner head (spelling f) → (why : Unseen) → Applies head (spelling f) why → ⊥
+none f head h agree Blank applies = unlike_blank f.op (sym (code f h) ∙ (ap code_at applies ∙ blank_code))
 none f head h agree Operation applies = some_is_some (op_at (spelling f)) f.op (op_spelt f h) applies.0
 none f head h agree Nested applies = unlike_batch f.op (sym (code f h) ∙ applies)
 none f head h agree Owner applies = applies agree

@@ -6,7 +6,7 @@ use Rattle.std.specs.List.{AllByRecursion}
 use Rattle.dsa_audit.specs.declared.member.Member.{Member}
 use Rattle.dsa_audit.specs.declared.member.Member.TheVariants.{Known, Unknown}
 use Rattle.dsa_audit.specs.declared.member.Unseen.{Unseen}
-use Rattle.dsa_audit.specs.declared.member.Unseen.TheVariants.{Operation, Nested, Owner, Empty, Wrap}
+use Rattle.dsa_audit.specs.declared.member.Unseen.TheVariants.{Blank, Operation, Nested, Owner, Empty, Wrap}
 use Rattle.dsa_descriptor.specs.declared.descriptor.Descriptor.{Descriptor}
 use Rattle.dsa_descriptor.specs.declared.op.Op.{Op}
 use Rattle.dsa_descriptor.specs.Descriptors.{fields}
@@ -36,6 +36,7 @@ decimal_line : (n : ℕ) → is_line (decimal n) ≡ true
 decimal_line n = digits_line 10 n (omega arith) (omega arith)
 
 unseen_line : (why : Unseen) (code : ℕ) → is_line (unseen_words why code) ≡ true
+unseen_line Blank code = refl
 unseen_line Operation code =
     line_append (codes "not looked at: operation 0x") (digits 16 false code) refl (digits_line 16 code (omega arith) (omega arith))
 unseen_line Nested code = refl

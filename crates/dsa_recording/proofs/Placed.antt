@@ -12,7 +12,7 @@ use Rattle.dsa_recording.specs.declared.detail.Cause.TheVariants as cause
 use Rattle.dsa_recording.specs.Details.{IsBehind, HasEntry, Describes, IsPlaced, IsDetail}
 
 pub placed : (es : List (List ℕ)) (r : Report) (f : Finding) (s : Submission) (a : Audited) (ms : List Member) (o : Option Detail)
-    → slice_get r.submissions.items f.submission ≡ Some s → slice_get r.audits.items f.submission ≡ Some a → a.members.items ≡ ms
+    → slice_get r.submissions.items f.submission ≡ Some s → slice_get r.audits.items f.submission ≡ Some a → a.operands.items ≡ ms
     → MatchOption o (¬ HasEntry es s ms f) (Describes es s ms f) → MatchOption o (¬ IsPlaced es r f) (IsDetail es r f)
 placed es r f s a ms (Some d) i j e says = (s, ms, record { submission = i; audited = a; audited_is = j; members = e }, says)
 placed es r f s a ms None i j e none = λ (t, ns, there, has).
@@ -20,7 +20,7 @@ placed es r f s a ms None i j e none = λ (t, ns, there, has).
     let second = there.audited_is in
     let one : t ≡ s = cc in
     let other : there.audited ≡ a = cc in
-    let same : ns ≡ ms = sym there.members ∙ (ap (λ (z : Audited). z.members.items) other ∙ e) in
+    let same : ns ≡ ms = sym there.members ∙ (ap (λ (z : Audited). z.operands.items) other ∙ e) in
     none (subst (λ (z : Submission). HasEntry es z ms f) one (subst (λ (z : List Member). HasEntry es t z f) same has))
 
 -- of entries what holds of members
@@ -31,3 +31,4 @@ behind_entry first member entry (cause.GuardingFence earlier) e lt = tt
 behind_entry first member entry (cause.SignallingFence awaited) e lt = tt
 behind_entry first member entry (cause.GuardingAndSignallingFence earlier awaited) e lt = tt
 behind_entry first member entry cause.NeedlessFence e lt = tt
+behind_entry first member entry (cause.Flawed flaw) e lt = tt

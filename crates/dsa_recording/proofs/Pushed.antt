@@ -1,19 +1,15 @@
 -- One more audit, and the findings of one more member.
-use Rattle.std.proofs.Common.{◌≡◌, ℕ, suc, ◌+◌, ◌<◌, ◌≤◌, List, [], ◌∷◌, ◌++◌, length, get_or, take, refl, ap, subst, ◌∙◌, arith}
-use Rattle.std.proofs.lemmas.List.{take_more, take_all, get_or_default, append_assoc}
-use Rattle.dsa_audit.specs.declared.member.Member.{Member}
-use Rattle.dsa_audit.specs.declared.member.Member.TheVariants.{Unknown}
-use Rattle.dsa_audit.specs.declared.member.Unseen.TheVariants.{Operation}
-use Rattle.dsa_audit.specs.declared.missing.FencePlace.{FencePlace}
-use Rattle.dsa_audit.specs.declared.missing.FencePlace.TheVariants as fence_place
-use Rattle.dsa_audit.specs.declared.needless.FenceUse.{FenceUse}
-use Rattle.dsa_audit.specs.declared.needless.FenceUse.TheVariants as fence_use
+use Rattle.std.proofs.Common.{◌≡◌, ℕ, zero, suc, ◌+◌, ◌<◌, ◌≤◌, List, [], ◌∷◌, ◌++◌, Option, None, length, get_or, take, sym, ap, subst, ◌∙◌, arith}
+use Rattle.std.proofs.lemmas.List.{take_more, take_all, append_assoc, append-nil}
 use Rattle.dsa_recording.specs.declared.assumptions.Assumptions.{Assumptions}
 use Rattle.dsa_recording.specs.declared.findings.Finding.{Finding}
 use Rattle.dsa_recording.specs.declared.stream.Submission.{Submission}
 use Rattle.dsa_recording.specs.declared.submission.Audited.{Audited}
 use Rattle.dsa_recording.specs.Submissions.{IsAudited, AreAudited}
-use Rattle.dsa_recording.specs.Findings.{member_findings, findings_upto, HasAll}
+use Rattle.dsa_recording.specs.declared.findings.FindingKind.{FindingKind}
+use Rattle.dsa_recording.specs.declared.findings.Place.{Place}
+use Rattle.dsa_recording.specs.declared.findings.Place.TheVariants.{Member}
+use Rattle.dsa_recording.specs.Findings.{finding_of, all_found, member_kinds, findings_upto}
 
 -- ---- audits
 
@@ -35,18 +31,31 @@ all_audited assumed es ss i audits all le = subst (λ (z : List Submission). Are
 
 -- ---- findings
 
-same_findings : (number k : ℕ) (m m' : Member) (p p' : FencePlace) (u u' : FenceUse) → m ≡ m' → p ≡ p' → u ≡ u' → member_findings number k m p u ≡ member_findings number k m' p' u'
-same_findings number k m m' p p' u u' a b c = rw (a, b, c) refl
+-- what is found of a place, kind by kind
+pub found_more : (number : ℕ) (place : Place) (kinds : List (Option FindingKind)) (i : ℕ) → i < length kinds
+    → all_found number place (take (suc i) kinds) ≡ all_found number place (take i kinds) ++ finding_of number place (get_or kinds i None)
+found_more number place [] i lt = absurd (omega arith)
+found_more number place (k ∷ kinds) zero lt = append-nil (finding_of number place k)
+found_more number place (k ∷ kinds) (suc i) lt =
+    ap (λ (l : List Finding). finding_of number place k ++ l) (found_more number place kinds i (omega (arith, lt)))
+    ∙ sym (append_assoc (finding_of number place k) (all_found number place (take i kinds)) (finding_of number place (get_or kinds i None)))
 
-pub member_pushed : (number : ℕ) (a : Audited) (k : ℕ) (old before after : List Finding) (m : Member) (p : FencePlace) (u : FenceUse) → HasAll a → k < length a.members.items
-    → before ≡ old ++ findings_upto number a k → after ≡ before ++ member_findings number k m p u → m ≡ get_or a.members.items k m
-    → p ≡ get_or a.audit.corrected.places.items k p → u ≡ get_or a.audit.reduced.uses.items k u → after ≡ old ++ findings_upto number a (k + 1)
-member_pushed number a k old before after m p u has lt so_far now is_m is_p is_u =
-    let em = is_m ∙ get_or_default a.members.items k m (Unknown Operation) lt in
-    let ep = is_p ∙ get_or_default a.audit.corrected.places.items k p fence_place.NoFence (omega (arith, lt, has.places)) in
-    let eu = is_u ∙ get_or_default a.audit.reduced.uses.items k u fence_use.NoFence (omega (arith, lt, has.uses)) in
-    let found : List Finding = member_findings number k (get_or a.members.items k (Unknown Operation)) (get_or a.audit.corrected.places.items k fence_place.NoFence) (get_or a.audit.reduced.uses.items k fence_use.NoFence) in
-    let same : member_findings number k m p u ≡ found = same_findings number k m (get_or a.members.items k (Unknown Operation)) p (get_or a.audit.corrected.places.items k fence_place.NoFence) u (get_or a.audit.reduced.uses.items k fence_use.NoFence) em ep eu in
-    let here : after ≡ old ++ findings_upto number a (suc k) = now ∙ (ap (λ (l : List Finding). l ++ member_findings number k m p u) so_far ∙ (ap (λ (l : List Finding). (old ++ findings_upto number a k) ++ l) same ∙ append_assoc old (findings_upto number a k) found)) in
+pub kind_pushed : (number : ℕ) (place : Place) (kinds : List (Option FindingKind)) (i : ℕ) (old before after : List Finding) → i < length kinds
+    → before ≡ old ++ all_found number place (take i kinds) → after ≡ before ++ finding_of number place (get_or kinds i None)
+    → after ≡ old ++ all_found number place (take (i + 1) kinds)
+kind_pushed number place kinds i old before after lt so_far now =
+    let one : List Finding = finding_of number place (get_or kinds i None) in
+    let here : after ≡ old ++ all_found number place (take (suc i) kinds) = now ∙ (ap (λ (l : List Finding). l ++ one) so_far
+    ∙ (append_assoc old (all_found number place (take i kinds)) one ∙ ap (λ (l : List Finding). old ++ l) (sym (found_more number place kinds i lt)))) in
+    let next : suc i ≡ i + 1 = omega arith in
+    subst (λ (n : ℕ). after ≡ old ++ all_found number place (take n kinds)) next here
+
+pub member_pushed : (number : ℕ) (a : Audited) (k : ℕ) (old before after : List Finding) (kinds : List (Option FindingKind))
+    → before ≡ old ++ findings_upto number a k → kinds ≡ member_kinds a k → after ≡ before ++ all_found number (Member k) kinds → after ≡ old ++ findings_upto number a (k + 1)
+member_pushed number a k old before after kinds so_far are now =
+    let found : List Finding = all_found number (Member k) (member_kinds a k) in
+    let same : all_found number (Member k) kinds ≡ found = ap (all_found number (Member k)) are in
+    let here : after ≡ old ++ findings_upto number a (suc k) = now ∙ (ap (λ (l : List Finding). l ++ all_found number (Member k) kinds) so_far
+    ∙ (ap (λ (l : List Finding). (old ++ findings_upto number a k) ++ l) same ∙ append_assoc old (findings_upto number a k) found)) in
     let next : suc k ≡ k + 1 = omega arith in
     subst (λ (n : ℕ). after ≡ old ++ findings_upto number a n) next here

@@ -39,7 +39,14 @@ has_all assumed es s a is =
     let places : length a.audit.corrected.places.items ≡ length a.fences.items = is.audit.corrected.count in
     let more : length a.audit.corrected.fences.items ≡ length a.fences.items = is.audit.corrected.more.same_length in
     let uses : length a.audit.reduced.uses.items ≡ length a.audit.corrected.fences.items = is.audit.reduced.count in
-    record { places = omega (arith, fences, members, places); uses = omega (arith, fences, members, more, uses) }
+    let shared : length a.shared.items ≡ length (members_in es s) = is.shared.count in
+    let flaws : length a.flaws.items ≡ length (members_in es s) = is.flaws.count in
+    record {
+      shared = omega (arith, members, shared);
+      flaws = omega (arith, members, flaws);
+      places = omega (arith, fences, members, places);
+      uses = omega (arith, fences, members, more, uses);
+    }
 
 each_has : (assumed : Assumptions) (es : List (List ℕ)) (ss : List Submission) (audits : List Audited) → AreAudited assumed es ss audits → AllByRecursion HasAll audits
 each_has assumed es [] [] all = tt

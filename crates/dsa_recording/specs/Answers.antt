@@ -9,7 +9,7 @@ use Rattle.dsa_recording.specs.declared.answer.AuditFormat.TheVariants.{Text, Js
 use Rattle.dsa_recording.specs.declared.answer.AuditOptions.{AuditOptions}
 use Rattle.dsa_recording.specs.declared.findings.Finding.{Finding}
 use Rattle.dsa_recording.specs.declared.findings.FindingKind.{FindingKind}
-use Rattle.dsa_recording.specs.declared.findings.FindingKind.TheVariants.{NotSeen, MissingFence, GuardingFence, SignallingFence, GuardingAndSignallingFence, NeedlessFence}
+use Rattle.dsa_recording.specs.declared.findings.FindingKind.TheVariants.{NotSeen, MissingFence, GuardingFence, SignallingFence, GuardingAndSignallingFence, NeedlessFence, Flawed}
 use Rattle.dsa_recording.specs.declared.report.Report.{Report}
 use Rattle.dsa_recording.specs.declared.stream.Submission.{Submission}
 use Rattle.dsa_recording.specs.Streams.{ReadsStream}
@@ -17,7 +17,7 @@ use Rattle.dsa_recording.specs.Reports.{IsReport}
 use Rattle.dsa_recording.specs.Listings.{listing_text}
 use Rattle.dsa_recording.specs.declared.words.Denied.{Denied}
 
--- it is neither a missing fence nor denied
+-- it is neither a missing fence nor a flaw, nor denied
 abbrev pub is_harmless : Denied → FindingKind → Bool
 is_harmless denied (NotSeen why) = not denied.unseen
 is_harmless denied (MissingFence earlier) = false
@@ -25,6 +25,7 @@ is_harmless denied (GuardingFence earlier) = not denied.guarding
 is_harmless denied (SignallingFence awaited) = not denied.signalling
 is_harmless denied (GuardingAndSignallingFence earlier awaited) = not denied.guarding && not denied.signalling
 is_harmless denied NeedlessFence = not denied.needless
+is_harmless denied (Flawed flaw) = false
 
 abbrev pub AreHarmless : Denied → List Finding → Type 0
 AreHarmless denied findings = AllByRecursion (λ f. is_harmless denied f.kind ≡ true) findings

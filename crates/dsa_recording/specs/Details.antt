@@ -2,7 +2,7 @@
 use Rattle.std.specs.Prelude.{ℕ, ◌≡◌, ◌+◌, ◌-◌, ◌<◌, ◌≤◌, ◌&&◌, ◌==◌, nat_le, nat_lt, bit_and, Bool, false, List, [], length, slice_get, slice_index_or, Some}
 use Rattle.dsa_descriptor.specs.Places.{u32_at, u64_at, flags_at, code_at}
 use Rattle.dsa_descriptor.specs.Profile.{required_flags}
-use Rattle.dsa_audit.specs.declared.member.Member.{Member}
+use Rattle.dsa_audit.specs.declared.member.Member.{Member as KnownMember}
 use Rattle.dsa_audit.specs.declared.missing.FencePlace.{FencePlace}
 use Rattle.dsa_audit.specs.declared.missing.FencePlace.TheVariants as fence_place
 use Rattle.dsa_audit.specs.Members.{KnownConflict, IsHazardBetween}
@@ -10,7 +10,11 @@ use Rattle.dsa_recording.specs.declared.stream.Submission.{Submission}
 use Rattle.dsa_recording.specs.declared.submission.Audited.{Audited}
 use Rattle.dsa_recording.specs.declared.findings.Finding.{Finding}
 use Rattle.dsa_recording.specs.declared.findings.FindingKind.{FindingKind}
-use Rattle.dsa_recording.specs.declared.findings.FindingKind.TheVariants.{NotSeen, MissingFence, GuardingFence, SignallingFence, GuardingAndSignallingFence, NeedlessFence}
+use Rattle.dsa_recording.specs.declared.findings.Flaw.{Flaw}
+use Rattle.dsa_recording.specs.declared.findings.Flaw.TheVariants.{SharedRecord, OverwritesBatch, DataOverRecord, MisalignedRecord, SmallBatch, FenceWithoutEffect}
+use Rattle.dsa_recording.specs.declared.findings.Place.{Place}
+use Rattle.dsa_recording.specs.declared.findings.Place.TheVariants.{Head, Member}
+use Rattle.dsa_recording.specs.declared.findings.FindingKind.TheVariants.{NotSeen, MissingFence, GuardingFence, SignallingFence, GuardingAndSignallingFence, NeedlessFence, Flawed}
 use Rattle.dsa_recording.specs.declared.detail.Cause.{Cause}
 use Rattle.dsa_recording.specs.declared.detail.Cause.TheVariants as cause
 use Rattle.dsa_recording.specs.declared.detail.Detail.{Detail}
@@ -18,15 +22,44 @@ use Rattle.dsa_recording.specs.declared.detail.Records.{Records}
 use Rattle.dsa_recording.specs.Submissions.{head_at}
 use Rattle.dsa_recording.specs.declared.report.Report.{Report}
 
--- what is found of member k can be said of these members: where a fence is missing, the earlier member is known to
--- conflict with it; where one guards, the other member is an earlier one; where one signals, it is not
-abbrev pub IsOf : List Member → ℕ → FindingKind → Type 0
-IsOf ms k (NotSeen why) = Unit
-IsOf ms k (MissingFence earlier) = (earlier < k) × (k < length ms) × KnownConflict ms earlier k
-IsOf ms k (GuardingFence earlier) = earlier < k
-IsOf ms k (SignallingFence awaited) = (k ≤ awaited) × (awaited < length ms)
-IsOf ms k (GuardingAndSignallingFence earlier awaited) = (earlier < k) × (k ≤ awaited) × (awaited < length ms)
-IsOf ms k NeedlessFence = Unit
+-- a finding of a place
+abbrev pub finding_at : ℕ → Place → FindingKind → Finding
+finding_at number place kind = record { submission = number; place = place; kind = kind }
+
+-- this can be wrong at the place: only a member shares a record, with an earlier one
+abbrev pub IsFlawAt : Place → Flaw → Type 0
+IsFlawAt Head (SharedRecord earlier) = ⊥
+IsFlawAt (Member k) (SharedRecord earlier) = earlier < k
+IsFlawAt place OverwritesBatch = Unit
+IsFlawAt place DataOverRecord = Unit
+IsFlawAt place MisalignedRecord = Unit
+IsFlawAt place (SmallBatch size) = Unit
+IsFlawAt place FenceWithoutEffect = Unit
+
+-- this can be found of the descriptor of a batch: flaws alone
+abbrev pub IsOfHead : FindingKind → Type 0
+IsOfHead (NotSeen why) = ⊥
+IsOfHead (MissingFence earlier) = ⊥
+IsOfHead (GuardingFence earlier) = ⊥
+IsOfHead (SignallingFence awaited) = ⊥
+IsOfHead (GuardingAndSignallingFence earlier awaited) = ⊥
+IsOfHead NeedlessFence = ⊥
+IsOfHead (Flawed flaw) = IsFlawAt Head flaw
+
+-- what is found of member k can be said of members with these operands: where a fence is missing, the earlier member is
+-- known to conflict with it; where one guards, the other member is an earlier one; where one signals, it is not
+abbrev pub IsOfMember : List KnownMember → ℕ → FindingKind → Type 0
+IsOfMember ms k (NotSeen why) = Unit
+IsOfMember ms k (MissingFence earlier) = (earlier < k) × (k < length ms) × KnownConflict ms earlier k
+IsOfMember ms k (GuardingFence earlier) = earlier < k
+IsOfMember ms k (SignallingFence awaited) = (k ≤ awaited) × (awaited < length ms)
+IsOfMember ms k (GuardingAndSignallingFence earlier awaited) = (earlier < k) × (k ≤ awaited) × (awaited < length ms)
+IsOfMember ms k NeedlessFence = Unit
+IsOfMember ms k (Flawed flaw) = IsFlawAt (Member k) flaw
+
+abbrev pub IsOf : List KnownMember → Place → FindingKind → Type 0
+IsOf ms Head kind = IsOfHead kind
+IsOf ms (Member k) kind = IsOfMember ms k kind
 
 -- the kind of what is found, without its hazard
 abbrev pub kind_of : Cause → FindingKind
@@ -36,20 +69,28 @@ kind_of (cause.GuardingFence earlier) = GuardingFence earlier
 kind_of (cause.SignallingFence awaited) = SignallingFence awaited
 kind_of (cause.GuardingAndSignallingFence earlier awaited) = GuardingAndSignallingFence earlier awaited
 kind_of cause.NeedlessFence = NeedlessFence
+kind_of (cause.Flawed flaw) = Flawed flaw
 
 -- the hazard of a missing fence before member k is between the two members
-abbrev pub HasHazard : List Member → ℕ → Cause → Type 0
+abbrev pub HasHazard : List KnownMember → ℕ → Cause → Type 0
 HasHazard ms k (cause.NotSeen why) = Unit
 HasHazard ms k (cause.MissingFence earlier h) = IsHazardBetween ms earlier k h
 HasHazard ms k (cause.GuardingFence earlier) = Unit
 HasHazard ms k (cause.SignallingFence awaited) = Unit
 HasHazard ms k (cause.GuardingAndSignallingFence earlier awaited) = Unit
 HasHazard ms k cause.NeedlessFence = Unit
+HasHazard ms k (cause.Flawed flaw) = Unit
 
--- what is found, and of a missing fence the hazard between the two members
-pub record IsCause (ms : List Member) (k : ℕ) (kind : FindingKind) (c : Cause) : Type 0 where
-  pub kind_is : kind_of c ≡ kind
-  pub hazard : HasHazard ms k c
+-- what is found of the descriptor of a batch; of a member, with the hazard of a missing fence
+abbrev pub IsHeadCause : FindingKind → Cause → Type 0
+IsHeadCause kind c = IsOfHead kind × (kind_of c ≡ kind)
+
+abbrev pub IsMemberCause : List KnownMember → ℕ → FindingKind → Cause → Type 0
+IsMemberCause ms k kind c = (kind_of c ≡ kind) × HasHazard ms k c
+
+abbrev pub IsCause : List KnownMember → Place → FindingKind → Cause → Type 0
+IsCause ms Head kind c = IsHeadCause kind c
+IsCause ms (Member k) kind c = IsMemberCause ms k kind c
 
 -- the entry requests a completion record that has the address
 abbrev pub is_in_record : ℕ → List ℕ → Bool
@@ -67,41 +108,52 @@ shared_records es first at (cause.GuardingFence earlier) = record { earlier = fa
 shared_records es first at (cause.SignallingFence awaited) = record { earlier = false; later = false }
 shared_records es first at (cause.GuardingAndSignallingFence earlier awaited) = record { earlier = false; later = false }
 shared_records es first at cause.NeedlessFence = record { earlier = false; later = false }
+shared_records es first at (cause.Flawed flaw) = record { earlier = false; later = false }
 
--- of a finding in a submission of these members: its member is one of the submission, and an entry, and what is found can
--- be said of it
-pub record HasEntry (es : List (List ℕ)) (s : Submission) (ms : List Member) (f : Finding) : Type 0 where
-  pub member : f.member < s.size
-  pub within : s.first + f.member < length es
+-- the entry of a place: the descriptor of the submission, or a member
+abbrev pub entry_at : Submission → Place → ℕ
+entry_at s Head = head_at s
+entry_at s (Member k) = s.first + k
+
+-- the place is one of the submission
+abbrev pub IsPlaceOf : Submission → Place → Type 0
+IsPlaceOf s Head = Unit
+IsPlaceOf s (Member k) = k < s.size
+
+-- of a finding in a submission of members with these operands: its place is one of the submission, and an entry, and what
+-- is found can be said of it
+pub record HasEntry (es : List (List ℕ)) (s : Submission) (ms : List KnownMember) (f : Finding) : Type 0 where
+  pub place : IsPlaceOf s f.place
+  pub within : entry_at s f.place < length es
   pub head : head_at s < length es
-  pub kind : IsOf ms f.member f.kind
+  pub kind : IsOf ms f.place f.kind
 
 -- the detail is of that entry
-pub record Describes (es : List (List ℕ)) (s : Submission) (ms : List Member) (f : Finding) (d : Detail) : Type 0 where
-  pub entry : d.entry ≡ s.first + f.member
-  pub code : d.code ≡ code_at (slice_index_or es (s.first + f.member) [])
+pub record Describes (es : List (List ℕ)) (s : Submission) (ms : List KnownMember) (f : Finding) (d : Detail) : Type 0 where
+  pub entry : d.entry ≡ entry_at s f.place
+  pub code : d.code ≡ code_at (slice_index_or es (entry_at s f.place) [])
   pub number : d.submission ≡ f.submission
-  pub member : d.member ≡ f.member
+  pub place : d.place ≡ f.place
   pub is_batch : d.is_batch ≡ s.is_batch
-  pub owner : d.owner ≡ u32_at 0 (slice_index_or es (s.first + f.member) [])
+  pub owner : d.owner ≡ u32_at 0 (slice_index_or es (entry_at s f.place) [])
   pub head_owner : d.head_owner ≡ u32_at 0 (slice_index_or es (head_at s) [])
-  pub cause : IsCause ms f.member f.kind d.cause
-  pub records : d.records ≡ shared_records es s.first (s.first + f.member) d.cause
+  pub cause : IsCause ms f.place f.kind d.cause
+  pub records : d.records ≡ shared_records es s.first (entry_at s f.place) d.cause
 
--- the submission of the finding, and what is known of its members
-pub record IsIn (r : Report) (f : Finding) (s : Submission) (ms : List Member) : Type 0 where
+-- the submission of the finding, and what is known of its members' operands
+pub record IsIn (r : Report) (f : Finding) (s : Submission) (ms : List KnownMember) : Type 0 where
   pub submission : slice_get r.submissions.items f.submission ≡ Some s
   pub audited : Audited
   pub audited_is : slice_get r.audits.items f.submission ≡ Some audited
-  pub members : audited.members.items ≡ ms
+  pub members : audited.operands.items ≡ ms
 
 -- the finding is of an entry
 abbrev pub IsPlaced : List (List ℕ) → Report → Finding → Type 0
-IsPlaced es r f = (s : Submission) × (ms : List Member) × IsIn r f s ms × HasEntry es s ms f
+IsPlaced es r f = (s : Submission) × (ms : List KnownMember) × IsIn r f s ms × HasEntry es s ms f
 
 -- the detail is of the finding's entry
 abbrev pub IsDetail : List (List ℕ) → Report → Finding → Detail → Type 0
-IsDetail es r f d = (s : Submission) × (ms : List Member) × IsIn r f s ms × Describes es s ms f d
+IsDetail es r f d = (s : Submission) × (ms : List KnownMember) × IsIn r f s ms × Describes es s ms f d
 
 -- ---- of a whole submission
 
@@ -121,3 +173,4 @@ IsBehind first at (cause.GuardingFence earlier) = Unit
 IsBehind first at (cause.SignallingFence awaited) = Unit
 IsBehind first at (cause.GuardingAndSignallingFence earlier awaited) = Unit
 IsBehind first at cause.NeedlessFence = Unit
+IsBehind first at (cause.Flawed flaw) = Unit

@@ -1,6 +1,6 @@
 -- What an entry of a recording reads and writes, and why it is not looked at. `head` is the descriptor of its batch, or
 -- of a lone descriptor the entry itself.
-use Rattle.std.specs.Prelude.{◌≡◌, ◌≢◌, ℕ, ◌<◌, List, [], ◌∷◌, ◌++◌, Option, Some, None, bit_and, if◌then◌else◌, ◌==◌}
+use Rattle.std.specs.Prelude.{◌≡◌, ◌≢◌, ℕ, ◌<◌, List, [], ◌∷◌, ◌++◌, replicate, Option, Some, None, bit_and, if◌then◌else◌, ◌==◌}
 use Rattle.std.specs.List.{AllByRecursion}
 use Rattle.dsa_descriptor.specs.declared.op.Op.{Op}
 use Rattle.dsa_descriptor.specs.declared.span.Span.{Span}
@@ -10,7 +10,7 @@ use Rattle.dsa_descriptor.specs.Places.{u32_at, u64_at, flags_at, code_at, op_at
 use Rattle.dsa_descriptor.specs.Profile.{required_flags}
 use Rattle.dsa_descriptor.specs.Spans.{IsAddressable}
 use Rattle.dsa_audit.specs.declared.member.Unseen.{Unseen}
-use Rattle.dsa_audit.specs.declared.member.Unseen.TheVariants.{Operation, Nested, Owner, Empty, Wrap}
+use Rattle.dsa_audit.specs.declared.member.Unseen.TheVariants.{Blank, Operation, Nested, Owner, Empty, Wrap}
 use Rattle.dsa_audit.specs.declared.member.Member.{Member}
 use Rattle.dsa_audit.specs.declared.member.Member.TheVariants.{Known, Unknown}
 
@@ -31,19 +31,26 @@ abbrev pub targets_of : Option Op → ℕ → List Span
 targets_of (Some op) size = targets op size
 targets_of None size = []
 
--- all that the entry reads, and all that it writes
+-- the data that the entry reads, the data that it writes, both, and all that it writes
 abbrev pub entry_reads : List ℕ → List Span
 entry_reads e = sources_of (op_at e) (u32_at 32 e)
 
+abbrev pub entry_targets : List ℕ → List Span
+entry_targets e = targets_of (op_at e) (u32_at 32 e)
+
+abbrev pub entry_data : List ℕ → List Span
+entry_data e = entry_reads e ++ entry_targets e
+
 abbrev pub entry_writes : List ℕ → List Span
-entry_writes e = records_of e ++ targets_of (op_at e) (u32_at 32 e)
+entry_writes e = records_of e ++ entry_targets e
 
 -- ---- why it is not looked at (this project's choice)
 
--- the reason applies, whether or not another does: the operation is neither listed, nor a no-op (code 0x00), nor a batch
+-- the reason applies, whether or not another does: all 64 bytes are zero, as in memory that nobody wrote; the operation is neither listed, nor a no-op (code 0x00), nor a batch
 -- (0x01); it is a batch; PASID or privilege differ from those of the head; the size is 0, of a no-op's nothing is asked;
 -- a span goes past 2 ^ 64
 abbrev pub Applies : List ℕ → List ℕ → Unseen → Type 0
+Applies head e Blank = e ≡ replicate 64 0
 Applies head e Operation = (op_at e ≡ None) × (code_at e ≢ 0) × (code_at e ≢ 1)
 Applies head e Nested = code_at e ≡ 1
 Applies head e Owner = ¬ AgreeOnOwner head e
@@ -52,20 +59,32 @@ Applies head e Wrap = ¬ AllByRecursion IsAddressable (entry_reads e ++ entry_wr
 
 -- the order in which reasons are looked for
 abbrev pub rank : Unseen → ℕ
-rank Operation = 0
-rank Nested = 1
-rank Owner = 2
-rank Empty = 3
-rank Wrap = 4
+rank Blank = 0
+rank Operation = 1
+rank Nested = 2
+rank Owner = 3
+rank Empty = 4
+rank Wrap = 5
 
 -- the reason applies, and none before it does
 pub record IsFirstReason (head e : List ℕ) (why : Unseen) : Type 0 where
   pub applies : Applies head e why
   pub first : (other : Unseen) → rank other < rank why → ¬ Applies head e other
 
--- what is known of the entry: where no reason applies, all that it reads and writes; else the first reason
+-- where no reason applies, the member reads and writes these spans of the entry; else it has the first reason
+abbrev pub IsKnownAs : List Span → List Span → List ℕ → List ℕ → Member → Type 0
+IsKnownAs reads writes head e (Known touched) =
+    ((why : Unseen) → ¬ Applies head e why) × (touched.reads.items ≡ reads) × (touched.writes.items ≡ writes)
+IsKnownAs reads writes head e (Unknown why) = IsFirstReason head e why
+
+-- all that is known of the entry; its data alone
 abbrev pub IsMember : List ℕ → List ℕ → Member → Type 0
-IsMember head e (Known touched) =
-    ((why : Unseen) → ¬ Applies head e why)
-    × (touched.reads.items ≡ entry_reads e) × (touched.writes.items ≡ entry_writes e)
-IsMember head e (Unknown why) = IsFirstReason head e why
+IsMember head e m = IsKnownAs (entry_reads e) (entry_writes e) head e m
+
+abbrev pub IsOperands : List ℕ → List ℕ → Member → Type 0
+IsOperands head e m = IsKnownAs (entry_reads e) (entry_targets e) head e m
+
+-- its record as written, and its data as read: two such members conflict just where the record of one meets the record or
+-- the data of the other
+abbrev pub IsRecord : List ℕ → List ℕ → Member → Type 0
+IsRecord head e m = IsKnownAs (entry_data e) (records_of e) head e m

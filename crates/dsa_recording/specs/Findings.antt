@@ -1,6 +1,6 @@
 -- What an audit of a recording finds (this project's choice).
-use Rattle.std.specs.Prelude.{ℕ, suc, zero, ◌≡◌, List, [], ◌∷◌, ◌++◌, Option, Some, None, length, get_or}
-use Rattle.dsa_audit.specs.declared.member.Member.{Member}
+use Rattle.std.specs.Prelude.{ℕ, suc, zero, ◌≡◌, nat_lt, if◌then◌else◌, Bool, List, [], ◌∷◌, ◌++◌, Option, Some, None, length, get_or}
+use Rattle.dsa_audit.specs.declared.member.Member.{Member as KnownMember}
 use Rattle.dsa_audit.specs.declared.member.Member.TheVariants as member
 use Rattle.dsa_audit.specs.declared.member.Unseen.TheVariants.{Operation}
 use Rattle.dsa_audit.specs.declared.missing.FencePlace.{FencePlace}
@@ -8,13 +8,18 @@ use Rattle.dsa_audit.specs.declared.missing.FencePlace.TheVariants as fence_plac
 use Rattle.dsa_audit.specs.declared.needless.FenceUse.{FenceUse}
 use Rattle.dsa_audit.specs.declared.needless.FenceUse.TheVariants as fence_use
 use Rattle.dsa_recording.specs.declared.findings.FindingKind.{FindingKind}
-use Rattle.dsa_recording.specs.declared.findings.FindingKind.TheVariants.{NotSeen, MissingFence, GuardingFence, SignallingFence, GuardingAndSignallingFence, NeedlessFence}
+use Rattle.dsa_recording.specs.declared.findings.FindingKind.TheVariants.{NotSeen, MissingFence, GuardingFence, SignallingFence, GuardingAndSignallingFence, NeedlessFence, Flawed}
 use Rattle.dsa_recording.specs.declared.findings.Finding.{Finding}
+use Rattle.dsa_recording.specs.declared.findings.Flaw.{Flaw}
+use Rattle.dsa_recording.specs.declared.findings.Flaw.TheVariants.{SharedRecord, OverwritesBatch, DataOverRecord, MisalignedRecord, SmallBatch, FenceWithoutEffect}
+use Rattle.dsa_recording.specs.declared.findings.Place.{Place}
+use Rattle.dsa_recording.specs.declared.findings.Place.TheVariants.{Head, Member}
+use Rattle.dsa_recording.specs.Flaws.{no_flaws}
 use Rattle.dsa_recording.specs.declared.submission.Audited.{Audited}
 
 -- a member is not looked at; a fence is missing before it; no conflict needs its fence, and what it is for then; or none of
 -- these
-abbrev pub unseen_kind : Member → Option FindingKind
+abbrev pub unseen_kind : KnownMember → Option FindingKind
 unseen_kind (member.Known touched) = None
 unseen_kind (member.Unknown why) = Some (NotSeen why)
 
@@ -23,34 +28,64 @@ missing_kind fence_place.NoFence = None
 missing_kind fence_place.Given = None
 missing_kind (fence_place.Missing earlier) = Some (MissingFence earlier)
 
-abbrev pub use_kind : FenceUse → Option FindingKind
-use_kind fence_use.NoFence = None
-use_kind fence_use.Needless = Some NeedlessFence
-use_kind (fence_use.Guarding earlier) = Some (GuardingFence earlier)
-use_kind (fence_use.Signalling awaited) = Some (SignallingFence awaited)
-use_kind (fence_use.GuardingAndSignalling earlier awaited) = Some (GuardingAndSignallingFence earlier awaited)
-use_kind (fence_use.Needed earlier later) = None
+-- the fence of a lone descriptor has no effect
+abbrev pub use_kind : Bool → FenceUse → Option FindingKind
+use_kind is_batch fence_use.NoFence = None
+use_kind is_batch fence_use.Needless = if is_batch then Some NeedlessFence else Some (Flawed FenceWithoutEffect)
+use_kind is_batch (fence_use.Guarding earlier) = Some (GuardingFence earlier)
+use_kind is_batch (fence_use.Signalling awaited) = Some (SignallingFence awaited)
+use_kind is_batch (fence_use.GuardingAndSignalling earlier awaited) = Some (GuardingAndSignallingFence earlier awaited)
+use_kind is_batch (fence_use.Needed earlier later) = None
 
--- a finding of member k of the submission of that number, if there is one
-abbrev pub finding_of : ℕ → ℕ → Option FindingKind → List Finding
-finding_of number k None = []
-finding_of number k (Some kind) = record { submission = number; member = k; kind = kind } ∷ []
+-- the member shares a record with an earlier one
+abbrev pub shared_kind : Option ℕ → Option FindingKind
+shared_kind None = None
+shared_kind (Some earlier) = Some (Flawed (SharedRecord earlier))
 
--- all findings of a member, in this order
-abbrev pub member_findings : ℕ → ℕ → Member → FencePlace → FenceUse → List Finding
-member_findings number k m place fence =
-    finding_of number k (unseen_kind m) ++ finding_of number k (missing_kind place) ++ finding_of number k (use_kind fence)
+-- a flaw that is there
+abbrev pub flaw_kind : Flaw → Bool → Option FindingKind
+flaw_kind flaw is_there = if is_there then Some (Flawed flaw) else None
+
+-- a batch has at least two members (specification 341204, batch descriptor)
+abbrev pub size_kind : ℕ → Option FindingKind
+size_kind size = flaw_kind (SmallBatch size) (nat_lt size 2)
+
+-- what may be found of the descriptor of a batch, and of member k, in this order
+abbrev pub head_kinds : Audited → List (Option FindingKind)
+head_kinds a =
+    size_kind (length a.members.items) ∷ flaw_kind MisalignedRecord a.is_head_misaligned
+    ∷ flaw_kind FenceWithoutEffect a.is_head_fenced ∷ []
+
+abbrev pub member_kinds : Audited → ℕ → List (Option FindingKind)
+member_kinds a k =
+    unseen_kind (get_or a.members.items k (member.Unknown Operation))
+    ∷ shared_kind (get_or a.shared.items k None)
+    ∷ flaw_kind OverwritesBatch (get_or a.flaws.items k no_flaws).overwrites_batch
+    ∷ flaw_kind DataOverRecord (get_or a.flaws.items k no_flaws).data_over_record
+    ∷ flaw_kind MisalignedRecord (get_or a.flaws.items k no_flaws).misaligned_record
+    ∷ missing_kind (get_or a.audit.corrected.places.items k fence_place.NoFence)
+    ∷ use_kind a.is_batch (get_or a.audit.reduced.uses.items k fence_use.NoFence) ∷ []
+
+-- the findings of a place, of those kinds that are there
+abbrev pub finding_of : ℕ → Place → Option FindingKind → List Finding
+finding_of number place None = []
+finding_of number place (Some kind) = record { submission = number; place = place; kind = kind } ∷ []
+
+abbrev pub all_found : ℕ → Place → List (Option FindingKind) → List Finding
+all_found number place [] = []
+all_found number place (kind ∷ kinds) = finding_of number place kind ++ all_found number place kinds
 
 -- those of the first members of a submission, in their order
 abbrev pub findings_upto : ℕ → Audited → ℕ → List Finding
 findings_upto number a zero = []
-findings_upto number a (suc k) =
-    findings_upto number a k
-    ++ member_findings number k (get_or a.members.items k (member.Unknown Operation))
-    (get_or a.audit.corrected.places.items k fence_place.NoFence) (get_or a.audit.reduced.uses.items k fence_use.NoFence)
+findings_upto number a (suc k) = findings_upto number a k ++ all_found number (Member k) (member_kinds a k)
+
+-- those of the descriptor of a batch
+abbrev pub head_findings : ℕ → Audited → List Finding
+head_findings number a = if a.is_batch then all_found number Head (head_kinds a) else []
 
 abbrev pub submission_findings : ℕ → Audited → List Finding
-submission_findings number a = findings_upto number a (length a.members.items)
+submission_findings number a = head_findings number a ++ findings_upto number a (length a.members.items)
 
 -- those of submissions, of which the first has that number
 abbrev pub recording_findings : ℕ → List Audited → List Finding
@@ -59,5 +94,7 @@ recording_findings number (a ∷ audits) = submission_findings number a ++ recor
 
 -- something is said of each member
 pub record HasAll (a : Audited) : Type 0 where
+  pub shared : length a.shared.items ≡ length a.members.items
+  pub flaws : length a.flaws.items ≡ length a.members.items
   pub places : length a.audit.corrected.places.items ≡ length a.members.items
   pub uses : length a.audit.reduced.uses.items ≡ length a.members.items

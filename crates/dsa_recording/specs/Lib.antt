@@ -2,6 +2,7 @@ pub mod Streams
 pub mod Entries
 pub mod Failures
 pub mod Showing
+pub mod Flaws
 pub mod Submissions
 pub mod Findings
 pub mod Reports

@@ -1,5 +1,5 @@
 -- The audit of a recorded submission.
-use Rattle.std.specs.Prelude.{ℕ, ◌≡◌, ◌-◌, ◌%◌, ◌<◌, ◌≤◌, Bool, List, [], ◌∷◌, length, map, get_or, slice_index_or, slice_range, if◌then◌else◌, ◌==◌}
+use Rattle.std.specs.Prelude.{ℕ, ◌≡◌, ◌↔◌, IsTrue, ◌-◌, ◌%◌, ◌<◌, ◌≤◌, Bool, List, [], ◌∷◌, Option, length, map, get_or, slice_index_or, slice_range, if◌then◌else◌, ◌==◌}
 use Rattle.dsa_descriptor.specs.Places.{flags_at}
 use Rattle.dsa_audit.specs.declared.member.Member.{Member}
 use Rattle.dsa_audit.specs.declared.member.Member.TheVariants.{Unknown}
@@ -8,7 +8,10 @@ use Rattle.dsa_audit.specs.Laws.{IsAudit}
 use Rattle.dsa_recording.specs.declared.stream.Submission.{Submission}
 use Rattle.dsa_recording.specs.declared.submission.Audited.{Audited}
 use Rattle.dsa_recording.specs.Streams.{end_of}
-use Rattle.dsa_recording.specs.Entries.{IsMember}
+use Rattle.dsa_audit.specs.Members.{KnownConflict}
+use Rattle.dsa_audit.specs.Steps.{AreLasts}
+use Rattle.dsa_recording.specs.Entries.{IsMember, IsOperands, IsRecord}
+use Rattle.dsa_recording.specs.Flaws.{AreAllFlaws, HasMisalignedRecord}
 use Rattle.dsa_recording.specs.Failures.{AreFallible}
 use Rattle.dsa_recording.specs.Showing.{AreVisible}
 use Rattle.dsa_recording.specs.declared.assumptions.Assumptions.{Assumptions}
@@ -35,16 +38,37 @@ pub record AreMembers (head : List ℕ) (es : List (List ℕ)) (ms : List Member
   pub count : length ms ≡ length es
   pub each : (k : ℕ) → k < length es → IsMember head (get_or es k []) (get_or ms k (Unknown Operation))
 
--- whether it is a batch, the fences of the submission's entries, what is known of them, which can fail and which show under
--- these assumptions, and an audit of these
+pub record AreOperands (head : List ℕ) (es : List (List ℕ)) (ms : List Member) : Type 0 where
+  pub count : length ms ≡ length es
+  pub each : (k : ℕ) → k < length es → IsOperands head (get_or es k []) (get_or ms k (Unknown Operation))
+
+pub record AreRecords (head : List ℕ) (es : List (List ℕ)) (ms : List Member) : Type 0 where
+  pub count : length ms ≡ length es
+  pub each : (k : ℕ) → k < length es → IsRecord head (get_or es k []) (get_or ms k (Unknown Operation))
+
+-- for each entry, the last one before it with which it shares a record: the record of one meets the record or the data of
+-- the other
+pub record AreShared (head : List ℕ) (es : List (List ℕ)) (shared : List (Option ℕ)) : Type 0 where
+  pub records : List Member
+  pub are : AreRecords head es records
+  pub count : length shared ≡ length es
+  pub lasts : AreLasts (KnownConflict records) shared
+
+-- whether it is a batch, the fences of the submission's entries, what is known of them and of their data, which share
+-- records, what else is wrong with each, which can fail and which show under these assumptions, and an audit of these
 pub record IsAudited (assumed : Assumptions) (es : List (List ℕ)) (s : Submission) (a : Audited) : Type 0 where
   pub is_batch : a.is_batch ≡ s.is_batch
+  pub is_head_fenced : a.is_head_fenced ≡ is_fenced (slice_index_or es (head_at s) [])
+  pub is_head_misaligned : IsTrue a.is_head_misaligned ↔ HasMisalignedRecord (slice_index_or es (head_at s) [])
   pub fences : a.fences.items ≡ map is_fenced (members_in es s)
   pub members : AreMembers (slice_index_or es (head_at s) []) (members_in es s) a.members.items
   pub fallible : AreFallible assumed a.members.items (members_in es s) a.fallible.items
   pub visible :
       AreVisible assumed (slice_index_or es (head_at s) []) a.members.items (members_in es s) a.visible.items
-  pub audit : IsAudit a.members.items a.fallible.items a.visible.items a.fences.items a.audit
+  pub operands : AreOperands (slice_index_or es (head_at s) []) (members_in es s) a.operands.items
+  pub shared : AreShared (slice_index_or es (head_at s) []) (members_in es s) a.shared.items
+  pub flaws : AreAllFlaws s.is_batch (slice_index_or es (head_at s) []) (members_in es s) a.flaws.items
+  pub audit : IsAudit a.operands.items a.members.items a.fallible.items a.visible.items a.fences.items a.audit
 
 -- each submission is audited, in order
 abbrev pub AreAudited : Assumptions → List (List ℕ) → List Submission → List Audited → Type 0

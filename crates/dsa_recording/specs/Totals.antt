@@ -4,7 +4,7 @@ use Rattle.std.specs.List.{count_by, sum_by}
 use Rattle.dsa_recording.specs.declared.submission.Audited.{Audited}
 use Rattle.dsa_recording.specs.declared.findings.Finding.{Finding}
 use Rattle.dsa_recording.specs.declared.findings.FindingKind.{FindingKind}
-use Rattle.dsa_recording.specs.declared.findings.FindingKind.TheVariants.{NotSeen, MissingFence, GuardingFence, SignallingFence, GuardingAndSignallingFence, NeedlessFence}
+use Rattle.dsa_recording.specs.declared.findings.FindingKind.TheVariants.{NotSeen, MissingFence, GuardingFence, SignallingFence, GuardingAndSignallingFence, NeedlessFence, Flawed}
 use Rattle.dsa_recording.specs.declared.report.Report.{Report}
 use Rattle.dsa_recording.specs.declared.totals.Counts.{Counts}
 use Rattle.dsa_recording.specs.declared.totals.Totals.{Totals}
@@ -28,6 +28,7 @@ is_unseen (GuardingFence earlier) = false
 is_unseen (SignallingFence awaited) = false
 is_unseen (GuardingAndSignallingFence earlier awaited) = false
 is_unseen NeedlessFence = false
+is_unseen (Flawed flaw) = false
 
 abbrev pub is_missing : FindingKind → Bool
 is_missing (NotSeen why) = false
@@ -36,6 +37,7 @@ is_missing (GuardingFence earlier) = false
 is_missing (SignallingFence awaited) = false
 is_missing (GuardingAndSignallingFence earlier awaited) = false
 is_missing NeedlessFence = false
+is_missing (Flawed flaw) = false
 
 abbrev pub is_needless : FindingKind → Bool
 is_needless (NotSeen why) = false
@@ -44,6 +46,7 @@ is_needless (GuardingFence earlier) = false
 is_needless (SignallingFence awaited) = false
 is_needless (GuardingAndSignallingFence earlier awaited) = false
 is_needless NeedlessFence = true
+is_needless (Flawed flaw) = false
 
 abbrev pub is_guarding : FindingKind → Bool
 is_guarding (NotSeen why) = false
@@ -52,6 +55,7 @@ is_guarding (GuardingFence earlier) = true
 is_guarding (SignallingFence awaited) = false
 is_guarding (GuardingAndSignallingFence earlier awaited) = true
 is_guarding NeedlessFence = false
+is_guarding (Flawed flaw) = false
 
 abbrev pub is_signalling : FindingKind → Bool
 is_signalling (NotSeen why) = false
@@ -60,6 +64,16 @@ is_signalling (GuardingFence earlier) = false
 is_signalling (SignallingFence awaited) = true
 is_signalling (GuardingAndSignallingFence earlier awaited) = true
 is_signalling NeedlessFence = false
+is_signalling (Flawed flaw) = false
+
+abbrev pub is_flaw : FindingKind → Bool
+is_flaw (NotSeen why) = false
+is_flaw (MissingFence earlier) = false
+is_flaw (GuardingFence earlier) = false
+is_flaw (SignallingFence awaited) = false
+is_flaw (GuardingAndSignallingFence earlier awaited) = false
+is_flaw NeedlessFence = false
+is_flaw (Flawed flaw) = true
 
 -- ---- of a report
 
@@ -75,6 +89,7 @@ pub record IsTotals (r : Report) (t : Totals) : Type 0 where
   pub needless : t.needless ≡ count_by (λ f. is_needless f.kind) r.findings.items
   pub guarding : t.guarding ≡ count_by (λ f. is_guarding f.kind) r.findings.items
   pub signalling : t.signalling ≡ count_by (λ f. is_signalling f.kind) r.findings.items
+  pub flaws : t.flaws ≡ count_by (λ f. is_flaw f.kind) r.findings.items
 
 -- ---- for private clauses
 
@@ -85,6 +100,7 @@ pub record AreCounts (findings : List Finding) (c : Counts) : Type 0 where
   pub needless : c.needless ≡ count_by (λ f. is_needless f.kind) findings
   pub guarding : c.guarding ≡ count_by (λ f. is_guarding f.kind) findings
   pub signalling : c.signalling ≡ count_by (λ f. is_signalling f.kind) findings
+  pub flaws : c.flaws ≡ count_by (λ f. is_flaw f.kind) findings
 
 -- the sums of members and of fences are numbers of 64 bits
 pub record HasSums (r : Report) : Type 0 where

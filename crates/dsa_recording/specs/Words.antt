@@ -1,28 +1,33 @@
 -- The words of a report on a recording (this project's choice): of each finding where it is, how severe, what, and why.
 use Rattle.std.specs.Prelude.{ℕ, ◌/◌, ◌%◌, ◌^◌, ◌==◌, Bool, true, false, ◌||◌, List, [], ◌∷◌, ◌++◌, codes, decimal, if◌then◌else◌}
 use Rattle.dsa_audit.specs.declared.member.Unseen.{Unseen}
-use Rattle.dsa_audit.specs.declared.member.Unseen.TheVariants.{Operation, Nested, Owner, Empty, Wrap}
+use Rattle.dsa_audit.specs.declared.member.Unseen.TheVariants.{Blank, Operation, Nested, Owner, Empty, Wrap}
 use Rattle.dsa_ranges.specs.declared.hazards.HazardKind.{HazardKind}
 use Rattle.dsa_ranges.specs.declared.hazards.HazardKind.TheVariants.{ReadAfterWrite, WriteAfterRead, WriteAfterWrite}
 use Rattle.dsa_recording.specs.declared.detail.Detail.{Detail}
 use Rattle.dsa_recording.specs.declared.detail.Cause.{Cause}
-use Rattle.dsa_recording.specs.declared.detail.Cause.TheVariants.{NotSeen, MissingFence, GuardingFence, SignallingFence, GuardingAndSignallingFence, NeedlessFence}
+use Rattle.dsa_recording.specs.declared.detail.Cause.TheVariants.{NotSeen, MissingFence, GuardingFence, SignallingFence, GuardingAndSignallingFence, NeedlessFence, Flawed}
 use Rattle.dsa_lines.specs.Numbers.{hex}
+use Rattle.dsa_recording.specs.declared.findings.Flaw.{Flaw}
+use Rattle.dsa_recording.specs.declared.findings.Flaw.TheVariants.{SharedRecord, OverwritesBatch, DataOverRecord, MisalignedRecord, SmallBatch, FenceWithoutEffect}
+use Rattle.dsa_recording.specs.declared.findings.Place.{Place}
+use Rattle.dsa_recording.specs.declared.findings.Place.TheVariants.{Head, Member}
 use Rattle.dsa_recording.specs.declared.words.Severity.{Severity}
 use Rattle.dsa_recording.specs.declared.words.Severity.TheVariants.{Error, Warning, Note}
 use Rattle.dsa_recording.specs.declared.words.Denied.{Denied}
 
 -- ---- where
 
-abbrev pub member_words : Bool → ℕ → List ℕ
-member_words true k = codes ", member " ++ (decimal k ++ codes ")")
-member_words false k = codes ", lone)"
+abbrev pub member_words : Bool → Place → List ℕ
+member_words is_batch Head = codes ", its descriptor)"
+member_words true (Member k) = codes ", member " ++ (decimal k ++ codes ")")
+member_words false (Member k) = codes ", lone)"
 
 abbrev pub entry_words : ℕ → ℕ → List ℕ → List ℕ
 entry_words entry submission behind = codes "entry " ++ (decimal entry ++ (codes " (submission " ++ (decimal submission ++ behind)))
 
 abbrev pub place_words : Detail → List ℕ
-place_words d = entry_words d.entry d.submission (member_words d.is_batch d.member)
+place_words d = entry_words d.entry d.submission (member_words d.is_batch d.place)
 
 -- ---- how severe: a missing fence is an error, and so is what is denied
 
@@ -36,6 +41,7 @@ severity_of denied (GuardingFence earlier) = note_unless denied.guarding
 severity_of denied (SignallingFence awaited) = note_unless denied.signalling
 severity_of denied (GuardingAndSignallingFence earlier awaited) = note_unless (denied.guarding || denied.signalling)
 severity_of denied NeedlessFence = note_unless denied.needless
+severity_of denied (Flawed flaw) = Error
 
 abbrev pub severity_words : Severity → List ℕ
 severity_words Error = codes ": error: "
@@ -45,6 +51,7 @@ severity_words Note = codes ": note: "
 -- ---- what, and why
 
 abbrev pub unseen_words : Unseen → ℕ → List ℕ
+unseen_words Blank code = codes "not looked at: 64 zero bytes"
 unseen_words Operation code = codes "not looked at: operation " ++ hex code
 unseen_words Nested code = codes "not looked at: a batch in a batch"
 unseen_words Owner code = codes "not looked at: another PASID or privilege than its batch"
@@ -74,6 +81,15 @@ both_words earlier awaited =
     codes "guarding and signalling fence: member " ++ (decimal earlier ++ (codes " can fail, member " ++ (decimal awaited
     ++ codes " can be awaited")))
 
+abbrev pub flaw_words : Flaw → List ℕ
+flaw_words (SharedRecord earlier) =
+    codes "shared record: it and member " ++ (decimal earlier ++ codes " meet in a completion record, use another")
+flaw_words OverwritesBatch = codes "overwrites its batch: it writes the descriptors or the completion record of its batch"
+flaw_words DataOverRecord = codes "data over its own completion record"
+flaw_words MisalignedRecord = codes "misaligned record: its address is no multiple of 32"
+flaw_words (SmallBatch size) = codes "batch of " ++ (decimal size ++ codes ": a batch has two members at least")
+flaw_words FenceWithoutEffect = codes "fence without effect: wait for earlier submissions in its place"
+
 -- `complete`: no fence of its submission is missing
 abbrev pub cause_words : Bool → ℕ → Cause → List ℕ
 cause_words complete code (NotSeen why) = unseen_words why code
@@ -82,6 +98,7 @@ cause_words complete code (GuardingFence earlier) = guarding_words earlier
 cause_words complete code (SignallingFence awaited) = signalling_words awaited
 cause_words complete code (GuardingAndSignallingFence earlier awaited) = both_words earlier awaited
 cause_words complete code NeedlessFence = needless_words complete
+cause_words complete code (Flawed flaw) = flaw_words flaw
 
 -- of an owner, bytes 0 to 3 of an entry, bits 0 to 19 are the PASID, and bit 31 is the privilege (specification 341204)
 abbrev pub privilege_words : ℕ → List ℕ
@@ -92,6 +109,7 @@ abbrev pub owners_words : Unseen → ℕ → ℕ → List ℕ
 owners_words Owner owner head =
     codes ": PASID " ++ (decimal (owner % 2 ^ 20) ++ (privilege_words owner
     ++ (codes ", not PASID " ++ (decimal (head % 2 ^ 20) ++ privilege_words head))))
+owners_words Blank owner head = []
 owners_words Operation owner head = []
 owners_words Nested owner head = []
 owners_words Empty owner head = []
@@ -112,6 +130,7 @@ more_words d (GuardingFence earlier) = []
 more_words d (SignallingFence awaited) = []
 more_words d (GuardingAndSignallingFence earlier awaited) = []
 more_words d NeedlessFence = []
+more_words d (Flawed flaw) = []
 
 -- ---- the line of a finding
 

@@ -18,7 +18,7 @@ use crate::picture::{draw_report, is_too_large, too_large_text};
 use crate::report::{Report, audit_recording};
 use crate::report_json::report_json;
 use crate::stream::StreamFault;
-use crate::totals::{totals_of, totals_text};
+use crate::totals::{flaws_text, totals_of, totals_text};
 use crate::words::{Denied, finding_text};
 use dsa_descriptor::u32_at;
 use dsa_settings::Settings;
@@ -72,7 +72,7 @@ pub(crate) fn is_complete(complete: &[bool], submission: usize) -> bool {
     complete.get(submission).copied().unwrap_or(false)
 }
 
-/// Whether what was found is neither a missing fence nor denied.
+/// Whether what was found is neither a missing fence nor a flaw, nor denied.
 fn is_harmless(denied: Denied, kind: FindingKind) -> bool
     ensures { result ≡ is_harmless denied kind }
 {
@@ -83,6 +83,7 @@ fn is_harmless(denied: Denied, kind: FindingKind) -> bool
         FindingKind::SignallingFence(_) => !denied.signalling,
         FindingKind::GuardingAndSignallingFence(_, _) => !denied.guarding && !denied.signalling,
         FindingKind::NeedlessFence => !denied.needless,
+        FindingKind::Flawed(_) => false,
     }
 }
 
@@ -123,6 +124,7 @@ fn report_text(
     }
     let totals = totals_of(report);
     text.push_str(&totals_text(alloc, &totals)?)?;
+    text.push_str(&flaws_text(alloc, totals.flaws)?)?;
     text.push_str(&costs_text(alloc, settings, &costs_of(settings, report), &totals)?)?;
     let freed = freed_by(alloc, all, report, options.assumptions)?;
     text.push_str(&freed_text(alloc, options.assumptions, &freed)?)?;

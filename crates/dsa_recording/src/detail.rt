@@ -1,10 +1,12 @@
 //! What a finding says of its entry.
 
-ghost use Rattle.std.specs.Prelude.{◌≡◌, ◌↔◌, ◌<◌, length, IfSome, IsTrue, MatchOption};
+ghost use Rattle.std.specs.Prelude.{◌≡◌, ◌↔◌, ◌<◌, List, length, IfSome, IsTrue, MatchOption};
 ghost use Rattle.std.specs.List.{AllByRecursion};
-ghost use Rattle.dsa_recording.specs.Details.{is_in_record, shared_records, IsBehind, IsOf, IsCause, HasEntry, Describes, IsPlaced, IsDetail, IsRight};
+ghost use Rattle.dsa_audit.specs.declared.member.Member.{Member};
+ghost use Rattle.dsa_recording.specs.declared.findings.Place.TheVariants as Place;
+ghost use Rattle.dsa_recording.specs.Details.{finding_at, is_in_record, shared_records, IsBehind, IsFlawAt, IsOfHead, IsOfMember, IsHeadCause, IsMemberCause, HasEntry, Describes, IsPlaced, IsDetail, IsRight};
 
-use crate::findings::{Finding, FindingKind};
+use crate::findings::{Finding, FindingKind, Flaw, Place};
 use crate::report::Report;
 use crate::stream::Submission;
 use crate::submission::{Audited, head_at};
@@ -27,6 +29,8 @@ pub enum Cause {
     GuardingAndSignallingFence(usize, usize),
     /// The fence before it may go, once the missing ones of its batch are set.
     NeedlessFence,
+    /// Something beside fences is wrong.
+    Flawed(Flaw),
 }
 
 /// Whose completion record has the address of a conflict.
@@ -47,8 +51,8 @@ pub struct Detail {
     pub code: u8,
     /// The number of the submission.
     pub submission: usize,
-    /// The number of its member.
-    pub member: usize,
+    /// What of it.
+    pub place: Place,
     /// Whether the submission is a batch.
     pub is_batch: bool,
     /// Bytes 0 to 3 of the entry: the PASID, and in bit 31 the privilege.
@@ -61,19 +65,37 @@ pub struct Detail {
     pub records: Records,
 }
 
+/// Whether this can be wrong at the place.
+fn is_flaw_at(place: Place, flaw: Flaw) -> bool
+    ensures { IsTrue result ↔ IsFlawAt place flaw }
+{
+    match (place, flaw) {
+        (Place::Head, Flaw::SharedRecord(_)) => false,
+        (Place::Member(member), Flaw::SharedRecord(earlier)) => earlier < member,
+        (
+            Place::Head | Place::Member(_),
+            Flaw::OverwritesBatch
+            | Flaw::DataOverRecord
+            | Flaw::MisalignedRecord
+            | Flaw::SmallBatch(_)
+            | Flaw::FenceWithoutEffect,
+        ) => true,
+    }
+}
+
 /// What is found of a member, with the hazard of a missing fence.
-fn cause_of(members: &[Member], member: usize, kind: FindingKind) -> Option<Cause>
-    ensures cause { MatchOption result (¬ IsOf members.now member kind)
-        (IsCause members.now member kind) }
+fn member_cause(operands: &[Member], member: usize, kind: FindingKind) -> Option<Cause>
+    ensures cause { MatchOption result (¬ IsOfMember operands.now member kind)
+        (IsMemberCause operands.now member kind) }
     ensures behind { IfSome result (IsBehind 0 member) }
 {
     match kind {
         FindingKind::NotSeen(why) => Some(Cause::NotSeen(why)),
         FindingKind::MissingFence(earlier) => {
-            if earlier >= member || member >= members.len() {
+            if earlier >= member || member >= operands.len() {
                 return None;
             }
-            match hazard_between(members, earlier, member) {
+            match hazard_between(operands, earlier, member) {
                 Some(hazard) => Some(Cause::MissingFence(earlier, hazard)),
                 None => None,
             }
@@ -85,18 +107,44 @@ fn cause_of(members: &[Member], member: usize, kind: FindingKind) -> Option<Caus
             Some(Cause::GuardingFence(earlier))
         }
         FindingKind::SignallingFence(awaited) => {
-            if awaited < member || awaited >= members.len() {
+            if awaited < member || awaited >= operands.len() {
                 return None;
             }
             Some(Cause::SignallingFence(awaited))
         }
         FindingKind::GuardingAndSignallingFence(earlier, awaited) => {
-            if earlier >= member || awaited < member || awaited >= members.len() {
+            if earlier >= member || awaited < member || awaited >= operands.len() {
                 return None;
             }
             Some(Cause::GuardingAndSignallingFence(earlier, awaited))
         }
         FindingKind::NeedlessFence => Some(Cause::NeedlessFence),
+        FindingKind::Flawed(flaw) => {
+            if !is_flaw_at(Place::Member(member), flaw) {
+                return None;
+            }
+            Some(Cause::Flawed(flaw))
+        }
+    }
+}
+
+/// What is found of a batch's descriptor, which can only be a flaw.
+fn head_cause(kind: FindingKind) -> Option<Cause>
+    ensures { MatchOption result (¬ IsOfHead kind) (IsHeadCause kind) }
+{
+    match kind {
+        FindingKind::Flawed(flaw) => {
+            if !is_flaw_at(Place::Head, flaw) {
+                return None;
+            }
+            Some(Cause::Flawed(flaw))
+        }
+        FindingKind::NotSeen(_)
+        | FindingKind::MissingFence(_)
+        | FindingKind::GuardingFence(_)
+        | FindingKind::SignallingFence(_)
+        | FindingKind::GuardingAndSignallingFence(_, _)
+        | FindingKind::NeedlessFence => None,
     }
 }
 
@@ -127,45 +175,102 @@ fn shared_records(all: &[[u8; 64]], first: usize, at: usize, cause: Cause) -> Re
         | Cause::GuardingFence(_)
         | Cause::SignallingFence(_)
         | Cause::GuardingAndSignallingFence(_, _)
-        | Cause::NeedlessFence => Records {
+        | Cause::NeedlessFence
+        | Cause::Flawed(_) => Records {
             earlier: false,
             later: false,
         },
     }
 }
 
-/// A finding of a submission of these entries and members, with all that can be said of its entry.
-fn described(
+/// A finding of the descriptor of a batch, with all that can be said of its entry.
+fn head_detail(
     all: &[[u8; 64]],
     submission: Submission,
-    members: &[Member],
-    finding: Finding,
+    number: usize,
+    kind: FindingKind,
 ) -> Option<Detail>
-    ensures { MatchOption result (¬ HasEntry all.now submission members.now finding)
-        (Describes all.now submission members.now finding) }
+    ensures { (ms : List Member) → MatchOption result
+        (¬ HasEntry all.now submission ms (finding_at number Place.Head kind))
+        (Describes all.now submission ms (finding_at number Place.Head kind)) }
 {
-    let Some(entry) = submission.first.checked_add(finding.member) else {
+    let entry = head_at(submission);
+    if entry >= all.len() {
+        return None;
+    }
+    let Some(cause) = head_cause(kind) else {
+        return None;
+    };
+    let code = u32_at(&all[entry], 4) >> 24;
+    let owner = u32_at(&all[entry], 0);
+    Some(Detail {
+        entry,
+        code: code as u8,
+        submission: number,
+        place: Place::Head,
+        is_batch: submission.is_batch,
+        owner,
+        head_owner: owner,
+        cause,
+        records: Records {
+            earlier: false,
+            later: false,
+        },
+    })
+}
+
+/// A finding of a member of a submission of these entries, with all that can be said of its entry.
+fn member_detail(
+    all: &[[u8; 64]],
+    submission: Submission,
+    operands: &[Member],
+    number: usize,
+    member: usize,
+    kind: FindingKind,
+) -> Option<Detail>
+    ensures { MatchOption result
+        (¬ HasEntry all.now submission operands.now (finding_at number (Place.Member member) kind))
+        (Describes all.now submission operands.now (finding_at number (Place.Member member) kind)) }
+{
+    let Some(entry) = submission.first.checked_add(member) else {
         return None;
     };
     let head = head_at(submission);
-    if finding.member >= submission.size || entry >= all.len() || head >= all.len() {
+    if member >= submission.size || entry >= all.len() || head >= all.len() {
         return None;
     }
     let code = u32_at(&all[entry], 4) >> 24;
-    let Some(cause) = cause_of(members, finding.member, finding.kind) else {
+    let Some(cause) = member_cause(operands, member, kind) else {
         return None;
     };
     Some(Detail {
         entry,
         code: code as u8,
-        submission: finding.submission,
-        member: finding.member,
+        submission: number,
+        place: Place::Member(member),
         is_batch: submission.is_batch,
         owner: u32_at(&all[entry], 0),
         head_owner: u32_at(&all[head], 0),
         cause,
         records: shared_records(all, submission.first, entry, cause),
     })
+}
+
+/// A finding of a submission of these entries and operands, with all that can be said of its entry.
+fn described(
+    all: &[[u8; 64]],
+    submission: Submission,
+    operands: &[Member],
+    finding: Finding,
+) -> Option<Detail>
+    ensures { MatchOption result (¬ HasEntry all.now submission operands.now finding)
+        (Describes all.now submission operands.now finding) }
+{
+    let (number, kind) = (finding.submission, finding.kind);
+    match finding.place {
+        Place::Head => head_detail(all, submission, number, kind),
+        Place::Member(member) => { member_detail(all, submission, operands, number, member, kind) }
+    }
 }
 
 /// A finding of a report on these entries, with all that can be said of its entry.
@@ -177,8 +282,8 @@ pub fn detail_of(all: &[[u8; 64]], report: &Report, finding: Finding) -> Option<
     if number >= report.submissions.len() || number >= report.audits.len() {
         return None;
     }
-    let members = report.audits[number].members.as_slice();
-    described(all, report.submissions[number], members, finding)
+    let operands = report.audits[number].operands.as_slice();
+    described(all, report.submissions[number], operands, finding)
 }
 
 /// Whether no fence is missing at this place.

@@ -56,7 +56,8 @@ fn is_needless(kind: FindingKind) -> bool
         | FindingKind::MissingFence(_)
         | FindingKind::GuardingFence(_)
         | FindingKind::SignallingFence(_)
-        | FindingKind::GuardingAndSignallingFence(_, _) => false,
+        | FindingKind::GuardingAndSignallingFence(_, _)
+        | FindingKind::Flawed(_) => false,
     }
 }
 
@@ -91,9 +92,10 @@ fn is_kept(kind: FindingKind) -> bool {
         FindingKind::GuardingFence(_)
         | FindingKind::SignallingFence(_)
         | FindingKind::GuardingAndSignallingFence(_, _) => true,
-        FindingKind::NotSeen(_) | FindingKind::MissingFence(_) | FindingKind::NeedlessFence => {
-            false
-        }
+        FindingKind::NotSeen(_)
+        | FindingKind::MissingFence(_)
+        | FindingKind::NeedlessFence
+        | FindingKind::Flawed(_) => false,
     }
 }
 

@@ -66,7 +66,7 @@ fn use_mark(used: FenceUse) -> Mark {
 pub(crate) fn mark_of(audited: &Audited, member: usize) -> Mark {
     let places = &audited.audit.corrected.places;
     match places.get(member).copied().unwrap_or(FencePlace::NoFence) {
-        FencePlace::Missing(earlier) => missing_mark(&audited.members, earlier, member),
+        FencePlace::Missing(earlier) => missing_mark(&audited.operands, earlier, member),
         FencePlace::NoFence | FencePlace::Given => {
             let uses = &audited.audit.reduced.uses;
             use_mark(uses.get(member).copied().unwrap_or(FenceUse::NoFence))

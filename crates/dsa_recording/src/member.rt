@@ -4,7 +4,7 @@ ghost use Rattle.std.specs.Prelude.{◌≡◌, ◌↔◌, ◌≤◌, ◌++◌, l
 ghost use Rattle.std.specs.List.{AllByRecursion};
 ghost use Rattle.dsa_descriptor.specs.Spans.{IsAddressable};
 ghost use Rattle.dsa_audit.specs.declared.member.Unseen.{Unseen};
-ghost use Rattle.dsa_recording.specs.Entries.{records_of, entry_reads, entry_writes, Applies, IsFirstReason, IsMember};
+ghost use Rattle.dsa_recording.specs.Entries.{records_of, entry_reads, entry_targets, entry_data, entry_writes, Applies, IsFirstReason, IsMember, IsOperands, IsRecord};
 
 use arrayvec::ArrayVec;
 use dsa_audit::{Member, Unseen};
@@ -12,7 +12,8 @@ use dsa_descriptor::{Span, agree_on_owner, are_addressable, op_at, record_span, 
 use dsa_ranges::Touched;
 
 /// All reasons, in the order in which they are looked for.
-const IN_ORDER: [Unseen; 5] = [
+const IN_ORDER: [Unseen; 6] = [
+    Unseen::Blank,
     Unseen::Operation,
     Unseen::Nested,
     Unseen::Owner,
@@ -21,7 +22,7 @@ const IN_ORDER: [Unseen; 5] = [
 ];
 
 /// The completion record, where one is requested.
-fn records_of(entry: &[u8; 64]) -> ArrayVec<Span, 3>
+pub(crate) fn records_of(entry: &[u8; 64]) -> ArrayVec<Span, 3>
     ensures value { result.items ≡ records_of entry.now }
     ensures short { length result.items ≤ 1 }
 {
@@ -33,7 +34,7 @@ fn records_of(entry: &[u8; 64]) -> ArrayVec<Span, 3>
 }
 
 /// What the entry reads and writes, where its operation is known.
-fn touched_by(entry: &[u8; 64]) -> Touched
+pub(crate) fn touched_by(entry: &[u8; 64]) -> Touched
     ensures reads { result.reads.items ≡ entry_reads entry.now }
     ensures writes { result.writes.items ≡ entry_writes entry.now }
 {
@@ -46,6 +47,39 @@ fn touched_by(entry: &[u8; 64]) -> Touched
     let (sources, targets) = (op.sources(size), op.targets(size));
     reads.try_extend_from_slice(sources.as_slice()).unwrap();
     writes.try_extend_from_slice(targets.as_slice()).unwrap();
+    Touched { reads, writes }
+}
+
+/// The data that the entry reads and writes, where its operation is known.
+pub(crate) fn operands_of(entry: &[u8; 64]) -> Touched
+    ensures reads { result.reads.items ≡ entry_reads entry.now }
+    ensures writes { result.writes.items ≡ entry_targets entry.now }
+{
+    let (mut reads, mut writes) = (ArrayVec::new(), ArrayVec::new());
+    let Some(op) = op_at(entry) else {
+        return Touched { reads, writes };
+    };
+    let size = u32_at(entry, 32);
+    let (sources, targets) = (op.sources(size), op.targets(size));
+    reads.try_extend_from_slice(sources.as_slice()).unwrap();
+    writes.try_extend_from_slice(targets.as_slice()).unwrap();
+    Touched { reads, writes }
+}
+
+/// Its record as written, and its data as read.
+fn record_of(entry: &[u8; 64]) -> Touched
+    ensures reads { result.reads.items ≡ entry_data entry.now }
+    ensures writes { result.writes.items ≡ records_of entry.now }
+{
+    let mut reads = ArrayVec::new();
+    let writes = records_of(entry);
+    let Some(op) = op_at(entry) else {
+        return Touched { reads, writes };
+    };
+    let size = u32_at(entry, 32);
+    let (sources, targets) = (op.sources(size), op.targets(size));
+    reads.try_extend_from_slice(sources.as_slice()).unwrap();
+    reads.try_extend_from_slice(targets.as_slice()).unwrap();
     Touched { reads, writes }
 }
 
@@ -67,6 +101,7 @@ fn applies(head: &[u8; 64], entry: &[u8; 64], why: Unseen) -> bool
 {
     let code = u32_at(entry, 4) >> 24;
     match why {
+        Unseen::Blank => *entry == [0; 64],
         Unseen::Operation => code != 0 && code != 1 && op_at(entry).is_none(),
         Unseen::Nested => code == 1,
         Unseen::Owner => !agree_on_owner(head, entry),
@@ -95,5 +130,25 @@ pub fn member_of(head: &[u8; 64], entry: &[u8; 64]) -> Member
     match unseen_reason(head, entry) {
         Some(why) => Member::Unknown(why),
         None => Member::Known(touched_by(entry)),
+    }
+}
+
+/// The same of its data alone.
+pub fn operands_member(head: &[u8; 64], entry: &[u8; 64]) -> Member
+    ensures { IsOperands head.now entry.now result }
+{
+    match unseen_reason(head, entry) {
+        Some(why) => Member::Unknown(why),
+        None => Member::Known(operands_of(entry)),
+    }
+}
+
+/// Its record as written and its data as read: two such members conflict where the record of one meets what the other has.
+pub fn record_member(head: &[u8; 64], entry: &[u8; 64]) -> Member
+    ensures { IsRecord head.now entry.now result }
+{
+    match unseen_reason(head, entry) {
+        Some(why) => Member::Unknown(why),
+        None => Member::Known(record_of(entry)),
     }
 }

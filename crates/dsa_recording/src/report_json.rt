@@ -8,6 +8,7 @@ use crate::answer::{AuditOptions, completeness, is_complete};
 use crate::assumptions::Assumptions;
 use crate::costs::{Costs, costs_of};
 use crate::detail::{Cause, Detail, detail_of};
+use crate::findings::{Flaw, Place};
 use crate::freed::{Freed, await_name, freed_by};
 use crate::report::Report;
 use crate::totals::{Totals, totals_of};
@@ -30,6 +31,7 @@ fn severity_name(severity: Severity) -> &'static str {
 /// The name of a reason why a member is not looked at.
 pub(crate) fn unseen_name(why: Unseen) -> &'static str {
     match why {
+        Unseen::Blank => "blank",
         Unseen::Operation => "operation",
         Unseen::Nested => "nested",
         Unseen::Owner => "owner",
@@ -53,8 +55,8 @@ fn records_json(alloc: Global, detail: &Detail, earlier: usize) -> Result<Value,
     if detail.records.earlier {
         members.push(Value::from(earlier as u64))?;
     }
-    if detail.records.later {
-        members.push(Value::from(detail.member as u64))?;
+    if let (true, Place::Member(member)) = (detail.records.later, detail.place) {
+        members.push(Value::from(member as u64))?;
     }
     Ok(Value::Array(members))
 }
@@ -99,6 +101,24 @@ fn unseen_json(alloc: Global, detail: &Detail, why: Unseen) -> Result<Value, All
     })
 }
 
+/// What is wrong beside fences.
+fn flaw_json(alloc: Global, flaw: Flaw) -> Result<Value, AllocError> {
+    match flaw {
+        Flaw::SharedRecord(earlier) => {
+            let earlier = earlier as u64;
+            json!(in alloc; {"kind": "shared record", "earlier": earlier})
+        }
+        Flaw::OverwritesBatch => json!(in alloc; {"kind": "overwrites batch"}),
+        Flaw::DataOverRecord => json!(in alloc; {"kind": "data over record"}),
+        Flaw::MisalignedRecord => json!(in alloc; {"kind": "misaligned record"}),
+        Flaw::SmallBatch(size) => {
+            let size = size as u64;
+            json!(in alloc; {"kind": "small batch", "size": size})
+        }
+        Flaw::FenceWithoutEffect => json!(in alloc; {"kind": "fence without effect"}),
+    }
+}
+
 /// What was found, and why; `complete`: no fence of its submission is missing.
 fn cause_json(alloc: Global, detail: &Detail, complete: bool) -> Result<Value, AllocError> {
     match detail.cause {
@@ -124,6 +144,7 @@ fn cause_json(alloc: Global, detail: &Detail, complete: bool) -> Result<Value, A
             let later = !complete;
             json!(in alloc; {"kind": "needless", "once_corrected": later})
         }
+        Cause::Flawed(flaw) => flaw_json(alloc, flaw),
     }
 }
 
@@ -135,10 +156,9 @@ fn finding_json(
     denied: Denied,
 ) -> Result<Value, AllocError> {
     let (entry, submission) = (detail.entry as u64, detail.submission as u64);
-    let member = if detail.is_batch {
-        Value::from(detail.member as u64)
-    } else {
-        Value::Null
+    let member = match (detail.place, detail.is_batch) {
+        (Place::Member(member), true) => Value::from(member as u64),
+        (Place::Member(_), false) | (Place::Head, true | false) => Value::Null,
     };
     let severity = severity_name(severity_of(denied, detail.cause));
     let what = cause_json(alloc, detail, complete)?;
@@ -157,13 +177,14 @@ fn totals_json(alloc: Global, totals: &Totals) -> Result<Value, AllocError> {
     let (descriptors, unseen) = (totals.descriptors as u64, totals.unseen as u64);
     let (fences, missing) = (totals.fences as u64, totals.missing as u64);
     let (needless, guarding) = (totals.needless as u64, totals.guarding as u64);
-    let signalling = totals.signalling as u64;
+    let (signalling, flaws) = (totals.signalling as u64, totals.flaws as u64);
     json!(in alloc; {
         "batches": batches,
         "lone": lone,
         "descriptors": descriptors,
         "unseen": unseen,
         "fences": fences,
+        "flaws": flaws,
         "missing": missing,
         "needless": needless,
         "guarding": guarding,

@@ -1,14 +1,15 @@
 //! The fences of a recorded submission.
 
 ghost use Rattle.std.specs.Prelude.{◌≡◌, All, map, IfOk};
-ghost use Rattle.dsa_recording.specs.Submissions.{head_at, is_fenced, IsWithin, AreMembers, IsAudited, AreAudited};
+ghost use Rattle.dsa_recording.specs.Submissions.{head_at, is_fenced, IsWithin, AreMembers, AreOperands, AreRecords, AreShared, IsAudited, AreAudited};
 
 use crate::assumptions::Assumptions;
 use crate::failure::fallible_of;
-use crate::member::member_of;
+use crate::flaws::{Flaws, all_flaws, has_misaligned_record};
+use crate::member::{member_of, operands_member, record_member};
 use crate::showing::visible_of;
 use crate::stream::Submission;
-use dsa_audit::{Audit, Effects, Member, audit_fences};
+use dsa_audit::{Audit, Effects, Member, all_lasts, audit_fences};
 use dsa_descriptor::u32_at;
 use std::alloc::{AllocError, Global};
 
@@ -17,10 +18,20 @@ use std::alloc::{AllocError, Global};
 pub struct Audited {
     /// Whether it is a batch.
     pub is_batch: bool,
+    /// Whether the descriptor of a batch has a fence of its own.
+    pub is_head_fenced: bool,
+    /// Whether the completion record of the descriptor is at an address that is no multiple of 32.
+    pub is_head_misaligned: bool,
     /// Whether a fence stands before each member.
     pub fences: Vec<bool>,
     /// What is known of each member.
     pub members: Vec<Member>,
+    /// What is known of the data of each.
+    pub operands: Vec<Member>,
+    /// For each, the last member before it of which the record meets its record or data, or the other way round.
+    pub shared: Vec<Option<usize>>,
+    /// What is wrong with each beside fences.
+    pub flaws: Vec<Flaws>,
     /// Whether each member can fail.
     pub fallible: Vec<bool>,
     /// Whether software can see of each member that it has ended.
@@ -73,6 +84,48 @@ fn members_of(
     Ok(members)
 }
 
+/// What is known of the data of each of the entries, whose batch has the descriptor `head`.
+fn operands_in(
+    alloc: Global,
+    head: &[u8; 64],
+    entries: &[[u8; 64]],
+) -> Result<Vec<Member>, AllocError>
+    ensures { IfOk result (λ members. AreOperands head.now entries.now members.items) }
+{
+    let mut members = Vec::with_capacity(alloc, entries.len())?;
+    for entry in entries {
+        members.push(operands_member(head, entry))?;
+    }
+    Ok(members)
+}
+
+/// The record and the data of each of the entries, whose batch has the descriptor `head`.
+fn records_in(
+    alloc: Global,
+    head: &[u8; 64],
+    entries: &[[u8; 64]],
+) -> Result<Vec<Member>, AllocError>
+    ensures { IfOk result (λ members. AreRecords head.now entries.now members.items) }
+{
+    let mut members = Vec::with_capacity(alloc, entries.len())?;
+    for entry in entries {
+        members.push(record_member(head, entry))?;
+    }
+    Ok(members)
+}
+
+/// For each of the entries, whose batch has the descriptor `head`, the last one before it with which it shares a record.
+fn shared_in(
+    alloc: Global,
+    head: &[u8; 64],
+    entries: &[[u8; 64]],
+) -> Result<Vec<Option<usize>>, AllocError>
+    ensures { IfOk result (λ shared. AreShared head.now entries.now shared.items) }
+{
+    let records = records_in(alloc, head, entries)?;
+    all_lasts(alloc, &records)
+}
+
 /// The fences of a submission of these entries: which are missing, and which are needless under the assumptions.
 pub fn audit_submission(
     alloc: Global,
@@ -87,17 +140,23 @@ pub fn audit_submission(
     let entries = &all[submission.first..submission.first + submission.size];
     let fences = fences_of(alloc, entries)?;
     let members = members_of(alloc, &all[at], entries)?;
+    let operands = operands_in(alloc, &all[at], entries)?;
     let fallible = fallible_of(alloc, assumptions, &members, entries)?;
     let visible = visible_of(alloc, assumptions, &all[at], &members, entries)?;
     let effects = Effects {
         fallible: &fallible,
         visible: &visible,
     };
-    let audit = audit_fences(alloc, &fences, &members, effects)?;
+    let audit = audit_fences(alloc, &fences, &operands, &members, effects)?;
     Ok(Audited {
         is_batch: submission.is_batch,
+        is_head_fenced: is_fenced(&all[at]),
+        is_head_misaligned: has_misaligned_record(&all[at]),
         fences,
         members,
+        operands,
+        shared: shared_in(alloc, &all[at], entries)?,
+        flaws: all_flaws(alloc, submission.is_batch, &all[at], entries)?,
         fallible,
         visible,
         audit,

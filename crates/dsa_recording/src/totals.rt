@@ -31,6 +31,8 @@ pub struct Totals {
     pub guarding: usize,
     /// How many signal: no conflict needs them, but a member waits for each that can be seen to have ended.
     pub signalling: usize,
+    /// How many flaws beside fences.
+    pub flaws: usize,
 }
 
 /// How many submissions are batches.
@@ -92,13 +94,14 @@ struct Counts {
     needless: usize,
     guarding: usize,
     signalling: usize,
+    flaws: usize,
 }
 
 /// How many findings there are of each kind; a fence that guards and signals counts as both.
 fn counts_of(findings: &[Finding]) -> Counts
     ensures { AreCounts findings.now result }
 {
-    let (mut unseen, mut missing): (usize, usize) = (0, 0);
+    let (mut unseen, mut missing, mut flaws): (usize, usize, usize) = (0, 0, 0);
     let (mut needless, mut guarding, mut signalling): (usize, usize, usize) = (0, 0, 0);
     for finding in findings {
         match finding.kind {
@@ -111,6 +114,7 @@ fn counts_of(findings: &[Finding]) -> Counts
                 signalling += 1;
             }
             FindingKind::NeedlessFence => needless += 1,
+            FindingKind::Flawed(_) => flaws += 1,
         }
     }
     Counts {
@@ -119,6 +123,7 @@ fn counts_of(findings: &[Finding]) -> Counts
         needless,
         guarding,
         signalling,
+        flaws,
     }
 }
 
@@ -138,6 +143,7 @@ pub fn totals_of(report: &Report) -> Totals
         needless: counts.needless,
         guarding: counts.guarding,
         signalling: counts.signalling,
+        flaws: counts.flaws,
     }
 }
 
@@ -167,5 +173,15 @@ pub fn totals_text(alloc: Global, totals: &Totals) -> Result<String, AllocError>
     text.push_str(&format!(in alloc;
         ", {missing} missing, {needless} needless, {guarding} guarding, {signalling} signalling\n"
     )?)?;
+    Ok(text)
+}
+
+/// The line of the flaws beside fences, if there are any.
+pub(crate) fn flaws_text(alloc: Global, flaws: usize) -> Result<String, AllocError> {
+    if flaws == 0 {
+        return Ok(String::new(alloc));
+    }
+    let mut text = counted(alloc, flaws, "error", "errors")?;
+    text.push_str(" beside fences\n")?;
     Ok(text)
 }

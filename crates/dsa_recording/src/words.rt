@@ -2,10 +2,12 @@
 
 ghost use Rattle.std.specs.Prelude.{◌≡◌, ◌++◌, true, IfOk, OnOk, codes, string_bytes};
 ghost use Rattle.dsa_recording.specs.declared.detail.Detail.{Detail};
-ghost use Rattle.dsa_recording.specs.Words.{entry_words, member_words, place_words, note_unless, severity_of, severity_words, unseen_words, hazard_words, guarding_words, signalling_words, both_words, needless_words, cause_words, privilege_words, owners_words, record_words, more_words, finding_words};
+ghost use Rattle.dsa_recording.specs.declared.findings.Place.TheVariants as Place;
+ghost use Rattle.dsa_recording.specs.Words.{entry_words, member_words, place_words, note_unless, severity_of, severity_words, unseen_words, hazard_words, guarding_words, signalling_words, both_words, flaw_words, needless_words, cause_words, privilege_words, owners_words, record_words, more_words, finding_words};
 ghost use Rattle.dsa_audit.specs.declared.member.Unseen.TheVariants.{Owner};
 
 use crate::detail::{Cause, Detail, Records};
+use crate::findings::{Flaw, Place};
 use dsa_audit::Unseen;
 use dsa_ranges::{Hazard, HazardKind};
 use std::alloc::{AllocError, Global};
@@ -64,6 +66,7 @@ pub fn severity_of(denied: Denied, cause: Cause) -> Severity
             note_unless(denied.guarding || denied.signalling)
         }
         Cause::NeedlessFence => note_unless(denied.needless),
+        Cause::Flawed(_) => Severity::Error,
     }
 }
 
@@ -75,9 +78,17 @@ fn batch_place(
     member: usize,
 ) -> Result<String, AllocError>
     ensures { IfOk result (λ s. string_bytes s ≡
-        entry_words entry submission (member_words true member)) }
+        entry_words entry submission (member_words true (Place.Member member))) }
 {
     format!(in alloc; "entry {entry} (submission {submission}, member {member})")
+}
+
+/// Where the descriptor of a batch is.
+fn head_place(alloc: Global, entry: usize, submission: usize) -> Result<String, AllocError>
+    ensures { IfOk result (λ s. string_bytes s ≡
+        entry_words entry submission (codes ", its descriptor)")) }
+{
+    format!(in alloc; "entry {entry} (submission {submission}, its descriptor)")
 }
 
 /// Where a lone descriptor is.
@@ -92,10 +103,12 @@ fn lone_place(alloc: Global, entry: usize, submission: usize) -> Result<String, 
 fn place_text(alloc: Global, detail: &Detail) -> Result<String, AllocError>
     ensures { IfOk result (λ s. string_bytes s ≡ place_words detail.now) }
 {
-    if detail.is_batch {
-        batch_place(alloc, detail.entry, detail.submission, detail.member)
-    } else {
-        lone_place(alloc, detail.entry, detail.submission)
+    match (detail.place, detail.is_batch) {
+        (Place::Head, true | false) => head_place(alloc, detail.entry, detail.submission),
+        (Place::Member(member), true) => {
+            batch_place(alloc, detail.entry, detail.submission, member)
+        }
+        (Place::Member(_), false) => lone_place(alloc, detail.entry, detail.submission),
     }
 }
 
@@ -116,6 +129,7 @@ pub(crate) fn unseen_text(alloc: Global, why: Unseen, code: u8) -> Result<String
     ensures { IfOk result (λ s. string_bytes s ≡ unseen_words why code) }
 {
     match why {
+        Unseen::Blank => String::from_str(alloc, "not looked at: 64 zero bytes"),
         Unseen::Operation => format!(in alloc; "not looked at: operation 0x{code:x}"),
         Unseen::Nested => String::from_str(alloc, "not looked at: a batch in a batch"),
         Unseen::Owner => String::from_str(
@@ -195,6 +209,33 @@ pub(crate) fn both_text(alloc: Global, earlier: usize, awaited: usize) -> Result
     )
 }
 
+/// What is wrong beside fences.
+fn flaw_text(alloc: Global, flaw: Flaw) -> Result<String, AllocError>
+    ensures { IfOk result (λ s. string_bytes s ≡ flaw_words flaw) }
+{
+    match flaw {
+        Flaw::SharedRecord(earlier) => format!(in alloc;
+            "shared record: it and member {earlier} meet in a completion record, use another"
+        ),
+        Flaw::OverwritesBatch => String::from_str(
+            alloc,
+            "overwrites its batch: it writes the descriptors or the completion record of its batch",
+        ),
+        Flaw::DataOverRecord => String::from_str(alloc, "data over its own completion record"),
+        Flaw::MisalignedRecord => String::from_str(
+            alloc,
+            "misaligned record: its address is no multiple of 32",
+        ),
+        Flaw::SmallBatch(size) => {
+            format!(in alloc; "batch of {size}: a batch has two members at least")
+        }
+        Flaw::FenceWithoutEffect => String::from_str(
+            alloc,
+            "fence without effect: wait for earlier submissions in its place",
+        ),
+    }
+}
+
 /// What was found, and why; `complete`: no fence of its submission is missing.
 fn cause_text(alloc: Global, detail: &Detail, complete: bool) -> Result<String, AllocError>
     ensures { IfOk result (λ s. string_bytes s ≡
@@ -207,6 +248,7 @@ fn cause_text(alloc: Global, detail: &Detail, complete: bool) -> Result<String, 
         Cause::SignallingFence(awaited) => signalling_text(alloc, awaited),
         Cause::GuardingAndSignallingFence(earlier, awaited) => both_text(alloc, earlier, awaited),
         Cause::NeedlessFence => needless_text(alloc, complete),
+        Cause::Flawed(flaw) => flaw_text(alloc, flaw),
     }
 }
 
@@ -255,11 +297,14 @@ fn push_more(alloc: Global, line: &mut String, detail: &Detail) -> Result<(), Al
         Cause::MissingFence(earlier, _) => {
             line.push_str(&record_text(alloc, detail.records, earlier)?)
         }
-        Cause::NotSeen(Unseen::Operation | Unseen::Nested | Unseen::Empty | Unseen::Wrap)
+        Cause::NotSeen(
+            Unseen::Blank | Unseen::Operation | Unseen::Nested | Unseen::Empty | Unseen::Wrap,
+        )
         | Cause::GuardingFence(_)
         | Cause::SignallingFence(_)
         | Cause::GuardingAndSignallingFence(_, _)
-        | Cause::NeedlessFence => Ok(()),
+        | Cause::NeedlessFence
+        | Cause::Flawed(_) => Ok(()),
     }
 }
 

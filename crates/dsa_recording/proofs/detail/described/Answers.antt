@@ -1,6 +1,10 @@
-use Rattle.dsa_recording.proofs.Placed.{behind_entry}
+use Rattle.std.proofs.Common.{sym, ap, subst}
+use Rattle.std.specs.Prelude.{MatchOption}
+use Rattle.dsa_recording.specs.declared.findings.Finding.{Finding}
+use Rattle.dsa_recording.specs.Details.{finding_at, HasEntry, Describes}
 use Rattle.dsa_recording.proofs.detail.described.Goals as goal
 
-pub shared_records-requires-clause-earlier : goal.shared_records-requires-clause-earlier
-shared_records-requires-clause-earlier c =
-    behind_entry c.args.submission.first c.args.finding.member c.in-Some.entry c.in-Some-cause_of.cause c.in-Some.ensures.1 c.in-Some-cause_of.ensures.behind
+pub returns-in-Head : goal.returns-in-Head
+returns-in-Head c =
+    subst (λ (f : Finding). MatchOption c.head_detail.result (¬ HasEntry c.args.all.now c.args.submission c.args.operands.now f) (Describes c.args.all.now c.args.submission c.args.operands.now f))
+    (ap (λ p. finding_at c.args.finding.submission p c.args.finding.kind) (sym c.in-Head.is)) (c.head_detail.ensures c.args.operands.now)

@@ -1,0 +1,10 @@
+use Rattle.std.proofs.Common.{◌≡◌, ℕ, ◌<◌, length, get_or, []}
+use Rattle.dsa_recording.specs.Flaws.{AreFlaws, no_flaws}
+use Rattle.dsa_recording.proofs.flaws.all_flaws.Given as goal
+
+-- those of the entries so far are right
+abbrev pub invariant-loop-entry : goal.invariant-loop-entry
+invariant-loop-entry l = record {
+  count : length l.flaws.items ≡ l.entry-index;
+  each : (k : ℕ) → k < l.entry-index → AreFlaws l.is_batch l.head (get_or l.entries k []) (get_or l.flaws.items k no_flaws);
+}

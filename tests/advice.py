@@ -181,7 +181,7 @@ def said_by(report):
             missing.append(member)
         elif what["kind"] == "needless":
             said[member] = NEEDLESS
-        elif what["kind"] != "unseen":
+        elif what["kind"] in ("guarding", "signalling", "guarding and signalling"):
             said[member] = (what.get("earlier"), what.get("awaited"))
     return missing, said
 
@@ -197,7 +197,8 @@ def classes():
             ran = audit(recording, f"--json {options}")
             said = {k: it for k, it in wanted[word].items() if it != "needed"}
             common.expect(said_by(json.loads(ran.stdout)) == (missing, said), f"{name} {options}: {ran.stdout.decode()}")
-            common.expect(ran.returncode == int(bool(missing)), f"{name} {options}: status {ran.returncode}")
+            # two members with one record are an error whatever their fences are
+            common.expect(ran.returncode == int(bool(missing) or name == "shared"), f"{name} {options}: status {ran.returncode}")
         ran = audit(recording, "--json")
         said = {k: it for k, it in wanted["w"].items() if it != "needed"}
         common.expect(said_by(json.loads(ran.stdout)) == (missing, said), f"{name}: {ran.stdout.decode()}")

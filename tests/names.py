@@ -20,7 +20,7 @@ OTHERS = set(
     max_batch_size max_transfer_size
     desc desc_addr desc_count desc_list_addr desc_ring dsa_hw_desc idxd_hw_desc op_flags opcode
     Net Processes alloc apt cargo gcc git nice patch python3 rt rustfmt rustup valgrind
-    binutils clang cmake ctypes dpkg find_package man pthread_attr_setstacksize toml
+    binutils clang cmake ctypes dpkg find_package flockfile man pthread_attr_setstacksize toml
     dsa_planner dsa_planner_static dsa_planner_own_memory libdsa_planner libdsa_planner_own_memory libdsa_c
     """.split()
 )

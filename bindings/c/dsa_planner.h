@@ -7,7 +7,7 @@
  * Proved:    of each call but dsa_planner_version, for all inputs of a caller that does what is asked below: which number
  *            it returns, and what it has written then, as its comment here says. The contracts are at the functions of the
  *            same names in crates/dsa_c/src. Tested, not proved: that a call succeeds if there is memory, how much stack it
- *            takes, that calls on several threads do not disturb each other, and that DSA_PORTAL_ROOM, DSA_STAGING_ROOM and
+ *            takes, and that calls on several threads do not disturb each other. Neither: that a device does what docs/FORMATS.md
  *            says of it.
  *
  * Link:      cc app.c $(pkg-config --cflags --libs dsa_planner)            with the shared object libdsa_planner.so.1
@@ -318,7 +318,7 @@ struct dsa_prepared_info {
     uint64_t staging_len; /* bytes that dsa_fill writes to staging */
 };
 
-/* How many rows are enough for a list of n pieces over r regions: a number of struct dsa_prepared_row, not of bytes. */
+/* Rows that are always enough for a list of n pieces over r regions: a number of struct dsa_prepared_row, not of bytes. */
 #ifdef __cplusplus
 #define DSA_PREPARED_ROOM(r, n) (1 + static_cast<size_t>(r) + 3 * static_cast<size_t>(n))
 #else

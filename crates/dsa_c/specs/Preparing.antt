@@ -39,6 +39,10 @@ prepare_refusal_of (Outside operation) = refusal_at 102 operation 0
 abbrev pub no_room_for_rows : ℕ → RawRefusal
 no_room_for_rows rows = refusal_at 92 rows 0
 
+-- so many rows are room for a list of these pieces over these regions: a header, one for each region, and three for each piece
+abbrev pub prepared_room : ℕ → ℕ → ℕ
+prepared_room regions pieces = 1 + regions + 3 * pieces
+
 -- what was prepared: the cost of the plan, the number of pieces, and how much there is to keep and to fill
 abbrev pub info_of : Template → ℕ → RawInfo
 info_of t cost =

@@ -4,7 +4,7 @@ ghost use Rattle.std.specs.Prelude.{◌≡◌, ◌≢◌, ℕ, ◌<◌, ◌≤�
 ghost use Rattle.dsa_prepared.specs.Rows.{rows_of};
 ghost use Rattle.dsa_c.specs.declared.settings.RawSettings.{RawSettings};
 ghost use Rattle.dsa_c.specs.Raw.{AreSettings, limits_of};
-ghost use Rattle.dsa_c.specs.Preparing.{IsPreparedFor, IsPreparedInto, RefusesPrepare, info_of, no_room_for_rows, prepare_refusal_of, span_of};
+ghost use Rattle.dsa_c.specs.Preparing.{IsPreparedFor, IsPreparedInto, RefusesPrepare, info_of, no_room_for_rows, prepare_refusal_of, prepared_room, span_of};
 
 use crate::buffer::put;
 use crate::refusal::{RawRefusal, refusal, refusal_at};
@@ -153,6 +153,9 @@ pub extern "C" fn dsa_prepare(
     // What is written are the rows of the prepared list, at the front of the array, and its rest is left.
     ensures prepared { result ≡ 0 → IsPreparedInto settings.now table.now list.now
         (map span_of regions.now) rows.old rows.new info.new }
+    // So many rows are enough.
+    ensures room { result ≡ 0 →
+        info.new.rows ≤ prepared_room (length regions.now) info.new.pieces }
     // Otherwise the array is left alone, and the refusal has its cause.
     ensures unchanged { result ≢ 0 → (rows.new ≡ rows.old) × (info.new ≡ info.old) }
     ensures refused { result ≢ 0 → (result ≡ refusal.new.number)

@@ -193,3 +193,29 @@ module _ (rs : List Span) where
         few_batches = omega (arith, counts.0, covers, few);
         few = few;
       }
+
+  -- ---- how many rows there are
+
+  -- the portal and the staging area have an entry for each piece at most
+  pub few_entries : (plan : Plan) (pieces : List Fields) → piece_count plan ≡ length pieces →
+      (length (portal_entries rs plan pieces) ≤ length pieces) × (length (staging_entries rs plan pieces) ≤ length pieces)
+  few_entries plan pieces covers =
+      let portal = length_gathered plan (λ k. group_entries rs (batched_count plan) (place_of plan k) (slice_index_or plan k []) pieces)
+      (λ k. length_portal (batched_count plan) (place_of plan k) (slice_index_or plan k []) pieces) (length plan) (omega arith) in
+      let staging = length_gathered plan (λ k. group_staged rs (place_of plan k) (slice_index_or plan k []) pieces)
+      (λ k. length_staged (place_of plan k) (slice_index_or plan k []) pieces) (length plan) (omega arith) in
+      let whole = sum_by-take-le length plan (length plan) in
+      (omega (arith, portal, whole, covers), omega (arith, staging, whole, covers))
+
+  op_few_ties : (op : Op) → length (op_ties rs op) ≤ 1
+  op_few_ties (Move src dst) = omega arith
+  op_few_ties (Fill pattern dst) = omega arith
+  op_few_ties (Compare src src2 expected) = omega arith
+  op_few_ties (ComparePattern src pattern expected) = omega arith
+  op_few_ties (ApplyDelta delta dst record_size) = omega arith
+  op_few_ties (Dualcast src dst dst2) = omega arith
+
+  -- and each operation has a tie at most
+  pub few_ties : (fs : List Fields) → length (ties_of rs fs) ≤ length fs
+  few_ties [] = omega arith
+  few_ties (f ∷ fs) = omega (arith, op_few_ties f.op, few_ties fs, length-append (op_ties rs f.op) (ties_of rs fs))

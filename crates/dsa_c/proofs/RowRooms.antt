@@ -1,0 +1,87 @@
+-- How many rows a prepared list has.
+use Rattle.std.proofs.Common.{◌≡◌, ℕ, ◌<◌, ◌≤◌, ◌+◌, ◌*◌, inl, inr, List, [], ◌∷◌, ◌++◌, length, map, Ok, ap, subst, sym, arith}
+use Rattle.std.proofs.lemmas.Bool.{cases_lt}
+use Rattle.std.proofs.lemmas.List.{length-append, length-map}
+use Rattle.std.proofs.lemmas.List.Sums.{sum_by-cons}
+use Rattle.dsa_descriptor.specs.declared.descriptor.Descriptor.{Descriptor}
+use Rattle.dsa_descriptor.specs.declared.span.Span.{Span}
+use Rattle.dsa_descriptor.specs.Descriptors.{fields}
+use Rattle.dsa_descriptor.specs.Fields.{Fields}
+use Rattle.dsa_image.specs.Lines.{quotient_up}
+use Rattle.dsa_image.proofs.Rounds.{parts_reach}
+use Rattle.dsa_plan.specs.Settings.{Limits}
+use Rattle.dsa_splitter.specs.Rules.{piece_total}
+use Rattle.dsa_splitter.proofs.Walks.{length_all}
+use Rattle.dsa_calls.specs.Planned.{Plans}
+use Rattle.dsa_calls.proofs.Submissions.{planned_is_least_and_shown}
+use Rattle.dsa_prepared.specs.Preparing.{IsCostedOf}
+use Rattle.dsa_prepared.specs.Rows.{entry_row, region_rows_of, rows_of, tie_row}
+use Rattle.dsa_prepared.specs.Templates.{Template, portal_entries, staging_entries, template_of, ties_of, units_of}
+use Rattle.dsa_prepared.proofs.SoundTemplates.{few_entries, few_ties}
+use Rattle.dsa_c.specs.Preparing.{prepared_room}
+
+-- a row for each region at most
+few_regions : (rs : List Span) (units : List ℕ) → length (region_rows_of rs units) ≤ length rs
+few_regions [] units = omega arith
+few_regions (r ∷ rs) [] = omega arith
+few_regions (r ∷ rs) (u ∷ units) = omega (arith, few_regions rs units)
+
+-- each operation has a piece at least
+some_piece : (size greatest : ℕ) → 0 < size → 0 < greatest → 1 ≤ quotient_up size greatest
+some_piece size greatest some pos =
+    elim (cases_lt 0 (quotient_up size greatest)) [
+      | inl more ↦ omega (arith, more)
+      | inr few ↦
+          let none : quotient_up size greatest ≡ 0 = omega (arith, few) in
+          let reach : size ≤ greatest * 0 = subst (λ (q : ℕ). size ≤ greatest * q) none (parts_reach greatest size pos) in
+          absurd (omega (arith, reach, some))
+    ]
+
+many_pieces : (ds : List Descriptor) (greatest : ℕ) → 0 < greatest → length ds ≤ piece_total greatest (map fields ds)
+many_pieces [] greatest pos = omega arith
+many_pieces (d ∷ ds) greatest pos =
+    omega (
+      arith,
+      some_piece d.size greatest d.listed.size_positive pos,
+      many_pieces ds greatest pos,
+      sum_by-cons (λ (f : Fields). quotient_up f.size greatest) (fields d) (map fields ds),
+    )
+
+-- the rows of a template of pieces
+rows_of_parts : (rs : List Span) (t : Template) (operations pieces : ℕ) → length (region_rows_of t.regions t.units) ≤ length rs → length t.ties ≤ operations → operations ≤ pieces
+    → length t.portal ≤ pieces → length t.staging ≤ pieces → length (rows_of t) ≤ prepared_room (length rs) pieces
+rows_of_parts rs t operations pieces regions ties more portal staging =
+    let regions_of = region_rows_of t.regions t.units in
+    let portal_rows = map entry_row t.portal in
+    let staging_rows = map entry_row t.staging in
+    let tie_rows = map tie_row t.ties in
+    omega (
+      arith,
+      regions,
+      ties,
+      more,
+      portal,
+      staging,
+      length-map t.ties tie_row,
+      length-map t.portal entry_row,
+      length-map t.staging entry_row,
+      length-append portal_rows staging_rows,
+      length-append tie_rows (portal_rows ++ staging_rows),
+      length-append regions_of (tie_rows ++ (portal_rows ++ staging_rows)),
+    )
+
+pub few_rows : (list : List ℕ) (s : Limits) (rs : List Span) (ds : List Descriptor) (t : Template) (cost : ℕ) → IsCostedOf list s rs ds t cost
+    → length (rows_of t) ≤ prepared_room (length rs) t.pieces
+few_rows list s rs ds t cost costed =
+    let h = costed.0 in
+    let p = h.submission in
+    let fs = map fields p.pieces in
+    let planned : Plans list s (Ok p) = inr (ds, h.listed, h.planned) in
+    let legal = (planned_is_least_and_shown list s p planned).least.legal in
+    let pos : 0 < s.greatest_transfer = omega (arith, h.limits.least_transfer) in
+    let entries = few_entries rs p.plan fs (omega (arith, legal.covers, length-map p.pieces fields)) in
+    let counted : length ds ≤ length fs = omega (arith, many_pieces ds s.greatest_transfer pos, length_all (map fields ds) s.greatest_transfer, ap length h.planned.pieces_are) in
+    let whole = template_of rs (map fields ds) p.plan fs in
+    let rows : length (rows_of whole) ≤ prepared_room (length rs) (length fs) =
+    rows_of_parts rs whole (length ds) (length fs) (few_regions rs (units_of rs (map fields ds))) (omega (arith, few_ties rs (map fields ds), length-map ds fields)) counted entries.0 entries.1 in
+    subst (λ (x : Template). length (rows_of x) ≤ prepared_room (length rs) x.pieces) (sym h.template) rows

@@ -1,9 +1,9 @@
 -- Bits of words.
 use Rattle.std.proofs.Common.{◌≡◌, ◌≢◌, ℕ, ◌-◌, ◌*◌, ◌%◌, ◌^◌, ◌<◌, ◌≤◌, ◌↔◌, ◌⊎◌, inl, inr, sym, subst, arith}
-use Rattle.std.specs.Prelude.{bit_and, bit_or}
+use Rattle.std.specs.Prelude.{bit_and, bit_or, max}
 use Rattle.std.specs.Int.{bit_at, w64}
 use Rattle.std.proofs.lemmas.Bool.{cases_eq, cases_lt}
-use Rattle.std.proofs.lemmas.Nat.Bits.{bit_at_set_same, bit_at_set_other, bit_at_clear_same, bit_at_clear_other, bit_at_above, bit_at_and, bit_at-zero, same_from_bits}
+use Rattle.std.proofs.lemmas.Nat.Bits.{bit_at_set_same, bit_at_set_other, bit_at_clear_same, bit_at_clear_other, bit_at_above, bit_at_and, bit_at_or, bit_at-zero, same_from_bits}
 
 -- a bit that is set
 abbrev IsSet : ℕ → ℕ → Type 0
@@ -69,3 +69,20 @@ zero_has_none n i zero h =
     let e : bit_at 0 i ≡ 0 = bit_at-zero i in
     let g : IsSet 0 i = subst (λ x. IsSet x i) zero h in
     omega (arith, e, g)
+
+pub either_set : (n m i : ℕ) → IsSet (bit_or n m) i ↔ (IsSet n i ⊎ IsSet m i)
+either_set n m i = (there, back)
+  where
+    both : bit_at (bit_or n m) i ≡ max (bit_at n i) (bit_at m i)
+    both = bit_at_or n m i
+
+    there : IsSet (bit_or n m) i → IsSet n i ⊎ IsSet m i
+    there h =
+        elim (cases_lt 0 (bit_at n i)) [
+          | inl first ↦ inl first
+          | inr none ↦ inr (omega (arith, both, h, none))
+        ]
+
+    back : IsSet n i ⊎ IsSet m i → IsSet (bit_or n m) i
+    back (inl first) = omega (arith, both, first)
+    back (inr second) = omega (arith, both, second)

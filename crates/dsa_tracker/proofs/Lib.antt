@@ -9,3 +9,6 @@ pub mod Tables
 pub mod Made
 pub mod Deciding
 pub mod Honest
+pub mod RowBits
+pub mod Numbers
+pub mod Filters

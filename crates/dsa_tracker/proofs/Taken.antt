@@ -1,8 +1,8 @@
 -- Slots that are taken and given back.
-use Rattle.std.proofs.Common.{◌≡◌, ◌≢◌, ℕ, zero, suc, inl, inr, Bool, true, false, List, [], ◌∷◌, Option, Some, None, slice_get, slice_set, refl, sym, ap, ◌∙◌, subst}
+use Rattle.std.proofs.Common.{◌≡◌, ◌≢◌, ◌<◌, ◌≤◌, length, arith, ℕ, zero, suc, inl, inr, Bool, true, false, List, [], ◌∷◌, Option, Some, None, slice_get, slice_set, refl, sym, ap, ◌∙◌, subst}
 use Rattle.std.proofs.lemmas.Bool.{cases_eq}
 use Rattle.std.proofs.lemmas.List.{length-map, length-set}
-use Rattle.std.proofs.lemmas.Option.{same_Some, cond_some}
+use Rattle.std.proofs.lemmas.Option.{slice_get_within, same_Some, cond_some}
 use Rattle.dsa_descriptor.specs.declared.span.Span.{Span}
 use Rattle.dsa_tracker.specs.declared.entry.Entry.{Entry}
 use Rattle.dsa_tracker.specs.declared.slots.Slots.{Slots}
@@ -121,3 +121,32 @@ still_free entries slot e e' is is_free same =
     shown_set entries slot e'
     ∙ ap (λ o. slice_set (all_shown entries) slot o) still
     ∙ set_itself (all_shown entries) slot None is_free
+
+-- what is outstanding after a release was so before, in another slot, with the same reads and writes
+pub held_before :
+    (old new : List (Option Outstanding)) (slot : ℕ) → Releases old slot new → (k : ℕ) (o : Outstanding) → slice_get new k ≡ Some (Some o) →
+    (p : Outstanding) × (slice_get old k ≡ Some (Some p)) × (k ≢ slot) × (o.reads ≡ p.reads) × (o.writes ≡ p.writes)
+held_before old new slot released k o is = by (element old k (omega (arith, within, same)))
+  where
+    within : k < length new
+    within = slice_get_within new k (Some o) is
+
+    same : length new ≡ length old
+    same = released.count
+
+    not_slot : k ≢ slot
+    not_slot e =
+        let wrong : ◌≡◌ {A = Option (Option Outstanding)} (Some None) (Some (Some o)) = sym released.freed ∙ ap (λ n. slice_get new n) (sym e) ∙ is in
+        cc
+
+    by : ((x : Option Outstanding) × (slice_get old k ≡ Some x)) → (p : Outstanding) × (slice_get old k ≡ Some (Some p)) × (k ≢ slot) × (o.reads ≡ p.reads) × (o.writes ≡ p.writes)
+    by (None, h) =
+        let wrong : ◌≡◌ {A = Option (Option Outstanding)} (Some None) (Some (Some o)) = sym (released.free k h) ∙ is in
+        absurd cc
+    by (Some p, h) =
+        let now = released.others k p not_slot h in
+        let o_is : record p { waits = now.0 } ≡ o = same_Some (record p { waits = now.0 }) o (same_Some (Some (record p { waits = now.0 })) (Some o) (sym now.1 ∙ is)) in
+        (p, h, not_slot, ap (λ (x : Outstanding). x.reads) (sym o_is), ap (λ (x : Outstanding). x.writes) (sym o_is))
+
+pub few_shown : (entries : List Entry) → length entries ≤ 64 → length (all_shown entries) ≤ 64
+few_shown entries few = let same = length-map entries shown in omega (arith, few, same)

@@ -6,3 +6,5 @@ pub mod Entries
 pub mod Forgetting
 pub mod Inside
 pub mod Honest
+pub mod Rows
+pub mod Filtering

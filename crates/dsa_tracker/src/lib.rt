@@ -3,11 +3,15 @@
 
 mod entry;
 mod fault;
+mod filter;
+mod grid;
 mod laws;
 mod limits;
+mod marks;
 mod owner;
 mod scans;
 mod slots;
+mod spans;
 mod taking;
 mod tracker;
 

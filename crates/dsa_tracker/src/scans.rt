@@ -4,20 +4,21 @@ ghost use Rattle.std.specs.Prelude.{◌≡◌, ℕ, ◌<◌, ◌≤◌, MatchOpt
 ghost use Rattle.dsa_tracker.specs.Entries.{AllHaveRoom, all_shown};
 ghost use Rattle.dsa_tracker.specs.Forgetting.{AreForgotten};
 ghost use Rattle.dsa_tracker.specs.Sets.{Has};
-ghost use Rattle.dsa_tracker.specs.Table.{HasOne, HasToWait, IsExactly, IsFirstFree, IsFull, IsHeld, IsReady, WaitsFor};
+ghost use Rattle.dsa_tracker.specs.Table.{ConflictsWith, HasOne, HasToWait, IsExactly, IsFirstFree, IsFull, IsHeld, IsReady, WaitsFor};
 
 use crate::entry::Entry;
 use crate::slots::Slots;
 use dsa_descriptor::Span;
 
 /// The first free slot.
-pub(crate) fn first_free(entries: &[Entry]) -> Option<usize>
+pub(crate) fn first_free(entries: &[Entry]) -> Option<u32>
+    requires { length entries.now ≤ 64 }
     ensures { MatchOption result (IsFull (all_shown entries.now))
         (IsFirstFree (all_shown entries.now)) }
 {
     for slot in 0..entries.len() {
         if !entries[slot].is_outstanding {
-            return Some(slot);
+            return Some(slot as u32);
         }
     }
     None
@@ -46,14 +47,21 @@ pub(crate) fn slots_to_await(
     reads: &[Span],
     writes: &[Span],
     named: Slots,
+    candidates: Slots,
 ) -> Slots
-    requires { length entries.now ≤ 64 }
+    requires few { length entries.now ≤ 64 }
+    requires complete { (k : ℕ) → ConflictsWith (all_shown entries.now) reads.now writes.now k →
+        Has candidates k }
     ensures { IsExactly result
         (HasToWait (all_shown entries.now) reads.now writes.now named) }
 {
+    let among = named.union(candidates);
     let mut found = Slots::EMPTY;
     for slot in 0..entries.len() {
         let number = slot as u32;
+        if !among.contains(number) {
+            continue;
+        }
         if entries[slot].has_to_end(reads, writes, named.contains(number)) {
             found = found.with(number);
         }

@@ -66,4 +66,11 @@ impl Slots {
     {
         Slots(without_bit(self.0, slot))
     }
+
+    /// The slots of both sets.
+    pub(crate) fn union(self, other: Slots) -> Slots
+        ensures { (s : ℕ) → Has result s ↔ (Has self s ⊎ Has other s) }
+    {
+        Slots(self.0 | other.0)
+    }
 }

@@ -9,6 +9,7 @@ ghost use Rattle.dsa_tracker.specs.Table.{ConflictsWith, IsExactly, IsHeld, IsRe
 
 use crate::entry::Entry;
 use crate::fault::TrackFault;
+use crate::filter::Filter;
 use crate::limits::{list_fault, span_fault};
 use crate::owner::{Owner, expected_owner};
 use crate::scans::{first_free, slots_to_await, waits_at};
@@ -40,6 +41,7 @@ pub struct Retired {
 #[derive(Drop)]
 pub struct Tracker {
     entries: Vec<Entry>,
+    filter: Filter,
     room: u32,
     owner: Option<Owner>,
 }
@@ -70,17 +72,22 @@ fn free_entries(alloc: Global, slots: u32, room: u32) -> Result<Vec<Entry>, Allo
 
 impl Tracker {
     /// A tracker with so many slots, for submissions that read at most `room` spans and write at
-    /// most `room` spans. All its memory is taken here.
+    /// most `room` spans. All its memory is taken here. `unit` is the length of the pieces that
+    /// addresses are cut into for a first look, as a power of two: it changes no answer, and calls
+    /// are fastest where it is near the length of an operation.
     ///
     /// # Errors
     /// An allocation failed.
-    pub fn new(alloc: Global, slots: u32, room: u32) -> Result<Tracker, AllocError>
-        requires { slots ≤ 64 }
+    pub fn new(alloc: Global, slots: u32, room: u32, unit: u32) -> Result<Tracker, AllocError>
+        requires few { slots ≤ 64 }
+        requires some { 1 ≤ unit }
+        requires most { unit ≤ 63 }
         ensures { IfOk result (λ t. t ≡
             record { slots = replicate slots None; room = room; owner = None }) }
     {
         Ok(Tracker {
             entries: free_entries(alloc, slots, room)?,
+            filter: Filter::new(alloc, unit)?,
             room,
             owner: None,
         })
@@ -110,11 +117,15 @@ impl Tracker {
         if let Some(fault) = span_fault(self.room, reads, writes) {
             return Err(fault);
         }
-        let waits = take_for_spans(&mut self.entries, slot, reads, writes, also);
-        Ok(Submitted {
-            slot: slot as u32,
-            waits,
-        })
+        let waits = take_for_spans(
+            &mut self.entries,
+            &mut self.filter,
+            slot,
+            reads,
+            writes,
+            also,
+        );
+        Ok(Submitted { slot, waits })
     }
 
     /// Takes a submission of these pieces, whose staging area (its batch descriptors and batch
@@ -145,12 +156,16 @@ impl Tracker {
         if let Some(fault) = list_fault(self.room, owner, pieces, staging) {
             return Err(fault);
         }
-        let waits = take_for_pieces(&mut self.entries, slot, pieces, staging, also);
+        let waits = take_for_pieces(
+            &mut self.entries,
+            &mut self.filter,
+            slot,
+            pieces,
+            staging,
+            also,
+        );
         self.owner = owner;
-        Ok(Submitted {
-            slot: slot as u32,
-            waits,
-        })
+        Ok(Submitted { slot, waits })
     }
 
     /// The outstanding submissions that conflict with accesses to these spans, also with accesses
@@ -158,7 +173,8 @@ impl Tracker {
     pub fn ask(&self, reads: &[Span], writes: &[Span]) -> Slots
         ensures { IsExactly result (ConflictsWith self.now.slots reads.now writes.now) }
     {
-        slots_to_await(&self.entries, reads, writes, Slots::EMPTY)
+        let candidates = self.filter.candidates(reads, writes);
+        slots_to_await(&self.entries, reads, writes, Slots::EMPTY, candidates)
     }
 
     /// The slots that the submission of this slot waits for; none if it is not outstanding.
@@ -194,7 +210,7 @@ impl Tracker {
         if !waits.is_empty() {
             return Err(TrackFault::Held(slot));
         }
-        Ok(release(&mut self.entries, slot))
+        Ok(release(&mut self.entries, &mut self.filter, slot))
     }
 
     /// Takes a submission off that was not rung.
@@ -209,6 +225,6 @@ impl Tracker {
         let Some(_waits) = waits_at(&self.entries, slot) else {
             return Err(TrackFault::NotOutstanding(slot));
         };
-        Ok(release(&mut self.entries, slot))
+        Ok(release(&mut self.entries, &mut self.filter, slot))
     }
 }

@@ -30,16 +30,16 @@ loop-slot-preserved c =
     here = one_at c.args.entries.now c.loop-slot.slot c.index-entries-slot.result (λ o. SpansConflict o.reads o.writes c.args.reads.now c.args.writes.now ⊎ Has c.args.named c.loop-slot.slot) is_slot
 
     there :
-        Shows c.index-entries-slot.result (λ o. SpansConflict o.reads o.writes c.args.reads.now c.args.writes.now ⊎ IsTrue c.contains.result) →
+        Shows c.index-entries-slot.result (λ o. SpansConflict o.reads o.writes c.args.reads.now c.args.writes.now ⊎ IsTrue c.contains-in-loop-slot.result) →
         Shows c.index-entries-slot.result (λ o. SpansConflict o.reads o.writes c.args.reads.now c.args.writes.now ⊎ Has c.args.named c.loop-slot.slot)
     there (o, is, inl conflict) = (o, is, inl conflict)
-    there (o, is, inr named) = (o, is, inr (c.contains.ensures.0 named))
+    there (o, is, inr named) = (o, is, inr (c.contains-in-loop-slot.ensures.0 named))
 
     back :
         Shows c.index-entries-slot.result (λ o. SpansConflict o.reads o.writes c.args.reads.now c.args.writes.now ⊎ Has c.args.named c.loop-slot.slot) →
-        Shows c.index-entries-slot.result (λ o. SpansConflict o.reads o.writes c.args.reads.now c.args.writes.now ⊎ IsTrue c.contains.result)
+        Shows c.index-entries-slot.result (λ o. SpansConflict o.reads o.writes c.args.reads.now c.args.writes.now ⊎ IsTrue c.contains-in-loop-slot.result)
     back (o, is, inl conflict) = (o, is, inl conflict)
-    back (o, is, inr named) = (o, is, inr (c.contains.ensures.1 named))
+    back (o, is, inr named) = (o, is, inr (c.contains-in-loop-slot.ensures.1 named))
 
 pub returns : goal.returns
 returns c =

@@ -1,10 +1,10 @@
-use Rattle.std.proofs.Common.{◌≡◌, length, None, refl, ap, ◌∙◌, sym, subst, arith}
+use Rattle.std.proofs.Common.{refl, subst, sym, ◌∙◌, ◌≡◌}
 use Rattle.std.specs.Vec.{with_items}
 use Rattle.std.proofs.lemmas.List.{with_items_is}
 use Rattle.dsa_tracker.specs.Calls.{CanKeep, IsSpanFault}
 use Rattle.dsa_tracker.specs.Entries.{all_shown}
 use Rattle.dsa_tracker.specs.Table.{IsFirstFree}
-use Rattle.dsa_tracker.proofs.Found.{within_shown}
+use Rattle.dsa_tracker.specs.Filtering.{IsCovering}
 use Rattle.dsa_tracker.proofs.Tables.{full, first_free, refused_spans, room_is, owner_is, sound, submits}
 use Rattle.dsa_tracker.proofs.tracker.Tracker.submit_spans.Goals as goal
 use Rattle.dsa_tracker.proofs.tracker.Tracker.submit_spans.Goals.{After-self-1}
@@ -19,20 +19,13 @@ returns-in-Some-span_fault c = (
   refl,
 )
 
-pub overflow_cast-result : goal.overflow_cast-result
-overflow_cast-result c =
-    let lt = within_shown c.deref.result.now c.in-Some.slot None c.in-Some.ensures.0 in
-    let few = c.self.invariant.few in
-    let same : length c.deref.result.now ≡ length c.self.inside.entries.items = ap length c.deref.ensures.value in
-    omega (arith, lt, few, same)
-
 items_are : (c : After-self-1) → (with_items c.self.inside.entries c.take_for_spans-waits.new.entries).items ≡ c.take_for_spans-waits.new.entries
 items_are c = with_items_is c.self.inside.entries c.take_for_spans-waits.new.entries (c.take_for_spans-waits.auto.entries ∙ c.deref_mut.ensures.len)
 
 pub invariant_of-self : goal.invariant_of-self
 invariant_of-self c =
     let is = sound c.self.inside c.args.self.now c.self.view_is c.deref_mut.result.now c.deref_mut.ensures.value _ c.take_for_spans-waits.new.entries (items_are c) c.take_for_spans-waits.auto.entries c.take_for_spans-waits.ensures.room c.self.invariant in
-    record { few = is.0; room = is.1 }
+    record { few = is.0; room = is.1; sized = c.take_for_spans-waits.ensures.sized; covering = subst (λ xs. IsCovering c.take_for_spans-waits.new.filter (all_shown xs)) (sym (items_are c)) c.take_for_spans-waits.ensures.covering }
 
 pub returns : goal.returns
 returns c = (

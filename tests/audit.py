@@ -343,7 +343,8 @@ def freed(recording, report, assumed):
     names, rows = ["writes", "signals", "batches"], []
     for more in [("writes", True), ("signals", False), ("batches", False), ("signals", True), ("batches", True)]:
         if more != assumed and names.index(more[0]) >= names.index(awaited) and more[1] >= resident:
-            count = sum(it.needless_with(more) for it, _ in submissions(recording, report, assumed))
+            # the fence of a lone descriptor has no effect, and is an error of its own
+            count = sum(it.needless_with(more) for it, is_batch in submissions(recording, report, assumed) if is_batch)
             rows.append({"assumptions": {"await": more[0], "resident": more[1]}, "needless": count - report["totals"]["needless"]})
     return rows
 

@@ -14,14 +14,15 @@ from common import crates, expect, having, run_test
 
 PAGES = ["README.md", "CONTRIBUTING.md", *sorted(glob("docs/*.md", root_dir=Path(__file__).parent.parent))]
 
-# Names of others: Linux, the toolchain, Rust, C, and the packages, libraries and programs that the pages speak of.
+# Names of others: Linux, the toolchain, Rust, C, and the packages, libraries and programs that the pages speak of, among them
+# those that are built from C.
 OTHERS = set(
     """
     max_batch_size max_transfer_size
     desc desc_addr desc_count desc_list_addr desc_ring dsa_hw_desc idxd_hw_desc op_flags opcode
     Net Processes alloc apt cargo gcc git nice patch python3 rt rustfmt rustup valgrind
     binutils clang cmake ctypes dpkg find_package flockfile man pthread_attr_setstacksize toml
-    dsa_planner dsa_planner_static dsa_planner_own_memory libdsa_planner libdsa_planner_own_memory libdsa_c
+    dsa_trace dsa_prices dsa_planner dsa_planner_static dsa_planner_own_memory libdsa_planner libdsa_planner_own_memory libdsa_c
     """.split()
 )
 # Paths that a reader makes, or that a build does.

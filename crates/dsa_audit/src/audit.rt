@@ -31,8 +31,8 @@ pub fn audit_fences(
 ) -> Result<Audit, AllocError>
     requires operands { length fences.now ≡ length operands.now }
     requires members { length fences.now ≡ length members.now }
-    ensures { IfOk result (λ a. IsAudit operands.now members.now effects.entry.fallible.now effects.entry.visible.now
-        fences.now a) }
+    ensures { IfOk result (λ a. IsAudit operands.now members.now
+        effects.entry.fallible.now effects.entry.visible.now fences.now a) }
 {
     let known = known_lasts(alloc, operands)?;
     let corrected = add_missing(alloc, fences, &KnownConflicts { members: operands }, &known)?;

@@ -131,7 +131,8 @@ fn first_set(flags: &[bool], from: usize, before: usize) -> Option<usize>
 /// before the first member orders nothing.
 fn spare_use(effects: Effects, given: usize, at: usize, end: usize) -> FenceUse
     requires { given ≤ at }
-    ensures { IsSpareUse effects.entry.fallible.now effects.entry.visible.now given at end result }
+    ensures { IsSpareUse effects.entry.fallible.now effects.entry.visible.now
+        given at end result }
 {
     if at == 0 {
         return FenceUse::Needless;

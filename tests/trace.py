@@ -300,8 +300,8 @@ def audited():
     told("a missing fence", traced("--audit", "--", client("ordered"), "fence", env=known), 1,
          "missing fence, read after write")
     told("a missing wait", traced("--audit", "--", client("ordered"), "wait", env=known), 1,
-         "missing wait, read after write",
-         "submission 1 reads what submission 0", "0 missing")
+         "missing wait, read after write", "submission 1: error: missing wait",
+         "reads what submission 0, in flight, writes", "0 missing")
     for mode in ("fenced", "waited", "member", "drain", "polled"):
         end = traced("--audit", "--", client("ordered"), mode, env=known)
         told(mode, end, 0, " 0 missing")

@@ -37,11 +37,12 @@ LINKING = 100
 TIMES_LONGER = {"dsa_text": 2.4, "dsa_report": 1.6}
 COUNTS = re.compile(r"^(?:[\w./-]+: )?(\d+) passed[,;] (\d+) failed", re.M)
 KINDS = ("proofs", "edits", "tests", "scripts")
-# What the scripts need built; those that are not named need the two programs.
-NEEDS = {name: () for name in ("engines", "hostile", "names", "schema", "trace")}
-NEEDS |= {"bindings": ("dsa", "dsa_c"), "limits": ("dsa",), "package": ("dsa", "dsa_text", "dsa_c")}
-NEEDS |= {"trace_campaign": ("dsa", "dsa_c")}
 PROGRAMS = ("dsa", "dsa_text")
+# What the scripts need built; those that are not named need the two programs.
+NEEDS = {name: () for name in ("engines", "hostile", "names", "schema")}
+NEEDS |= {"bindings": ("dsa", "dsa_c"), "limits": ("dsa",), "package": ("dsa", "dsa_text", "dsa_c")}
+# The clients of trace wait for times, so they run when most proofs are done.
+NEEDS |= {"trace": (*PROGRAMS, "dsa_c"), "trace_campaign": ("dsa", "dsa_c")}
 # Of how many crates edits that change nothing are tried beside the others, at the least.
 FEWEST_CONTROLS = 5
 

@@ -337,6 +337,40 @@ def fences():
     refused("explain", explained([(0x1000, 0x2000)] * 65_537, []), "there are more than 65,536 pieces", "32 TooManyPieces")
 
 
+def lacking(moves, plan, rules=common.SETTINGS):
+    """The lines of a refusal of the plan behind its first: which fences the plan lacks."""
+    text = common.judge(pieces_of(moves), plan, rules)
+    ran = subprocess.run([TEXT, "explain"], input=text.encode(), capture_output=True)
+    common.expect((ran.returncode, ran.stdout) == (1, b""), f"explain of {text[:400]} ends with {ran.returncode}")
+    return ran.stderr.decode().splitlines()[1:]
+
+
+def missing():
+    """A refused plan is told each fence that it lacks, however many. By hand: chains, in which each piece but the first of its
+    group needs one. Random plans: a fence before each piece that the model finds to conflict with one of its epoch."""
+    wide = common.settings(greatest_batch=16)
+    chain = [(0x1000 * k, 0x1000 * (k + 1)) for k in range(1, 13)]
+    reason = "read after write at 0x{:x}000, no fence between"
+    wanted = [f"  {k} after {k - 1}, {reason.format(k + 1)}" for k in range(1, 12)]
+    for plan, first in (([12], []), ([6, 6], [6]), ([3, 4, 5], [3, 7]), ([2] * 6, [2, 4, 6, 8, 10])):
+        told = lacking(chain, [[False] * size for size in plan], wide)
+        common.expect(told == [line for k, line in enumerate(wanted, 1) if k not in first], f"the chain as {plan}: {told}")
+    draw = random.Random(20261126)
+    for _ in range(60):
+        moves = [(0x1000 + 64 * draw.randrange(30), 0x1000 + 64 * draw.randrange(30)) for _ in range(draw.randrange(4, 40))]
+        pieces, plan, pairs, start = pieces_of(moves), [], [], 0
+        while start < len(moves):
+            group = [k > 0 and draw.random() < 0.2 for k in range(min(draw.randrange(1, 17), len(moves) - start))]
+            plan.append([*group])
+            while pair := model.unfenced(pieces, start, group):
+                group[pair[1] - start] = True
+                pairs.append(pair)
+            start += len(group)
+        if pairs:
+            told = [tuple(map(int, re.match(r"  (\d+) after (\d+), ", line).groups())) for line in lacking(moves, plan, wide)]
+            common.expect(told == [(later, earlier) for earlier, later in pairs], f"{moves} as {plan} lacks {pairs}, told {told}")
+
+
 def large():
     """Texts and lists of more than 1 MiB: 65,536 moves that lie apart, which are 64 whole batches of 1,024."""
     count = 64 * 1024
@@ -546,7 +580,7 @@ def files():
         common.expect(not fault, fault)
 
 
-PARTS = [examples, lists, refusals, arguments, lines, grammar, texts, fences, sentences, large, split, picture]
+PARTS = [examples, lists, refusals, arguments, lines, grammar, texts, fences, missing, sentences, large, split, picture]
 PARTS += [pictures, reasons_drawn, named_files, forms_of_bytes, members, files]
 
 

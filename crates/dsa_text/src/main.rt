@@ -19,6 +19,7 @@ mod messages;
 mod numbers;
 mod options;
 mod origins;
+mod rows;
 mod settings;
 mod shown;
 mod unplanned;
@@ -323,10 +324,22 @@ fn written(rt: &HostRuntime, text: &str, status: u8) -> ExitCode {
     }
 }
 
-/// Writes an answer to standard output, or why there is none to standard error, and ends.
+/// Writes an answer to standard output and its warnings to standard error, and ends. The status is that of the answer, also
+/// if the warnings can't be written.
+fn written_answer(rt: &HostRuntime, answer: &Answer) -> ExitCode {
+    let code = written(rt, &answer.text, 0);
+    if let Some(warnings) = &answer.warnings {
+        match eprint!(rt; "{warnings}") {
+            Ok(()) | Err(_) => {}
+        }
+    }
+    code
+}
+
+/// Writes an answer with its warnings, or why there is none to standard error, and ends.
 fn ended(rt: &HostRuntime, answer: &Answer) -> ExitCode {
     if answer.status == 0 {
-        written(rt, &answer.text, 0)
+        written_answer(rt, answer)
     } else {
         refuse(rt, &answer.text)
     }

@@ -66,7 +66,10 @@ const PROGRAM: &str =
 
 The status is 0 for an answer and 1 for a refusal, which is a line on standard error. It is 2 for arguments that the
 program does not know, and where a file can't be opened or read or the answer can't be written. Of audit it is 1 where a
-fence is missing, and 2 where there is no recording.";
+fence is missing, and 2 where there is no recording.
+
+The program dsa answers jobs in JSON. It looks at no arguments, reads one job from standard input, and writes one line to
+standard output (man dsa): dsa < JOB";
 
 /// What the help of `explain` says of its input.
 const EXPLAINED: &str = "The input is lines of operations, as docs/FORMATS.md has them:

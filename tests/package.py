@@ -133,7 +133,7 @@ def unproved():
         tree / "crates/dsa/out/dsa": (lambda old: old + b"\0", "crates/dsa/out/dsa is another file than the one that was proved"),
         tree / "crates/dsa_c/out/libdsa_c.a": (lambda old: None, "crates/dsa_c/out/libdsa_c.a is missing"),
         tree / "crates/dsa_text/out/proved": (lambda old: None, "there is no record that crates/dsa_text/out/dsa_text was proved"),
-        tree / "crates/dsa_ranges/src/lib.rt": (lambda old: old + b"\n", "crates/dsa/out/dsa is older than its sources"),
+        tree / "crates/dsa_ranges/src/lib.rt": (lambda old: old + b"\n", "crates/dsa_c/out/libdsa_c.a is older than its sources"),
     }
     records = {f"dsa_text {kit} {rest}": "of another crate", f"{name} rattle-kit-0 {rest}": "proved with another kit"}
     for text, why in records.items():

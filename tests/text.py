@@ -41,8 +41,8 @@ def refused(command, text, begin, name):
 
 
 def written(command, text=""):
-    """What the program writes, whatever its status."""
-    return subprocess.run([TEXT, *command.split()], input=text, stdout=subprocess.PIPE, text=True).stdout
+    """What the program writes to standard output, whatever its status and its warnings."""
+    return subprocess.run([TEXT, *command.split()], input=text, capture_output=True, text=True).stdout
 
 
 def same(what, wrote, path):
@@ -337,6 +337,84 @@ def fences():
     refused("explain", explained([(0x1000, 0x2000)] * 65_537, []), "there are more than 65,536 pieces", "32 TooManyPieces")
 
 
+def lacking(moves, plan, rules=common.SETTINGS):
+    """The lines of a refusal of the plan behind its first: which fences the plan lacks."""
+    text = common.judge(pieces_of(moves), plan, rules)
+    ran = subprocess.run([TEXT, "explain"], input=text.encode(), capture_output=True)
+    common.expect((ran.returncode, ran.stdout) == (1, b""), f"explain of {text[:400]} ends with {ran.returncode}")
+    return ran.stderr.decode().splitlines()[1:]
+
+
+def missing():
+    """A refused plan is told each fence that it lacks, however many. By hand: chains, in which each piece but the first of its
+    group needs one. Random plans: a fence before each piece that the model finds to conflict with one of its epoch."""
+    wide = common.settings(greatest_batch=16)
+    chain = [(0x1000 * k, 0x1000 * (k + 1)) for k in range(1, 13)]
+    reason = "read after write at 0x{:x}000, no fence between"
+    wanted = [f"  {k} after {k - 1}, {reason.format(k + 1)}" for k in range(1, 12)]
+    for plan, first in (([12], []), ([6, 6], [6]), ([3, 4, 5], [3, 7]), ([2] * 6, [2, 4, 6, 8, 10])):
+        told = lacking(chain, [[False] * size for size in plan], wide)
+        common.expect(told == [line for k, line in enumerate(wanted, 1) if k not in first], f"the chain as {plan}: {told}")
+    draw = random.Random(20261126)
+    for _ in range(60):
+        moves = [(0x1000 + 64 * draw.randrange(30), 0x1000 + 64 * draw.randrange(30)) for _ in range(draw.randrange(4, 40))]
+        pieces, plan, pairs, start = pieces_of(moves), [], [], 0
+        while start < len(moves):
+            group = [k > 0 and draw.random() < 0.2 for k in range(min(draw.randrange(1, 17), len(moves) - start))]
+            plan.append([*group])
+            while pair := model.unfenced(pieces, start, group):
+                group[pair[1] - start] = True
+                pairs.append(pair)
+            start += len(group)
+        if pairs:
+            told = [tuple(map(int, re.match(r"  (\d+) after (\d+), ", line).groups())) for line in lacking(moves, plan, wide)]
+            common.expect(told == [(later, earlier) for earlier, later in pairs], f"{moves} as {plan} lacks {pairs}, told {told}")
+
+
+def warned(operations, words=""):
+    """What explaining a text says beside the plan: of each operation the one in whose row its record is, that row, and the
+    address to use; and how many more there are."""
+    text = "".join(f"move 0x{src:x} -> 0x{dst:x}, {size} bytes, record 0x{at:x}\n" for src, dst, size, at in operations)
+    ran = subprocess.run([TEXT, "explain", *words.split()], input=text.encode(), capture_output=True)
+    said = ran.stderr.decode()
+    common.expect(ran.returncode == 0 and ran.stdout, f"explain of {text!r} ends with {ran.returncode}, {said!r}")
+    line = r"warning: operation (\d+)'s record is in the row of operation (\d+) \((\d+) records?, 0x(\w+) to 0x(\w+)\): use 0x(\w+)\n"
+    found = [tuple(int(word, 16 if k > 2 else 10) for k, word in enumerate(it)) for it in re.findall(line, said)]
+    return found, re.sub(line, "", said)
+
+
+def shared_records():
+    """Operations that share a completion record, or have theirs in the row of another: whichever form the plan is shown in; 20 at
+    the most are named, and how many more there are. In random lists just those are named whose record is in a row that begins
+    before it, or with it and is that of an earlier operation; the addresses that are named are free, one beside the other."""
+    many = [(0x10_0000 + 0x100 * k, 0x20_0000 + 0x100 * k, 64, 0x8000) for k in range(25)]
+    found, rest = warned(many)
+    wanted = [(k, 0, 1, 0x8000, 0x801F, 0x8000 + 32 * k) for k in range(1, 21)]
+    more = "warning: 4 more operations have a record in the row of another\n"
+    common.expect((found, rest) == (wanted, more), f"25 operations with one record: {found}, {rest!r}")
+    for form in ("--json", "--svg", "--all"):
+        common.expect(warned(many, form) == (wanted, more), f"explain {form} has other warnings: {warned(many, form)}")
+    common.expect(warned(many[:1] + [(0x1000, 0x2000, 64, 0x8020)]) == ([], ""), "records apart are warned of")
+    draw = random.Random(52)
+    for _ in range(100):
+        count = draw.randrange(1, 21)
+        places = [0x10_0000 + 0x8000 * k for k in range(2 * count)]
+        draw.shuffle(places)
+        lists = [(places.pop(), places.pop(), draw.randrange(1, 5) * 4096, 0x8000 + 32 * draw.randrange(60)) for _ in range(count)]
+        rows = [(at, at + 32 * (size // 4096)) for _, _, size, at in lists]
+        sharing = {j for j, (at, _) in enumerate(rows) for i, (first, end) in enumerate(rows) if (first, i) < (at, j) and at < end}
+        found, rest = warned(lists, "--greatest-transfer 4096")
+        common.expect({it[0] for it in found} == sharing and not rest, f"{lists}: {sharing} share, {found} are named")
+        taken = rows + [(at, at + size) for src, dst, size, _ in lists for at in (src, dst)]
+        taken.append((0x10000, 0x10000 + 96 * sum(size // 4096 for _, _, size, _ in lists)))
+        for own, holder, records, first, last, address in found:
+            row = (address, address + rows[own][1] - rows[own][0])
+            is_free = address % 32 == 0 and not any(row[0] < end and first < row[1] for first, end in taken)
+            held = (first, last + 1) == rows[holder] and records == (last + 1 - first) // 32 and first <= rows[own][0] <= last
+            common.expect(held and is_free, f"{lists}: of operation {own} the row of {holder} and 0x{address:x} are named")
+            taken.append(row)
+
+
 def large():
     """Texts and lists of more than 1 MiB: 65,536 moves that lie apart, which are 64 whole batches of 1,024."""
     count = 64 * 1024
@@ -546,7 +624,7 @@ def files():
         common.expect(not fault, fault)
 
 
-PARTS = [examples, lists, refusals, arguments, lines, grammar, texts, fences, sentences, large, split, picture]
+PARTS = [examples, lists, refusals, arguments, lines, grammar, texts, fences, missing, shared_records, sentences, large, split, picture]
 PARTS += [pictures, reasons_drawn, named_files, forms_of_bytes, members, files]
 
 

@@ -303,7 +303,7 @@ fn plans_are_judged_by_size() {
         batch: BatchPrice::BySize(&[5, 16, 30, 40]),
         ..SETTINGS
     };
-    assert_eq!(judge(&long, &list, &[BEGINS; 4]), Err(refused(83, 0, 0, 0)));
+    assert_eq!(judge(&long, &list, &[BEGINS; 4]), Err(refused(83, 0, 8, 0)));
 }
 
 // The two ways to plan answer the same, and `plan_into` leaves what it need not write.

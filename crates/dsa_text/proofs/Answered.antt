@@ -1,5 +1,5 @@
 -- What explaining answers, by what the calls answer.
-use Rattle.std.proofs.Common.{◌≡◌, ◌⊎◌, inl, inr, ℕ, Bool, List, map, Result, Option, Some, Err, IfOk, codes, sym, subst}
+use Rattle.std.proofs.Common.{◌≡◌, ◌⊎◌, ◌∙◌, inl, inr, ℕ, Bool, List, [], ap, map, Result, Option, Some, Err, IfOk, codes, string_bytes, sym, subst}
 use Rattle.std.proofs.lemmas.Result.{IfOk-weaker}
 use Rattle.dsa_descriptor.specs.declared.descriptor.Descriptor.{Descriptor}
 use Rattle.dsa_descriptor.specs.Descriptors.{fields}
@@ -14,11 +14,11 @@ use Rattle.dsa_calls.specs.declared.fault.PlanFault.TheVariants.{Memory}
 use Rattle.dsa_calls.specs.Lists.{IsListOf, IsOrMemory, OrMemory}
 use Rattle.dsa_calls.specs.Planned.{Submission, IsSubmissionOf, PlansOperations}
 use Rattle.dsa_text.specs.declared.answer.Answer.{Answer}
-use Rattle.dsa_text.specs.Refusals.{IsRefusal}
-use Rattle.dsa_text.specs.Explained.{ExplainsList, is_refused_list, is_planned}
+use Rattle.dsa_text.specs.Refusals.{IsRefusal, NamesCause, explain_cause}
+use Rattle.dsa_text.specs.Explained.{AnswersJudged, ExplainsList, TellsJudged, is_drawn, is_planned, is_refused_list, is_spelled, is_told, is_untold}
 use Rattle.dsa_text.specs.Origins.{origins_from}
 use Rattle.dsa_text.specs.declared.form.Form.{Form}
-use Rattle.dsa_text.specs.Shown.{AnswersPlan, form_of}
+use Rattle.dsa_text.specs.Shown.{AnswersPlan, ShowsPlan, form_of, is_shown, is_too_large, is_unfit}
 use Rattle.clap.specs.declared.parser.matches.ArgMatches.{ArgMatches}
 use Rattle.dsa_text.specs.Options.{IsFlag}
 use Rattle.dsa_text.specs.Inputs.{ExplainsAs, ExplainsInput, is_job}
@@ -47,6 +47,31 @@ pub plan_answered : {E : Type 0} (r : Result Answer E) (s : Limits) (plan : Plan
     → ds ≡ ds' → origins ≡ origins' → IfOk r (AnswersPlan s plan ds origins least form) → IfOk r (AnswersPlan s plan ds' origins' least form)
 plan_answered r s plan ds ds' origins origins' least form e f h =
     subst (λ (os : List Origin). IfOk r (AnswersPlan s plan ds' os least form)) f (subst (λ (xs : List Descriptor). IfOk r (AnswersPlan s plan xs origins least form)) e h)
+
+-- what is said beside an answer, as warnings, changes neither its status nor its text
+refused_beside : (fault : PlanFault) (a b : Answer) → b.status ≡ a.status → b.text ≡ a.text → IsRefusal fault a → IsRefusal fault b
+refused_beside fault a b status text r =
+    record { status = status ∙ r.status; cause = subst (λ (t : List ℕ). NamesCause fault t) (sym (ap string_bytes text)) r.cause }
+
+pub plan_beside : (s : Limits) (plan : Plan) (ds : List Descriptor) (origins : List Origin) (least : Option ℕ) (form : Form) (a b : Answer)
+    → b.status ≡ a.status → b.text ≡ a.text → AnswersPlan s plan ds origins least form a → AnswersPlan s plan ds origins least form b
+plan_beside s plan ds origins least form a b status text (is_shown z shows) =
+    is_shown (status ∙ z) (subst (λ (t : List ℕ). ShowsPlan form s plan ds origins least t) (sym (ap string_bytes text)) shows)
+plan_beside s plan ds origins least form a b status text (is_unfit fault explains r) =
+    is_unfit fault explains (refused_beside (explain_cause fault) a b status text r)
+plan_beside s plan ds origins least form a b status text (is_too_large drawn can many one words) =
+    is_too_large drawn can many (status ∙ one) (ap string_bytes text ∙ words)
+
+pub judged_beside : (s : Limits) (plan : Plan) (ds : List Descriptor) (cost : ℕ) (form : Form) (a b : Answer)
+    → b.status ≡ a.status → b.text ≡ a.text → AnswersJudged s plan ds cost form a → AnswersJudged s plan ds cost form b
+judged_beside s plan ds cost form a b status text (is_drawn least drawn is answers) =
+    is_drawn least drawn is (plan_beside s plan ds [] least form a b status text answers)
+judged_beside s plan ds cost form a b status text (is_spelled least spelled is answers) =
+    is_spelled least spelled is (plan_beside s plan ds [] least form a b status text answers)
+judged_beside s plan ds cost form a b status text (is_told detail told z tells) =
+    is_told detail told (status ∙ z) (subst (λ (t : List ℕ). TellsJudged s detail plan ds cost t) (sym (ap string_bytes text)) tells)
+judged_beside s plan ds cost form a b status text (is_untold detail told fault explains r) =
+    is_untold detail told fault explains (refused_beside (explain_cause fault) a b status text r)
 
 -- of planned operations, for a list that spells them
 pub operations_planned : {E : Type 0} (list : List ℕ) (s : Limits) (form : Form) (ds : List Descriptor) (p : Submission) (r : Result Answer E) → IsListOf list ds → IsSubmissionOf s (map fields ds) p

@@ -17,6 +17,8 @@ pub struct Answer {
     pub text: String,
     /// The status of the program: 0 for an answer and 1 for a refusal.
     pub status: u8,
+    /// What is said beside an answer, on standard error.
+    pub warnings: Option<String>,
 }
 
 impl Answer {
@@ -25,7 +27,11 @@ impl Answer {
         ensures text { result.text ≡ text }
         ensures status { result.status ≡ 0 }
     {
-        Answer { text, status: 0 }
+        Answer {
+            text,
+            status: 0,
+            warnings: None,
+        }
     }
 
     /// A refusal, which is one line.
@@ -33,7 +39,23 @@ impl Answer {
         ensures text { result.text ≡ text }
         ensures status { result.status ≡ 1 }
     {
-        Answer { text, status: 1 }
+        Answer {
+            text,
+            status: 1,
+            warnings: None,
+        }
+    }
+
+    /// The same, with these warnings beside it.
+    pub(crate) fn with_warnings(self, warnings: Option<String>) -> Answer
+        ensures text { result.text ≡ self.text }
+        ensures status { result.status ≡ self.status }
+    {
+        Answer {
+            text: self.text,
+            status: self.status,
+            warnings,
+        }
     }
 
     /// The refusal of a job or a list.

@@ -18,6 +18,7 @@ ghost use Rattle.dsa_text.specs.Shown.{AnswersPlan};
 use crate::answer::Answer;
 use crate::form::Form;
 use crate::origins::origins_of;
+use crate::rows::warnings_of;
 use crate::shown::answer_plan;
 use crate::unplanned::{Source, unplanned};
 use dsa_calls::{PlanFault, Planned, check_plan, plan_operations};
@@ -40,7 +41,7 @@ fn answer_planned(
         (Some planned.now.cost) form) }
 {
     let origins = origins_of(alloc, operations, settings)?;
-    answer_plan(
+    let answer = answer_plan(
         alloc,
         &planned.plan,
         &planned.pieces,
@@ -48,7 +49,9 @@ fn answer_planned(
         settings,
         Some(planned.cost),
         form,
-    )
+    )?;
+    let warnings = warnings_of(alloc, operations, settings)?;
+    Ok(answer.with_warnings(warnings))
 }
 
 /// What the plan of least cost of these operations does and why.

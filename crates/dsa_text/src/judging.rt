@@ -14,6 +14,7 @@ ghost use Rattle.dsa_text.specs.Refusals.{IsRefusal};
 use crate::answer::Answer;
 use crate::form::Form;
 use crate::judged::missing_message;
+use crate::rows::warnings_of;
 use crate::shown::{answer_plan, plan_words};
 use dsa_calls::{PlanFault, judge_pieces, plan_operations};
 use dsa_descriptor::{Descriptor, read_list};
@@ -121,8 +122,8 @@ fn judged_json(
     answer_plan(alloc, plan, pieces, none, settings, least, Form::Json)
 }
 
-/// The answer of a judged plan.
-fn answer_judged(
+/// The answer of a judged plan in a form.
+fn judged_in_form(
     alloc: Global,
     plan: &Plan,
     pieces: &[Descriptor],
@@ -138,6 +139,23 @@ fn answer_judged(
         Form::Picture => judged_picture(alloc, plan, pieces, settings, cost),
         Form::Json => judged_json(alloc, plan, pieces, settings, cost),
     }
+}
+
+/// The answer of a judged plan, with what is said of its pieces' records.
+fn answer_judged(
+    alloc: Global,
+    plan: &Plan,
+    pieces: &[Descriptor],
+    settings: &Settings,
+    cost: u64,
+    form: Form,
+) -> Result<Answer, AllocError>
+    requires { HaveOneOwner (map fields pieces.now) }
+    ensures { IfOk result (AnswersJudged settings.now plan.now pieces.now cost form) }
+{
+    let answer = judged_in_form(alloc, plan, pieces, settings, cost, form)?;
+    let warnings = warnings_of(alloc, pieces, settings)?;
+    Ok(answer.with_warnings(warnings))
 }
 
 /// The refusal of a plan of one's own. That of a plan that lacks fences lists each of them.

@@ -19,6 +19,7 @@ mod messages;
 mod numbers;
 mod options;
 mod origins;
+mod rows;
 mod settings;
 mod shown;
 mod unplanned;
@@ -65,7 +66,10 @@ const PROGRAM: &str =
 
 The status is 0 for an answer and 1 for a refusal, which is a line on standard error. It is 2 for arguments that the
 program does not know, and where a file can't be opened or read or the answer can't be written. Of audit it is 1 where a
-fence is missing, and 2 where there is no recording.";
+fence is missing, and 2 where there is no recording.
+
+The program dsa answers jobs in JSON. It looks at no arguments, reads one job from standard input, and writes one line to
+standard output (man dsa): dsa < JOB";
 
 /// What the help of `explain` says of its input.
 const EXPLAINED: &str = "The input is lines of operations, as docs/FORMATS.md has them:
@@ -323,10 +327,22 @@ fn written(rt: &HostRuntime, text: &str, status: u8) -> ExitCode {
     }
 }
 
-/// Writes an answer to standard output, or why there is none to standard error, and ends.
+/// Writes an answer to standard output and its warnings to standard error, and ends. The status is that of the answer, also
+/// if the warnings can't be written.
+fn written_answer(rt: &HostRuntime, answer: &Answer) -> ExitCode {
+    let code = written(rt, &answer.text, 0);
+    if let Some(warnings) = &answer.warnings {
+        match eprint!(rt; "{warnings}") {
+            Ok(()) | Err(_) => {}
+        }
+    }
+    code
+}
+
+/// Writes an answer with its warnings, or why there is none to standard error, and ends.
 fn ended(rt: &HostRuntime, answer: &Answer) -> ExitCode {
     if answer.status == 0 {
-        written(rt, &answer.text, 0)
+        written_answer(rt, answer)
     } else {
         refuse(rt, &answer.text)
     }

@@ -12,8 +12,9 @@ use crate::spans::{look_at_spans, mark_spans, unmark_spans};
 use dsa_descriptor::Span;
 use std::alloc::{AllocError, Global};
 
-/// The number of rows, as a power of two: 32 KiB for each of the two tables.
-const LOG2_ROWS: u32 = 12;
+/// The number of rows, as a power of two: 256 KiB for each of the two tables. With 64 submissions
+/// of 64 operations a unit is found for few slots that have no span near it.
+const LOG2_ROWS: u32 = 15;
 
 /// Rows that say which slots may touch a unit of addresses, and which may write it.
 #[derive(Drop)]
@@ -82,6 +83,7 @@ impl Filter {
         requires sized { IsSized self.old }
         requires few { slot < 64 }
         ensures sized { IsSized self.new }
+        ensures narrow { ¬ Has self.new.wide slot }
         ensures others { (k : ℕ) (o : Outstanding) → k < 64 → k ≢ slot → Covers self.old k o →
             Covers self.new k o }
     {

@@ -1,4 +1,4 @@
-use Rattle.std.proofs.Common.{◌≡◌, ◌∙◌}
+use Rattle.std.proofs.Common.{◌≡◌, refl, ◌∙◌}
 use Rattle.std.specs.Vec.{with_items}
 use Rattle.std.proofs.lemmas.List.{with_items_is}
 use Rattle.dsa_tracker.specs.Rows.{Holds}
@@ -23,3 +23,6 @@ returns-clause-others c =
     c.deref_mut.ensures.value (touched_once c) c.deref_mut-2.ensures.value (touched_twice c) (c.unmark_spans.ensures r k low ne) (c.unmark_spans-2.ensures r k low ne))
     (λ r. kept_once (λ xs. Holds xs r k) c.args.self.now.written.items c.deref_mut-3.result.now c.unmark_spans-3.new.rows _ c.deref_mut-3.ensures.value (written_once c) (c.unmark_spans-3.ensures r k low ne))
     covers
+
+pub returns-clause-narrow : goal.returns-clause-narrow
+returns-clause-narrow c = λ has. ((c.without-self.ensures c.args.slot).0 has).1 refl

@@ -74,7 +74,7 @@ def spans_of(it, owner):
         own &= 0xFFFFFFFF
     op = Op(code, size, record, first, second, own)
     reads = [span(*it) for it in op.sources()]
-    writes = [span(*it) for it in op.targets()] + ([span(record, 32)] if word & 0x0C == 0x0C else [])
+    writes = [span(*it) for it in op.targets()] + ([span(record, 32)] if word & 0x04 else [])
     if any(it.stop > WRAP for it in reads + writes):
         return "wrap"
     return reads, writes
@@ -90,7 +90,7 @@ def parts_of(it):
     """The bytes of data that an entry reads, those that it writes, and those of its record, whatever else is wrong with it."""
     _, word, record, first, second, size = struct.unpack_from("<IIQQQI", it)
     code, own = word >> 24, int.from_bytes(it[40:48], "little")
-    held = set(span(record, 32)) if word & 0x0C == 0x0C else set()
+    held = set(span(record, 32)) if word & 0x04 else set()
     if code not in (MOVE, FILL, COMPARE, PATTERN, DELTA, DUALCAST):
         return set(), set(), held
     op = Op(code, size, record, first, second, own & 0xFFFFFFFF if code == DELTA else own)

@@ -2,6 +2,7 @@
 use Rattle.std.proofs.Common.{◌≡◌, ℕ, ◌+◌, ◌*◌, ◌^◌, ◌<◌, List, [], ◌∷◌, ◌++◌, Some, None, replicate, refl, sym, ap, subst, ◌∙◌, arith}
 use Rattle.std.specs.Prelude.{Option, bit_and, if◌then◌else◌, ◌==◌}
 use Rattle.std.specs.List.{AllByRecursion}
+use Rattle.std.proofs.lemmas.Nat.{and_assoc}
 use Rattle.dsa_descriptor.specs.declared.descriptor.Descriptor.{Descriptor}
 use Rattle.dsa_descriptor.specs.declared.op.Op.{Op}
 use Rattle.dsa_descriptor.specs.declared.op.Op.TheVariants.{Move, Fill, Compare, ComparePattern, ApplyDelta, Dualcast}
@@ -55,9 +56,14 @@ reads_by o n op size a b = rw (a, b) refl
 targets_by : (o : Option Op) (n : ℕ) (op : Op) (size : ℕ) → o ≡ Some op → n ≡ size → targets_of o n ≡ targets op size
 targets_by o n op size a b = rw (a, b) refl
 
+valid_by : (f : ℕ) → bit_and f required_flags ≡ required_flags → bit_and f 4 ≡ 4
+valid_by f required = sym (and_assoc 4 f required_flags) ∙ ap (λ (n : ℕ). bit_and n 4) required
+
 records_by : (f f' r r' : ℕ) → f ≡ f' → r ≡ r' → bit_and f' required_flags ≡ required_flags
-    → (if bit_and f required_flags == required_flags then record_span r ∷ [] else []) ≡ record_span r' ∷ []
-records_by f f' r r' a b required = rw (a, b, required) refl
+    → (if bit_and f 0x04 == 0x04 then record_span r ∷ [] else []) ≡ record_span r' ∷ []
+records_by f f' r r' a b required =
+    let valid : bit_and f' 4 ≡ 4 = valid_by f' required in
+    rw (a, b, valid) refl
 
 some_is_some : (o : Option Op) (op : Op) → o ≡ Some op → o ≡ None → ⊥
 some_is_some None op a b = absurd cc

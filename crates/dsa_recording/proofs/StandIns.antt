@@ -14,8 +14,8 @@ use Rattle.dsa_descriptor.specs.Spans.{InSpan, InSome}
 use Rattle.dsa_ranges.specs.declared.span.Touched.{Touched}
 use Rattle.dsa_ranges.specs.Ranges.{SpansConflict, WritesInto, read_spans, written_spans}
 use Rattle.dsa_audit.specs.Members.{TouchedConflict}
-use Rattle.dsa_recording.specs.Entries.{sources_of, targets_of, records_of}
-use Rattle.dsa_recording.specs.Listings.{expecting_zero, records_from, stand_in, is_clear, Does, StandInsConflict}
+use Rattle.dsa_recording.specs.Entries.{sources_of, targets_of}
+use Rattle.dsa_recording.specs.Listings.{expecting_zero, requested_records, records_from, stand_in, is_clear, Does, StandInsConflict}
 
 -- ---- spans that are clear of the added records
 
@@ -133,7 +133,7 @@ writes : (k : ℕ) (e : List ℕ) (t : Touched) (op : Op) → Does e t → op_at
 writes k e t op does is =
     let size : ℕ = u32_at 32 e in
     let ranges : targets_of (op_at e) size ≡ targets (expecting_zero op) size = ap (λ (o : Option Op). targets_of o size) is ∙ sym (same_targets op size) in
-    let whole : t.writes.items ≡ records_of e ++ targets (expecting_zero op) size = does.writes ∙ ap (λ (ss : List Span). records_of e ++ ss) ranges in
+    let whole : t.writes.items ≡ requested_records e ++ targets (expecting_zero op) size = does.writes ∙ ap (λ (ss : List Span). requested_records e ++ ss) ranges in
     subst (Adds k (written_spans (stand_in k e op))) (sym whole)
     (adds_by (bit_and (flags_at e) required_flags == required_flags) k (u64_at 8 e) (targets (expecting_zero op) size))
 

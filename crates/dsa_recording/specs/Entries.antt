@@ -7,7 +7,6 @@ use Rattle.dsa_descriptor.specs.declared.span.Span.{Span}
 use Rattle.dsa_descriptor.specs.Data.{sources, targets, record_span}
 use Rattle.dsa_descriptor.specs.Lists.{AgreeOnOwner}
 use Rattle.dsa_descriptor.specs.Places.{u32_at, u64_at, flags_at, code_at, op_at}
-use Rattle.dsa_descriptor.specs.Profile.{required_flags}
 use Rattle.dsa_descriptor.specs.Spans.{IsAddressable}
 use Rattle.dsa_audit.specs.declared.member.Unseen.{Unseen}
 use Rattle.dsa_audit.specs.declared.member.Unseen.TheVariants.{Blank, Operation, Nested, Owner, Empty, Wrap}
@@ -16,11 +15,10 @@ use Rattle.dsa_audit.specs.declared.member.Member.TheVariants.{Known, Unknown}
 
 -- ---- what it reads and writes
 
--- the completion record, where its address is valid and a record is requested (specification 341204, flags); one that is
--- written on errors alone does not count (this project's choice)
+-- the completion record, if its address is valid, the flag 0x0004 (specification 341204, flags); one that is written on
+-- errors alone counts too, since it may be written
 abbrev pub records_of : List ℕ → List Span
-records_of e =
-    if bit_and (flags_at e) required_flags == required_flags then record_span (u64_at 8 e) ∷ [] else []
+records_of e = if bit_and (flags_at e) 0x04 == 0x04 then record_span (u64_at 8 e) ∷ [] else []
 
 -- the data that an operation of this size reads and writes; a no-op has none
 abbrev pub sources_of : Option Op → ℕ → List Span

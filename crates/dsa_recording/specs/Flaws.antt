@@ -8,7 +8,7 @@ use Rattle.dsa_recording.specs.declared.flaws.Flaws.{Flaws}
 use Rattle.dsa_recording.specs.Entries.{records_of, entry_reads, entry_targets, entry_writes}
 use Rattle.dsa_recording.specs.Showing.{has_record}
 
--- the memory of a batch: its members' descriptors, and its completion record, if it requests one
+-- the memory of a batch: its members' descriptors, and its completion record, if it has one
 abbrev pub batch_spans : List ℕ → List Span
 batch_spans head = record { first = u64_at 16 head; len = 64 * u32_at 32 head } ∷ records_of head
 

@@ -8,6 +8,7 @@ use Rattle.dsa_descriptor.specs.declared.descriptor.Descriptor.{Descriptor}
 use Rattle.dsa_descriptor.specs.Descriptors.{fields}
 use Rattle.dsa_descriptor.specs.Fields.{Fields}
 use Rattle.dsa_descriptor.specs.Places.{u32_at, u64_at, flags_at, code_at, op_at, pasid_at, privileged_at}
+use Rattle.dsa_descriptor.specs.Data.{record_span}
 use Rattle.dsa_descriptor.specs.Profile.{required_flags}
 use Rattle.dsa_ranges.specs.declared.span.Touched.{Touched}
 use Rattle.dsa_ranges.specs.Ranges.{Conflicts}
@@ -18,7 +19,7 @@ use Rattle.dsa_lines.specs.Text.{line_text}
 use Rattle.dsa_lines.specs.Texts.{TextSpells}
 use Rattle.dsa_recording.specs.declared.stream.Submission.{Submission}
 use Rattle.dsa_recording.specs.declared.submission.Audited.{Audited}
-use Rattle.dsa_recording.specs.Entries.{entry_reads, entry_writes}
+use Rattle.dsa_recording.specs.Entries.{entry_reads, entry_targets}
 use Rattle.dsa_recording.specs.Words.{unseen_words}
 
 -- ---- the operation of an entry
@@ -122,10 +123,15 @@ listed_operations es (s ∷ ss) (a ∷ audits) = member_operations es s.first a.
 
 -- ---- laws
 
--- an entry reads and writes just this
+-- the completion record, if it is requested (specification 341204, flags)
+abbrev pub requested_records : List ℕ → List Span
+requested_records e =
+    if bit_and (flags_at e) required_flags == required_flags then record_span (u64_at 8 e) ∷ [] else []
+
+-- an entry reads and writes just this, where its record is requested or it does not fail
 pub record Does (e : List ℕ) (t : Touched) : Type 0 where
   pub reads : t.reads.items ≡ entry_reads e
-  pub writes : t.writes.items ≡ entry_writes e
+  pub writes : t.writes.items ≡ requested_records e ++ entry_targets e
 
 -- two operations of the list conflict just where their entries do
 abbrev pub StandInsConflict : Type 0

@@ -53,8 +53,8 @@ pub struct AuditOptions {
 pub struct AuditAnswer {
     /// The report, or why there is none.
     pub text: String,
-    /// 0 where nothing is wrong, 1 where a fence is missing or what is denied was found, 2 where there is no recording or
-    /// it is too large for a picture. Of a list it is 0 or 2.
+    /// 0 if nothing is an error, 1 if something is: a missing fence, a fence, record or batch that is wrong, or what is
+    /// denied; 2 if there is no recording or it is too large for a picture. Of a list it is 0 or 2.
     pub status: u8,
 }
 

@@ -20,7 +20,7 @@ pub struct Flaws {
     pub misaligned_record: bool,
 }
 
-/// The memory of a batch: the descriptors of its members, and its completion record, if it requests one.
+/// The memory of a batch: the descriptors of its members, and its completion record, if it has one.
 fn batch_spans(head: &[u8; 64]) -> ArrayVec<Span, 3>
     ensures { result.items ≡ batch_spans head.now }
 {

@@ -93,9 +93,8 @@ pub(crate) fn bytes_of_text_input(
     bytes_of_lines(alloc, text)
 }
 
-/// The report on a recording, as bytes or as a text: of bytes in hexadecimal, or of lines. The status is 0 where nothing
-/// is wrong, 1 where a fence is missing or what is denied was found, and 2 with the reason where there is no recording, or
-/// it is too large for a picture. The report has what the submissions cost under the settings.
+/// The report on a recording, as bytes or as a text: of bytes in hexadecimal, or of lines. The status is 0 if nothing
+/// is an error, 1 if something is, and 2 with the reason if there is no recording, or it is too large for a picture. The report has what the submissions cost under the settings.
 pub fn audit(
     alloc: Global,
     input: &[u8],

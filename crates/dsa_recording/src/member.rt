@@ -21,13 +21,13 @@ const IN_ORDER: [Unseen; 6] = [
     Unseen::Wrap,
 ];
 
-/// The completion record, where one is requested.
+/// The completion record, if the entry has one: it may be written on errors alone.
 pub(crate) fn records_of(entry: &[u8; 64]) -> ArrayVec<Span, 3>
     ensures value { result.items ≡ records_of entry.now }
     ensures short { length result.items ≤ 1 }
 {
     let mut writes = ArrayVec::new();
-    if u32_at(entry, 4) % (1 << 24) & 0x0c == 0x0c {
+    if u32_at(entry, 4) % (1 << 24) & 0x04 == 0x04 {
         writes.push(record_span(u64_at(entry, 8)));
     }
     writes

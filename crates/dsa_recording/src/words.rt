@@ -23,7 +23,7 @@ pub enum Severity {
     Note,
 }
 
-/// The findings that count as errors beside missing fences.
+/// The notes and warnings that count as errors too.
 #[derive(Clone, Copy, Debug, PartialEq, Eq)]
 pub struct Denied {
     /// Needless fences.

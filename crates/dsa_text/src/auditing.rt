@@ -41,8 +41,8 @@ ended. --await and --resident say what the software is known to do, and free fen
   --resident        no member can end with a page fault
 Drop needless fences of one audit together, and never with those of an audit under other options.
 
-The status is 0 where nothing is wrong, 1 where a fence is missing or what --deny names was found, and 2 where there is
-no recording, or it is too large to draw. Of a list it is 0 or 2.
+The status is 0 if nothing is an error, 1 if something is: a missing fence, a fence, record or batch that is wrong, or
+what --deny names; and 2 if there is no recording, or it is too large to draw. Of a list it is 0 or 2.
 Prices are in one unit of your choice. Numbers are decimal, or hexadecimal behind 0x.
 Example: dsa_text audit --deny needless,unseen recording.bin";
 

@@ -65,8 +65,8 @@ const PROGRAM: &str =
     "Each command reads FILE, or standard input where FILE is - or missing. dsa_text COMMAND --help has an example of each.
 
 The status is 0 for an answer and 1 for a refusal, which is a line on standard error. It is 2 for arguments that the
-program does not know, and where a file can't be opened or read or the answer can't be written. Of audit it is 1 where a
-fence is missing, and 2 where there is no recording.
+program does not know, and where a file can't be opened or read or the answer can't be written. Of audit it is 1 where
+something is an error, and 2 where there is no recording.
 
 The program dsa answers jobs in JSON. It looks at no arguments, reads one job from standard input, and writes one line to
 standard output (man dsa): dsa < JOB";

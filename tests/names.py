@@ -1,7 +1,7 @@
 """Looks for names in the pages that the tree does not have: paths, crates, and words in `code` marks that look like
-names. A word is known where the code, the definitions or the proofs have it outside of comments, or where it names a
-file: a must-fail edit, a patch, a test. It looks for unsafe code too. It needs no program. The words are names of pages,
-as docs/MODEL.md."""
+names. A word is known if the code, the definitions or the proofs have it outside of comments, or if it names a file: a
+must-fail edit, a patch, a test. The page of a crate has to name each of its modules and edits. It looks for unsafe code
+too. It needs no program. The words are names of pages, as docs/MODEL.md."""
 
 import io
 import re
@@ -12,7 +12,9 @@ from pathlib import Path
 
 from common import crates, expect, having, run_test
 
-PAGES = ["README.md", "CONTRIBUTING.md", *sorted(glob("docs/*.md", root_dir=Path(__file__).parent.parent))]
+ROOT = Path(__file__).parent.parent
+PAGES = ["README.md", "CONTRIBUTING.md"]
+PAGES += sorted(page for folder in ("docs", "crates/*") for page in glob(f"{folder}/*.md", root_dir=ROOT))
 
 # Names of others: Linux, the toolchain, Rust, C, and the packages, libraries and programs that the pages speak of, among them
 # those that are built from C.
@@ -105,6 +107,19 @@ def look(page):
             expect(is_known(name), f"{page}: the tree has no {name} (in `{mark}`)")
 
 
+def look_at_crate(crate):
+    """The page of a crate names each of its modules, if it has definitions, and each of its edits."""
+    page = Path(f"crates/{crate}/README.md")
+    if not page.exists():
+        expect(False, f"{page} is missing")
+        return
+    named = {name for mark in re.findall(r"`([^`\n]+)`", page.read_text()) for name in NAME.findall(mark)}
+    wanted = {Path(edit).stem for edit in glob(f"crates/{crate}/must-fail/*.edit")}
+    if Path(f"crates/{crate}/specs").exists():
+        wanted |= {Path(module).stem for module in glob(f"crates/{crate}/src/*.rt")} - {"lib"}
+    expect(wanted <= named, f"{page} does not name {', '.join(sorted(wanted - named))}")
+
+
 def look_for_unsafe():
     """No crate but that of the calls from C has code of which the checker of borrows knows nothing."""
     found = [path for path in glob("crates/*/src/**/*.rt", recursive=True) if re.search(r"\bunsafe\b", Path(path).read_text())]
@@ -116,6 +131,8 @@ def main(words):
     for page in having(PAGES, words):
         look(page)
     if not words:
+        for crate in crates():
+            look_at_crate(crate)
         look_for_unsafe()
 
 

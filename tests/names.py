@@ -1,7 +1,8 @@
 """Looks for names in the pages that the tree does not have: paths, crates, and words in `code` marks that look like
 names. A word is known if the code, the definitions or the proofs have it outside of comments, or if it names a file: a
-must-fail edit, a patch, a test. The page of a crate has to name each of its modules and edits. It looks for unsafe code
-too. It needs no program. The words are names of pages, as docs/MODEL.md."""
+must-fail edit, a patch, a test. The page of a crate has to name each of its modules and edits, and a page that says what
+tests/words prints its count and, in a table of files, each definition in its order. It looks for unsafe code too. It
+needs no program. The words are names of pages, as docs/MODEL.md."""
 
 import io
 import re
@@ -10,10 +11,11 @@ from functools import cache
 from glob import glob
 from pathlib import Path
 
+import definitions
 from common import crates, expect, having, run_test
 
 ROOT = Path(__file__).parent.parent
-PAGES = ["README.md", "CONTRIBUTING.md"]
+PAGES = ["README.md", "CONTRIBUTING.md", "SECURITY.md"]
 PAGES += sorted(page for folder in ("docs", "crates/*") for page in glob(f"{folder}/*.md", root_dir=ROOT))
 
 # Names of others: Linux, the toolchain, Rust, C, and the packages, libraries and programs that the pages speak of, among them
@@ -24,11 +26,11 @@ OTHERS = set(
     desc desc_addr desc_count desc_list_addr desc_ring dsa_hw_desc idxd_hw_desc op_flags opcode
     Net Processes alloc apt cargo gcc git nice patch python3 rt rustfmt rustup valgrind
     binutils clang cmake ctypes dpkg find_package flockfile man pthread_attr_setstacksize toml
-    dsa_trace dsa_prices dsa_planner dsa_planner_static dsa_planner_own_memory libdsa_planner libdsa_planner_own_memory libdsa_c
+    ops.txt dsa_trace dsa_prices dsa_planner dsa_planner_static dsa_planner_own_memory libdsa_planner libdsa_planner_own_memory libdsa_c
     """.split()
 )
 # Paths that a reader makes, or that a build does.
-MADE = {"crates/dsa_checker/must-fail/looks_at_lone_only.edit", "crates/NAME", "tests/NAME.py"}
+MADE = {"crates/dsa_checker/must-fail/looks_at_lone_only.edit", "crates/NAME", "crates/NAME/README.md", "tests/NAME.py"}
 FOLDERS = "crates|tests|docs|bindings|examples|\\.ci"
 
 NAME = re.compile(r"[A-Za-z_][A-Za-z0-9_]*")
@@ -107,6 +109,19 @@ def look(page):
             expect(is_known(name), f"{page}: the tree has no {name} (in `{mark}`)")
 
 
+def look_at_counts(page):
+    """What the page says that tests/words prints is what it prints, and its table of files has just these definitions."""
+    text = Path(page).read_text()
+    for words, said in re.findall(r"tests/words ((?:[\w:/]+ ?)+)`?\s+prints (\d+ definitions .*? of the code)", text):
+        starts, _, unknown = definitions.found_by(words.split())
+        places = definitions.in_reading_order(definitions.rest_on(starts))
+        expect(not unknown and said == definitions.summed(places), f"{page}: {words} prints {definitions.summed(places)}")
+        rows = re.findall(r"^\| (dsa_\w+) (\w+) \| (.*?) \|", text, re.M)
+        listed = [(crate, file, name) for crate, file, names in rows for name in re.findall(r"`(\w+)`", names)]
+        wanted = [(place.crate, place.file, place.name) for place in places]
+        expect(listed == wanted, f"{page} lists others than {words} prints: {sorted(set(listed) ^ set(wanted))}")
+
+
 def look_at_crate(crate):
     """The page of a crate names each of its modules, if it has definitions, and each of its edits."""
     page = Path(f"crates/{crate}/README.md")
@@ -130,6 +145,7 @@ def look_for_unsafe():
 def main(words):
     for page in having(PAGES, words):
         look(page)
+        look_at_counts(page)
     if not words:
         for crate in crates():
             look_at_crate(crate)

@@ -63,7 +63,7 @@ def names_in(path):
 @cache
 def known():
     """All names of the tree, and of its files with and without what ends them."""
-    found = set(NAME.findall(Path("docs/jobs.schema.json").read_text()))
+    found = {name for schema in Path("docs").glob("*.schema.json") for name in NAME.findall(schema.read_text())}
     for path in files():
         found |= {path.name, path.stem, *path.parent.parts}
         if path.suffix == ".py" or path.suffix in COMMENTS:

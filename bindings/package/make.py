@@ -203,7 +203,8 @@ def tree(root, places, records):
     write(root / "share/bash-completion/completions/dsa_text", script)
     write(docs / "PROVED", proved(records))
     shutil.copy(HERE / "dsa_trace.bash", root / "share/bash-completion/completions/dsa_trace")
-    for page in ("USING.md", "FORMATS.md", "PRICES.md", "jobs.schema.json"):
+    schemas = [f"{name}.schema.json" for name in ("jobs", "explain", "audit")]
+    for page in ("USING.md", "FORMATS.md", "PRICES.md", *schemas):
         shutil.copy(ROOT / f"docs/{page}", docs)
     shutil.copy(ROOT / "CHANGELOG.md", docs)
     shutil.copy(ROOT / "trace/README.md", docs / "TRACE.md")

@@ -10,7 +10,7 @@ import sys
 import tempfile
 from pathlib import Path
 
-from common import block_after, digits, expect, move, named, program, run_test
+from common import block_after, digits, expect, move, named, program, run_test, skip
 
 
 def printed(command):
@@ -48,7 +48,11 @@ def README():
     wanted = re.search(rf"{re.escape(audit)}\n\n((?:    [^\n]*\n)+)", Path(page).read_text())[1].replace("    ", "")
     got = printed(audit.replace("./run --unproved ", ""))
     expect(got.startswith(wanted), f"{page}: the audit begins {got[: len(wanted)]!r}, and not {wanted!r}")
-    answer = printed(block_after(page, "nothing needs a network".capitalize()))
+    proved = [sys.executable, "-B", "tests/gate/proved.py", "dsa", "dsa_text"]
+    if subprocess.run(proved, capture_output=True).returncode != 0:
+        skip("./run, which would prove first: the built programs are not recorded as proved")
+        return
+    answer = printed(block_after(page, "Nothing needs a network"))
     line = block_after(page, "It answers the plan").strip().replace("..", "")
     start = line[: line.index('"portal"')]
     expect(answer.startswith(start), f"{page}: the answer begins {answer[: len(start)]!r}, and not {start!r}")

@@ -122,6 +122,14 @@ def look_at_counts(page):
         expect(listed == wanted, f"{page} lists others than {words} prints: {sorted(set(listed) ^ set(wanted))}")
 
 
+def look_at_halves():
+    """README.md says on how many definitions each half of the headline rests, as docs/PROOF.md and docs/MODEL.md do."""
+    said = re.search(r"the first half rests on (\d+) definitions, all of it on (\d+);", Path("README.md").read_text())
+    pages = [Path(f"docs/{name}.md").read_text() for name in ("PROOF", "MODEL")]
+    counted = [re.search(r"prints (\d+) definitions", page) for page in pages]
+    expect(said and all(counted) and said.groups() == tuple(it[1] for it in counted), "README.md has other counts")
+
+
 def look_at_crate(crate):
     """The page of a crate names each of its modules, if it has definitions, and each of its edits."""
     page = Path(f"crates/{crate}/README.md")
@@ -149,6 +157,7 @@ def main(words):
     if not words:
         for crate in crates():
             look_at_crate(crate)
+        look_at_halves()
         look_for_unsafe()
 
 

@@ -1,5 +1,5 @@
-"""Draws docs/crates.svg: each crate above those that it stands on, by crates.txt. A line that follows from others is left
-out. `python3 -B tests/crates_drawn.py` writes the picture; tests/style.py compares it with what this draws."""
+"""Draws docs/crates.svg: each crate above those that it uses, by crates.txt. A line that follows from others is
+left out. `python3 -B tests/crates_drawn.py` writes the picture; tests/style.py compares it with what this draws."""
 
 import os
 from functools import cache
@@ -37,8 +37,8 @@ def level(name):
 
 
 def parts():
-    """The nodes of each level, and the lines between neighbouring levels. A line over several levels has a nameless node in
-    each between, so that it passes beside the boxes there."""
+    """The nodes of each level, and the lines between neighbouring levels. A line over several levels has a nameless
+    node in each between, so that it passes beside the boxes there."""
     levels = [[name for name in below() if level(name) == at] for at in range(1 + max(map(level, below())))]
     lines = []
     for upper, on in below().items():

@@ -1,6 +1,6 @@
-"""The definitions in crates/*/specs, and on which of them a clause rests. It reads names alone: a word that a file imports
-or defines is taken for that definition, unless it is the name of a field. So it may count a definition too many, and none
-too few. tests/words prints what this finds."""
+"""The definitions in crates/*/specs, and on which of them a clause rests. It reads names alone: a word that a file
+imports or defines is taken for that definition, unless it is the name of a field. So it may count a definition too
+many, and none too few. tests/words prints what this finds."""
 
 import re
 from dataclasses import dataclass, field
@@ -215,8 +215,8 @@ class Clause:
 
 
 def functions(name):
-    """Each function of this name in the code: its file, and where its head begins and ends there. The name may have that
-    of its type before it, as Room::take."""
+    """Each function of this name in the code: its file, and where its head begins and ends there. The name may have
+    that of its type before it, as Room::take."""
     kind, _, call = name.rpartition("::")
     for path in sorted(ROOT.glob("crates/*/src/**/*.rt")):
         text = path.read_text()
@@ -228,7 +228,7 @@ def functions(name):
 
 
 def clauses_in(path, begin, end):
-    """The clauses that a function ensures, from where its head begins to where it ends: the name of each, or none, and it."""
+    """The clauses that a function ensures, by where its head begins and ends: the name of each, or none, and it."""
     text, crate = path.read_text(), path.relative_to(ROOT).parts[1]
     imports = imported(text)
     for start in re.compile(r"^ *ensures (\w+ )?\{", re.M).finditer(text, begin, end):
@@ -251,7 +251,7 @@ def parts_of(words):
 
 
 def clauses(words):
-    """The clauses of these words: `plan_list:least`, or all of `plan_list`, perhaps with a crate before, as `dsa_calls/`."""
+    """The clauses of these words: `plan_list:least`, or all of `plan_list`, perhaps after a crate, as `dsa_calls/`."""
     crate, name, part = parts_of(words)
     found = [it for function in functions(name) for it in clauses_in(*function)]
     return [it for label, it in found if part in ("", label) and crate in ("", it.crate)]

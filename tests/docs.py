@@ -5,6 +5,7 @@ USING."""
 import json
 import os
 import re
+import shutil
 import subprocess
 import sys
 import tempfile
@@ -41,13 +42,20 @@ def noted(block):
 
 
 def README():
-    """What the commands of its pages print: the audit of an example, an explanation, and the answer of the first job."""
+    """What the commands of the page print: an explanation, an audit, a trace, and the answer of the first job."""
     page = "README.md"
     session(block_after(page, "## What a plan looks like"))
     audit = block_after(page, "With the toolchain").split("\n\n")[0].strip()
     wanted = re.search(rf"{re.escape(audit)}\n\n((?:    [^\n]*\n)+)", Path(page).read_text())[1].replace("    ", "")
     got = printed(audit.replace("./run --unproved ", ""))
     expect(got.startswith(wanted), f"{page}: the audit begins {got[: len(wanted)]!r}, and not {wanted!r}")
+    if shutil.which("gcc") and shutil.which("make"):
+        with tempfile.TemporaryDirectory() as folder:
+            commands = block_after(page, "With gcc and make alone").replace("trace/out", folder)
+            got = printed(commands.replace("make -C trace", f"make -s -C trace OUT={folder}"))
+        expect('c is ""' in got, f"{page}: the program without a fence prints {got!r}")
+    else:
+        skip("the program without a fence, which needs gcc and make")
     proved = [sys.executable, "-B", "tests/gate/proved.py", "dsa", "dsa_text"]
     if subprocess.run(proved, capture_output=True).returncode != 0:
         skip("./run, which would prove first: the built programs are not recorded as proved")

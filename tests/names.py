@@ -1,8 +1,8 @@
 """Looks for names in the pages that the tree does not have: paths, crates, and words in `code` marks that look like
 names. A word is known if the code, the definitions or the proofs have it outside of comments, or if it names a file: a
-must-fail edit, a patch, a test. The page of a crate has to name each of its modules and edits, and a page that says what
-tests/words prints its count and, in a table of files, each definition in its order. It looks for unsafe code too. It
-needs no program. The words are names of pages, as docs/MODEL.md."""
+must-fail edit, a patch, a test. The page of a crate has to name each of its modules and edits. A page that says what
+tests/words prints has to have its counts and, in a table of files, each definition in its order. It looks for unsafe
+code too. It needs no program. The words are names of pages, as docs/MODEL.md."""
 
 import io
 import re
@@ -18,15 +18,16 @@ ROOT = Path(__file__).parent.parent
 PAGES = ["README.md", "CONTRIBUTING.md", "SECURITY.md"]
 PAGES += sorted(page for folder in ("docs", "crates/*") for page in glob(f"{folder}/*.md", root_dir=ROOT))
 
-# Names of others: Linux, the toolchain, Rust, C, and the packages, libraries and programs that the pages speak of, among them
-# those that are built from C.
+# Names of others: Linux, the toolchain, Rust, C, and the packages, libraries and programs that the pages speak of,
+# among them those that are built from C.
 OTHERS = set(
     """
     max_batch_size max_transfer_size
     desc desc_addr desc_count desc_list_addr desc_ring dsa_hw_desc idxd_hw_desc op_flags opcode
     Net Processes alloc apt cargo gcc git nice patch python3 rt rustfmt rustup valgrind
     binutils clang cmake ctypes dpkg find_package flockfile man pthread_attr_setstacksize toml
-    ops.txt dsa_trace dsa_prices dsa_planner dsa_planner_static dsa_planner_own_memory libdsa_planner libdsa_planner_own_memory libdsa_c
+    ops.txt dsa_trace dsa_prices dsa_planner dsa_planner_static dsa_planner_own_memory
+    libdsa_planner libdsa_planner_own_memory libdsa_c
     """.split()
 )
 # Paths that a reader makes, or that a build does.
@@ -73,8 +74,8 @@ def known():
 
 
 def is_known(name):
-    """Whether the tree has it, or, of a part of names as `after_` and `_pieces`, a name that begins or ends so. A name in
-    capitals stands for any, as NAME.job."""
+    """Whether the tree has it, or, of a part of names as `after_` and `_pieces`, a name that begins or ends so. A name
+    in capitals stands for any, as NAME.job."""
     if re.fullmatch(r"[A-Z_]+(\.(?!md)\w+)?", name) or name in known():
         return True
     begins, ends = name.endswith("_"), name.startswith("_")
@@ -82,7 +83,7 @@ def is_known(name):
 
 
 def is_there(path):
-    """Whether there is such a file or folder; words in capitals stand for any name, and of what is built the crate counts."""
+    """Whether there is such a file or folder; words in capitals are any name, and of what is built the crate counts."""
     if path in MADE:
         return True
     path = re.sub(r"/out(/.*)?$", "", path if not path.startswith("dsa_") else f"crates/{path}")
@@ -110,12 +111,13 @@ def look(page):
 
 
 def look_at_counts(page):
-    """What the page says that tests/words prints is what it prints, and its table of files has just these definitions."""
+    """The page says what tests/words prints, and its table of files has just these definitions."""
     text = Path(page).read_text()
     for words, said in re.findall(r"tests/words ((?:[\w:/]+ ?)+)`?\s+prints (\d+ definitions .*? of the code)", text):
         starts, _, unknown = definitions.found_by(words.split())
         places = definitions.in_reading_order(definitions.rest_on(starts))
-        expect(not unknown and said == definitions.summed(places), f"{page}: {words} prints {definitions.summed(places)}")
+        wanted = definitions.summed(places)
+        expect(not unknown and said == wanted, f"{page}: {words} prints {wanted}")
         rows = re.findall(r"^\| (dsa_\w+) (\w+) \| (.*?) \|", text, re.M)
         listed = [(crate, file, name) for crate, file, names in rows for name in re.findall(r"`(\w+)`", names)]
         wanted = [(place.crate, place.file, place.name) for place in places]
@@ -145,7 +147,8 @@ def look_at_crate(crate):
 
 def look_for_unsafe():
     """No crate but that of the calls from C has code of which the checker of borrows knows nothing."""
-    found = [path for path in glob("crates/*/src/**/*.rt", recursive=True) if re.search(r"\bunsafe\b", Path(path).read_text())]
+    files = glob("crates/*/src/**/*.rt", recursive=True)
+    found = [path for path in files if re.search(r"\bunsafe\b", Path(path).read_text())]
     others = [path for path in found if not path.startswith("crates/dsa_c/")]
     expect(found and not others, f"unsafe code outside dsa_c: {others}")
 

@@ -1,7 +1,8 @@
-"""Looks at the form of every file of the tree: the lines of .editorconfig; files of code under 800 lines; a comment above
-each definition of crates/*/specs; in pages and comments none of the words that this project does without: `behind` (after),
-`stands` (is), and in pages `where` for a condition (if). tests/style.txt has the exceptions: a folder or a page, a rule, and
-the most there may be. And docs/crates.svg is what crates.txt says. It needs no program. The words are names of rules."""
+"""Looks at the form of every file of the tree: the lines of .editorconfig; files of code under 800 lines; a comment
+above each definition of crates/*/specs; in pages and comments none of the words that this project does without:
+`behind` (after), `stands` (is), and in pages `where` for a condition (if). tests/style.txt has the exceptions: a folder or a
+page, a rule, and the most there may be. And docs/crates.svg is what crates.txt says. It needs git alone. The words are
+names of rules."""
 
 import fnmatch
 import re
@@ -28,14 +29,16 @@ LIST = Path("tests/style.txt")
 @cache
 def files():
     """Every file of text that git knows or would add, with its text."""
-    listed = subprocess.run(["git", "ls-files", "-coz", "--exclude-standard"], capture_output=True, check=True, text=True)
-    paths = [Path(name) for name in listed.stdout.split("\0") if name and Path(name).is_file()]
+    command = ["git", "ls-files", "-coz", "--exclude-standard"]
+    names = subprocess.run(command, capture_output=True, check=True, text=True).stdout.split("\0")
+    paths = [Path(name) for name in names if name and Path(name).is_file()]
     return {path: path.read_bytes().decode(errors="surrogateescape") for path in paths}
 
 
 # ---- .editorconfig
 
 
+@cache
 def sections():
     """The parts of .editorconfig: a pattern of names, and what is set for them."""
     found = []

@@ -1,6 +1,6 @@
-"""Tests the programs and the proved tests' crate as the toolchain builds them quickly, without proofs (`rt try`), for
-those who try a change: the jobs of examples and tests/jobs, the golden files of tests/text, and the tests of dsa_tests, side
-by side. `tests/run --unproved` runs it. The words are names of crates: dsa, dsa_text, dsa_tests."""
+"""Tests the programs and dsa_tests as the toolchain builds them quickly, without proofs (`rt try`), for those who try a
+change: the jobs of examples and tests/jobs, the golden files of tests/text, and the tests of dsa_tests, side by side.
+`tests/run --unproved` runs it. The words are names of crates: dsa, dsa_text, dsa_tests."""
 
 import re
 import shutil
@@ -29,10 +29,9 @@ def texts():
     """The same of each case of a golden file that names no other file and has no faulty input or output."""
     for path in sorted(Path("tests/text").glob("*.golden")):
         for number, case in enumerate(golden.cases(path)):
-            words = golden.command("", case)
-            is_plain = words[0] == "" and all(b"/" not in word and b"\n" not in word and word.isascii() for word in words[1:])
-            if is_plain:
-                yield f"{path.stem}-{number}", case.text, words[1:], case.output, case.status
+            program, *words = golden.command("", case)
+            if program == "" and all(b"/" not in word and b"\n" not in word and word.isascii() for word in words):
+                yield f"{path.stem}-{number}", case.text, words, case.output, case.status
 
 
 def written(cases, folder):

@@ -1,7 +1,8 @@
 #!/usr/bin/env python3
-"""Proves and builds the programs and archives that the gate has no record of, with a line for each crate: built.py NAME ..
+"""Proves and builds the programs and archives that the gate has no record of: built.py NAME ..
 
-It says nothing if there is nothing to do. ./run, tests/run and bindings/package/make.py call it."""
+It prints a line for each crate, and nothing if there is nothing to do. ./run, tests/run and
+bindings/package/make.py call it."""
 import os
 import sys
 

@@ -1,8 +1,8 @@
 """Looks at the form of every file of the tree: the lines of .editorconfig; files of code under 800 lines; a comment
 above each definition of crates/*/specs; in pages and comments none of the words that this project does without:
-`behind` (after), `stands` (is), and in pages `where` for a condition (if). tests/style.txt has the exceptions: a folder or a
-page, a rule, and the most there may be. And docs/crates.svg is what crates.txt says. It needs git alone. The words are
-names of rules."""
+`behind` (after), `stands` (is), and in pages `where` for a condition (if). tests/style.txt has the exceptions: a
+folder or a page, a rule, and the most there may be. And docs/crates.svg is what crates.txt says. It needs git alone.
+The words are names of rules."""
 
 import fnmatch
 import re

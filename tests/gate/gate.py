@@ -165,7 +165,8 @@ class Forecast:
     def minutes(self, done):
         rest = seconds_of([it for it in self.tasks if it not in done], self.lanes)
         spent = self.all - rest
-        pace = (time.monotonic() - self.start) / spent if spent > self.all / 20 else 1
+        # on idle processors, where proofs get several jobs, the first proofs took half of their weight
+        pace = (time.monotonic() - self.start) / spent if spent > self.all / 20 else 0.5
         return round(rest * pace / 60)
 
 

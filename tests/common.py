@@ -126,10 +126,10 @@ def side_by_side(work, items, most=os.cpu_count()):
 
 
 def program(name):
-    """The path of a program that `rt run` has built."""
+    """The path of a built program."""
     path = ROOT / "crates" / name / "out" / name
     if not path.exists():
-        stop(f"build crates/{name} first: cd crates/{name} && rt run")
+        stop(f"build crates/{name} first: tests/gate/built.py {name}")
     return str(path)
 
 

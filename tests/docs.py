@@ -5,11 +5,13 @@ USING."""
 import json
 import os
 import re
+import shutil
 import subprocess
 import sys
 import tempfile
+from pathlib import Path
 
-from common import block_after, digits, expect, move, named, program, run_test
+from common import block_after, digits, expect, move, named, program, run_test, skip
 
 
 def printed(command):
@@ -40,25 +42,42 @@ def noted(block):
 
 
 def README():
-    """What explaining an example prints, and how the answer of the first job begins."""
-    session(block_after("README.md", "## Look at a plan").replace(" > store.svg", " | cmp - examples/text/store.svg"))
-    session(block_after("README.md", "## Look at batches that other software submits"))
-    # the list has nine operations that one batch holds, and three of them wait for the one before
-    with tempfile.TemporaryDirectory() as folder:
-        commands = block_after("README.md", "These two commands say").replace("list.txt", f"{folder}/list.txt")
-        got = printed(commands)
-        wanted = "cost 23; 9 lone submissions cost 90, saved 67\n"
-        expect(got.endswith(wanted), f"README.md: the list of the recording is explained as {got!r}")
-    answer = printed("crates/dsa/out/dsa < examples/plan.job")
-    line = block_after("README.md", "has a list of two moves").strip().replace("..", "")
+    """What the commands of the page print: an explanation, an audit, a trace, and the answer of the first job."""
+    page = "README.md"
+    session(block_after(page, "## What a plan looks like"))
+    audit = block_after(page, "With the toolchain").split("\n\n")[0].strip()
+    wanted = re.search(rf"{re.escape(audit)}\n\n((?:    [^\n]*\n)+)", Path(page).read_text())[1].replace("    ", "")
+    got = printed(audit.replace("./run --unproved ", ""))
+    expect(got.startswith(wanted), f"{page}: the audit begins {got[: len(wanted)]!r}, and not {wanted!r}")
+    if shutil.which("gcc") and shutil.which("make"):
+        with tempfile.TemporaryDirectory() as folder:
+            commands = block_after(page, "With gcc and make alone").replace("trace/out", folder)
+            got = printed(commands.replace("make -C trace", f"make -s -C trace OUT={folder}"))
+        expect('c is ""' in got, f"{page}: the program without a fence prints {got!r}")
+    else:
+        skip("the program without a fence, which needs gcc and make")
+    proved = [sys.executable, "-B", "tests/gate/proved.py", "dsa", "dsa_text"]
+    if subprocess.run(proved, capture_output=True).returncode != 0:
+        skip("./run, which would prove first: the built programs are not recorded as proved")
+        return
+    answer = printed(block_after(page, "Nothing needs a network"))
+    line = block_after(page, "It answers the plan").strip().replace("..", "")
     start = line[: line.index('"portal"')]
-    expect(answer.startswith(start), f"README.md: the answer begins {answer[: len(start)]!r}, and not {start!r}")
+    expect(answer.startswith(start), f"{page}: the answer begins {answer[: len(start)]!r}, and not {start!r}")
+    shown = printed(re.search(r"^`(\./run dsa_text [^`]*)`", Path(page).read_text(), re.M)[1])
+    expect(shown == Path("examples/text/store.explain").read_text(), f"{page}: ./run dsa_text prints {shown!r}")
 
 
 def USING():
     """The commands that audit a recording and check a batch, and the lines of Python that do."""
     checking = "## Checking other software's batches"
     session(block_after("docs/USING.md", "One command reads the recording"))
+    # the list has nine operations that one batch holds, and three of them wait for the one before
+    with tempfile.TemporaryDirectory() as folder:
+        list_of = "dsa_text audit --list examples/audit/engine.xxd"
+        got = printed(f"{list_of} > {folder}/list.txt && dsa_text explain --greatest-transfer 2048M {folder}/list.txt")
+        wanted = "cost 23; 9 lone submissions cost 90, saved 67\n"
+        expect(got.endswith(wanted), f"docs/USING.md: the list of the recording is explained as {got!r}")
     noted(block_after("docs/USING.md", checking, "sh"))
     code = block_after("docs/USING.md", checking, "python")
     ran = subprocess.run([sys.executable, "-c", code], capture_output=True, text=True)

@@ -1,7 +1,8 @@
 """Looks for names in the pages that the tree does not have: paths, crates, and words in `code` marks that look like
-names. A word is known where the code, the definitions or the proofs have it outside of comments, or where it names a
-file: a must-fail edit, a patch, a test. It looks for unsafe code too. It needs no program. The words are names of pages,
-as docs/MODEL.md."""
+names. A word is known if the code, the definitions or the proofs have it outside of comments, or if it names a file: a
+must-fail edit, a patch, a test. The page of a crate has to name each of its modules and edits. A page that says what
+tests/words prints has to have its counts and, in a table of files, each definition in its order. It looks for unsafe
+code too. It needs no program. The words are names of pages, as docs/MODEL.md."""
 
 import io
 import re
@@ -10,23 +11,27 @@ from functools import cache
 from glob import glob
 from pathlib import Path
 
+import definitions
 from common import crates, expect, having, run_test
 
-PAGES = ["README.md", "CONTRIBUTING.md", *sorted(glob("docs/*.md", root_dir=Path(__file__).parent.parent))]
+ROOT = Path(__file__).parent.parent
+PAGES = ["README.md", "CONTRIBUTING.md", "SECURITY.md"]
+PAGES += sorted(page for folder in ("docs", "crates/*") for page in glob(f"{folder}/*.md", root_dir=ROOT))
 
-# Names of others: Linux, the toolchain, Rust, C, and the packages, libraries and programs that the pages speak of, among them
-# those that are built from C.
+# Names of others: Linux, the toolchain, Rust, C, and the packages, libraries and programs that the pages speak of,
+# among them those that are built from C.
 OTHERS = set(
     """
     max_batch_size max_transfer_size
     desc desc_addr desc_count desc_list_addr desc_ring dsa_hw_desc idxd_hw_desc op_flags opcode
     Net Processes alloc apt cargo gcc git nice patch python3 rt rustfmt rustup valgrind
     binutils clang cmake ctypes dpkg find_package flockfile man pthread_attr_setstacksize toml
-    dsa_trace dsa_prices dsa_planner dsa_planner_static dsa_planner_own_memory libdsa_planner libdsa_planner_own_memory libdsa_c
+    ops.txt dsa_trace dsa_prices dsa_planner dsa_planner_static dsa_planner_own_memory
+    libdsa_planner libdsa_planner_own_memory libdsa_c
     """.split()
 )
 # Paths that a reader makes, or that a build does.
-MADE = {"crates/dsa_checker/must-fail/looks_at_lone_only.edit", "crates/NAME", "tests/NAME.py"}
+MADE = {"crates/dsa_checker/must-fail/looks_at_lone_only.edit", "crates/NAME", "crates/NAME/README.md", "tests/NAME.py"}
 FOLDERS = "crates|tests|docs|bindings|examples|\\.ci"
 
 NAME = re.compile(r"[A-Za-z_][A-Za-z0-9_]*")
@@ -59,7 +64,7 @@ def names_in(path):
 @cache
 def known():
     """All names of the tree, and of its files with and without what ends them."""
-    found = set(NAME.findall(Path("docs/jobs.schema.json").read_text()))
+    found = {name for schema in Path("docs").glob("*.schema.json") for name in NAME.findall(schema.read_text())}
     for path in files():
         found |= {path.name, path.stem, *path.parent.parts}
         if path.suffix == ".py" or path.suffix in COMMENTS:
@@ -69,8 +74,8 @@ def known():
 
 
 def is_known(name):
-    """Whether the tree has it, or, of a part of names as `after_` and `_pieces`, a name that begins or ends so. A name in
-    capitals stands for any, as NAME.job."""
+    """Whether the tree has it, or, of a part of names as `after_` and `_pieces`, a name that begins or ends so. A name
+    in capitals stands for any, as NAME.job."""
     if re.fullmatch(r"[A-Z_]+(\.(?!md)\w+)?", name) or name in known():
         return True
     begins, ends = name.endswith("_"), name.startswith("_")
@@ -78,7 +83,7 @@ def is_known(name):
 
 
 def is_there(path):
-    """Whether there is such a file or folder; words in capitals stand for any name, and of what is built the crate counts."""
+    """Whether there is such a file or folder; words in capitals are any name, and of what is built the crate counts."""
     if path in MADE:
         return True
     path = re.sub(r"/out(/.*)?$", "", path if not path.startswith("dsa_") else f"crates/{path}")
@@ -105,9 +110,45 @@ def look(page):
             expect(is_known(name), f"{page}: the tree has no {name} (in `{mark}`)")
 
 
+def look_at_counts(page):
+    """The page says what tests/words prints, and its table of files has just these definitions."""
+    text = Path(page).read_text()
+    for words, said in re.findall(r"tests/words ((?:[\w:/]+ ?)+)`?\s+prints (\d+ definitions .*? of the code)", text):
+        starts, _, unknown = definitions.found_by(words.split())
+        places = definitions.in_reading_order(definitions.rest_on(starts))
+        wanted = definitions.summed(places)
+        expect(not unknown and said == wanted, f"{page}: {words} prints {wanted}")
+        rows = re.findall(r"^\| (dsa_\w+) (\w+) \| (.*?) \|", text, re.M)
+        listed = [(crate, file, name) for crate, file, names in rows for name in re.findall(r"`(\w+)`", names)]
+        wanted = [(place.crate, place.file, place.name) for place in places]
+        expect(listed == wanted, f"{page} lists others than {words} prints: {sorted(set(listed) ^ set(wanted))}")
+
+
+def look_at_halves():
+    """README.md says on how many definitions each half of the headline rests, as docs/PROOF.md and docs/MODEL.md do."""
+    said = re.search(r"the first half rests on (\d+) definitions, all of it on (\d+);", Path("README.md").read_text())
+    pages = [Path(f"docs/{name}.md").read_text() for name in ("PROOF", "MODEL")]
+    counted = [re.search(r"prints (\d+) definitions", page) for page in pages]
+    expect(said and all(counted) and said.groups() == tuple(it[1] for it in counted), "README.md has other counts")
+
+
+def look_at_crate(crate):
+    """The page of a crate names each of its modules, if it has definitions, and each of its edits."""
+    page = Path(f"crates/{crate}/README.md")
+    if not page.exists():
+        expect(False, f"{page} is missing")
+        return
+    named = {name for mark in re.findall(r"`([^`\n]+)`", page.read_text()) for name in NAME.findall(mark)}
+    wanted = {Path(edit).stem for edit in glob(f"crates/{crate}/must-fail/*.edit")}
+    if Path(f"crates/{crate}/specs").exists():
+        wanted |= {Path(module).stem for module in glob(f"crates/{crate}/src/*.rt")} - {"lib"}
+    expect(wanted <= named, f"{page} does not name {', '.join(sorted(wanted - named))}")
+
+
 def look_for_unsafe():
     """No crate but that of the calls from C has code of which the checker of borrows knows nothing."""
-    found = [path for path in glob("crates/*/src/**/*.rt", recursive=True) if re.search(r"\bunsafe\b", Path(path).read_text())]
+    files = glob("crates/*/src/**/*.rt", recursive=True)
+    found = [path for path in files if re.search(r"\bunsafe\b", Path(path).read_text())]
     others = [path for path in found if not path.startswith("crates/dsa_c/")]
     expect(found and not others, f"unsafe code outside dsa_c: {others}")
 
@@ -115,7 +156,11 @@ def look_for_unsafe():
 def main(words):
     for page in having(PAGES, words):
         look(page)
+        look_at_counts(page)
     if not words:
+        for crate in crates():
+            look_at_crate(crate)
+        look_at_halves()
         look_for_unsafe()
 
 

@@ -126,7 +126,7 @@ def unproved():
         (tree / f"crates/{crate}/out").mkdir()
         for path in (built, built.parent / "proved"):
             shutil.copy(path, tree / f"crates/{crate}/out")
-    packed, path_of_rt = (tree / "bindings/package/make.py", Path(WORK, "none")), os.environ["PATH"]
+    packed, path_of_rt = (tree / "bindings/package/make.py", "--built", Path(WORK, "none")), os.environ["PATH"]
     record = tree / "crates/dsa/out/proved"
     name, kit, rest = record.read_text().split(" ", 2)
     changes = {
@@ -294,12 +294,12 @@ def device():
 
 
 def said():
-    """The file PROVED names the commit, the toolchain, each promise of README.md, and the sums of the programs."""
+    """The file PROVED names the commit, the toolchain, each promise of docs/PROOF.md, and the sums of the programs."""
     text = Path(PREFIX, "share/doc/dsa-planner/PROVED").read_text()
     kit = subprocess.run(["rt", "version"], capture_output=True, text=True, check=True).stdout.split()[0]
     expect(f"Toolchain: {kit}\n" in text and make.commit()[0] in text, "PROVED does not name the toolchain and the commit")
-    rows = re.findall(r"^\| (.*?) \| ", Path("README.md").read_text().split("## How sure")[1].split("\n- ")[0], re.M)
-    expect(len(rows) > 5 and all(row in text for row in rows[1:]), "PROVED does not have the promises of README.md")
+    rows = re.findall(r"^\| (.*?) \| ", Path("docs/PROOF.md").read_text().split("## What is promised")[1].split("\n## ")[0], re.M)
+    expect(len(rows) > 5 and all(row in text for row in rows[1:]), "PROVED does not have the promises of docs/PROOF.md")
     for name in ("dsa", "dsa_text"):
         summed = tried("sha256sum", "sha256sum", f"{PREFIX}/bin/{name}").split()[0]
         expect(f"{summed}  {name}\n" in text, f"PROVED has another sum of {name}")
@@ -391,12 +391,12 @@ def rust():
     needs = f'dsa_planner = {{ path = "{PREFIX}/share/dsa-planner/rust" }}\n'
     Path(caller, "Cargo.toml").write_text(package + needs)
     shutil.copy(EXAMPLES / "rows.rs", caller / "src/bin/rows.rs")
-    Path(caller, "src/bin/readme.rs").write_text(block_after("README.md", "### From Rust", "rust"))
+    Path(caller, "src/bin/readme.rs").write_text(block_after("docs/USING.md", "### From Rust", "rust"))
     manifest = ["--manifest-path", f"{caller}/Cargo.toml"]
     command, places = cargo("run", *manifest, "--bin", "rows")
     tried("rows in Rust", *command, "--", ROWS, printed=WANTED, **places)
     command, places = cargo("run", *manifest, "--bin", "readme")
-    tried("the Rust lines of README.md", *command, printed="cost 10\n", **places)
+    tried("the Rust lines of docs/USING.md", *command, printed="cost 10\n", **places)
     bad_rust(f"{crate}/Cargo.toml")
 
 
@@ -450,8 +450,8 @@ def python():
         return
     module = f"{PREFIX}/share/dsa-planner/python"
     tried("rows in Python", "python3", "-B", EXAMPLES / "rows.py", ROWS, printed=WANTED, PYTHONPATH=module)
-    Path(FOLDER, "readme.py").write_text(block_after("README.md", "### From Python", "python"))
-    tried("the Python lines of README.md", "python3", "-B", "readme.py", printed="cost 10\n", PYTHONPATH=module)
+    Path(FOLDER, "readme.py").write_text(block_after("docs/USING.md", "### From Python", "python"))
+    tried("the Python lines of docs/USING.md", "python3", "-B", "readme.py", printed="cost 10\n", PYTHONPATH=module)
     printed = "2 batches as planned, then 109\n"
     tried("a list prepared in Python", "python3", "-B", "-c", FILLED, printed=printed, PYTHONPATH=module)
     Path(FOLDER, "none.c").write_text("int nothing;\n")
@@ -500,10 +500,10 @@ def sentences():
 
 
 def readme():
-    """The lines of README.md in C."""
-    Path(FOLDER, "app.c").write_text(block_after("README.md", "### From C", "c"))
-    tried("the C lines of README.md", "cc", *STRICT, "app.c", *linking("dsa_planner_static"), "-o", "app")
-    tried("the C lines of README.md", "./app", printed="0: cost 10\n")
+    """The lines of docs/USING.md in C."""
+    Path(FOLDER, "app.c").write_text(block_after("docs/USING.md", "### From C", "c"))
+    tried("the C lines of docs/USING.md", "cc", *STRICT, "app.c", *linking("dsa_planner_static"), "-o", "app")
+    tried("the C lines of docs/USING.md", "./app", printed="0: cost 10\n")
 
 
 def threads():

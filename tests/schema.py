@@ -1,5 +1,5 @@
 """Looks at docs/jobs.schema.json by a validator of the keywords that it uses: it accepts the jobs that the program
-reads and their answers, and rejects the others; and at the schemas of reports in docs/FORMATS.md. What is right is taken
+reads and their answers, and rejects the others; and at the schemas of reports beside it. What is right is taken
 from docs/FORMATS.md, typed by hand, from the lines beside the jobs, and from the golden files. It needs no program. The
 words are names of parts."""
 
@@ -279,10 +279,9 @@ def resolved(schema, definitions):
 
 
 def reports():
-    """The schemas of docs/FORMATS.md accept what the golden files of `--json` have, and nothing with a member more or less."""
-    schemas = [json.loads(text) for text in re.findall(r"```json\n(.*?)```", Path("docs/FORMATS.md").read_text(), re.S)]
-    expect(len(schemas) == 2, f"docs/FORMATS.md has {len(schemas)} schemas")
-    schemas = {"explain": resolved(schemas[0], schemas[0]["$defs"]), "audit": resolved(schemas[1], schemas[1]["$defs"])}
+    """The schemas of reports accept what the golden files of `--json` have, and nothing with a member more or less."""
+    schemas = {name: json.loads(Path(f"docs/{name}.schema.json").read_text()) for name in ("explain", "audit")}
+    schemas = {name: resolved(schema, schema["$defs"]) for name, schema in schemas.items()}
     seen = dict.fromkeys(schemas, 0)
     for path in sorted(Path("tests/text").glob("*.golden")):
         for case in golden.cases(path):

@@ -1,11 +1,11 @@
 #!/usr/bin/env -S python3 -B
 """Makes the packages in out/ from what was proved: an archive to unpack, and one for Debian.
 
-    bindings/package/make.py [FOLDER]
+    bindings/package/make.py [--built] [FOLDER]
 
-It needs the archive and both programs, as the gate proved and recorded them (`tests/gate/gate.py --kept --proofs dsa dsa_text
-dsa_c`), the toolchain, a C compiler (CC names it), make, binutils, and dpkg-deb for the second. If the folder is given, the packages
-are written there. Equal inputs give equal packages, byte for byte."""
+It needs the archive and both programs, as the gate proved and recorded them, and proves and builds what is lacking; with
+--built it stops instead. It needs the toolchain too, a C compiler (CC names it), make, binutils, and dpkg-deb for the second.
+If the folder is given, the packages are written there. Equal inputs give equal packages, byte for byte."""
 
 import gzip
 import hashlib
@@ -140,9 +140,9 @@ def write(path, text):
 
 
 def promises():
-    """The table of promises, from README.md."""
-    text = (ROOT / "README.md").read_text()
-    rows = re.search(r"^## How sure\n.*?^\| Promise [^\n]*\n\|-[^\n]*\n((?:\|[^\n]*\n)+)", text, re.M | re.S)[1]
+    """The table of promises, from docs/PROOF.md."""
+    text = (ROOT / "docs/PROOF.md").read_text()
+    rows = re.search(r"^## What is promised\n.*?^\| Promise [^\n]*\n\|-[^\n]*\n((?:\|[^\n]*\n)+)", text, re.M | re.S)[1]
     cells = [[cell.strip() for cell in row.strip("|\n").split("|")] for row in rows.splitlines()]
     return "\n".join(f"- {promise}. Clauses: {place}." for promise, place in cells)
 
@@ -203,7 +203,8 @@ def tree(root, places, records):
     write(root / "share/bash-completion/completions/dsa_text", script)
     write(docs / "PROVED", proved(records))
     shutil.copy(HERE / "dsa_trace.bash", root / "share/bash-completion/completions/dsa_trace")
-    for page in ("USING.md", "FORMATS.md", "PRICES.md", "jobs.schema.json"):
+    schemas = [f"{name}.schema.json" for name in ("jobs", "explain", "audit")]
+    for page in ("USING.md", "FORMATS.md", "PRICES.md", *schemas):
         shutil.copy(ROOT / f"docs/{page}", docs)
     shutil.copy(ROOT / "CHANGELOG.md", docs)
     shutil.copy(ROOT / "trace/README.md", docs / "TRACE.md")
@@ -322,6 +323,16 @@ def make(to):
     return made
 
 
-if __name__ == "__main__":
-    for path in make(Path(sys.argv[1]) if len(sys.argv) > 1 else ROOT / "out"):
+def main(words):
+    if words[:1] == ["--built"]:
+        words = words[1:]
+    else:
+        crates = sorted({path.parent.parent.name for path in PROVED.values()})
+        if subprocess.run([sys.executable, "-B", ROOT / "tests/gate/built.py", *crates]).returncode != 0:
+            sys.exit("make.py: not all is proved and built")
+    for path in make(Path(words[0]) if words else ROOT / "out"):
         print(path)
+
+
+if __name__ == "__main__":
+    main(sys.argv[1:])

@@ -8,6 +8,8 @@
 Tasks run side by side, one a processor. Each is a process of its own, so its processor time is known; what it printed
 stands in the log folder. The last lines have the table of parts, each failure with its reason, and `N passed, N failed`."""
 import argparse
+import importlib.machinery
+import importlib.util
 import os
 import re
 import shutil
@@ -37,12 +39,6 @@ LINKING = 100
 TIMES_LONGER = {"dsa_text": 2.4, "dsa_report": 1.6}
 COUNTS = re.compile(r"^(?:[\w./-]+: )?(\d+) passed[,;] (\d+) failed", re.M)
 KINDS = ("proofs", "edits", "tests", "scripts")
-PROGRAMS = ("dsa", "dsa_text")
-# What the scripts need built; those that are not named need the two programs.
-NEEDS = {name: () for name in ("engines", "hostile", "names", "schema")}
-NEEDS |= {"bindings": ("dsa", "dsa_c"), "limits": ("dsa",), "package": ("dsa", "dsa_text", "dsa_c")}
-# The clients of trace wait for times, so they run when most proofs are done.
-NEEDS |= {"trace": (*PROGRAMS, "dsa_c"), "trace_campaign": ("dsa", "dsa_c")}
 # Of how many crates edits that change nothing are tried beside the others, at the least.
 FEWEST_CONTROLS = 5
 
@@ -154,18 +150,40 @@ def start_ready(left, running, done, lanes, is_alone, start):
         running[start(task)] = task
 
 
+def seconds_of(tasks, lanes):
+    """Returns about how long tasks take: as their longest way, or as all of them in these lanes."""
+    return max([0, *(it.behind for it in tasks)] + [sum(it.weight for it in tasks) / lanes])
+
+
+class Forecast:
+    """How long the rest of some tasks takes, by how long the first of them took."""
+
+    def __init__(self, tasks, lanes):
+        self.tasks, self.lanes, self.start = tasks, lanes, time.monotonic()
+        self.all = seconds_of(tasks, lanes)
+
+    def minutes(self, done):
+        rest = seconds_of([it for it in self.tasks if it not in done], self.lanes)
+        spent = self.all - rest
+        # on idle processors, where proofs get several jobs, the first proofs took half of their weight
+        pace = (time.monotonic() - self.start) / spent if spent > self.all / 20 else 0.5
+        return round(rest * pace / 60)
+
+
 def in_lanes(tasks, logs, lanes):
     """Runs the tasks, each when those that it waits for have passed."""
     add_up_what_waits(tasks)
     left, running, done, printing = sorted(tasks, key=lambda it: -it.behind), {}, set(), threading.Lock()
     is_alone = all(it.kind == "proofs" for it in tasks)
+    forecast = Forecast(tasks, lanes)
 
     def work(task):
         task.run(f"{logs}/{task.kind}-{task.name}.log")
         with printing:
             how = "ok" if not task.failed else "FAILED"
             took = f"{task.clock:.0f} s, processors {task.processor:.0f} s, jobs {task.jobs}"
-            print(f"{time.strftime('%H:%M:%S')} {task.label()}: {how}, {took}", flush=True)
+            rest = f"{forecast.minutes({*done, task})} minutes left"
+            print(f"{time.strftime('%H:%M:%S')} {task.label()}: {how}, {took}; {rest}", flush=True)
 
     with ThreadPoolExecutor(lanes) as pool:
         while left or running:
@@ -194,10 +212,12 @@ def proofs_of(crates):
     return tasks
 
 
-def names_of_scripts():
-    """Returns the names of the tests that tests/run knows."""
-    listed = subprocess.run([f"{ROOT}/tests/run", "list"], stdout=subprocess.PIPE, text=True, check=True)
-    return listed.stdout.split()
+def needs_of_scripts():
+    """Returns the names of the tests that tests/run knows, each with the crates that it needs built."""
+    loader = importlib.machinery.SourceFileLoader("tests_run", f"{ROOT}/tests/run")
+    module = importlib.util.module_from_spec(importlib.util.spec_from_loader("tests_run", loader))
+    loader.exec_module(module)
+    return {name: module.needs(name) for name in module.NAMES}
 
 
 def tasks_of_crates(crates, proofs, kept):
@@ -213,26 +233,29 @@ def tasks_of_crates(crates, proofs, kept):
     return found
 
 
-def tasks_of_scripts(names, proofs):
+def tasks_of_scripts(scripts, proofs):
     found = []
-    for name in names:
-        needs = [proofs[it] for it in NEEDS.get(name, PROGRAMS)]
-        found.append(Task("scripts", name, [f"{ROOT}/tests/run", name], 20 if needs else 120, needs))
+    for name, crates in scripts.items():
+        needs = [proofs[it] for it in crates]
+        found.append(Task("scripts", name, [f"{ROOT}/tests/run", "--built", name], 20 if needs else 120, needs))
     return found
 
 
 def tasks_of(crates, given):
     """Returns all tasks, lowest crates first; those of the named crates and scripts alone, where some are named."""
     names = given.names
-    scripts = names_of_scripts()
+    scripts = needs_of_scripts()
     unknown = [it for it in names if it not in crates and it not in scripts]
     if unknown:
         sys.exit(f"there is no crate and no script {unknown[0]}")
-    scripts = [it for it in scripts if not names or it in names]
+    scripts = {name: needs for name, needs in scripts.items() if not names or name in names}
     wanted = {name: crate for name, crate in crates.items() if not names or name in names}
-    built = {*wanted, *(it for name in scripts for it in NEEDS.get(name, PROGRAMS))}
+    built = {*wanted, *(it for needs in scripts.values() for it in needs)}
     proved = {it.name for name in built for it in [*crates[name].below(), crates[name]]}
     proofs = proofs_of({name: crate for name, crate in crates.items() if name in proved})
+    for name, task in proofs.items():
+        if given.kept and crates[name].is_made():
+            task.weight = task.behind = 1
     if given.proofs:
         return [*proofs.values()]
     return [*proofs.values(), *tasks_of_crates(wanted, proofs, given.kept), *tasks_of_scripts(scripts, proofs)]

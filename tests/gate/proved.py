@@ -22,15 +22,21 @@ def fault_of(crate):
     return next((f"{file} is {what}" for what, old, new in zip(whats, noted, now) if old != new), None)
 
 
+def crate_of(crates, name):
+    """Returns the crate of a program or an archive; any other name ends the script."""
+    if name not in crates or crates[name].makes_rlib():
+        sys.exit(f"there is no program and no archive {name}")
+    return crates[name]
+
+
 def main(names):
     crates = toolchain.crates()
     for name in names:
-        if name not in crates or crates[name].makes_rlib():
-            sys.exit(f"there is no program and no archive {name}")
-        why = fault_of(crates[name])
+        crate = crate_of(crates, name)
+        why = fault_of(crate)
         if why:
             sys.exit(f"{why}; prove it first: tests/gate/gate.py --kept --proofs {name}")
-        print(*crates[name].record().split()[:3])
+        print(*crate.record().split()[:3])
 
 
 if __name__ == "__main__":

@@ -133,6 +133,7 @@ pub record IsSpared (C : ℕ → ℕ → Type 0) (g h : Group) (k : ℕ) : Type 
 abbrev pub GuardsNone : List Bool → Group → ℕ → Type 0
 GuardsNone fallible g k = (m : ℕ) → ¬ IsGuard fallible g k m
 
+-- no member that shows waits for this fence
 abbrev pub SignalsNone : List Bool → Group → ℕ → Type 0
 SignalsNone visible g k = (j : ℕ) → ¬ IsSignal visible g k j
 

@@ -16,6 +16,7 @@ abbrev pub reads_of : Member → List Span
 reads_of (Known t) = t.reads.items
 reads_of (Unknown why) = []
 
+-- the spans that a member is known to write
 abbrev pub writes_of : Member → List Span
 writes_of (Known t) = t.writes.items
 writes_of (Unknown why) = []
@@ -51,6 +52,7 @@ abbrev pub KnownConflict : List Member → ℕ → ℕ → Type 0
 KnownConflict ms i j =
     (m n : Member) × (slice_get ms i ≡ Some m) × (slice_get ms j ≡ Some n) × AreKnownToConflict m n
 
+-- what is known of the members at two places of a batch does not rule out that they conflict
 abbrev pub PossibleConflict : List Member → ℕ → ℕ → Type 0
 PossibleConflict ms i j =
     (m n : Member) × (slice_get ms i ≡ Some m) × (slice_get ms j ≡ Some n) × CanConflict m n

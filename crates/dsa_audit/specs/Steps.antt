@@ -17,6 +17,7 @@ AreLasts C lasts =
 abbrev pub NoneFrom : (ℕ → ℕ → Type 0) → ℕ → ℕ → ℕ → Type 0
 NoneFrom C from before later = (i : ℕ) → from ≤ i → i < before → ¬ C i later
 
+-- member i is the last of them that conflicts with `later`
 pub record IsLastFrom (C : ℕ → ℕ → Type 0) (from before later i : ℕ) : Type 0 where
   pub begun : from ≤ i
   pub ends : i < before
@@ -31,11 +32,13 @@ IsNextPlace C g epoch at fence_place.NoFence = (¬ HasFence g at) × NoneFrom C 
 IsNextPlace C g epoch at fence_place.Given = HasFence g at
 IsNextPlace C g epoch at (fence_place.Missing i) = (¬ HasFence g at) × IsLastFrom C epoch at at i
 
+-- there is a fence, be it given or missing
 abbrev pub has_fence : FencePlace → Bool
 has_fence fence_place.NoFence = false
 has_fence fence_place.Given = true
 has_fence (fence_place.Missing i) = true
 
+-- where the epoch of a member begins, by the fence before it and the epoch of the member before
 abbrev pub epoch_after : FencePlace → ℕ → ℕ → ℕ
 epoch_after fence_place.NoFence epoch at = epoch
 epoch_after fence_place.Given epoch at = at
@@ -43,6 +46,7 @@ epoch_after (fence_place.Missing i) epoch at = at
 
 -- ---- needless fences
 
+-- no fence is after `at` and before `end`
 abbrev pub IsUnfencedUpTo : Group → ℕ → ℕ → Type 0
 IsUnfencedUpTo g at end = (k : ℕ) → at < k → k < end → ¬ HasFence g k
 
@@ -50,6 +54,7 @@ IsUnfencedUpTo g at end = (k : ℕ) → at < k → k < end → ¬ HasFence g k
 abbrev pub NoneAcross : (ℕ → ℕ → Type 0) → ℕ → ℕ → ℕ → Type 0
 NoneAcross C epoch at end = (i j : ℕ) → epoch ≤ i → i < at → at ≤ j → j < end → ¬ C i j
 
+-- members i and j are two that do
 pub record IsAcross (C : ℕ → ℕ → Type 0) (epoch at end i j : ℕ) : Type 0 where
   pub begun : epoch ≤ i
   pub before : i < at
@@ -62,6 +67,7 @@ abbrev pub IsSpare : (ℕ → ℕ → Type 0) → Group → ℕ → ℕ → Type
 IsSpare C g epoch at =
     (i j : ℕ) → epoch ≤ i → i < at → at ≤ j → j < length g → C i j → IsSeparated g at j
 
+-- members i and j are two that only this fence separates
 pub record IsWitness (C : ℕ → ℕ → Type 0) (g : Group) (epoch at i j : ℕ) : Type 0 where
   pub begun : epoch ≤ i
   pub before : i < at
@@ -74,6 +80,7 @@ pub record IsWitness (C : ℕ → ℕ → Type 0) (g : Group) (epoch at i j : �
 abbrev pub NoneSet : List Bool → ℕ → ℕ → Type 0
 NoneSet flags from before = (n : ℕ) → from ≤ n → n < before → ¬ (get_or flags n false ≡ true)
 
+-- member m is the first of them of which the flag is set
 pub record IsFirstSet (flags : List Bool) (from before m : ℕ) : Type 0 where
   pub begun : from ≤ m
   pub ends : m < before
@@ -129,6 +136,7 @@ IsNextUse C fallible visible g given epoch at (fence_use.GuardingAndSignalling m
     IsSpareFence C fallible visible g given epoch at (fence_use.GuardingAndSignalling m j)
 IsNextUse C fallible visible g given epoch at (fence_use.Needed i j) = HasFence g at × IsWitness C g epoch at i j
 
+-- a fence with this use stays
 abbrev pub is_kept : FenceUse → Bool
 is_kept fence_use.NoFence = false
 is_kept fence_use.Needless = false
@@ -137,6 +145,7 @@ is_kept (fence_use.Signalling j) = true
 is_kept (fence_use.GuardingAndSignalling m j) = true
 is_kept (fence_use.Needed i j) = true
 
+-- where the epoch of a member begins, if only fences that are kept begin one
 abbrev pub epoch_kept : FenceUse → ℕ → ℕ → ℕ
 epoch_kept fence_use.NoFence epoch at = epoch
 epoch_kept fence_use.Needless epoch at = epoch
@@ -145,6 +154,7 @@ epoch_kept (fence_use.Signalling j) epoch at = at
 epoch_kept (fence_use.GuardingAndSignalling m j) epoch at = at
 epoch_kept (fence_use.Needed i j) epoch at = at
 
+-- where the last given fence up to a member is, by what that of the member is for
 abbrev pub given_after : FenceUse → ℕ → ℕ → ℕ
 given_after fence_use.NoFence given at = given
 given_after fence_use.Needless given at = at

@@ -8,6 +8,7 @@ pub record AreSpelt (plan : Plan) : Type 0 where
   pub spell : plan_of (marks_of plan) ≡ plan
   pub count : length (marks_of plan) ≡ piece_count plan
 
+-- law: the marks of such a plan spell it
 abbrev pub MarksSpellPlans : Type 0
 MarksSpellPlans = (plan : Plan) → All (λ group. 0 < length group) plan → AreSpelt plan
 

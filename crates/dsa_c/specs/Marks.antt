@@ -20,9 +20,11 @@ marks_of plan = flat_map group_marks plan
 abbrev pub begins_group : ℕ → Bool
 begins_group mark = mark % 2 == 1
 
+-- bit 1 of a mark: its piece is fenced
 abbrev pub is_fenced : ℕ → Bool
 is_fenced mark = mark / 2 % 2 == 1
 
+-- a group has no piece
 abbrev pub is_empty : Group → Bool
 is_empty [] = true
 is_empty (_ ∷ _) = false

@@ -21,23 +21,29 @@ use Rattle.dsa_calls.specs.declared.fault.PlanFault.TheVariants.{List as InList,
 
 -- ---- the causes of the crates below, as refusals; out of memory is one, wherever it comes from
 
+-- a fault of a list as a refusal
 abbrev pub list_cause : ListFault → PlanFault
 list_cause cause = if list_is_memory cause then Memory else InList cause
 
+-- a fault of splitting as a refusal
 abbrev pub split_cause : SplitFault → PlanFault
 split_cause cause = if split_is_memory cause then Memory else Split cause
 
+-- a fault of an emission as a refusal
 abbrev pub emission_cause : EmissionFault → PlanFault
 emission_cause cause = if emission_is_memory cause then Memory else Emission cause
 
+-- a fault of a room or a replay as a refusal
 abbrev pub core_cause : CoreFault → PlanFault
 core_cause cause = if core_is_memory cause then Memory else Core cause
 
+-- a fault of a run by engines as a refusal
 abbrev pub room_cause : RoomFault → PlanFault
 room_cause cause = if room_is_memory cause then Memory else Room cause
 
 -- ---- the number, the name and the indices
 
+-- the number of a refusal, as docs/FORMATS.md lists it (this project's choice)
 abbrev pub fault_number : PlanFault → ℕ
 fault_number (InList fault) = list_number fault
 fault_number (Split fault) = split_number fault
@@ -59,6 +65,7 @@ fault_number Hex = 84
 fault_number Engines = 85
 fault_number JobTooLong = 86
 
+-- its name
 abbrev pub fault_name : PlanFault → List ℕ
 fault_name (InList fault) = list_name fault
 fault_name (Split fault) = split_name fault
@@ -80,6 +87,7 @@ fault_name Hex = codes "Hex"
 fault_name Engines = codes "Engines"
 fault_name JobTooLong = codes "JobTooLong"
 
+-- the indices that it names
 abbrev pub fault_indices : PlanFault → Indices
 fault_indices (InList fault) = list_indices fault
 fault_indices (Split fault) = split_indices fault
@@ -103,14 +111,17 @@ fault_indices JobTooLong = Empty
 
 -- ---- the cause within
 
+-- its number
 abbrev pub inner_number : InnerFault → ℕ
 inner_number (InEntry fault) = entry_number fault
 inner_number (InLegal fault) = legal_number fault
 
+-- its name
 abbrev pub inner_name : InnerFault → List ℕ
 inner_name (InEntry fault) = entry_name fault
 inner_name (InLegal fault) = legal_name fault
 
+-- the indices that it names
 abbrev pub inner_indices : InnerFault → Indices
 inner_indices (InEntry fault) = Empty
 inner_indices (InLegal fault) = legal_indices fault

@@ -20,9 +20,11 @@ abbrev pub pair_value : Option (ℕ × ℕ) → Data
 pair_value None = null
 pair_value (Some pair) = array_of (whole pair.0 ∷ whole pair.1 ∷ [])
 
+-- an array of pairs
 abbrev pub pairs_value : List (Option (ℕ × ℕ)) → Data
 pairs_value pairs = array_of (map pair_value pairs)
 
+-- an array of prices
 abbrev pub prices_value : List ℕ → Data
 prices_value prices = array_of (map whole prices)
 
@@ -49,6 +51,7 @@ abbrev pub ReadsPair : Data → Option (Option (ℕ × ℕ)) → Type 0
 ReadsPair d None = (pair : Option (ℕ × ℕ)) → PairFits pair → d ≢ pair_value pair
 ReadsPair d (Some pair) = (d ≡ pair_value pair) × PairFits pair
 
+-- a reader of pairs answers those that a value spells, or that it spells none
 abbrev pub ReadsPairs : Data → Option (List (Option (ℕ × ℕ))) → Type 0
 ReadsPairs d None = (pairs : List (Option (ℕ × ℕ))) → All PairFits pairs → d ≢ pairs_value pairs
 ReadsPairs d (Some pairs) = (d ≡ pairs_value pairs) × All PairFits pairs

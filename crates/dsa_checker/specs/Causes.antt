@@ -16,6 +16,7 @@ check_number (Price i j) = 63
 check_number Total = 64
 check_number Version = 65
 
+-- its name
 abbrev pub check_name : CheckFault → List ℕ
 check_name (Plan fault) = codes "Plan"
 check_name Lengths = codes "Lengths"
@@ -24,6 +25,7 @@ check_name (Price i j) = codes "Price"
 check_name Total = codes "Total"
 check_name Version = codes "Version"
 
+-- the piece, or the piece and the end, at fault, if it names any
 abbrev pub check_indices : CheckFault → Indices
 check_indices (Plan fault) = Empty
 check_indices Lengths = Empty
@@ -32,6 +34,7 @@ check_indices (Price i j) = Two i j
 check_indices Total = Empty
 check_indices Version = Empty
 
+-- the fault of the plan, if it is one of the plan
 abbrev pub check_plan_fault : CheckFault → Option LegalFault
 check_plan_fault (Plan fault) = Some fault
 check_plan_fault Lengths = None

@@ -18,6 +18,7 @@ IsBitSet words key = 0 < bit_at (slice_index words (key / 64)) (key % 64)
 abbrev pub HasData : List Fields → ℕ → ℕ → Type 0
 HasData fs i x = (f : Fields) × (slice_get fs i ≡ Some f) × (InSome (sources f.op f.size) x ⊎ InSome (targets f.op f.size) x)
 
+-- the address is in the completion record of piece i
 abbrev pub HasRecord : List Fields → ℕ → ℕ → Type 0
 HasRecord fs i x = (f : Fields) × (slice_get fs i ≡ Some f) × InSpan (record_span f.record_at) x
 

@@ -26,6 +26,7 @@ access_of Source = Read
 access_of Record = Write
 access_of Target = Write
 
+-- the spans of a kind that a piece has
 abbrev pub spans_of : Kind → Fields → List Span
 spans_of Source f = sources f.op f.size
 spans_of Record f = record_span f.record_at ∷ []

@@ -20,12 +20,14 @@ core_number TooLong = 75
 core_number (NotAStep event) = 76
 core_number Incomplete = 77
 
+-- its name
 abbrev pub core_name : CoreFault → List ℕ
 core_name Memory = codes "Memory"
 core_name TooLong = codes "TooLong"
 core_name (NotAStep event) = codes "NotAStep"
 core_name Incomplete = codes "Incomplete"
 
+-- the event or the piece at fault, if it names one
 abbrev pub core_indices : CoreFault → Indices
 core_indices Memory = Empty
 core_indices TooLong = Empty

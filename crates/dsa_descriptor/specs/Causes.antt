@@ -43,12 +43,14 @@ list_number (Field index fault) = number fault
 list_number (MixedPasid index) = 12
 list_number Memory = 73
 
+-- its name; of the fault of an entry that of the fault
 abbrev pub list_name : ListFault → List ℕ
 list_name Length = codes "Length"
 list_name (Field index fault) = field_name fault
 list_name (MixedPasid index) = codes "MixedPasid"
 list_name Memory = codes "Memory"
 
+-- the entry at fault, if it names one
 abbrev pub list_indices : ListFault → Indices
 list_indices Length = Empty
 list_indices (Field index fault) = One index

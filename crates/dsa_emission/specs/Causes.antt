@@ -17,6 +17,7 @@ entry_number OverTransfer = 37
 entry_number MixedPasid = 12
 entry_number StagingMeets = 33
 
+-- its name
 abbrev pub entry_name : EntryFault → List ℕ
 entry_name (Field fault) = field_name fault
 entry_name OverTransfer = codes "OverTransfer"
@@ -43,6 +44,7 @@ emission_number (EntryFence group) = 48
 emission_number (RecordBytes batch) = 49
 emission_number Memory = 73
 
+-- its name
 abbrev pub emission_name : EmissionFault → List ℕ
 emission_name PortalLength = codes "PortalLength"
 emission_name (BatchFields group) = codes "BatchFields"
@@ -52,6 +54,7 @@ emission_name (EntryFence group) = codes "EntryFence"
 emission_name (RecordBytes batch) = codes "RecordBytes"
 emission_name Memory = codes "Memory"
 
+-- the group, the piece or the batch at fault, if it names one
 abbrev pub emission_indices : EmissionFault → Indices
 emission_indices PortalLength = Empty
 emission_indices (BatchFields group) = One group
@@ -61,6 +64,7 @@ emission_indices (EntryFence group) = One group
 emission_indices (RecordBytes batch) = One batch
 emission_indices Memory = Empty
 
+-- the fault of the piece, if it is one of a piece
 abbrev pub emission_entry : EmissionFault → Option EntryFault
 emission_entry PortalLength = None
 emission_entry (BatchFields group) = None

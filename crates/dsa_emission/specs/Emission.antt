@@ -26,6 +26,7 @@ batched group = if is_batch group then length group else 0
 abbrev pub batch_count : Plan → ℕ
 batch_count plan = count_by is_batch plan
 
+-- how many pieces of a plan are in its batches
 abbrev pub batched_count : Plan → ℕ
 batched_count plan = sum_by batched plan
 
@@ -79,7 +80,7 @@ abbrev pub joined : (ℕ → List ℕ) → ℕ → List ℕ
 joined part zero = []
 joined part (suc n) = joined part n ++ part n
 
--- one entry for each group
+-- one entry for each group (specification 341204, batch descriptor; linux/idxd.h)
 abbrev pub portal_bytes : Limits → Plan → List Fields → List ℕ
 portal_bytes s plan pieces =
     joined (λ number. portal_entry s (batched_count plan) (place_of plan number) (slice_index_or plan number []) pieces) (length plan)

@@ -30,6 +30,7 @@ is_batch_entry entry = slice_index entry 7 == 1
 abbrev pub entry_size : List ℕ → ℕ
 entry_size entry = if is_batch_entry entry then u32_at 32 entry else 1
 
+-- how many pieces the entry submits in a batch
 abbrev pub entry_batched : List ℕ → ℕ
 entry_batched entry = if is_batch_entry entry then u32_at 32 entry else 0
 
@@ -78,7 +79,7 @@ demands_of s es staged =
 
 -- ---- one piece
 
--- the flag 0x0001 is set
+-- the flag 0x0001 is set (specification 341204, fence)
 abbrev pub is_fenced : List ℕ → Bool
 is_fenced bytes = slice_index bytes 4 % 2 == 1
 
@@ -148,6 +149,7 @@ pub record IsBatchAt (s : Limits) (owner : List ℕ) (total : ℕ) (place : Plac
   pub most : u32_at 32 entry ≤ s.greatest_batch
   pub bytes : entry ≡ batch_spelling owner (s.staging + 64 * total + 32 * place.batches) (s.staging + 64 * place.batched) (u32_at 32 entry)
 
+-- the entry of that number is right, if it is one of a batch
 abbrev pub IsRightAt : Limits → List (List ℕ) → List ℕ → ℕ → Type 0
 IsRightAt s es owner number =
     is_batch_entry (slice_index_or es number []) ≡ true →
@@ -168,6 +170,7 @@ IsFirstLengthFault portal staging (Entry index cause) = ⊥
 IsFirstLengthFault portal staging (RecordBytes batch) = ⊥
 IsFirstLengthFault portal staging Memory = ⊥
 
+-- the bytes of PASID and privilege of the first piece
 abbrev pub owner_of : List ℕ → List ℕ → List ℕ
 owner_of portal staging = owner_at (piece_bytes (entries portal) (entries staging) 0 0)
 
@@ -199,6 +202,7 @@ pub record HasPieces (s : Limits) (portal staging : List ℕ) : Type 0 where
 abbrev pub HasZeroRecord : List ℕ → ℕ → Type 0
 HasZeroRecord records batch = AreZero (take 32 (drop (32 * batch) records))
 
+-- the bytes after the descriptors of the staging area, those of the batches' records
 abbrev pub records_of : List ℕ → List ℕ → List ℕ
 records_of portal staging = drop (64 * (place_at_end (entries portal)).batched) staging
 

@@ -22,6 +22,7 @@ room_number Mixed = 72
 room_number Memory = 73
 room_number TooLong = 75
 
+-- its name
 abbrev pub room_name : RoomFault → List ℕ
 room_name GateShut = codes "GateShut"
 room_name Stale = codes "Stale"
@@ -29,6 +30,7 @@ room_name Mixed = codes "Mixed"
 room_name Memory = codes "Memory"
 room_name TooLong = codes "TooLong"
 
+-- it names none
 abbrev pub room_indices : RoomFault → Indices
 room_indices GateShut = Empty
 room_indices Stale = Empty

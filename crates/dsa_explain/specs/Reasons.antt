@@ -33,6 +33,7 @@ pub record IsReason (pieces : List Fields) (start : ℕ) (group : Group) (k : �
 abbrev pub ComesBefore : Reason → Reason → Type 0
 ComesBefore r s = (r.later < s.later) ⊎ ((r.later ≡ s.later) × (s.earlier < r.earlier))
 
+-- the reason is that of these two pieces
 abbrev pub IsOfPair : ℕ → ℕ → Reason → Type 0
 IsOfPair a b r = (r.earlier ≡ a) × (r.later ≡ b)
 
@@ -58,6 +59,7 @@ IsOpen start group k end = (other : ℕ) → k < other → other < end → ¬ Is
 abbrev pub IsSoFar : ℕ → ℕ → ℕ → ℕ → Type 0
 IsSoFar later i a b = (b < later) ⊎ ((b ≡ later) × (i ≤ a))
 
+-- the reason is one of those that were found up to there
 pub record IsFoundSoFar (pieces : List Fields) (start : ℕ) (group : Group) (k later i : ℕ) (r : Reason) : Type 0 where
   pub reached : IsReached start group k r.earlier
   pub behind : k ≤ r.later

@@ -49,6 +49,7 @@ batch_words greatest number group =
     ++ (codes ": batch of "
     ++ (decimal group.size ++ (full_words greatest group.size ++ (codes ", " ++ fences_words group.fences group.cost)))))
 
+-- a group: a lone piece or a batch
 abbrev pub group_words : ℕ → ℕ → GroupCost → List ℕ
 group_words greatest number group =
     if group.size == 1 then lone_words number group.cost else batch_words greatest number group
@@ -129,6 +130,7 @@ abbrev pub line_of_group : ℕ → ℕ → Option GroupCost → List ℕ
 line_of_group greatest number None = []
 line_of_group greatest number (Some group) = group_words greatest number group ++ codes "\n"
 
+-- the line of the group that begins with this piece, if one does
 abbrev pub group_line : ℕ → List GroupCost → Cell → List ℕ
 group_line greatest groups cell =
     if cell.column == 0 then line_of_group greatest cell.row (slice_get groups cell.row) else []
@@ -141,6 +143,7 @@ line_of_fence price pieces (Some fence) =
     ++ (decimal price
     ++ (codes ": " ++ (fence_words pieces fence ++ (codes "\n" ++ further_lines pieces (drop 1 fence.named.items)))))
 
+-- the lines of the fence before this piece, if there is one
 abbrev pub fence_line : ℕ → List Descriptor → List Fence → Cell → List ℕ
 fence_line price pieces fences cell =
     if cell.fenced then line_of_fence price pieces (slice_get fences 0) else []

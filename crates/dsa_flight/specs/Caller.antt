@@ -66,6 +66,7 @@ pub record Works {D P : Type 0} (machine : Machine D P) (subs : List (Setup D)) 
   pub step : Step machine setup (lane_state s.flight.memory lane) v stepped
   pub after : new ≡ record s { flight = record { memory = stepped.memory; lanes = slice_set s.flight.lanes y stepped.progress } }
 
+-- what an act does to a session
 abbrev pub Does : {D P : Type 0} → Machine D P → List (Setup D) → (ℕ → ℕ → Bool) → Session P → Act → Session P → Type 0
 Does machine subs meets s Submit new = SubmitsNext s new
 Does machine subs meets s (Ring y) new = Rings meets s y new

@@ -12,10 +12,12 @@ pub data Host : Type 0 where
   HostRead : (address : ℕ) → Host
   HostWrite : (at : ℕ) (bytes : List ℕ) → Host
 
+-- the host reads the address
 abbrev pub host_reads : Host → ℕ → Type 0
 host_reads (HostRead address) a = a ≡ address
 host_reads (HostWrite at bytes) a = ⊥
 
+-- the host writes the address
 abbrev pub host_writes : Host → ℕ → Type 0
 host_writes (HostRead address) a = ⊥
 host_writes (HostWrite at bytes) a = (at ≤ a) × (a < at + length bytes)
@@ -30,22 +32,27 @@ pub data AnyPiece : Type 0 where
   Device : (d : Fields) → AnyPiece
   OfHost : (h : Host) → AnyPiece
 
+-- what either reads
 abbrev pub either_reads : AnyPiece → ℕ → Type 0
 either_reads (Device d) a = descriptor_machine.reads d a
 either_reads (OfHost h) a = host_reads h a
 
+-- what either writes
 abbrev pub either_writes : AnyPiece → ℕ → Type 0
 either_writes (Device d) a = descriptor_machine.writes d a
 either_writes (OfHost h) a = host_writes h a
 
+-- how many lines either has; an access of the host has none
 abbrev pub either_lines : AnyPiece → ℕ
 either_lines (Device d) = descriptor_machine.lines d
 either_lines (OfHost h) = 0
 
+-- a line of either
 abbrev pub either_line : AnyPiece → ℕ → Memory → Partial → After Partial
 either_line (Device d) t m p = descriptor_machine.line d t m p
 either_line (OfHost h) t m p = record { memory = m; answer = p }
 
+-- how either finishes: the host's access is done at once
 abbrev pub either_finish : AnyPiece → Memory → Partial → After ℕ
 either_finish (Device d) m p = descriptor_machine.finish d m p
 either_finish (OfHost h) m p = host_does h m

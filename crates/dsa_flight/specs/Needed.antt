@@ -47,6 +47,7 @@ HoldsAccesses m d = (a : ℕ) → IsTrue (d.reads a) ⊎ IsTrue (d.writes a) →
 abbrev pub all_go : ℕ → Bool
 all_go x = true
 
+-- no submission waits for another
 abbrev pub none_wait : ℕ → ℕ → Bool
 none_wait x y = false
 

@@ -27,6 +27,7 @@ pub record PlannedList : Type 0 where
 abbrev pub submission : PlannedList → Setup Fields
 submission p = setup_of p.plan (map fields p.list) p.engines
 
+-- planned lists as submissions
 abbrev pub submissions : List PlannedList → List (Setup Fields)
 submissions ps = map submission ps
 

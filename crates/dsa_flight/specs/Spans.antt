@@ -30,6 +30,7 @@ abbrev pub host_read_spans : Host → List Span
 host_read_spans (HostRead address) = span address 1 ∷ []
 host_read_spans (HostWrite at bytes) = []
 
+-- the spans that a piece of either kind reads
 abbrev pub any_read_spans : AnyPiece → List Span
 any_read_spans (Device d) = read_spans d
 any_read_spans (OfHost h) = host_read_spans h
@@ -39,6 +40,7 @@ abbrev pub host_written_spans : Host → List Span
 host_written_spans (HostRead address) = []
 host_written_spans (HostWrite at bytes) = span at (length bytes) ∷ []
 
+-- the spans that a piece of either kind writes
 abbrev pub any_written_spans : AnyPiece → List Span
 any_written_spans (Device d) = written_spans d
 any_written_spans (OfHost h) = host_written_spans h

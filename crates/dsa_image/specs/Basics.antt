@@ -45,11 +45,11 @@ copied_twice m src dst dst2 lo hi a = option_or (copied m src dst lo hi a) (copi
 -- ---- the entries of a delta (specification 341204, apply delta record)
 
 -- how many entries a delta record of this many bytes has: each is an offset of 2 bytes in units of 8 bytes, and 8 bytes of
--- data
+-- data (specification 341204, delta records)
 abbrev pub entry_count : ℕ → ℕ
 entry_count record_size = record_size / 10
 
--- where the data of entry i go, in bytes from the destination's first
+-- where the data of entry i go, in bytes from the destination's first (specification 341204, apply delta record)
 unfoldable pub entry_place : Memory → ℕ → ℕ → ℕ
 entry_place m delta i = 8 * (byte_at m (delta + 10 * i) + 256 * byte_at m (delta + 10 * i + 1))
 
@@ -78,7 +78,8 @@ entry_byte m delta dst size a i =
     then Some (byte_at m (delta + 10 * i + 2 + (a - (dst + entry_place m delta i))))
     else None
 
--- the entries from `lo` to below `hi`, where the last one that goes to an address counts
+-- the entries from `lo` to below `hi`, where the last one that goes to an address counts (specification 341204, apply
+-- delta record)
 unfoldable pub patched : Memory → ℕ → ℕ → ℕ → ℕ → ℕ → ℕ → Option ℕ
 patched m delta dst size lo hi a = last_some (entry_byte m delta dst size a) (numbers lo hi)
 
@@ -88,7 +89,7 @@ patched m delta dst size lo hi a = last_some (entry_byte m delta dst size a) (nu
 unfoldable pub difference_at : Memory → ℕ → ℕ → ℕ → Option ℕ
 difference_at m src src2 k = if byte_at m (src + k) == byte_at m (src2 + k) then None else Some k
 
--- the first difference of two regions from the offset `lo` to below `hi`
+-- the first difference of two regions from the offset `lo` to below `hi` (specification 341204, compare)
 unfoldable pub first_difference : Memory → ℕ → ℕ → ℕ → ℕ → Option ℕ
 first_difference m src src2 lo hi = first_some (difference_at m src src2) (numbers lo hi)
 
@@ -96,11 +97,12 @@ first_difference m src src2 lo hi = first_some (difference_at m src src2) (numbe
 unfoldable pub unlike_at : Memory → ℕ → ℕ → ℕ → Option ℕ
 unlike_at m src pattern k = if byte_at m (src + k) == pattern_byte pattern k then None else Some k
 
--- the first byte of a region that is another than the pattern's, from the offset `lo` to below `hi`
+-- the first byte of a region that is another than the pattern's, from the offset `lo` to below `hi` (this project's
+-- choice)
 unfoldable pub first_unlike : Memory → ℕ → ℕ → ℕ → ℕ → Option ℕ
 first_unlike m src pattern lo hi = first_some (unlike_at m src pattern) (numbers lo hi)
 
--- the status of the first faulty entry from `lo` to below `hi`
+-- the status of the first faulty entry from `lo` to below `hi` (this project's choice)
 unfoldable pub first_fault : Memory → ℕ → ℕ → ℕ → ℕ → Option ℕ
 first_fault m delta size lo hi = first_some (entry_fault m delta size) (numbers lo hi)
 

@@ -10,6 +10,7 @@ use Rattle.dsa_lines.specs.Numbers.{number_of, pattern_of}
 use Rattle.dsa_lines.specs.Options.{no_options, carried_mask, fields_with}
 
 infixl 10 ◌>>=◌
+-- the second step over what the first one gives, or nothing if that gives nothing
 abbrev pub ◌>>=◌ : {A B : Type 0} → Option A → (A → Option B) → Option B
 o >>= f = option_and_then f o
 
@@ -31,10 +32,12 @@ abbrev pub number_at : ℕ → List Word → Option (ℕ × List Word)
 number_at most [] = None
 number_at most (w ∷ ws) = number_of w >>= λ n. if nat_le n most then Some (n, ws) else None
 
+-- a pattern, and the words after it
 abbrev pub pattern_at : List Word → Option (ℕ × List Word)
 pattern_at [] = None
 pattern_at (w ∷ ws) = pattern_of w >>= λ n. Some (n, ws)
 
+-- a number of bytes, and the words after `bytes`
 unfoldable pub size_at : List Word → Option (ℕ × List Word)
 size_at words = do
   size ← number_at (greatest 32) words
@@ -43,6 +46,7 @@ size_at words = do
 
 -- ---- operations, each with its size and the words behind these
 
+-- what follows `move`
 unfoldable pub move_at : List Word → Option (Op × ℕ × List Word)
 move_at words = do
   src ← number_at (greatest 64) words
@@ -52,6 +56,7 @@ move_at words = do
   size ← size_at comma
   Some (Move src.0 dst.0, size.0, size.1)
 
+-- what follows `fill`
 unfoldable pub fill_at : List Word → Option (Op × ℕ × List Word)
 fill_at words = do
   dst ← number_at (greatest 64) words
@@ -70,12 +75,14 @@ expected_at words = do
   bit ← number_at 1 expect
   Some (size.0, bit.0, bit.1)
 
+-- what follows `with` in a comparison of two regions
 unfoldable pub compare_region_at : ℕ → List Word → Option (Op × ℕ × List Word)
 compare_region_at src words = do
   src2 ← number_at (greatest 64) words
   expected ← expected_at src2.1
   Some (Compare src src2.0 expected.1, expected.0, expected.2)
 
+-- what follows `with pattern`
 unfoldable pub compare_pattern_at : ℕ → List Word → Option (Op × ℕ × List Word)
 compare_pattern_at src words = do
   pattern ← pattern_at words
@@ -87,12 +94,14 @@ abbrev pub compare_other_at : ℕ → List Word → Option (List Word) → Optio
 compare_other_at src words None = compare_region_at src words
 compare_other_at src words (Some rest) = compare_pattern_at src rest
 
+-- what follows `compare`
 unfoldable pub compare_at : List Word → Option (Op × ℕ × List Word)
 compare_at words = do
   src ← number_at (greatest 64) words
   other ← after (codes "with") src.1
   compare_other_at src.0 other (after (codes "pattern") other)
 
+-- what follows `delta`
 unfoldable pub delta_at : List Word → Option (Op × ℕ × List Word)
 delta_at words = do
   delta ← number_at (greatest 64) words
@@ -104,6 +113,7 @@ delta_at words = do
   size ← size_at second
   Some (ApplyDelta delta.0 dst.0 record_size.0, size.0, size.1)
 
+-- what follows `dualcast`
 unfoldable pub dualcast_at : List Word → Option (Op × ℕ × List Word)
 dualcast_at words = do
   src ← number_at (greatest 64) words
@@ -115,6 +125,7 @@ dualcast_at words = do
   size ← size_at comma
   Some (Dualcast src.0 dst.0 dst2.0, size.0, size.1)
 
+-- an operation, by its first word
 unfoldable pub op_at : List Word → Option (Op × ℕ × List Word)
 op_at [] = None
 op_at (w ∷ ws) =
@@ -126,14 +137,17 @@ op_at (w ∷ ws) =
 
 -- ---- options, each at most once and in any order
 
+-- the number after `pasid`
 unfoldable pub pasid_at : Options → List Word → Option (Options × List Word)
 pasid_at o words =
     if is_some o.pasid then None else
     (number_at (greatest 20) words >>= λ n. Some (record o { pasid = Some n.0 }, n.1))
 
+-- the option `privileged`
 unfoldable pub privileged_at : Options → List Word → Option (Options × List Word)
 privileged_at o words = if o.privileged then None else Some (record o { privileged = true }, words)
 
+-- the option `check`
 unfoldable pub check_at : Options → List Word → Option (Options × List Word)
 check_at o words = if o.check then None else Some (record o { check = true }, words)
 
@@ -144,6 +158,7 @@ flags_at o words =
     (number_at (greatest 16) words >>= λ n.
     if bit_and n.0 carried_mask == n.0 then Some (record o { flags = Some n.0 }, n.1) else None)
 
+-- the number after `handle`
 unfoldable pub handle_at : Options → List Word → Option (Options × List Word)
 handle_at o words =
     if is_some o.handle then None else
@@ -170,6 +185,7 @@ options_at (suc most) o (w ∷ ws) = do
 
 -- ---- a line
 
+-- the fields that the words of a line spell: an operation, its record and its options
 unfoldable pub fields_of : List Word → Option Fields
 fields_of words = do
   op ← op_at words

@@ -33,6 +33,7 @@ hex n = codes "0x" ++ digits 16 false n
 abbrev pub pattern_word : ℕ → Word
 pattern_word pattern = encode_lower (to_le_bytes w64 pattern)
 
+-- the number of these eight bytes, if the digits decode
 abbrev pub pattern_with : Result (List ℕ) FromHexError → Option ℕ
 pattern_with (Ok bytes) = Some (from_le_bytes w64 bytes)
 pattern_with (Err e) = None

@@ -17,6 +17,7 @@ carried_mask = 0xff22
 abbrev pub check_mask : ℕ
 check_mask = 0x80
 
+-- the number, or 0 if there is none
 abbrev pub or_zero : Option ℕ → ℕ
 or_zero None = 0
 or_zero (Some n) = n
@@ -42,5 +43,6 @@ fields_with op size record_at o =
 abbrev pub carried_flags : ℕ → ℕ
 carried_flags flags = bit_and flags carried_mask
 
+-- `check` is written: the flag check result is set
 abbrev pub checks_result : ℕ → Bool
 checks_result flags = not (bit_and flags check_mask == 0)

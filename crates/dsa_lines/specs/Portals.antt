@@ -65,6 +65,7 @@ IsKnown (Other bytes fault) = ⊥
 
 -- ---- their text
 
+-- the words of a batch: its size, and the addresses of its descriptors and of its record
 abbrev pub batch_words : ℕ → ℕ → ℕ → List Word
 batch_words count list_at record_at =
     codes "batch" ∷ codes "of" ∷ decimal count ∷ codes "at" ∷ hex list_at ∷ codes "," ∷ codes "record" ∷ hex record_at ∷ []
@@ -96,6 +97,7 @@ abbrev pub IsFirstLengthFault : ℕ → EmissionFault → List ℕ → EmittedFa
 IsFirstLengthFault unit wrong bytes (Emission fault) = (fault ≡ wrong) × (length bytes % unit ≢ 0)
 IsFirstLengthFault unit wrong bytes Memory = length bytes % unit ≡ 0
 
+-- why bytes are no portal: its entries have 64 bytes
 abbrev pub IsFirstPortalFault : List ℕ → EmittedFault → Type 0
 IsFirstPortalFault bytes fault = IsFirstLengthFault 64 PortalLength bytes fault
 

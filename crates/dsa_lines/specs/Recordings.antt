@@ -16,6 +16,7 @@ use Rattle.dsa_lines.specs.Grammar.{after, named, number_at, greatest, fields_of
 
 -- ---- a line
 
+-- this, if no word is left
 abbrev pub at_end : {A : Type 0} → A → List Word → Option A
 at_end x [] = Some x
 at_end x (w ∷ ws) = None
@@ -39,6 +40,7 @@ fenced f = record f { flags = bit_or f.flags 0x0001 }
 abbrev pub entry_at : List Word → Option (List ℕ)
 entry_at words = fields_of words >>= λ f. Some (spelling f)
 
+-- the bytes of a fenced descriptor
 abbrev pub fenced_at : List Word → Option (List ℕ)
 fenced_at words = fields_of words >>= λ f. Some (spelling (fenced f))
 
@@ -55,6 +57,7 @@ abbrev pub line_recorded : List Word → Option (List Recorded)
 line_recorded [] = Some []
 line_recorded (w ∷ ws) = recorded_at (w ∷ ws) >>= λ r. Some (r ∷ [])
 
+-- what a line says and what the lines after it say, if these say something
 abbrev pub with_recorded : List Recorded → Option (List Recorded) → Option (List Recorded)
 with_recorded rs None = None
 with_recorded rs (Some more) = Some (rs ++ more)

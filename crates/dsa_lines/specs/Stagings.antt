@@ -27,6 +27,7 @@ pub record StagedPiece : Type 0 where
   pub fence : Bool
   pub piece : Descriptor
 
+-- the bytes of a piece, with its fence
 abbrev pub staged_bytes : StagedPiece → List ℕ
 staged_bytes p = spelling (with_fence p.fence (fields p.piece))
 
@@ -35,6 +36,7 @@ pub data StagedEntry : Type 0 where
   Piece : (p : StagedPiece) → StagedEntry
   Other : (bytes : List ℕ) (fault : FieldFault) → StagedEntry
 
+-- the bytes of an entry
 abbrev pub entry_bytes : StagedEntry → List ℕ
 entry_bytes (Piece p) = staged_bytes p
 entry_bytes (Other bytes fault) = bytes
@@ -99,9 +101,11 @@ entries_text (e ∷ es) = (entry_text e ++ 10 ∷ []) ++ entries_text es
 abbrev pub written_record : ℕ → ℕ → List ℕ
 written_record status finished = layout (record { status = status; result = 0; bytes_completed = finished })
 
+-- byte 0 of a record, its status
 abbrev pub status_at : List ℕ → ℕ
 status_at bytes = slice_index bytes 0
 
+-- bytes 4 to 7 of a record, how many descriptors finished
 abbrev pub finished_at : List ℕ → ℕ
 finished_at bytes = u32_at 4 bytes
 
@@ -135,6 +139,7 @@ record_place batch address = codes "record " ++ (decimal batch ++ (codes " at " 
 abbrev pub is_plausible : List ℕ → Bool
 is_plausible bytes = slice_index bytes 7 == 0
 
+-- the same as a statement
 abbrev pub IsPlausible : List ℕ → Type 0
 IsPlausible bytes = is_plausible bytes ≡ true
 
@@ -157,6 +162,7 @@ staging_text at entries records = entries_text entries ++ records_text 0 (at + 6
 
 -- ---- why bytes are no staging area
 
+-- why bytes are no staging area: records have 32 bytes
 abbrev pub IsFirstStagingFault : List ℕ → EmittedFault → Type 0
 IsFirstStagingFault bytes fault = IsFirstLengthFault 32 StagingLength bytes fault
 

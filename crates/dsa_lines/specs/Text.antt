@@ -20,9 +20,11 @@ op_words (Dualcast src dst dst2) size = codes "dualcast" ∷ hex src ∷ codes "
 abbrev pub number_option : Word → ℕ → List Word
 number_option name n = if n == 0 then [] else (codes "," ∷ name ∷ decimal n ∷ [])
 
+-- an option without a number, if it is set
 abbrev pub name_option : Word → Bool → List Word
 name_option name stands = if stands then (codes "," ∷ name ∷ []) else []
 
+-- the options of a descriptor, in their order
 abbrev pub option_words : Fields → List Word
 option_words f =
     number_option (codes "pasid") f.pasid
@@ -31,6 +33,7 @@ option_words f =
     ++ (number_option (codes "flags") (carried_flags f.flags)
     ++ number_option (codes "handle") f.int_handle)))
 
+-- the words of a canonical line
 abbrev pub line_words : Fields → List Word
 line_words f = op_words f.op f.size ++ codes "," ∷ codes "record" ∷ hex f.record_at ∷ option_words f
 
@@ -39,10 +42,12 @@ abbrev pub spaced : Word → List ℕ
 spaced [] = []
 spaced (c ∷ cs) = if c == 44 then c ∷ cs else 32 ∷ c ∷ cs
 
+-- words with what is before each
 abbrev pub tail_text : List Word → List ℕ
 tail_text [] = []
 tail_text (w ∷ ws) = spaced w ++ tail_text ws
 
+-- the text of words
 abbrev pub text_of : List Word → List ℕ
 text_of [] = []
 text_of (w ∷ ws) = w ++ tail_text ws

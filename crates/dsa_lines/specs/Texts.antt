@@ -7,6 +7,7 @@ use Rattle.dsa_lines.specs.Grammar.{fields_of, ◌>>=◌}
 use Rattle.dsa_lines.specs.Text.{line_text}
 use Rattle.dsa_lines.specs.Recordings.{batch_at}
 
+-- the lines with a byte before the first of them
 abbrev pub with_byte : ℕ → List (List ℕ) → List (List ℕ)
 with_byte c [] = (c ∷ []) ∷ []
 with_byte c (line ∷ lines) = (c ∷ line) ∷ lines
@@ -25,6 +26,7 @@ line_fields (w ∷ ws) =
     if bytes_eq w (codes "fence") then (fields_of ws >>= λ f. Some (f ∷ [])) else
     (fields_of (w ∷ ws) >>= λ f. Some (f ∷ []))
 
+-- the operation of a line and those of the lines after it, if these are of the grammar
 abbrev pub with_fields : List Fields → Option (List Fields) → Option (List Fields)
 with_fields fs None = None
 with_fields fs (Some more) = Some (fs ++ more)

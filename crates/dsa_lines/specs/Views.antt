@@ -10,6 +10,7 @@ abbrev pub first_word : Option (Bor (List ℕ) × Bor (List ℕ)) → List Word
 first_word None = []
 first_word (Some x) = x.0.now ∷ words_of x.1.now
 
+-- the fields that a line spells, as a record
 abbrev pub view : Line → Fields
 view l =
     record {

@@ -1,6 +1,7 @@
 -- The words of a line.
 use Rattle.std.specs.Prelude.{ℕ, Bool, true, false, not, ◌||◌, ◌==◌, suc, List, [], ◌∷◌, if◌then◌else◌}
 
+-- a word is its bytes
 abbrev pub Word : Type 0
 Word = List ℕ
 
@@ -12,14 +13,17 @@ is_blank c = c == 32 || c == 9 || c == 13
 abbrev pub is_in_word : ℕ → Bool
 is_in_word c = not (is_blank c || c == 44 || c == 10 || c == 35)
 
+-- the text begins with a blank
 abbrev pub begins_blank : List ℕ → Bool
 begins_blank [] = false
 begins_blank (c ∷ cs) = is_blank c
 
+-- the text begins with a byte of a word
 abbrev pub goes_on : List ℕ → Bool
 goes_on [] = false
 goes_on (c ∷ cs) = is_in_word c
 
+-- the words with a byte before the first of them
 abbrev pub with_front : ℕ → List Word → List Word
 with_front c [] = (c ∷ []) ∷ []
 with_front c (w ∷ ws) = (c ∷ w) ∷ ws

@@ -16,12 +16,14 @@ prepare_number (PrepareWrap region) = 100
 prepare_number (RegionOrder region) = 101
 prepare_number (Outside operation) = 102
 
+-- its name
 abbrev pub prepare_name : PrepareFault → List ℕ
 prepare_name (Plan fault) = fault_name fault
 prepare_name (PrepareWrap region) = codes "RegionWrap"
 prepare_name (RegionOrder region) = codes "RegionOrder"
 prepare_name (Outside operation) = codes "Outside"
 
+-- the region or the operation at fault, or the indices of planning's refusal
 abbrev pub prepare_indices : PrepareFault → Indices
 prepare_indices (Plan fault) = fault_indices fault
 prepare_indices (PrepareWrap region) = One region
@@ -39,6 +41,7 @@ fill_number (RegionsMeet region other) = 108
 fill_number (StagingMeets region) = 109
 fill_number Staging = 110
 
+-- its name
 abbrev pub fill_name : FillFault → List ℕ
 fill_name Bases = codes "Bases"
 fill_name Room = codes "Room"
@@ -49,6 +52,7 @@ fill_name (RegionsMeet region other) = codes "RegionsMeet"
 fill_name (StagingMeets region) = codes "StagingMeets"
 fill_name Staging = codes "Staging"
 
+-- the regions at fault, if it names any
 abbrev pub fill_indices : FillFault → Indices
 fill_indices Bases = Empty
 fill_indices Room = Empty

@@ -65,6 +65,7 @@ first_word rs (ComparePattern src pattern expected) = word_at rs src
 first_word rs (ApplyDelta delta dst record_size) = word_at rs delta
 first_word rs (Dualcast src dst dst2) = word_at rs src
 
+-- bytes 24 to 31 of an operation
 abbrev pub second_word : List Span → Op → Word
 second_word rs (Move src dst) = word_at rs dst
 second_word rs (Fill pattern dst) = word_at rs dst
@@ -73,6 +74,7 @@ second_word rs (ComparePattern src pattern expected) = Fixed pattern
 second_word rs (ApplyDelta delta dst record_size) = word_at rs dst
 second_word rs (Dualcast src dst dst2) = word_at rs dst
 
+-- bytes 40 to 47 of an operation
 abbrev pub own_word : List Span → Op → Word
 own_word rs (Move src dst) = Fixed 0
 own_word rs (Fill pattern dst) = Fixed 0

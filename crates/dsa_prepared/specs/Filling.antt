@@ -58,6 +58,7 @@ IsTied bases tie =
 abbrev pub tie_at : List Tie → ℕ → Tie
 tie_at ties k = slice_index_or ties k (record { region = 0; offset = 0; other = 0; other_offset = 0 })
 
+-- the tie of that number holds
 abbrev pub IsTiedAt : List Tie → List ℕ → ℕ → Type 0
 IsTiedAt ties bases k = IsTied bases (tie_at ties k)
 
@@ -65,6 +66,7 @@ IsTiedAt ties bases k = IsTied bases (tie_at ties k)
 abbrev pub AreApartAt : List Span → List ℕ → ℕ → ℕ → Type 0
 AreApartAt rs bases i j = Apart (new_region rs bases i) (new_region rs bases j)
 
+-- no earlier region has an address in common with this one
 abbrev pub IsApartFromEarlier : List Span → List ℕ → ℕ → Type 0
 IsApartFromEarlier rs bases i = AllBelow i (AreApartAt rs bases i)
 
@@ -83,21 +85,27 @@ LiesBetween rs bases bottom top i =
 
 -- ---- refusals, in their order
 
+-- there is a base for each region, and the buffers have room
 abbrev pub HasBuffers : Template → List ℕ → ℕ → ℕ → Type 0
 HasBuffers t bases portal staging = HasBases t bases × HasRoom t portal staging
 
+-- no region goes past 2^64
 abbrev pub AllFit : Template → List ℕ → Type 0
 AllFit t bases = AllBelow (length t.regions) (FitsAt t.regions bases)
 
+-- each base keeps its region's unit
 abbrev pub AllAligned : Template → List ℕ → Type 0
 AllAligned t bases = AllBelow (length t.regions) (IsAlignedBase t.regions t.units bases)
 
+-- each tie holds
 abbrev pub AllTied : Template → List ℕ → Type 0
 AllTied t bases = AllBelow (length t.ties) (IsTiedAt t.ties bases)
 
+-- no two regions have an address in common
 abbrev pub AllApart : Template → List ℕ → Type 0
 AllApart t bases = AllBelow (length t.regions) (IsApartFromEarlier t.regions bases)
 
+-- no region has an address in the staging area
 abbrev pub AllClear : Template → List ℕ → ℕ → Type 0
 AllClear t bases staging = AllBelow (length t.regions) (IsClearAt t.regions bases (staging_area staging t.pieces))
 

@@ -20,6 +20,7 @@ pub record Region : Type 0 where
 abbrev pub base_span : Region → Span
 base_span r = span r.base r.len
 
+-- the region's addresses after relocation
 abbrev pub new_span : Region → Span
 new_span r = span r.new_base r.len
 

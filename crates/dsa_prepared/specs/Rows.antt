@@ -24,6 +24,7 @@ word_of row k = slice_index row.words k
 abbrev pub region_in : Row → Span
 region_in row = span (word_of row 0) (word_of row 1)
 
+-- its unit
 abbrev pub unit_in : Row → ℕ
 unit_in row = word_of row 2
 
@@ -60,9 +61,11 @@ part rows start count = take count (drop start rows)
 abbrev pub ties_at : List Row → ℕ
 ties_at rows = 1 + header_word rows 1
 
+-- where the rows of the portal's entries begin
 abbrev pub portal_at : List Row → ℕ
 portal_at rows = ties_at rows + header_word rows 2
 
+-- where the rows of the staging area's entries begin
 abbrev pub staging_at : List Row → ℕ
 staging_at rows = portal_at rows + header_word rows 3
 
@@ -70,12 +73,15 @@ staging_at rows = portal_at rows + header_word rows 3
 abbrev pub region_rows : List Row → List Row
 region_rows rows = part rows 1 (header_word rows 1)
 
+-- the rows of the ties
 abbrev pub tie_rows : List Row → List Row
 tie_rows rows = part rows (ties_at rows) (header_word rows 2)
 
+-- the rows of the portal's entries
 abbrev pub portal_rows : List Row → List Row
 portal_rows rows = part rows (portal_at rows) (header_word rows 3)
 
+-- the rows of the staging area's entries
 abbrev pub staging_rows : List Row → List Row
 staging_rows rows = part rows (staging_at rows) (header_word rows 4)
 
@@ -106,9 +112,11 @@ pub record ArePrepared (rows : List Row) : Type 0 where
 
 -- ---- writing
 
+-- the row of a region and its unit
 abbrev pub region_row : Span → ℕ → Row
 region_row region unit = record { words = region.first ∷ region.len ∷ unit ∷ 0 ∷ 0 ∷ 0 ∷ 0 ∷ 0 ∷ 0 ∷ 0 ∷ [] }
 
+-- the row of a tie
 abbrev pub tie_row : Tie → Row
 tie_row tie = record { words = tie.region ∷ tie.offset ∷ tie.other ∷ tie.other_offset ∷ 0 ∷ 0 ∷ 0 ∷ 0 ∷ 0 ∷ 0 ∷ [] }
 
@@ -118,6 +126,7 @@ kind_of (InRegion region offset) = region + 2
 kind_of (InStaging offset) = 1
 kind_of (Fixed value) = 0
 
+-- the value that stands for a word
 abbrev pub value_of : Word → ℕ
 value_of (InRegion region offset) = offset
 value_of (InStaging offset) = offset
@@ -129,12 +138,14 @@ IsNumbered (InRegion region offset) = region + 2 < 2 ^ 64
 IsNumbered (InStaging offset) = ⊤
 IsNumbered (Fixed value) = ⊤
 
+-- the regions of all words of an entry can be said by a kind
 pub record AreNumbered (e : Entry) : Type 0 where
   pub completion : IsNumbered e.completion
   pub first : IsNumbered e.first
   pub second : IsNumbered e.second
   pub own : IsNumbered e.own
 
+-- the row of an entry
 abbrev pub entry_row : Entry → Row
 entry_row e =
     record {
@@ -143,6 +154,7 @@ entry_row e =
           ∷ kind_of e.second ∷ value_of e.second ∷ kind_of e.own ∷ value_of e.own ∷ [];
     }
 
+-- the first row
 abbrev pub header_row : Template → Row
 header_row t =
     record {

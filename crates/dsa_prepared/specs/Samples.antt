@@ -15,6 +15,7 @@ sample_regions =
     ∷ record { base = 0x8000; len = 64; new_base = 0x7000 }
     ∷ []
 
+-- pieces of at most 4,096 bytes, and batches of at most 16
 abbrev pub sample_settings : Limits
 sample_settings = limits 16 4096 100 (SamePrice 100) 10 0x10000000
 
@@ -22,6 +23,7 @@ sample_settings = limits 16 4096 100 (SamePrice 100) 10 0x10000000
 abbrev pub sample_staging : ℕ
 sample_staging = 0x20000000
 
+-- a move of 4,100 bytes, which has two pieces
 abbrev pub sample_list : List Fields
 sample_list = sample 0x0c 0x8000 4100 (Move 0x1000 0x4000) ∷ []
 

@@ -31,6 +31,7 @@ IsWithin rs (InRegion region offset) = (region < length rs) × (offset < (region
 IsWithin rs (InStaging offset) = offset < 2 ^ 23
 IsWithin rs (Fixed value) = ⊤
 
+-- the offsets of all words of an entry are within their bounds
 pub record AreWithin (rs : List Span) (e : Entry) : Type 0 where
   pub completion : IsWithin rs e.completion
   pub first : IsWithin rs e.first
@@ -48,6 +49,7 @@ pub record IsTieWithin (rs : List Span) (tie : Tie) : Type 0 where
 abbrev pub IsUnit : ℕ → Type 0
 IsUnit unit = (unit ≡ 1) ⊎ (unit ≡ 8) ⊎ (unit ≡ 32)
 
+-- each of these is a unit
 abbrev pub AreUnits : List ℕ → Type 0
 AreUnits units = (i : ℕ) → i < length units → IsUnit (slice_index units i)
 

@@ -59,10 +59,12 @@ group_entries rs total place group fs =
 abbrev pub group_staged : List Span → Place → Group → List Fields → List Entry
 group_staged rs place group fs = if is_batch group then fenced_entries rs group (drop place.start fs) else []
 
+-- the entries of the portal, group by group
 abbrev pub portal_entries : List Span → Plan → List Fields → List Entry
 portal_entries rs plan fs =
     gathered (λ number. group_entries rs (batched_count plan) (place_of plan number) (slice_index_or plan number []) fs) (length plan)
 
+-- the entries of the staging area, group by group
 abbrev pub staging_entries : List Span → Plan → List Fields → List Entry
 staging_entries rs plan fs = gathered (λ number. group_staged rs (place_of plan number) (slice_index_or plan number []) fs) (length plan)
 
@@ -85,10 +87,12 @@ op_asked rs units (Dualcast src dst dst2) = units
 abbrev pub asked : List Span → List ℕ → Fields → List ℕ
 asked rs units f = op_asked rs (raised units (place_in rs f.record_at).0 32) f.op
 
+-- the units after these operations, from given ones
 abbrev pub units_from : List Span → List ℕ → List Fields → List ℕ
 units_from rs units [] = units
 units_from rs units (f ∷ fs) = units_from rs (asked rs units f) fs
 
+-- the units that operations ask for, from 1 for each region
 abbrev pub units_of : List Span → List Fields → List ℕ
 units_of rs fs = units_from rs (replicate (length rs) 1) fs
 
@@ -108,6 +112,7 @@ op_ties rs (Dualcast src dst dst2) =
     }
     ∷ []
 
+-- the ties of all operations
 abbrev pub ties_of : List Span → List Fields → List Tie
 ties_of rs fs = flat_map (λ f. op_ties rs f.op) fs
 
@@ -122,5 +127,6 @@ template_of rs operations plan pieces =
 abbrev pub filled_portal : Template → List ℕ → ℕ → List ℕ
 filled_portal t bases staging = filled bases staging t.portal
 
+-- the bytes of the staging area, with zero records of the batches
 abbrev pub filled_staging : Template → List ℕ → ℕ → List ℕ
 filled_staging t bases staging = filled bases staging t.staging ++ replicate (32 * t.batches) 0

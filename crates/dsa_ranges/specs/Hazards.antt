@@ -9,6 +9,7 @@ use Rattle.dsa_ranges.specs.declared.hazards.HazardKind.TheVariants.{ReadAfterWr
 abbrev pub AreApartFrom : Span → List Span → Type 0
 AreApartFrom s ts = (a : ℕ) → InSpan s a → InSome ts a → ⊥
 
+-- no address lies in one of each of two lists of spans
 abbrev pub AreApart : List Span → List Span → Type 0
 AreApart ss ts = (a : ℕ) → InSome ss a → InSome ts a → ⊥
 

@@ -12,12 +12,14 @@ legal_number (GroupSize group) = 41
 legal_number (FirstFence group) = 42
 legal_number (Unfenced first second) = 43
 
+-- its name
 abbrev pub legal_name : LegalFault → List ℕ
 legal_name Count = codes "Count"
 legal_name (GroupSize group) = codes "GroupSize"
 legal_name (FirstFence group) = codes "FirstFence"
 legal_name (Unfenced first second) = codes "Unfenced"
 
+-- the group or the two pieces at fault, if it names any
 abbrev pub legal_indices : LegalFault → Indices
 legal_indices Count = Empty
 legal_indices (GroupSize group) = One group

@@ -2,7 +2,7 @@
 use Rattle.std.specs.Prelude.{ℕ, ◌≡◌, ◌+◌, ◌-◌, ◌<◌, ◌≤◌, true, false, length, slice_get, Some}
 use Rattle.dsa_settings.specs.Plan.{Tariff, Group, Plan, group_cost, plan_cost, piece_count, start_of}
 
--- in a group that begins with piece `start`, piece k is fenced
+-- in a group that begins with piece `start`, piece k is fenced (specification 341204, fence)
 abbrev pub IsFenced : ℕ → Group → ℕ → Type 0
 IsFenced start group k = (start ≤ k) × (slice_get group (k - start) ≡ Some true)
 

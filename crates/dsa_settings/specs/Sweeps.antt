@@ -17,6 +17,7 @@ access span owner written = record { span = span; owner = owner; written = writt
 abbrev pub first_of : Access → ℕ
 first_of a = a.span.first
 
+-- the end of its addresses
 abbrev pub access_end : Access → ℕ
 access_end a = a.span.first + a.span.len
 

@@ -26,6 +26,7 @@ split_number (RowMeetsData index) = 34
 split_number (RowWrap index) = 35
 split_number Memory = 73
 
+-- its name
 abbrev pub split_name : SplitFault → List ℕ
 split_name (DeltaTooLong index) = codes "DeltaTooLong"
 split_name (ExpectedSplit index) = codes "ExpectedSplit"
@@ -35,6 +36,7 @@ split_name (RowMeetsData index) = codes "RowMeetsData"
 split_name (RowWrap index) = codes "RowWrap"
 split_name Memory = codes "Memory"
 
+-- the operation or the piece at fault, if it names one
 abbrev pub split_indices : SplitFault → Indices
 split_indices (DeltaTooLong index) = One index
 split_indices (ExpectedSplit index) = One index

@@ -14,6 +14,7 @@ track_number (Held slot) = 123
 track_number (Wrap span) = 124
 track_number (OtherOwner piece) = 125
 
+-- its name
 abbrev pub track_name : TrackFault → List ℕ
 track_name NoSlot = codes "NoSlot"
 track_name (TooManySpans count) = codes "TooManySpans"
@@ -22,6 +23,7 @@ track_name (Held slot) = codes "Held"
 track_name (Wrap span) = codes "Wrap"
 track_name (OtherOwner piece) = codes "OtherOwner"
 
+-- the number that it names, if it names one
 abbrev pub track_indices : TrackFault → Indices
 track_indices NoSlot = Empty
 track_indices (TooManySpans count) = One count

@@ -19,5 +19,6 @@ Shows e P = (o : Outstanding) × (shown e ≡ Some o) × P o
 abbrev pub HasRoom : ℕ → Entry → Type 0
 HasRoom room e = (room ≤ vec_capacity e.reads) × (room ≤ vec_capacity e.writes)
 
+-- each entry has this room
 abbrev pub AllHaveRoom : ℕ → List Entry → Type 0
 AllHaveRoom room entries = (k : ℕ) (e : Entry) → slice_get entries k ≡ Some e → HasRoom room e

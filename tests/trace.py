@@ -282,12 +282,31 @@ def waits():
     for held in (5, 100) if is_watched else ():
         end = traced("--audit", "--watch", held, "--", client("ordered"), "sleep", env=known)
         told(f"a sleep is no wait, held for {held} ms", end, 1, "missing wait")
+    audited_runs(known)
     told("nothing submitted", traced("--audit", "--", "/bin/true", env=known), 0, "nothing was submitted")
     told("an audit that fails", traced("--audit", "--", client("ordered"), "waited", env={"DSA_TEXT": "/bin/false"}), 1)
     told("no such program", traced("--audit", "--", "/bin/true", env={"DSA_TEXT": "/nowhere"}), 125,
          "DSA_TEXT names /nowhere")
     told("--audit without dsa_text", traced("--audit", "--", "/bin/true", env={"PATH": "/nowhere"}), 125,
          "needs the program dsa_text")
+
+
+def audited_runs(known):
+    """Of several runs each is audited: here the program lacks a wait in the second of three, and ends well in all."""
+    for lacking, how, status, words in (
+            (2, [], 1, ["the audits of 1 of 3 runs find errors; to repeat seed 2:", "dsa_trace --seed 2 --audit -- sh",
+                        "submission 1: error: missing wait"]),
+            (9, [], 0, ["the audits of 3 runs find no errors; the last:"]),
+            (2, ["--out", f"{WORK}/audited"], 1, ["find errors"])):
+        program = f"[ $DSA_TRACE_SEED = {lacking} ] && exec {client('ordered')} blind; exec {client('ordered')} waited"
+        end = traced("--audit", "--seeds", 3, *how, "--", "sh", "-c", program, env=known)
+        told(f"audits of three runs, of which {lacking} lacks a wait", end, status, "3 runs, all with status 0", *words)
+        expect(end.stdout.count("missing wait") == status, f"of three runs is said {end.stdout}")
+    end = traced("--audit", "--seeds", 60, "--", client("ordered"), "wait", env=known)
+    told("runs up to the first that fails", end, 1, "runs find errors; that of seed", "missing wait")
+    expect(end.stderr.count("dsa_trace --seed") == 1, f"it is said twice how to repeat a run: {end.stderr}")
+    end = traced("--audit", "--seeds", 3, "--", client("ordered"), "waited", env={"DSA_TEXT": "/bin/false"})
+    told("audits of several runs that fail", end, 1, "3 of 3")
 
 
 def audited():

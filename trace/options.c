@@ -12,7 +12,7 @@ static const char help[] =
     "Usage: dsa_trace [OPTIONS] [--] PROGRAM [ARGUMENTS]\n"
     "\n"
     "Options:\n"
-    "      --audit          at the end, what the recording lacks: fences and waits; status 1 if some are missing\n"
+    "      --audit          at the end, what the recordings lack: fences and waits; status 1 if any run lacks some\n"
     "      --out <DIR>      keep the recordings, those of each run in DIR/seed-N\n"
     "      --seed <N>       the order that this number draws [default: 1]\n"
     "      --seeds <N>      run the program N times, each with the next seed, up to the first that fails\n"

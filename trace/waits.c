@@ -31,7 +31,7 @@ struct flying {
 struct recorded {
     const char *records, *base;
     unsigned part;
-    FILE *entries;
+    FILE *entries, *report;
     struct flying *flying;
     size_t count, room;
     long found;
@@ -149,16 +149,16 @@ static void name_of(char to[64], uint64_t number, int member)
         snprintf(to, 64, "member %d of submission %" PRIu64, member, number);
 }
 
-static void show(const struct flying *f, const struct range *later, const struct flying *o, const struct range *earlier)
+static void show(FILE *report, const struct flying *f, const struct range *later, const struct flying *o, const struct range *earlier)
 {
     char name[64], other[64];
     const char *kind = !later->writes ? "read after write" : earlier->writes ? "write after write" : "write after read";
     name_of(name, f->number, later->member);
     name_of(other, o->number, earlier->member);
-    printf("%s: error: missing wait, %s: %s what %s, in flight, %s, at %#" PRIx64 "%s\n", name, kind,
-           later->writes ? "writes" : "reads", other, earlier->writes ? "writes" : "reads",
-           later->low > earlier->low ? later->low : earlier->low,
-           later->is_record || earlier->is_record ? ", in a completion record" : "");
+    fprintf(report, "%s: error: missing wait, %s: %s what %s, in flight, %s, at %#" PRIx64 "%s\n", name, kind,
+            later->writes ? "writes" : "reads", other, earlier->writes ? "writes" : "reads",
+            later->low > earlier->low ? later->low : earlier->low,
+            later->is_record || earlier->is_record ? ", in a completion record" : "");
 }
 
 static int by_low(const void *one, const void *other)
@@ -185,7 +185,7 @@ static void compare(struct recorded *r, const struct flying *f, uint64_t longest
             if (later->high <= earlier->low || !(later->writes || earlier->writes))
                 continue;
             if (r->found++ < MOST_SHOWN)
-                show(f, later, o, earlier);
+                show(r->report, f, later, o, earlier);
             return;
         }
     }
@@ -283,9 +283,9 @@ static bool event(struct recorded *r, const char *line)
 }
 
 /// How many submissions conflict with one in flight; -1, after a sentence, if the recording can't be read.
-long waits_missing(const char *records, const char *base)
+long waits_missing(const char *records, const char *base, FILE *report)
 {
-    struct recorded r = {.records = records, .base = base};
+    struct recorded r = {.records = records, .base = base, .report = report};
     char path[PATH_MAX], name[NAME_MAX + 32], line[256];
     snprintf(name, sizeof name, "%s.events", base);
     FILE *events = fopen(joined(path, records, name), "r");
@@ -297,7 +297,7 @@ long waits_missing(const char *records, const char *base)
         r.found = -1;
     }
     if (r.found > MOST_SHOWN)
-        printf("and %ld more missing waits\n", r.found - MOST_SHOWN);
+        fprintf(report, "and %ld more missing waits\n", r.found - MOST_SHOWN);
     while (r.count)
         land(&r, r.count - 1);
     free(r.flying);

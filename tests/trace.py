@@ -178,7 +178,8 @@ REFUSED = {
               "too many members: status 0x14,"],
     "record": ["no multiple of 32", "the next: status 0x1,", "moved 0, record 0"],
     "refused": ["reserved flag: status 0x11,", "invalid flags 0x40\n", "check result of a move: status 0x11,",
-                "operation 0xa: status 0x10,", "no bytes: status 0x13,", "reserved byte: status 0x12,",
+                "interrupt: status 0x19,", "operation 0xa: status 0x10,", "no bytes: status 0x13,",
+                "reserved byte: status 0x12,",
                 "reserved bits: status 0x12,", "dualcast bits: status 0x17,", "dualcast overlap: status 0x16,",
                 "delta of 12 bytes: status 0x13,", "delta record of 11 bytes: status 0x15,"],
 }

@@ -17,7 +17,7 @@ typedef struct dsa_hw_desc descriptor;
 /* Bytes from `low` to below `high`; of a member, or -1 of the descriptor itself. */
 struct range { uint64_t low, high; int member; bool writes, is_record; };
 
-/* `tells`: its end is told by a record or an interrupt, or else by a drain alone. Of a member `epoch` has the first
+/* `tells`: its end is told by a record, or else by a drain alone. Of a member `epoch` has the first
  * member of its epoch, or -1 if its end is not told; `unknown` counts members of which the program does not know. */
 struct flying {
     uint64_t number;
@@ -205,11 +205,11 @@ static bool seek(struct recorded *r, unsigned part, unsigned long entry)
     return r->entries && fseek(r->entries, (long)entry * ENTRY, SEEK_SET) == 0;
 }
 
-/// Whether the end of a descriptor is told: by a record, or by an interrupt.
+/// Whether the end of a descriptor is told by a record. No interrupt comes.
 static bool tells(const descriptor *d)
 {
     const unsigned asks = IDXD_OP_FLAG_CRAV | IDXD_OP_FLAG_RCR;
-    return (d->flags & asks) == asks || d->flags & IDXD_OP_FLAG_RCI;
+    return (d->flags & asks) == asks;
 }
 
 /// The descriptor of a submission and its members.

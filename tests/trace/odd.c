@@ -70,6 +70,9 @@ static void refused(void)
     d.flags |= IDXD_OP_FLAG_CR;
     done(d, "check result of a move");
     d = move(memory, memory + PAGE, 64, r);
+    d.flags |= IDXD_OP_FLAG_RCI;
+    done(d, "interrupt");
+    d = move(memory, memory + PAGE, 64, r);
     d.opcode = 0x0a;
     done(d, "operation 0xa");
     d = move(memory, memory + PAGE, 0, r);

@@ -204,6 +204,28 @@ def died():
     told("a program that is killed", traced("--", client("odd"), "killed", 3), 128 + signal.SIGKILL)
 
 
+def other_cpus():
+    """The same on a CPU that has the instructions: they raise a page fault at the portal, or a general protection fault.
+    Another program turns the signals of this CPU into those (tests/trace/faults.c)."""
+    sources = ["-I", "trace", "tests/trace/faults.c", "trace/decode.c"]
+    told("the build of faults", ran("gcc", *STRICT, "-O1", "-o", client("faults"), *sources), 0)
+    if ran(client("faults"), "/bin/true").returncode:
+        skip("signals as other CPUs raise them: the system permits no ptrace")
+        return
+    is_turned = "movdir64b" not in Path("/proc/cpuinfo").read_text()
+    clients = [(["operations"], 0, 39, []), (["threads"], 0, 560, []), (["ordered", "fenced"], 0, 1, []),
+               (["ordered", "waited"], 0, 2, []), (["odd", "handler"], 0, 1, ["in a handler: status 0x1,"]),
+               (["odd", "pages"], 0, 3, REFUSED["pages"]), (["odd", "record"], 0, 2, REFUSED["record"]),
+               (["odd", "unreadable"], 42, 1, ["signal 11 at 0x2000"]),
+               (["odd", "child"], 0, 2, ["ends by signal 11", "in the parent: status 0x1"])]
+    for (words, status, count, lines), order in itertools.product(clients, ("fifo", "data")):
+        end = traced("--order", order, "--", client("faults"), client(words[0]), *words[1:])
+        told(f"{words} by SIGSEGV in the order {order}", end, status, *lines, *[f"{count} signals turned"][:is_turned])
+    words = [client("faults"), client("ordered"), "fence"]
+    statuses = {traced("--seed", seed, "--", *words).returncode for seed in range(1, 31)}
+    expect(statuses == {0, 3}, f"a missing fence by SIGSEGV ends with {statuses}")
+
+
 # ---- recordings
 
 
@@ -681,8 +703,8 @@ def large():
     told("dmadev_autotest", traced("--", *words), 0, "Test OK")
 
 
-PARTS = [built, decoder, ordered, orders, repeated, seeds, operations, queues, refused, died, recordings, full_disk,
-         waits, audited, statuses]
+PARTS = [built, decoder, ordered, orders, repeated, seeds, operations, queues, refused, died, other_cpus, recordings,
+         full_disk, waits, audited, statuses]
 PARTS += [options, files, killed, prices, submit, sanitized, undefined, cost, large]
 
 

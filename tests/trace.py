@@ -20,7 +20,7 @@ from common import ROOT, expect, named, run_test, side_by_side, skip
 
 SEEDS = int(os.environ.get("SEEDS", "100"))
 STRICT = ["-std=c11", "-D_GNU_SOURCE", "-Wall", "-Wextra", "-Werror"]
-CLIENTS = ("ordered", "threads", "odd", "operations")
+CLIENTS = ("ordered", "threads", "odd", "operations", "ends")
 
 
 def ran(*command, **how):
@@ -174,6 +174,9 @@ def queues():
 REFUSED = {
     "pages": ["write, blocking: status 0x84, 0 bytes, at 0x2000", "write: status 0x83, 0 bytes, at 0x2000",
               "read: status 0x3, 0 bytes, at 0x2000"],
+    "gone": ["to an unmapped page: status 0x84, 0 bytes", "from an unmapped page: status 0x4, 0 bytes",
+             "beyond the end of a file: status 0x84, 0 bytes", "to a page that is read alone: status 0x84, 0 bytes",
+             "can't be written, so the completion is lost", "the next: status 0x1,"],
     "lists": ["missing list: status 0x6, 0 bytes, at 0x2000", "odd list: status 0x18,", "one member: status 0x14,",
               "too many members: status 0x14,"],
     "record": ["no multiple of 32", "the next: status 0x1,", "moved 0, record 0"],
@@ -195,12 +198,17 @@ def died():
     """Programs that fault at the instruction, have children, are replaced, or are killed."""
     told("a descriptor that can't be read", traced("--", client("odd"), "unreadable"), 42, "can't be read",
          "signal 11 at 0x2000")
+    told("the same without a handler", traced("--", client("ends"), "unread"), 128 + signal.SIGSEGV, "can't be read")
+    for how in ([], ["--order", "fifo"], ["--no-namespace"]):
+        for case in ("forks", "spawned"):
+            told(f"{case} {how}", traced(*how, "--", client("ends"), case), 0, "30 of 30 children end well",
+                 "a move afterwards: 1")
     told("a child of fork", traced("--", client("odd"), "child"), 0, "ends by signal 11", "in the parent: status 0x1")
     with tempfile.TemporaryDirectory(dir=WORK) as folder:
         told("a program that is replaced", traced("--out", folder, "--", client("odd"), "replaced"), 0,
              "before: status 0x1")
         sizes = sorted(path.stat().st_size // 64 for path in Path(folder, "seed-1").glob("*.dsa"))
-        expect(sizes == [1, 10], f"the two programs of a process are recorded with {sizes} entries")
+        expect(sizes == [1, 11], f"the two programs of a process are recorded with {sizes} entries")
     told("a program that is killed", traced("--", client("odd"), "killed", 3), 128 + signal.SIGKILL)
 
 
@@ -271,6 +279,27 @@ def recordings():
     _, _, index = recorded(client("threads"))
     expect(len(index) == 2 and index[0].split("\t")[1] == index[1].split("\t")[2],
            f"the index of a parent and a child: {index}")
+
+
+def killed_at_any_time():
+    """The recording of a program that is killed while its threads submit has whole submissions, each with its event."""
+    for wait in (0.2, 0.25, 0.3, 0.35):
+        with tempfile.TemporaryDirectory(dir=WORK) as folder:
+            quiet = dict.fromkeys(("stdin", "stdout", "stderr"), subprocess.DEVNULL)
+            child = subprocess.Popen([f"{WORK}/gcc/dsa_trace", "--out", folder, "--", client("ends"), "endless"], **quiet)
+            run = Path(folder, "seed-1")
+            for _ in range(500):
+                if list(run.glob("*.events")):
+                    break
+                time.sleep(0.01)
+            time.sleep(wait)
+            os.kill(int(Path(f"/proc/{child.pid}/task/{child.pid}/children").read_text()), signal.SIGKILL)
+            expect(child.wait(30) == 128 + signal.SIGKILL, f"a program that is killed ends with {child.returncode}")
+            [recording], [lines] = run.glob("*.dsa"), run.glob("*.events")
+            entries = recording.stat().st_size // 64
+            starts = [line.split() for line in lines.read_text().splitlines() if line[0] == "S"]
+            expect(len(starts) == entries > 0, f"{entries} entries have {len(starts)} events")
+            expect([int(words[1]) for words in starts] == list(range(entries)), "the events have other numbers")
 
 
 def full_disk():
@@ -704,7 +733,7 @@ def large():
 
 
 PARTS = [built, decoder, ordered, orders, repeated, seeds, operations, queues, refused, died, other_cpus, recordings,
-         full_disk, waits, audited, statuses]
+         killed_at_any_time, full_disk, waits, audited, statuses]
 PARTS += [options, files, killed, prices, submit, sanitized, undefined, cost, large]
 
 

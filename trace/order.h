@@ -1,6 +1,9 @@
-/* What order.c keeps of a submission, when it may go on (pace.c), and its random numbers (random.c). */
+/* What is kept of submissions in flight: taken in (intake.c), drawn (order.c, random.c) when the program has had its time
+ * (pace.c), and done (execute.c). */
 #ifndef DSA_TRACE_ORDER_H
 #define DSA_TRACE_ORDER_H
+
+#include <pthread.h>
 
 #include "trace.h"
 
@@ -41,5 +44,27 @@ int64_t pace_since(const struct pace *p);
 /* Whether the program has run for the delay since then, or waits; else *wait has the nanoseconds after which to ask
  * again. */
 bool pace_is_quiet(const struct pace *p, int64_t *wait);
+
+/* ---- order.c ---- */
+struct order_state {
+    pthread_mutex_t lock;
+    pthread_cond_t work, idle;
+    pid_t pid;                /* the process whose state this is */
+    _Atomic bool has_worker;
+    bool sleeps;              /* the worker waits for a signal on `work` */
+    _Atomic pid_t worker;
+    _Atomic int arriving;     /* threads that are about to submit */
+    struct submission *head, **tail, *unused;
+    struct random choices, retries;
+    struct pace pace;
+    uint64_t submitted, batches, members, retried, dropped, records;
+};
+extern struct order_state order;
+/* Whether a thread of ours does the work. */
+bool order_is_async(void);
+/* The following are called with the lock. */
+void order_give_back(struct submission *s); /* its memory, for a later one */
+void order_find_epoch(struct submission *s);
+void order_step(struct submission *s);
 
 #endif

@@ -127,6 +127,10 @@ def seeds():
     expect(end.stderr.count("the same again") == 1, f"after a run that fails there are others: {end.stderr}")
     again = re.search(r"^dsa_trace (--seed \d+) -- (.*)$", end.stderr, re.M)
     told("the seed that is named", traced(*again[0].split()[1:]) if again else end, 3)
+    shell = f"{client('ordered')} fence; s=$?; : 'it'; exit $s"
+    end = traced("--seeds", 60, "--", "sh", "-c", shell)
+    again = end.stderr.strip().splitlines()[-1].replace("dsa_trace", f"{WORK}/gcc/dsa_trace", 1)
+    told("words with blanks and quotes", ran("sh", "-c", again), 3)
     words = ["-O2", "-mmovdir64b", "-o", client("copy_twice"), "examples/trace/copy_twice.c"]
     told("the example", ran("gcc", *STRICT, *words), 0)
     told("many seeds of the example", traced("--seeds", 40, "--", client("copy_twice")), 1, 'c is ""', "the same again")

@@ -142,6 +142,20 @@ void options_read(char **words, struct options *o)
         refuse("at least one run is needed", "--seeds");
 }
 
+/// A word as a shell reads it.
+static void print_word(const char *word)
+{
+    static const char plain[] = "abcdefghijklmnopqrstuvwxyzABCDEFGHIJKLMNOPQRSTUVWXYZ0123456789_-+=./,:@%^";
+    if (*word && word[strspn(word, plain)] == 0) {
+        fprintf(stderr, " %s", word);
+        return;
+    }
+    fputs(" '", stderr);
+    for (; *word; word++)
+        fputs(*word == '\'' ? "'\\''" : (char[]){*word, 0}, stderr);
+    fputc('\'', stderr);
+}
+
 /// The command line that runs the program once more with one seed.
 void options_repeat(const struct options *o, uint64_t seed)
 {
@@ -150,10 +164,10 @@ void options_repeat(const struct options *o, uint64_t seed)
         if (strcmp(*word, "--seed") == 0 || strcmp(*word, "--seeds") == 0)
             word++;
         else if (strncmp(*word, "--seed", 6) && strcmp(*word, "--"))
-            fprintf(stderr, " %s", *word);
+            print_word(*word);
     }
     fputs(" --", stderr);
     for (char **word = o->program; *word; word++)
-        fprintf(stderr, " %s", *word);
+        print_word(*word);
     fputs("\n", stderr);
 }

@@ -1,5 +1,5 @@
-/* --audit: the program dsa_text on each recording for missing fences, and waits.c for missing waits. Each run is audited,
- * and the report of one of them is printed at the end. */
+/* --audit: the program dsa_text on each recording for missing fences, and waits.c for missing waits. Each run is
+ * audited, and the report of one of them is printed at the end. */
 #include <dirent.h>
 #include <errno.h>
 #include <stdio.h>

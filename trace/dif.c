@@ -19,7 +19,7 @@ enum {
     NO_REFERENCE = 0x40,
     REFERENCE_IS_FIXED = 0x80
 };
-/* of the destination of an update: which parts of the field are those of the source; the other flags as of the source */
+/* of the destination of an update: which parts of the field are those of the source; others as of the source */
 enum { APP_PASSES = 8, GUARD_PASSES = 0x20, REFERENCE_PASSES = 0x40 };
 /* what a check found */
 enum { WRONG_GUARD = 1, WRONG_APP = 2, WRONG_REFERENCE = 4 };

@@ -25,9 +25,9 @@ static void make_own_folder(void)
     snprintf(own.folder, sizeof own.folder, "%s/dsa_trace.XXXXXX", where && *where == '/' ? where : "/tmp");
     if (!mkdtemp(own.folder))
         fail(own.folder);
-    chmod(own.folder, 0755);
     own.process = getpid();
-    atexit(remove_own_folder);
+    if (atexit(remove_own_folder) || chmod(own.folder, 0755))
+        fail(own.folder);
 }
 
 /// Removes what an earlier run has recorded in this folder.
@@ -35,14 +35,15 @@ static void empty(const char *records)
 {
     DIR *list = opendir(records);
     char path[PATH_MAX];
-    for (struct dirent *e; list && (e = readdir(list));) {
+    if (!list)
+        fail(records);
+    for (struct dirent *e; (e = readdir(list));) {
         const char *end = strrchr(e->d_name, '.');
         const bool is_ours = end && (!strcmp(end, ".dsa") || !strcmp(end, ".events"));
-        if (is_ours || strcmp(e->d_name, "processes.txt") == 0)
-            unlink(joined(path, records, e->d_name));
+        if ((is_ours || strcmp(e->d_name, "processes.txt") == 0) && unlink(joined(path, records, e->d_name)))
+            fail(path);
     }
-    if (list)
-        closedir(list);
+    closedir(list);
 }
 
 /// Where one run records: in its own folder of --out, or in a temporary one for an audit; false if it records nothing.

@@ -149,7 +149,8 @@ static void name_of(char to[64], uint64_t number, int member)
         snprintf(to, 64, "member %d of submission %" PRIu64, member, number);
 }
 
-static void show(FILE *report, const struct flying *f, const struct range *later, const struct flying *o, const struct range *earlier)
+static void show(FILE *report, const struct flying *f, const struct range *later, const struct flying *o,
+                 const struct range *earlier)
 {
     char name[64], other[64];
     const char *kind = !later->writes ? "read after write" : earlier->writes ? "write after write" : "write after read";

@@ -9,6 +9,7 @@ import os
 import re
 import shutil
 import signal
+import struct
 import subprocess
 import sys
 import tempfile
@@ -17,6 +18,7 @@ from pathlib import Path
 
 import common
 from common import ROOT, expect, named, run_test, side_by_side, skip
+from trace_model import MOVE, Recorded
 
 SEEDS = int(os.environ.get("SEEDS", "100"))
 STRICT = ["-std=c11", "-D_GNU_SOURCE", "-Wall", "-Wextra", "-Werror"]
@@ -345,6 +347,38 @@ def waits():
          "DSA_TEXT names /nowhere")
     told("--audit without dsa_text", traced("--audit", "--", "/bin/true", env={"PATH": "/nowhere"}), 125,
          "needs the program dsa_text")
+
+
+def named_waits(name, entries, events):
+    """The submissions that the audit of waits names of a recording, and how many it counts."""
+    Path(WORK, f"{name}.dsa").write_bytes(entries)
+    Path(WORK, f"{name}.events").write_text("".join(line + "\n" for line in events))
+    end = ran(client("waits"), WORK, name)
+    expect(end.returncode == 0, f"the waits of {name} end with status {end.returncode}: {end.stderr}")
+    named = [int(it) for it in re.findall(r"^(?:member \d+ of )?submission (\d+): error", end.stdout, re.M)]
+    more = re.search(r"^and (\d+) more missing waits$", end.stdout, re.M)
+    return named, len(named) + (int(more[1]) if more else 0)
+
+
+def waits_of_any():
+    """Missing waits of random recordings beside brute force; and of many submissions whose end is never told, in time."""
+    sources = [f"trace/{name}.c" for name in ("waits", "spans", "random", "fail")]
+    words = ["-O2", "-I", "trace", "-o", client("waits"), "tests/trace/waits.c"]
+    told("the build of waits", ran("gcc", *STRICT, *words, *sources), 0)
+    lacking = 0
+    for seed in range(300):
+        it = Recorded(seed, 12)
+        named, count = named_waits("random", it.entries, it.events)
+        lacking += len(it.lacking)
+        expect(named == it.lacking[:20] and count == len(it.lacking), f"seed {seed}: {named} of {count}, not {it.lacking}")
+    expect(lacking > 300, f"only {lacking} waits are missing in random recordings")
+    many = range(200000)
+    entries = b"".join(struct.pack("<IIQQQI28x", 0, MOVE << 24, 0, 128 * k, 128 * k + 64, 64) for k in many)
+    events = [line for k in many for line in (f"S {k} wq0.0 op 3 members 0 tid 1 part 1 entry {k}", f"C {k} 1")]
+    start = time.monotonic()
+    expect(named_waits("many", entries, events) == ([], 0), "apart moves lack waits")
+    took = time.monotonic() - start
+    expect(took < 20, f"the waits of 200,000 submissions take {took:.0f} s")
 
 
 def audited_runs(known):
@@ -737,7 +771,7 @@ def large():
 
 
 PARTS = [built, decoder, ordered, orders, repeated, seeds, operations, queues, refused, died, other_cpus, recordings,
-         killed_at_any_time, full_disk, waits, audited, statuses]
+         killed_at_any_time, full_disk, waits, waits_of_any, audited, statuses]
 PARTS += [options, files, killed, prices, submit, sanitized, undefined, cost, large]
 
 

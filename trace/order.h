@@ -5,6 +5,7 @@
 
 #include <pthread.h>
 
+#include "random.h"
 #include "trace.h"
 
 /* `turn` has the members by number: those before `begun` are done, those before `end` may be done now. */
@@ -25,11 +26,6 @@ struct submission {
 uint8_t execute_take(struct submission *s, completion *r);
 void execute(const struct submission *s, unsigned index, completion *r);
 bool execute_record(const descriptor *d, const completion *r);
-
-/* ---- random.c: numbers that depend on the seed and on how many were drawn before ---- */
-struct random { uint64_t seed, drawn; };
-uint64_t random_at(uint64_t seed, uint64_t place);
-uint64_t random_next(struct random *r);
 
 /* ---- pace.c: when the program has had its time ---- */
 struct pace {

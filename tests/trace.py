@@ -127,12 +127,11 @@ def seeds():
     end = traced("--seeds", 60, "--", client("ordered"), "fence")
     told("many seeds of a missing fence", end, 3, "the same again", "dsa_trace --seed ")
     expect(end.stderr.count("the same again") == 1, f"after a run that fails there are others: {end.stderr}")
-    again = re.search(r"^dsa_trace (--seed \d+) -- (.*)$", end.stderr, re.M)
-    told("the seed that is named", traced(*again[0].split()[1:]) if again else end, 3)
+    again = re.search(r"^\S*/dsa_trace --seed \d+ -- .*$", end.stderr, re.M)
+    told("the seed that is named", ran("sh", "-c", again[0]) if again else end, 3)
     shell = f"{client('ordered')} fence; s=$?; : 'it'; exit $s"
     end = traced("--seeds", 60, "--", "sh", "-c", shell)
-    again = end.stderr.strip().splitlines()[-1].replace("dsa_trace", f"{WORK}/gcc/dsa_trace", 1)
-    told("words with blanks and quotes", ran("sh", "-c", again), 3)
+    told("words with blanks and quotes", ran("sh", "-c", end.stderr.splitlines()[-1]), 3)
     words = ["-O2", "-mmovdir64b", "-o", client("copy_twice"), "examples/trace/copy_twice.c"]
     told("the example", ran("gcc", *STRICT, *words), 0)
     told("many seeds of the example", traced("--seeds", 40, "--", client("copy_twice")), 1, 'c is ""', "the same again")
@@ -328,7 +327,10 @@ def waits():
     end = traced("--audit", "--", client("ordered"), "wait", env=known)
     wanted = "submission 1: error: missing wait, read after write: reads what submission 0, in flight, writes, at 0x"
     told("a missing wait", end, 1, wanted)
+    told("which operations", end, 1, "(move on wq0.0 after move on wq0.0)")
     expect(end.stdout.count("error") == 1, f"of one missing wait is said {end.stdout}")
+    end = traced("--audit", "--order", "data", "--", client("ordered"), "early", env=known)
+    told("a program that reads early", end, 3, "the audits find no errors; if the program does not fail with --order fifo")
     for mode in ("fence", "fenced", "waited", "member", "drain", "polled", "after"):
         for order in ("data", "all"):
             end = traced("--audit", "--order", order, "--", client("ordered"), mode, env=known)

@@ -35,7 +35,8 @@ const char *audit_find(void)
         if (access(found, X_OK) == 0)
             return found;
     }
-    fputs("dsa_trace: --audit needs the program dsa_text, beside this one, on the path, or named by DSA_TEXT\n",
+    fputs("dsa_trace: --audit needs the program dsa_text, beside this one, on the path, or named by DSA_TEXT; without "
+          "--audit wrong results show all the same\n",
           stderr);
     return NULL;
 }
@@ -156,6 +157,10 @@ int audit_end(struct audits *a, const struct options *o, bool has_failed)
         fwrite(part, 1, length, stdout);
     if (ferror(a->report) || fflush(stdout))
         fail("the report of the audit");
+    if (has_failed && a->recordings && !a->faulty)
+        fputs("dsa_trace: the audits find no errors; if the program does not fail with --order fifo, it uses memory "
+              "itself before a record says that the operation has ended\n",
+              stderr);
     fclose(a->report);
     return a->status;
 }

@@ -1,5 +1,5 @@
-/* What is submitted: whether the queue takes it, its members as they are now, its recording, and its place among what is
- * in flight. */
+/* What is submitted: whether the queue takes it, its members as they are now, its recording, and its place among what
+ * is in flight. */
 #include "order.h"
 
 #include <sys/mman.h>

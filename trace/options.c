@@ -142,15 +142,15 @@ void options_read(char **words, struct options *o)
         refuse("at least one run is needed", "--seeds");
 }
 
-/// A word as a shell reads it.
-static void print_word(const char *word)
+/// A word as a shell reads it, and what comes before it.
+static void print_word(const char *before, const char *word)
 {
     static const char plain[] = "abcdefghijklmnopqrstuvwxyzABCDEFGHIJKLMNOPQRSTUVWXYZ0123456789_-+=./,:@%^";
     if (*word && word[strspn(word, plain)] == 0) {
-        fprintf(stderr, " %s", word);
+        fprintf(stderr, "%s%s", before, word);
         return;
     }
-    fputs(" '", stderr);
+    fprintf(stderr, "%s'", before);
     for (; *word; word++)
         fputs(*word == '\'' ? "'\\''" : (char[]){*word, 0}, stderr);
     fputc('\'', stderr);
@@ -159,15 +159,16 @@ static void print_word(const char *word)
 /// The command line that runs the program once more with one seed.
 void options_repeat(const struct options *o, uint64_t seed)
 {
-    fprintf(stderr, "dsa_trace --seed %llu", (unsigned long long)seed);
+    print_word("", o->words[0]);
+    fprintf(stderr, " --seed %llu", (unsigned long long)seed);
     for (char **word = o->words + 1; word < o->program; word++) {
         if (strcmp(*word, "--seed") == 0 || strcmp(*word, "--seeds") == 0)
             word++;
         else if (strncmp(*word, "--seed", 6) && strcmp(*word, "--"))
-            print_word(*word);
+            print_word(" ", *word);
     }
     fputs(" --", stderr);
     for (char **word = o->program; *word; word++)
-        print_word(*word);
+        print_word(" ", *word);
     fputs("\n", stderr);
 }

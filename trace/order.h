@@ -1,5 +1,5 @@
-/* What is kept of submissions in flight: taken in (intake.c), drawn (order.c, random.c) when the program has had its time
- * (pace.c), and done (execute.c). */
+/* What is kept of submissions in flight: taken in (intake.c), drawn (order.c, random.c) when the program has had its
+ * time (pace.c), and done (execute.c). */
 #ifndef DSA_TRACE_ORDER_H
 #define DSA_TRACE_ORDER_H
 

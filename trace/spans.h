@@ -6,11 +6,13 @@
 
 #include "random.h"
 
-/* Bytes from `low` to below `high`, read or written. `of` and `member` say whose they are; the rest is for the tree. */
+/* Bytes from `low` to below `high`, read or written. `of`, `member` and `operation` say whose they are; what comes
+ * after `is_record` is for the tree. */
 struct span {
     uint64_t low, high;
     const struct flying *of;
     int member;
+    uint8_t operation;
     bool writes, is_record, is_in;
     uint64_t rank, reach, written;
     struct span *left, *right;

@@ -16,8 +16,8 @@ enum { MOST_SHOWN = 20, ENTRY = sizeof(struct dsa_hw_desc), SEED_IS_READ = 0x100
 typedef struct dsa_hw_desc descriptor;
 
 /* A submission of which the program may not know that it has ended. `tells`: its end is told by a record, or else by a
- * drain alone. Of each member `epoch` has the first member of its epoch, NOT_TOLD, or KNOWN once the program may know of
- * its end; `unknown` counts those that are not known, and all before `ended` are. Spans of member m begin at
+ * drain alone. Of each member `epoch` has the first member of its epoch, NOT_TOLD, or KNOWN once the program may know
+ * of its end; `unknown` counts those that are not known, and all before `ended` are. Spans of member m begin at
  * first[m + 1], those of the descriptor itself at first[0]. The submissions of a queue are a list. */
 enum { NOT_TOLD = -1, KNOWN = INT_MAX };
 struct flying {
@@ -52,7 +52,8 @@ static void *grown(void *at, size_t size)
 static void add(struct flying *f, uint64_t low, uint64_t size, int member, bool writes)
 {
     if (size)
-        f->spans[f->count++] = (struct span){low, low + size, f, member, writes, .is_in = false};
+        f->spans[f->count++] =
+            (struct span){.low = low, .high = low + size, .of = f, .member = member, .writes = writes};
 }
 
 /// The bytes that a data integrity field operation writes.
@@ -68,6 +69,7 @@ static void add_descriptor(struct flying *f, const descriptor *d, int member)
 {
     const uint64_t size = d->xfer_size;
     const unsigned op = d->opcode, asks = IDXD_OP_FLAG_CRAV | IDXD_OP_FLAG_RCR;
+    const unsigned start = f->count;
     const bool is_dif = op >= DSA_OPCODE_DIF_CHECK && op <= DSA_OPCODE_DIF_UPDT;
     const bool reads = op == DSA_OPCODE_MEMMOVE || (op >= DSA_OPCODE_COMPARE && op <= DSA_OPCODE_CR_DELTA) ||
                        op == DSA_OPCODE_DUALCAST || op == DSA_OPCODE_CRCGEN || op == DSA_OPCODE_COPY_CRC || is_dif;
@@ -94,6 +96,8 @@ static void add_descriptor(struct flying *f, const descriptor *d, int member)
         add(f, d->completion_addr, sizeof(struct dsa_completion_record), member, true);
         f->spans[f->count - 1].is_record = true;
     }
+    for (unsigned i = start; i < f->count; i++)
+        f->spans[i].operation = d->opcode;
 }
 
 static struct flying *find(const struct recorded *r, uint64_t number)
@@ -158,16 +162,33 @@ static void name_of(char to[64], uint64_t number, int member)
         snprintf(to, 64, "member %d of submission %" PRIu64, member, number);
 }
 
-static void show(FILE *report, const struct span *later, const struct span *earlier)
+static const char *operation_name(uint8_t operation)
+{
+    static const char *const names[] = {
+        [DSA_OPCODE_NOOP] = "no-op", [DSA_OPCODE_BATCH] = "batch", [DSA_OPCODE_DRAIN] = "drain",
+        [DSA_OPCODE_MEMMOVE] = "move", [DSA_OPCODE_MEMFILL] = "fill", [DSA_OPCODE_COMPARE] = "compare",
+        [DSA_OPCODE_COMPVAL] = "compare with a pattern", [DSA_OPCODE_CR_DELTA] = "create delta",
+        [DSA_OPCODE_AP_DELTA] = "apply delta", [DSA_OPCODE_DUALCAST] = "dualcast", [DSA_OPCODE_CRCGEN] = "CRC",
+        [DSA_OPCODE_COPY_CRC] = "copy with CRC", [DSA_OPCODE_DIF_CHECK] = "DIF check",
+        [DSA_OPCODE_DIF_INS] = "DIF insert", [DSA_OPCODE_DIF_STRP] = "DIF strip", [DSA_OPCODE_DIF_UPDT] = "DIF update",
+    };
+    const char *name = operation < sizeof names / sizeof *names ? names[operation] : NULL;
+    return name ? name : "another operation";
+}
+
+static void show(const struct recorded *r, const struct span *later, const struct span *earlier)
 {
     char name[64], other[64];
     const char *kind = !later->writes ? "read after write" : earlier->writes ? "write after write" : "write after read";
     name_of(name, later->of->number, later->member);
     name_of(other, earlier->of->number, earlier->member);
-    fprintf(report, "%s: error: missing wait, %s: %s what %s, in flight, %s, at %#" PRIx64 "%s\n", name, kind,
+    fprintf(r->report, "%s: error: missing wait, %s: %s what %s, in flight, %s, at %#" PRIx64 "%s", name, kind,
             later->writes ? "writes" : "reads", other, earlier->writes ? "writes" : "reads",
             later->low > earlier->low ? later->low : earlier->low,
             later->is_record || earlier->is_record ? ", in a completion record" : "");
+    fprintf(r->report, " (%s on %s after %s on %s)\n", operation_name(later->operation),
+            r->queues[later->of->queue].name, operation_name(earlier->operation),
+            r->queues[earlier->of->queue].name);
 }
 
 /// The first conflict of a new submission with one in flight.
@@ -177,7 +198,7 @@ static void compare(struct recorded *r, const struct flying *f)
     for (unsigned i = 0; i < f->count && !earlier; i++) {
         earlier = spans_conflict(&r->spans, &f->spans[i]);
         if (earlier && r->found++ < MOST_SHOWN)
-            show(r->report, &f->spans[i], earlier);
+            show(r, &f->spans[i], earlier);
     }
 }
 

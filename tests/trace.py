@@ -349,6 +349,12 @@ def waits():
          "DSA_TEXT names /nowhere")
     told("--audit without dsa_text", traced("--audit", "--", "/bin/true", env={"PATH": "/nowhere"}), 125,
          "needs the program dsa_text")
+    shutil.copytree(f"{WORK}/gcc", f"{WORK}/clone/trace/out")
+    built_text = Path(WORK, "clone/crates/dsa_text/out/dsa_text")
+    built_text.parent.mkdir(parents=True)
+    built_text.symlink_to("/bin/false")
+    words = [f"{WORK}/clone/trace/out/dsa_trace", "--audit", "--", client("ordered"), "waited"]
+    told("--audit in a clone where dsa_text is built", ran(*words, env={"PATH": "/nowhere"}), 1)
 
 
 def named_waits(name, entries, events):

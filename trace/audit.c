@@ -10,11 +10,12 @@
 
 #include "launcher.h"
 
-/// DSA_TEXT names the program; else it is beside this one, or on the path.
+/// DSA_TEXT names the program; else it is beside this one, where a clone builds it, or on the path.
 const char *audit_find(void)
 {
+    static const char *const places[] = {"dsa_text", "../../crates/dsa_text/out/dsa_text"};
     static char found[PATH_MAX];
-    char self[PATH_MAX - 16];
+    char self[PATH_MAX - 64];
     const char *named = getenv("DSA_TEXT"), *folders = getenv("PATH");
     if (named && *named) {
         if (access(named, X_OK) == 0)
@@ -25,9 +26,9 @@ const char *audit_find(void)
     const ssize_t length = readlink("/proc/self/exe", self, sizeof self - 1);
     self[length < 0 ? 0 : length] = 0;
     char *name = strrchr(self, '/');
-    if (name) {
+    for (int i = 0; name && i < 2; i++) {
         *name = 0;
-        if (access(joined(found, self, "dsa_text"), X_OK) == 0)
+        if (access(joined(found, self, places[i]), X_OK) == 0)
             return found;
     }
     for (const char *at = folders ? folders : ""; *at; at += strcspn(at, ":"), at += *at == ':') {
@@ -35,8 +36,8 @@ const char *audit_find(void)
         if (access(found, X_OK) == 0)
             return found;
     }
-    fputs("dsa_trace: --audit needs the program dsa_text, beside this one, on the path, or named by DSA_TEXT; without "
-          "--audit wrong results show all the same\n",
+    fputs("dsa_trace: --audit needs the program dsa_text: install it, build it (./run dsa_text --help), or name it by "
+          "DSA_TEXT; without --audit wrong results show all the same\n",
           stderr);
     return NULL;
 }

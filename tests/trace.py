@@ -346,6 +346,12 @@ def waits():
     audited_runs(known)
     told("nothing submitted", traced("--audit", "--", "/bin/true", env=known), 0, "nothing was submitted")
     told("an audit that fails", traced("--audit", "--", client("ordered"), "waited", env={"DSA_TEXT": "/bin/false"}), 1)
+    for dies in ("exit 2", "kill -9 $$"):
+        Path(WORK, "dies").write_text(f"#!/bin/sh\n{dies}\n")
+        Path(WORK, "dies").chmod(0o755)
+        end = traced("--audit", "--seeds", 3, "--", client("ordered"), "waited", env={"DSA_TEXT": f"{WORK}/dies"})
+        told(f"dsa_text that ends by {dies}", end, 125, f"{WORK}/dies does not audit ")
+        expect(end.stderr.count("does not audit") == 1, f"after an audit that fails there are others: {end.stderr}")
     told("no such program", traced("--audit", "--", "/bin/true", env={"DSA_TEXT": "/nowhere"}), 125,
          "DSA_TEXT names /nowhere")
     told("--audit without dsa_text", traced("--audit", "--", "/bin/true", env={"PATH": "/nowhere"}), 125,

@@ -76,6 +76,8 @@ static int audit_one(const char *dsa_text, const char *records, const char *name
     snprintf(base, sizeof base, "%.*s", (int)(strlen(name) - strlen(".dsa")), name);
     if (!strstr(base, ".part"))
         waits = waits_missing(records, base, report);
+    if (fences > 1)
+        fprintf(stderr, "dsa_trace: %s does not audit %s\n", dsa_text, path);
     if (fences > 1 || waits < 0)
         return FAILED;
     return fences == 1 || waits > 0;

@@ -9,6 +9,7 @@ import os
 import re
 import shutil
 import signal
+import struct
 import subprocess
 import sys
 import tempfile
@@ -17,10 +18,12 @@ from pathlib import Path
 
 import common
 from common import ROOT, expect, named, run_test, side_by_side, skip
+from trace_forms import NARROW, WIDE, forms
+from trace_model import MOVE, Recorded
 
 SEEDS = int(os.environ.get("SEEDS", "100"))
 STRICT = ["-std=c11", "-D_GNU_SOURCE", "-Wall", "-Wextra", "-Werror"]
-CLIENTS = ("ordered", "threads", "odd", "operations")
+CLIENTS = ("ordered", "threads", "odd", "operations", "ends")
 
 
 def ran(*command, **how):
@@ -125,8 +128,11 @@ def seeds():
     end = traced("--seeds", 60, "--", client("ordered"), "fence")
     told("many seeds of a missing fence", end, 3, "the same again", "dsa_trace --seed ")
     expect(end.stderr.count("the same again") == 1, f"after a run that fails there are others: {end.stderr}")
-    again = re.search(r"^dsa_trace (--seed \d+) -- (.*)$", end.stderr, re.M)
-    told("the seed that is named", traced(*again[0].split()[1:]) if again else end, 3)
+    again = re.search(r"^\S*/dsa_trace --seed \d+ -- .*$", end.stderr, re.M)
+    told("the seed that is named", ran("sh", "-c", again[0]) if again else end, 3)
+    shell = f"{client('ordered')} fence; s=$?; : 'it'; exit $s"
+    end = traced("--seeds", 60, "--", "sh", "-c", shell)
+    told("words with blanks and quotes", ran("sh", "-c", end.stderr.splitlines()[-1]), 3)
     words = ["-O2", "-mmovdir64b", "-o", client("copy_twice"), "examples/trace/copy_twice.c"]
     told("the example", ran("gcc", *STRICT, *words), 0)
     told("many seeds of the example", traced("--seeds", 40, "--", client("copy_twice")), 1, 'c is ""', "the same again")
@@ -174,11 +180,15 @@ def queues():
 REFUSED = {
     "pages": ["write, blocking: status 0x84, 0 bytes, at 0x2000", "write: status 0x83, 0 bytes, at 0x2000",
               "read: status 0x3, 0 bytes, at 0x2000"],
+    "gone": ["to an unmapped page: status 0x84, 0 bytes", "from an unmapped page: status 0x4, 0 bytes",
+             "beyond the end of a file: status 0x84, 0 bytes", "to a page that is read alone: status 0x84, 0 bytes",
+             "can't be written, so the completion is lost", "the next: status 0x1,"],
     "lists": ["missing list: status 0x6, 0 bytes, at 0x2000", "odd list: status 0x18,", "one member: status 0x14,",
               "too many members: status 0x14,"],
     "record": ["no multiple of 32", "the next: status 0x1,", "moved 0, record 0"],
     "refused": ["reserved flag: status 0x11,", "invalid flags 0x40\n", "check result of a move: status 0x11,",
-                "operation 0xa: status 0x10,", "no bytes: status 0x13,", "reserved byte: status 0x12,",
+                "interrupt: status 0x19,", "operation 0xa: status 0x10,", "no bytes: status 0x13,",
+                "reserved byte: status 0x12,",
                 "reserved bits: status 0x12,", "dualcast bits: status 0x17,", "dualcast overlap: status 0x16,",
                 "delta of 12 bytes: status 0x13,", "delta record of 11 bytes: status 0x15,"],
 }
@@ -194,13 +204,40 @@ def died():
     """Programs that fault at the instruction, have children, are replaced, or are killed."""
     told("a descriptor that can't be read", traced("--", client("odd"), "unreadable"), 42, "can't be read",
          "signal 11 at 0x2000")
+    told("the same without a handler", traced("--", client("ends"), "unread"), 128 + signal.SIGSEGV, "can't be read")
+    for how in ([], ["--order", "fifo"], ["--no-namespace"]):
+        for case in ("forks", "spawned"):
+            told(f"{case} {how}", traced(*how, "--", client("ends"), case), 0, "30 of 30 children end well",
+                 "a move afterwards: 1")
     told("a child of fork", traced("--", client("odd"), "child"), 0, "ends by signal 11", "in the parent: status 0x1")
     with tempfile.TemporaryDirectory(dir=WORK) as folder:
         told("a program that is replaced", traced("--out", folder, "--", client("odd"), "replaced"), 0,
              "before: status 0x1")
         sizes = sorted(path.stat().st_size // 64 for path in Path(folder, "seed-1").glob("*.dsa"))
-        expect(sizes == [1, 10], f"the two programs of a process are recorded with {sizes} entries")
+        expect(sizes == [1, 11], f"the two programs of a process are recorded with {sizes} entries")
     told("a program that is killed", traced("--", client("odd"), "killed", 3), 128 + signal.SIGKILL)
+
+
+def other_cpus():
+    """The same on a CPU that has the instructions: they raise a page fault at the portal, or a general protection fault.
+    Another program turns the signals of this CPU into those (tests/trace/faults.c)."""
+    sources = ["-I", "trace", "tests/trace/faults.c", "trace/decode.c"]
+    told("the build of faults", ran("gcc", *STRICT, "-O1", "-o", client("faults"), *sources), 0)
+    if ran(client("faults"), "/bin/true").returncode:
+        skip("signals as other CPUs raise them: the system permits no ptrace")
+        return
+    is_turned = "movdir64b" not in Path("/proc/cpuinfo").read_text()
+    clients = [(["operations"], 0, 39, []), (["threads"], 0, 560, []), (["ordered", "fenced"], 0, 1, []),
+               (["ordered", "waited"], 0, 2, []), (["odd", "handler"], 0, 1, ["in a handler: status 0x1,"]),
+               (["odd", "pages"], 0, 3, REFUSED["pages"]), (["odd", "record"], 0, 2, REFUSED["record"]),
+               (["odd", "unreadable"], 42, 1, ["signal 11 at 0x2000"]),
+               (["odd", "child"], 0, 2, ["ends by signal 11", "in the parent: status 0x1"])]
+    for (words, status, count, lines), order in itertools.product(clients, ("fifo", "data")):
+        end = traced("--order", order, "--", client("faults"), client(words[0]), *words[1:])
+        told(f"{words} by SIGSEGV in the order {order}", end, status, *lines, *[f"{count} signals turned"][:is_turned])
+    words = [client("faults"), client("ordered"), "fence"]
+    statuses = {traced("--seed", seed, "--", *words).returncode for seed in range(1, 31)}
+    expect(statuses == {0, 3}, f"a missing fence by SIGSEGV ends with {statuses}")
 
 
 # ---- recordings
@@ -250,6 +287,27 @@ def recordings():
            f"the index of a parent and a child: {index}")
 
 
+def killed_at_any_time():
+    """The recording of a program that is killed while its threads submit has whole submissions, each with its event."""
+    for wait in (0.2, 0.25, 0.3, 0.35):
+        with tempfile.TemporaryDirectory(dir=WORK) as folder:
+            quiet = dict.fromkeys(("stdin", "stdout", "stderr"), subprocess.DEVNULL)
+            child = subprocess.Popen([f"{WORK}/gcc/dsa_trace", "--out", folder, "--", client("ends"), "endless"], **quiet)
+            run = Path(folder, "seed-1")
+            for _ in range(500):
+                if list(run.glob("*.events")):
+                    break
+                time.sleep(0.01)
+            time.sleep(wait)
+            os.kill(int(Path(f"/proc/{child.pid}/task/{child.pid}/children").read_text()), signal.SIGKILL)
+            expect(child.wait(30) == 128 + signal.SIGKILL, f"a program that is killed ends with {child.returncode}")
+            [recording], [lines] = run.glob("*.dsa"), run.glob("*.events")
+            entries = recording.stat().st_size // 64
+            starts = [line.split() for line in lines.read_text().splitlines() if line[0] == "S"]
+            expect(len(starts) == entries > 0, f"{entries} entries have {len(starts)} events")
+            expect([int(words[1]) for words in starts] == list(range(entries)), "the events have other numbers")
+
+
 def full_disk():
     """On a full disk the program goes on, and one sentence says that its recording ends."""
     if os.getuid() != 0 or ran("unshare", "-m", "true").returncode:
@@ -270,7 +328,10 @@ def waits():
     end = traced("--audit", "--", client("ordered"), "wait", env=known)
     wanted = "submission 1: error: missing wait, read after write: reads what submission 0, in flight, writes, at 0x"
     told("a missing wait", end, 1, wanted)
+    told("which operations", end, 1, "(move on wq0.0 after move on wq0.0)")
     expect(end.stdout.count("error") == 1, f"of one missing wait is said {end.stdout}")
+    end = traced("--audit", "--order", "data", "--", client("ordered"), "early", env=known)
+    told("a program that reads early", end, 3, "the audits find no errors; if the program does not fail with --order fifo")
     for mode in ("fence", "fenced", "waited", "member", "drain", "polled", "after"):
         for order in ("data", "all"):
             end = traced("--audit", "--order", order, "--", client("ordered"), mode, env=known)
@@ -282,12 +343,75 @@ def waits():
     for held in (5, 100) if is_watched else ():
         end = traced("--audit", "--watch", held, "--", client("ordered"), "sleep", env=known)
         told(f"a sleep is no wait, held for {held} ms", end, 1, "missing wait")
+    audited_runs(known)
     told("nothing submitted", traced("--audit", "--", "/bin/true", env=known), 0, "nothing was submitted")
     told("an audit that fails", traced("--audit", "--", client("ordered"), "waited", env={"DSA_TEXT": "/bin/false"}), 1)
+    for dies in ("exit 2", "kill -9 $$"):
+        Path(WORK, "dies").write_text(f"#!/bin/sh\n{dies}\n")
+        Path(WORK, "dies").chmod(0o755)
+        end = traced("--audit", "--seeds", 3, "--", client("ordered"), "waited", env={"DSA_TEXT": f"{WORK}/dies"})
+        told(f"dsa_text that ends by {dies}", end, 125, f"{WORK}/dies does not audit ")
+        expect(end.stderr.count("does not audit") == 1, f"after an audit that fails there are others: {end.stderr}")
     told("no such program", traced("--audit", "--", "/bin/true", env={"DSA_TEXT": "/nowhere"}), 125,
          "DSA_TEXT names /nowhere")
     told("--audit without dsa_text", traced("--audit", "--", "/bin/true", env={"PATH": "/nowhere"}), 125,
          "needs the program dsa_text")
+    shutil.copytree(f"{WORK}/gcc", f"{WORK}/clone/trace/out")
+    built_text = Path(WORK, "clone/crates/dsa_text/out/dsa_text")
+    built_text.parent.mkdir(parents=True)
+    built_text.symlink_to("/bin/false")
+    words = [f"{WORK}/clone/trace/out/dsa_trace", "--audit", "--", client("ordered"), "waited"]
+    told("--audit in a clone where dsa_text is built", ran(*words, env={"PATH": "/nowhere"}), 1)
+
+
+def named_waits(name, entries, events):
+    """The submissions that the audit of waits names of a recording, and how many it counts."""
+    Path(WORK, f"{name}.dsa").write_bytes(entries)
+    Path(WORK, f"{name}.events").write_text("".join(line + "\n" for line in events))
+    end = ran(client("waits"), WORK, name)
+    expect(end.returncode == 0, f"the waits of {name} end with status {end.returncode}: {end.stderr}")
+    named = [int(it) for it in re.findall(r"^(?:member \d+ of )?submission (\d+): error", end.stdout, re.M)]
+    more = re.search(r"^and (\d+) more missing waits$", end.stdout, re.M)
+    return named, len(named) + (int(more[1]) if more else 0)
+
+
+def waits_of_any():
+    """Missing waits of random recordings beside brute force; and of many submissions whose end is never told, in time."""
+    sources = [f"trace/{name}.c" for name in ("waits", "spans", "random", "fail")]
+    words = ["-O2", "-I", "trace", "-o", client("waits"), "tests/trace/waits.c"]
+    told("the build of waits", ran("gcc", *STRICT, *words, *sources), 0)
+    lacking = 0
+    for seed in range(300):
+        it = Recorded(seed, 12)
+        named, count = named_waits("random", it.entries, it.events)
+        lacking += len(it.lacking)
+        expect(named == it.lacking[:20] and count == len(it.lacking), f"seed {seed}: {named} of {count}, not {it.lacking}")
+    expect(lacking > 300, f"only {lacking} waits are missing in random recordings")
+    many = range(200000)
+    entries = b"".join(struct.pack("<IIQQQI28x", 0, MOVE << 24, 0, 128 * k, 128 * k + 64, 64) for k in many)
+    events = [line for k in many for line in (f"S {k} wq0.0 op 3 members 0 tid 1 part 1 entry {k}", f"C {k} 1")]
+    start = time.monotonic()
+    expect(named_waits("many", entries, events) == ([], 0), "apart moves lack waits")
+    took = time.monotonic() - start
+    expect(took < 20, f"the waits of 200,000 submissions take {took:.0f} s")
+
+
+def audited_runs(known):
+    """Of several runs each is audited: here the program lacks a wait in the second of three, and ends well in all."""
+    for lacking, how, status, words in (
+            (2, [], 1, ["the audits of 1 of 3 runs find errors; to repeat seed 2:", "dsa_trace --seed 2 --audit -- sh",
+                        "submission 1: error: missing wait"]),
+            (9, [], 0, ["the audits of 3 runs find no errors; the last:"]),
+            (2, ["--out", f"{WORK}/audited"], 1, ["find errors"])):
+        program = f"[ $DSA_TRACE_SEED = {lacking} ] && exec {client('ordered')} blind; exec {client('ordered')} waited"
+        end = traced("--audit", "--seeds", 3, *how, "--", "sh", "-c", program, env=known)
+        told(f"audits of three runs, of which {lacking} lacks a wait", end, status, "3 runs, all with status 0", *words)
+        expect(end.stdout.count("missing wait") == status, f"of three runs is said {end.stdout}")
+    end = traced("--audit", "--seeds", 60, "--", client("ordered"), "wait", env=known)
+    told("runs up to the first that fails", end, 1, "runs find errors; that of seed", "missing wait")
+    expect(end.stderr.count("dsa_trace --seed") == 1, f"it is said twice how to repeat a run: {end.stderr}")
+    end = traced("--audit", "--seeds", 3, "--", client("ordered"), "waited", env={"DSA_TEXT": "/bin/false"})
+    told("audits of several runs that fail", end, 1, "3 of 3")
 
 
 def audited():
@@ -446,37 +570,8 @@ def killed():
 
 # ---- the decoder, beside the assembler
 
-WIDE = "rax rcx rdx rbx rsp rbp rsi rdi r8 r9 r10 r11 r12 r13 r14 r15".split()
-NARROW = "eax ecx edx ebx esp ebp esi edi r8d r9d r10d r11d r12d r13d r14d r15d".split()
 PLACE = 0x7F0012345000
 KINDS = {"movdir64b": 1, "enqcmd": 2}
-
-
-def value(register, is_narrow):
-    whole = 0x1111111111111111 * (register + 1) % 2**64
-    return whole % 2**32 if is_narrow else whole
-
-
-def forms():
-    """Each form of address: its text for the assembler, and its address, with which the registers are as in decode.c."""
-    for is_narrow in (False, True):
-        names, size = (NARROW, 32) if is_narrow else (WIDE, 64)
-        for base, index in itertools.product([None, *range(16)], [None, *(k for k in range(16) if k != 4)]):
-            for scale, offset in itertools.product((1, 2, 4, 8) if index is not None else (1,),
-                                                   (0, 0x7F, -0x80, 0x12345678)):
-                inside = names[base] if base is not None else ""
-                text = f"%{inside}" if inside else ""
-                text += f",%{names[index]},{scale}" if index is not None else ""
-                if not text:
-                    continue
-                address = offset + (value(base, is_narrow) if base is not None else 0)
-                address += value(index, is_narrow) * scale if index is not None else 0
-                yield f"{offset}({text})", address % 2**size, is_narrow, 0
-        prefix, address = "%fs:" if is_narrow else "", (0x1000 + value(3, is_narrow)) % 2**size
-        yield f"{prefix}0x1000(%{names[3]})", address, is_narrow, int(is_narrow)
-    for segment, number in (("fs", 1), ("gs", 2)):
-        yield f"%{segment}:0x40", 0x40, False, number
-        yield f"%{segment}:8(%r13,%r14,2)", (8 + value(13, False) + 2 * value(14, False)) % 2**64, False, number
 
 
 def assembled(lines):
@@ -661,8 +756,8 @@ def large():
     told("dmadev_autotest", traced("--", *words), 0, "Test OK")
 
 
-PARTS = [built, decoder, ordered, orders, repeated, seeds, operations, queues, refused, died, recordings, full_disk,
-         waits, audited, statuses]
+PARTS = [built, decoder, ordered, orders, repeated, seeds, operations, queues, refused, died, other_cpus, recordings,
+         killed_at_any_time, full_disk, waits, waits_of_any, audited, statuses]
 PARTS += [options, files, killed, prices, submit, sanitized, undefined, cost, large]
 
 

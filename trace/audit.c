@@ -1,4 +1,5 @@
-/* --audit: the program dsa_text on each recording for missing fences, and waits.c for missing waits. */
+/* --audit: the program dsa_text on each recording for missing fences, and waits.c for missing waits. Each run is
+ * audited, and the report of one of them is printed at the end. */
 #include <dirent.h>
 #include <errno.h>
 #include <stdio.h>
@@ -9,11 +10,12 @@
 
 #include "launcher.h"
 
-/// DSA_TEXT names the program; else it is beside this one, or on the path.
+/// DSA_TEXT names the program; else it is beside this one, where a clone builds it, or on the path.
 const char *audit_find(void)
 {
+    static const char *const places[] = {"dsa_text", "../../crates/dsa_text/out/dsa_text"};
     static char found[PATH_MAX];
-    char self[PATH_MAX - 16];
+    char self[PATH_MAX - 64];
     const char *named = getenv("DSA_TEXT"), *folders = getenv("PATH");
     if (named && *named) {
         if (access(named, X_OK) == 0)
@@ -24,9 +26,9 @@ const char *audit_find(void)
     const ssize_t length = readlink("/proc/self/exe", self, sizeof self - 1);
     self[length < 0 ? 0 : length] = 0;
     char *name = strrchr(self, '/');
-    if (name) {
+    for (int i = 0; name && i < 2; i++) {
         *name = 0;
-        if (access(joined(found, self, "dsa_text"), X_OK) == 0)
+        if (access(joined(found, self, places[i]), X_OK) == 0)
             return found;
     }
     for (const char *at = folders ? folders : ""; *at; at += strcspn(at, ":"), at += *at == ':') {
@@ -34,21 +36,23 @@ const char *audit_find(void)
         if (access(found, X_OK) == 0)
             return found;
     }
-    fputs("dsa_trace: --audit needs the program dsa_text, beside this one, on the path, or named by DSA_TEXT\n",
+    fputs("dsa_trace: --audit needs the program dsa_text: install it, build it (./run dsa_text --help), or name it by "
+          "DSA_TEXT; without --audit wrong results show all the same\n",
           stderr);
     return NULL;
 }
 
 /// What dsa_text says of one recording: 0, 1 if fences are missing, 2 if it can't read it.
-static int audit_file(const char *dsa_text, const char *path)
+static int audit_file(const char *dsa_text, const char *path, FILE *report)
 {
     int status;
-    fflush(stdout);
+    fflush(NULL);
     const pid_t child = fork();
     if (child < 0)
         fail("a new process");
     if (child == 0) {
-        execl(dsa_text, dsa_text, "audit", path, (char *)NULL);
+        if (dup2(fileno(report), STDOUT_FILENO) >= 0)
+            execl(dsa_text, dsa_text, "audit", path, (char *)NULL);
         fprintf(stderr, "dsa_trace: %s: %s\n", dsa_text, strerror(errno));
         _exit(2);
     }
@@ -64,36 +68,102 @@ static int ends_in_dsa(const struct dirent *e)
 }
 
 /// One recording: its fences, and with its first part the waits of all parts.
-static int audit_one(const char *dsa_text, const char *records, const char *name)
+static int audit_one(const char *dsa_text, const char *records, const char *name, FILE *report)
 {
     char path[PATH_MAX], base[NAME_MAX + 1];
-    const int fences = audit_file(dsa_text, joined(path, records, name));
+    const int fences = audit_file(dsa_text, joined(path, records, name), report);
     long waits = 0;
     snprintf(base, sizeof base, "%.*s", (int)(strlen(name) - strlen(".dsa")), name);
     if (!strstr(base, ".part"))
-        waits = waits_missing(records, base);
+        waits = waits_missing(records, base, report);
+    if (fences > 1)
+        fprintf(stderr, "dsa_trace: %s does not audit %s\n", dsa_text, path);
     if (fences > 1 || waits < 0)
         return FAILED;
     return fences == 1 || waits > 0;
 }
 
-/// All recordings of a run, each with its name if there are several.
-int audit_run(const char *dsa_text, const char *records)
+/// All recordings of a run, each with its name if there are several; answers how many there are.
+static int audit_all(const char *dsa_text, const char *records, FILE *report, int *status)
 {
     struct dirent **list;
     const int count = scandir(records, &list, ends_in_dsa, versionsort);
-    int status = 0;
+    *status = 0;
     if (count < 0)
         fail(records);
-    if (count == 0)
-        fputs("dsa_trace: nothing was submitted\n", stderr);
     for (int i = 0; i < count; i++) {
         if (count > 1)
-            printf("%s:\n", list[i]->d_name);
-        const int of_one = audit_one(dsa_text, records, list[i]->d_name);
-        status = of_one > status ? of_one : status;
+            fprintf(report, "%s:\n", list[i]->d_name);
+        const int of_one = audit_one(dsa_text, records, list[i]->d_name, report);
+        *status = of_one > *status ? of_one : *status;
         free(list[i]);
     }
     free(list);
-    return status;
+    return count;
+}
+
+/// A file for a report, which goes when it is closed.
+static FILE *new_report(const char *folder)
+{
+    char path[PATH_MAX];
+    FILE *report = fopen(joined(path, folder, "report"), "a+");
+    if (!report || unlink(path))
+        fail(path);
+    return report;
+}
+
+/// Audits a run. The report that is kept is that of the last run with errors, or else of the last.
+void audit_run(struct audits *a, const char *records, const char *folder, uint64_t seed)
+{
+    int status;
+    FILE *report = new_report(folder);
+    a->recordings += audit_all(a->dsa_text, records, report, &status);
+    a->runs++;
+    a->faulty += status != 0;
+    if (!status && a->status) {
+        fclose(report);
+        return;
+    }
+    if (a->report)
+        fclose(a->report);
+    a->report = report;
+    a->seed = seed;
+    a->status = status > a->status ? status : a->status;
+}
+
+/// Of several runs: how many have errors, and of which the report is.
+static void say_which(const struct audits *a, const struct options *o, bool has_failed)
+{
+    const uint64_t last = o->settings.seed + a->runs - 1;
+    if (!a->faulty) {
+        fprintf(stderr, "dsa_trace: the audits of %llu runs find no errors; the last:\n", a->runs);
+        return;
+    }
+    const bool is_repeated = has_failed && a->seed == last; /* how to run it again is said already */
+    fprintf(stderr, "dsa_trace: the audits of %llu of %llu runs find errors; %s %llu:\n", a->faulty, a->runs,
+            is_repeated ? "that of seed" : "to repeat seed", (unsigned long long)a->seed);
+    if (!is_repeated)
+        options_repeat(o, a->seed);
+}
+
+/// Prints the report that is kept, and answers the status of all audits.
+int audit_end(struct audits *a, const struct options *o, bool has_failed)
+{
+    char part[4096];
+    size_t length;
+    if (!a->recordings)
+        fputs("dsa_trace: nothing was submitted\n", stderr);
+    else if (a->runs > 1)
+        say_which(a, o, has_failed);
+    rewind(a->report);
+    while ((length = fread(part, 1, sizeof part, a->report)) > 0)
+        fwrite(part, 1, length, stdout);
+    if (ferror(a->report) || fflush(stdout))
+        fail("the report of the audit");
+    if (has_failed && a->recordings && !a->faulty)
+        fputs("dsa_trace: the audits find no errors; if the program does not fail with --order fifo, it uses memory "
+              "itself before a record says that the operation has ended\n",
+              stderr);
+    fclose(a->report);
+    return a->status;
 }

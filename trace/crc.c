@@ -15,11 +15,23 @@ __attribute__((constructor)) static void make_table(void)
     }
 }
 
-/// CRC-32C of bytes after those of `crc`, without the inversion at both ends.
-uint32_t crc32c(uint32_t crc, const uint8_t *from, size_t size)
+/// The bits of a number in reverse.
+uint32_t bits_reversed(uint32_t number)
 {
-    while (size--)
-        crc = table[(crc ^ *from++) & 255] ^ crc >> 8;
+    uint32_t reversed = 0;
+    for (int i = 0; i < 32; i++, number >>= 1)
+        reversed = reversed << 1 | (number & 1);
+    return reversed;
+}
+
+/// CRC-32C of bytes after those of `crc`, without the inversion at both ends: the lowest bit of a byte comes first, or
+/// the highest if it is plain. The bits of `crc` itself are in reverse.
+uint32_t crc32c(uint32_t crc, const uint8_t *from, size_t size, bool is_plain)
+{
+    for (; size--; from++) {
+        const uint32_t byte = is_plain ? bits_reversed(*from) >> 24 : *from;
+        crc = table[(crc ^ byte) & 255] ^ crc >> 8;
+    }
     return crc;
 }
 

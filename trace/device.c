@@ -4,7 +4,10 @@
 
 #include "trace.h"
 
-enum { PAGE = 4096, DELTA_ENTRY = 10, WORD = 8, SEED_IS_READ = 0x10000, NOT_INVERTED = 0x20000 };
+enum { PAGE = 4096, DELTA_ENTRY = 10, WORD = 8 };
+/* Flags of a checksum, as in Intel's specification 341204: the seed is read from memory; the checksum is neither
+ * inverted nor reflected; the data is not reflected. */
+enum { SEED_IS_READ = 0x10000, PLAIN_CHECKSUM = 0x20000, PLAIN_DATA = 0x40000 };
 
 /* An operation on its way. `size` is less than the descriptor's where --fault stops it early. */
 struct work { const descriptor *d; completion *r; uint32_t size; volatile uint32_t done; };
@@ -59,8 +62,8 @@ static uint32_t first_difference(struct work *w, const uint8_t *one, const uint8
         n = least(n, PAGE - WORD);
         if (memcmp(one + w->done, second, n) == 0)
             continue;
-        while (one[w->done] == *second)
-            w->done++, second++;
+        for (; one[w->done] == *second; second++)
+            w->done++;
         break;
     }
     return w->done;
@@ -132,9 +135,10 @@ static uint8_t checksum(struct work *w)
     uint32_t seed = d->crc_seed;
     if (d->flags & SEED_IS_READ)
         memcpy(&seed, (const void *)d->seed_addr, sizeof seed);
-    const bool is_plain = d->flags & NOT_INVERTED;
-    const uint32_t crc = crc32c(is_plain ? seed : ~seed, (const uint8_t *)d->src_addr, w->size);
-    w->r->crc_val = is_plain ? crc : (uint32_t)~crc;
+    const bool is_plain = d->flags & PLAIN_CHECKSUM;
+    const uint32_t start = is_plain ? bits_reversed(seed) : ~seed;
+    const uint32_t end = crc32c(start, (const uint8_t *)d->src_addr, w->size, d->flags & PLAIN_DATA);
+    w->r->crc_val = is_plain ? bits_reversed(end) : ~end;
     return DSA_COMP_SUCCESS;
 }
 
@@ -143,7 +147,7 @@ static uint8_t operate(struct work *w)
     switch (w->d->opcode) {
     case DSA_OPCODE_MEMMOVE:
     case DSA_OPCODE_DUALCAST: return move(w);
-    case DSA_OPCODE_COPY_CRC: return move(w), checksum(w);
+    case DSA_OPCODE_COPY_CRC: move(w); return checksum(w);
     case DSA_OPCODE_CRCGEN: return checksum(w);
     case DSA_OPCODE_MEMFILL: return fill(w);
     case DSA_OPCODE_COMPARE:

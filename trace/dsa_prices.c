@@ -44,6 +44,8 @@ struct bench {
     uint8_t *data;
 };
 
+static void fail(const char *what, const char *why) __attribute__((noreturn));
+
 static void fail(const char *what, const char *why)
 {
     fprintf(stderr, "dsa_prices: %s: %s\n", what, why);

@@ -3,6 +3,7 @@
 #define DSA_TRACE_LAUNCHER_H
 
 #include <stdbool.h>
+#include <stdio.h>
 
 #include "settings.h"
 
@@ -51,10 +52,21 @@ void tidy(const char *records);
 /* ---- audit.c and waits.c: what is missing ---- */
 /* The program dsa_text; NULL, after a sentence, if there is none. */
 const char *audit_find(void);
-/* The status of all recordings of a run: 0, 1 if fences or waits are missing, 125 if they can't be audited. */
-int audit_run(const char *dsa_text, const char *records);
+/* What the audits of the runs found. `status` is 0, 1 if fences or waits are missing, or 125 if a recording can't be
+ * audited; `report` is that of the run with `seed`. */
+struct audits {
+    const char *dsa_text;
+    unsigned long long runs, faulty, recordings;
+    uint64_t seed;
+    int status;
+    FILE *report;
+};
+/* Audits the recordings of a run; a folder is for its report. */
+void audit_run(struct audits *a, const char *records, const char *folder, uint64_t seed);
+/* Prints a report and says of which run, after a program that has failed or not; answers the status. */
+int audit_end(struct audits *a, const struct options *o, bool has_failed);
 /* How many conflicts one recording has between submissions in flight at once; -1 if it can't be read. */
-long waits_missing(const char *records, const char *name);
+long waits_missing(const char *records, const char *name, FILE *report);
 
 /* ---- fail.c ---- */
 void fail(const char *what) __attribute__((noreturn)); /* with the reason that errno has */

@@ -25,9 +25,9 @@ static void make_own_folder(void)
     snprintf(own.folder, sizeof own.folder, "%s/dsa_trace.XXXXXX", where && *where == '/' ? where : "/tmp");
     if (!mkdtemp(own.folder))
         fail(own.folder);
-    chmod(own.folder, 0755);
     own.process = getpid();
-    atexit(remove_own_folder);
+    if (atexit(remove_own_folder) || chmod(own.folder, 0755))
+        fail(own.folder);
 }
 
 /// Removes what an earlier run has recorded in this folder.
@@ -35,14 +35,15 @@ static void empty(const char *records)
 {
     DIR *list = opendir(records);
     char path[PATH_MAX];
-    for (struct dirent *e; list && (e = readdir(list));) {
+    if (!list)
+        fail(records);
+    for (struct dirent *e; (e = readdir(list));) {
         const char *end = strrchr(e->d_name, '.');
         const bool is_ours = end && (!strcmp(end, ".dsa") || !strcmp(end, ".events"));
-        if (is_ours || strcmp(e->d_name, "processes.txt") == 0)
-            unlink(joined(path, records, e->d_name));
+        if ((is_ours || strcmp(e->d_name, "processes.txt") == 0) && unlink(joined(path, records, e->d_name)))
+            fail(path);
     }
-    if (list)
-        closedir(list);
+    closedir(list);
 }
 
 /// Where one run records: in its own folder of --out, or in a temporary one for an audit; false if it records nothing.
@@ -63,22 +64,25 @@ static bool place_records(const struct options *o, uint64_t seed, const char *fo
     return true;
 }
 
-/// Runs the program with one seed after another, up to the first that fails. Answers its status.
-static int run_all(const struct options *o, const char *folder, char records[PATH_MAX], bool *is_recorded)
+/// Runs the program with one seed after another, up to the first that fails, and audits each run. Answers its status.
+static int run_all(const struct options *o, const char *folder, struct audits *a)
 {
+    char records[PATH_MAX];
     int status = 0;
-    for (uint64_t i = 0; i < o->seeds && status == 0; i++) {
+    for (uint64_t i = 0; i < o->seeds && status == 0 && a->status != FAILED; i++) {
         const uint64_t seed = o->settings.seed + i;
-        *is_recorded = place_records(o, seed, folder, records);
-        status = run_once(o, seed, folder, *is_recorded ? records : NULL);
+        const bool is_recorded = place_records(o, seed, folder, records);
+        status = run_once(o, seed, folder, is_recorded ? records : NULL);
         if (status && o->seeds > 1) {
             fprintf(stderr,
                     "dsa_trace: seed %llu, run %llu of %llu: the program ends with status %d; the same again:\n",
                     (unsigned long long)seed, (unsigned long long)i + 1, (unsigned long long)o->seeds, status);
             options_repeat(o, seed);
         }
+        if (o->audits)
+            audit_run(a, records, folder, seed);
     }
-    if (status == 0 && o->seeds > 1)
+    if (status == 0 && o->seeds > 1 && a->status != FAILED)
         fprintf(stderr, "dsa_trace: %llu runs, all with status 0\n", (unsigned long long)o->seeds);
     return status;
 }
@@ -86,18 +90,17 @@ static int run_all(const struct options *o, const char *folder, char records[PAT
 int main(int argc, char **argv)
 {
     struct options o;
-    char records[PATH_MAX];
-    bool is_recorded = false;
+    struct audits a = {0};
     (void)argc;
     options_read(argv, &o);
     const int refused = program_check(o.program[0]);
-    const char *dsa_text = o.audits && !refused ? audit_find() : NULL;
-    if (refused || (o.audits && !dsa_text))
+    a.dsa_text = o.audits && !refused ? audit_find() : NULL;
+    if (refused || (o.audits && !a.dsa_text))
         return refused ? refused : FAILED;
     if (access("/proc/self/fd", X_OK))
         fail("/proc, by which the library knows the files of a queue");
     make_own_folder();
-    const int status = run_all(&o, own.folder, records, &is_recorded);
-    const int missing = o.audits && is_recorded ? audit_run(dsa_text, records) : 0;
+    const int status = run_all(&o, own.folder, &a);
+    const int missing = o.audits ? audit_end(&a, &o, status != 0) : 0;
     return missing ? missing : status;
 }

@@ -18,45 +18,28 @@ static mode_t mode_of(int flags, va_list more)
     return flags & O_CREAT || (flags & O_TMPFILE) == O_TMPFILE ? va_arg(more, mode_t) : 0;
 }
 
-#define OPEN(name)                                                                                                     \
-    int name(const char *path, int flags, ...)                                                                         \
-    {                                                                                                                  \
-        REAL_OF(name);                                                                                                 \
-        char room[PATH_MAX];                                                                                           \
-        va_list more;                                                                                                  \
-        va_start(more, flags);                                                                                         \
-        const mode_t mode = mode_of(flags, more);                                                                      \
-        va_end(more);                                                                                                  \
-        files_settle(path);                                                                                            \
-        return REAL(name)(files_turned(path, room), flags, mode);                                                      \
-    }
-#define OPENAT(name)                                                                                                   \
-    int name(int at, const char *path, int flags, ...)                                                                 \
-    {                                                                                                                  \
-        REAL_OF(name);                                                                                                 \
-        char room[PATH_MAX];                                                                                           \
-        va_list more;                                                                                                  \
-        va_start(more, flags);                                                                                         \
-        const mode_t mode = mode_of(flags, more);                                                                      \
-        va_end(more);                                                                                                  \
-        files_settle(path);                                                                                            \
-        return REAL(name)(at, files_turned(path, room), flags, mode);                                                  \
-    }
-/* A function of a path and what follows it. */
-#define ONE(type, name, parameters, arguments)                                                                         \
+/* A function of a path: what comes first in it, and the arguments of the C library's own. */
+#define TURNING(type, name, parameters, first, arguments)                                                              \
     type name parameters                                                                                               \
     {                                                                                                                  \
         REAL_OF(name);                                                                                                 \
         char room[PATH_MAX];                                                                                           \
-        files_settle(path);                                                                                            \
+        first files_settle(path);                                                                                      \
         return REAL(name) arguments;                                                                                   \
     }
 #define TURNED files_turned(path, room)
+#define TAKE_MODE                                                                                                      \
+    va_list more;                                                                                                      \
+    va_start(more, flags);                                                                                             \
+    const mode_t mode = mode_of(flags, more);                                                                          \
+    va_end(more);
+#define OPENING(name, parameters, arguments) TURNING(int, name, parameters, TAKE_MODE, arguments)
+#define ONE(type, name, parameters, arguments) TURNING(type, name, parameters, , arguments)
 
-OPEN(open)
-OPEN(open64)
-OPENAT(openat)
-OPENAT(openat64)
+OPENING(open, (const char *path, int flags, ...), (TURNED, flags, mode))
+OPENING(open64, (const char *path, int flags, ...), (TURNED, flags, mode))
+OPENING(openat, (int at, const char *path, int flags, ...), (at, TURNED, flags, mode))
+OPENING(openat64, (int at, const char *path, int flags, ...), (at, TURNED, flags, mode))
 ONE(FILE *, fopen, (const char *path, const char *mode), (TURNED, mode))
 ONE(FILE *, fopen64, (const char *path, const char *mode), (TURNED, mode))
 ONE(DIR *, opendir, (const char *path), (TURNED))

@@ -34,12 +34,12 @@ bool namespace_enter(void)
         snprintf(map, sizeof map, "%u %u 1", group, group);
         write_map("/proc/self/gid_map", map);
     }
-    return mount(NULL, "/", NULL, MS_REC | MS_PRIVATE, NULL) == 0;
+    return mount("none", "/", "none", MS_REC | MS_PRIVATE, NULL) == 0;
 }
 
 static void bind_to(const char *from, const char *to)
 {
-    if (mount(from, to, NULL, MS_BIND | MS_REC, NULL))
+    if (mount(from, to, "none", MS_BIND | MS_REC, NULL))
         fail(to);
 }
 
@@ -80,7 +80,7 @@ static void add_to(const char *tree, const char *place, const char *name)
     }
     snprintf(old, sizeof old, "%s/old%s", tree, place);
     make_folders(old);
-    if (mount(place, old, NULL, MS_BIND | MS_REC, NULL) || mount("dsa_trace", place, "tmpfs", 0, "mode=755"))
+    if (mount(place, old, "none", MS_BIND | MS_REC, NULL) || mount("dsa_trace", place, "tmpfs", 0, "mode=755"))
         fail(place);
     DIR *list = opendir(old);
     if (!list)

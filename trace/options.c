@@ -12,7 +12,7 @@ static const char help[] =
     "Usage: dsa_trace [OPTIONS] [--] PROGRAM [ARGUMENTS]\n"
     "\n"
     "Options:\n"
-    "      --audit          at the end, what the recording lacks: fences and waits; status 1 if some are missing\n"
+    "      --audit          at the end, what the recordings lack: fences and waits; status 1 if any run lacks some\n"
     "      --out <DIR>      keep the recordings, those of each run in DIR/seed-N\n"
     "      --seed <N>       the order that this number draws [default: 1]\n"
     "      --seeds <N>      run the program N times, each with the next seed, up to the first that fails\n"
@@ -142,18 +142,33 @@ void options_read(char **words, struct options *o)
         refuse("at least one run is needed", "--seeds");
 }
 
+/// A word as a shell reads it, and what comes before it.
+static void print_word(const char *before, const char *word)
+{
+    static const char plain[] = "abcdefghijklmnopqrstuvwxyzABCDEFGHIJKLMNOPQRSTUVWXYZ0123456789_-+=./,:@%^";
+    if (*word && word[strspn(word, plain)] == 0) {
+        fprintf(stderr, "%s%s", before, word);
+        return;
+    }
+    fprintf(stderr, "%s'", before);
+    for (; *word; word++)
+        fputs(*word == '\'' ? "'\\''" : (char[]){*word, 0}, stderr);
+    fputc('\'', stderr);
+}
+
 /// The command line that runs the program once more with one seed.
 void options_repeat(const struct options *o, uint64_t seed)
 {
-    fprintf(stderr, "dsa_trace --seed %llu", (unsigned long long)seed);
+    print_word("", o->words[0]);
+    fprintf(stderr, " --seed %llu", (unsigned long long)seed);
     for (char **word = o->words + 1; word < o->program; word++) {
         if (strcmp(*word, "--seed") == 0 || strcmp(*word, "--seeds") == 0)
             word++;
         else if (strncmp(*word, "--seed", 6) && strcmp(*word, "--"))
-            fprintf(stderr, " %s", *word);
+            print_word(" ", *word);
     }
     fputs(" --", stderr);
     for (char **word = o->program; *word; word++)
-        fprintf(stderr, " %s", *word);
+        print_word(" ", *word);
     fputs("\n", stderr);
 }

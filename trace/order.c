@@ -1,53 +1,23 @@
-/* Submissions in flight, and the order in which they are done. FIFO and MEMBERS do each at once, on the thread that
- * submits. DATA and ALL leave it to a thread of ours, which waits until the program has run on for a while (pace.c) and
- * then draws what comes next from all that fences and drains allow. */
+/* The order in which submissions in flight are done. FIFO and MEMBERS do each at once, on the thread that submits
+ * (intake.c). DATA and ALL leave it to a thread of ours, which waits until the program has run on for a while (pace.c)
+ * and then draws what comes next from all that fences and drains allow. */
 #include "order.h"
 
 #include <errno.h>
-#include <pthread.h>
 #include <stdatomic.h>
-#include <stdio.h>
-#include <stdlib.h>
 #include <string.h>
-#include <sys/mman.h>
 #include <sys/prctl.h>
 #include <sys/syscall.h>
 #include <time.h>
 #include <unistd.h>
 
-static struct order_state {
-    pthread_mutex_t lock;
-    pthread_cond_t work, idle;
-    pid_t pid;                /* the process whose state this is */
-    _Atomic bool has_worker;
-    bool sleeps;              /* the worker waits for a signal on `work` */
-    _Atomic pid_t worker;
-    _Atomic int arriving;     /* threads that are about to submit */
-    struct submission *head, **tail, *unused;
-    struct random choices, retries;
-    struct pace pace;
-    uint64_t submitted, batches, members, retried, dropped, records;
-} order = {.lock = PTHREAD_MUTEX_INITIALIZER, .tail = &order.head};
+struct order_state order = {.lock = PTHREAD_MUTEX_INITIALIZER, .tail = &order.head};
 
 static __thread bool is_arriving; /* this thread is counted by `arriving` */
 
-static bool is_async(void) { return settings.order >= ORDER_DATA; }
+bool order_is_async(void) { return settings.order >= ORDER_DATA; }
 
-static struct submission *take_unused(void)
-{
-    struct submission *s = order.unused;
-    if (s) {
-        order.unused = s->next;
-        return s;
-    }
-    s = mmap(NULL, sizeof *s, PROT_READ | PROT_WRITE, MAP_PRIVATE | MAP_ANONYMOUS, -1, 0);
-    if (s != MAP_FAILED)
-        return s;
-    say("no memory for another submission in flight");
-    return NULL;
-}
-
-static void give_back(struct submission *s)
+void order_give_back(struct submission *s)
 {
     s->next = order.unused;
     order.unused = s;
@@ -62,7 +32,7 @@ static void take_out(struct submission *s)
     if (!*at)
         order.tail = at;
     s->queue->in_flight--;
-    give_back(s);
+    order_give_back(s);
     if (!order.head)
         pthread_cond_broadcast(&order.idle);
 }
@@ -75,7 +45,7 @@ static void complete(struct submission *s, const completion *r)
     if (settings.order == ORDER_DATA)
         s = order.head;
     while (s && s->is_done) {
-        record_event('C', s->number, -1, s->last.status); /* before the record: what is earlier is unaware of it */
+        record_event('C', s->number, -1, s->last.status); /* before the record, so that nobody knows of it earlier */
         if (s->watch >= 0)
             watch_completed(s->watch, s->number);
         order.records += execute_record(&s->entry, &s->last);
@@ -85,7 +55,7 @@ static void complete(struct submission *s, const completion *r)
 }
 
 /// The epoch that begins at member `begun`: up to the next fence.
-static void find_epoch(struct submission *s)
+void order_find_epoch(struct submission *s)
 {
     s->end = s->begun + 1;
     while (s->end < s->count && !(s->members[s->end].flags & IDXD_OP_FLAG_FENCE))
@@ -94,7 +64,7 @@ static void find_epoch(struct submission *s)
 
 /// The next member of the batch, or the lone descriptor. Called with the lock, which it leaves while it works if other
 /// threads may submit meanwhile.
-static void step(struct submission *s)
+void order_step(struct submission *s)
 {
     completion r;
     unsigned place = s->begun;
@@ -103,10 +73,10 @@ static void step(struct submission *s)
     const uint16_t index = s->turn[place];
     s->turn[place] = s->turn[s->begun]; /* those before `begun` are done */
     s->turn[s->begun] = index;
-    if (is_async())
+    if (order_is_async())
         pthread_mutex_unlock(&order.lock);
     execute(s, index, &r);
-    if (is_async())
+    if (order_is_async())
         pthread_mutex_lock(&order.lock);
     s->begun++;
     if (!s->is_batch) {
@@ -119,7 +89,7 @@ static void step(struct submission *s)
     if (s->begun < s->end)
         return;
     if (s->begun < s->count && !s->has_failed) {
-        find_epoch(s);
+        order_find_epoch(s);
         return;
     }
     memset(&r, 0, sizeof r); /* all are done, or a fence stops the rest */
@@ -210,12 +180,13 @@ static void *work(void *unused)
             continue;
         }
         rests = 0;
+        wait = AGAIN / 10; /* for a thread that is about to submit */
         if (!order.pace.waits && (order.arriving || !pace_is_quiet(&order.pace, &wait)))
-            wait_for_work(order.arriving ? AGAIN / 10 : wait);
+            wait_for_work(wait);
         else if (!(s = choose()))
             wait_for_work(AGAIN);
         if (s)
-            step(s);
+            order_step(s);
         if (s && order.records != records) /* what the program does with a record comes first */
             pace_begin(&order.pace, 0);
     }
@@ -259,7 +230,7 @@ void order_start(void)
     const pid_t pid = getpid();
     if (order.pid != pid)
         begin_process(pid);
-    if (!is_async() || atomic_exchange(&order.has_worker, true))
+    if (!order_is_async() || atomic_exchange(&order.has_worker, true))
         return;
     sigfillset(&all);
     pthread_sigmask(SIG_BLOCK, &all, &old);
@@ -273,105 +244,6 @@ void order_start(void)
     pthread_detach(thread);
     while (!order.worker)
         usleep(10);
-}
-
-/// A batch without members: its list can't be read, or the device refuses it. It is recorded with none.
-static void refuse_batch(struct submission *s, const completion *r)
-{
-    descriptor empty = s->entry;
-    empty.desc_count = 0;
-    say("batch %lu of %u descriptors at %#lx is refused with status %#x (%s)", s->number, s->entry.desc_count,
-        (unsigned long)s->entry.desc_list_addr, r->status, valid_name(r->status));
-    record_submission(&(struct submitted){s->number, s->queue, &empty, NULL, 0});
-    record_event('C', s->number, -1, r->status);
-    order.records += execute_record(&s->entry, r);
-    give_back(s);
-}
-
-static void put_in(struct submission *s)
-{
-    for (unsigned i = 0; i < s->count; i++)
-        s->turn[i] = i;
-    find_epoch(s);
-    s->next = NULL;
-    *order.tail = s;
-    order.tail = &s->next;
-    s->queue->in_flight++;
-    const unsigned asks = IDXD_OP_FLAG_CRAV | IDXD_OP_FLAG_RCR;
-    if (settings.watch && (s->entry.flags & asks) == asks)
-        s->watch = watch_open(s->entry.completion_addr, order.worker);
-    if (s->watch >= 0)
-        record_event('W', s->number, -1, -1);
-}
-
-/// Takes what is submitted: copies, records, and does it or leaves it to the worker. Called with the lock.
-static void take_in(struct queue *q, const descriptor *d)
-{
-    completion r;
-    struct submission *s = take_unused();
-    if (!s)
-        return;
-    s->number = order.submitted++;
-    s->queue = q;
-    s->entry = *d;
-    s->is_batch = d->opcode == DSA_OPCODE_BATCH;
-    s->has_failed = s->is_done = false;
-    s->watch = -1;
-    s->begun = 0;
-    s->count = 1;
-    s->members[0] = *d;
-    if (settings.watch)
-        watch_note_seen();
-    if (s->is_batch && execute_take(s, &r) != DSA_COMP_SUCCESS) {
-        refuse_batch(s, &r);
-        return;
-    }
-    order.batches += s->is_batch;
-    order.members += s->is_batch ? s->count : 0;
-    record_submission(&(struct submitted){s->number, q, d, s->members, s->is_batch ? s->count : 0});
-    put_in(s);
-    if (is_async()) {
-        pace_begin(&order.pace, (pid_t)syscall(SYS_gettid));
-        if (order.sleeps)
-            pthread_cond_signal(&order.work);
-        return;
-    }
-    while (!s->is_done)
-        step(s);
-}
-
-/// Whether the queue has room for it; MOVDIR64B does not learn that it has none.
-static bool has_room(struct queue *q, bool is_enqueued)
-{
-    if (q->in_flight < q->size && !(is_enqueued && settings.retry && random_next(&order.retries) % settings.retry == 0))
-        return true;
-    if (is_enqueued)
-        order.retried++;
-    else if (!order.dropped++)
-        say("wq%d.%d is full (%u in flight): MOVDIR64B is lost", q->device, q->id, q->size);
-    return false;
-}
-
-/// Says once of a queue that a device would not take what is submitted so; here it is taken.
-static void note_mode(struct queue *q, bool is_enqueued)
-{
-    if (is_enqueued != q->is_shared && !q->is_mistaken)
-        say("%s to wq%d.%d, which is %s: a device does not take it", is_enqueued ? "ENQCMD" : "MOVDIR64B", q->device,
-            q->id, q->is_shared ? "shared" : "dedicated");
-    q->is_mistaken |= is_enqueued != q->is_shared;
-}
-
-/// One submission, in the handler of signals or in a write to a queue's file.
-enum accepted order_submit(struct queue *q, const descriptor *d, bool is_enqueued)
-{
-    order_start();
-    pthread_mutex_lock(&order.lock);
-    note_mode(q, is_enqueued);
-    const bool is_taken = has_room(q, is_enqueued);
-    if (is_taken)
-        take_in(q, d);
-    pthread_mutex_unlock(&order.lock);
-    return is_taken || !is_enqueued ? ACCEPTED : FULL;
 }
 
 /// This thread is about to submit, from before it takes the lock on: the program does not wait meanwhile.

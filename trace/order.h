@@ -1,7 +1,11 @@
-/* What order.c keeps of a submission, when it may go on (pace.c), and its random numbers (random.c). */
+/* What is kept of submissions in flight: taken in (intake.c), drawn (order.c, random.c) when the program has had its
+ * time (pace.c), and done (execute.c). */
 #ifndef DSA_TRACE_ORDER_H
 #define DSA_TRACE_ORDER_H
 
+#include <pthread.h>
+
+#include "random.h"
 #include "trace.h"
 
 /* `turn` has the members by number: those before `begun` are done, those before `end` may be done now. */
@@ -23,11 +27,6 @@ uint8_t execute_take(struct submission *s, completion *r);
 void execute(const struct submission *s, unsigned index, completion *r);
 bool execute_record(const descriptor *d, const completion *r);
 
-/* ---- random.c: numbers that depend on the seed and on how many were drawn before ---- */
-struct random { uint64_t seed, drawn; };
-uint64_t random_at(uint64_t seed, uint64_t place);
-uint64_t random_next(struct random *r);
-
 /* ---- pace.c: when the program has had its time ---- */
 struct pace {
     pid_t thread;     /* that submitted last */
@@ -41,5 +40,27 @@ int64_t pace_since(const struct pace *p);
 /* Whether the program has run for the delay since then, or waits; else *wait has the nanoseconds after which to ask
  * again. */
 bool pace_is_quiet(const struct pace *p, int64_t *wait);
+
+/* ---- order.c ---- */
+struct order_state {
+    pthread_mutex_t lock;
+    pthread_cond_t work, idle;
+    pid_t pid;                /* the process whose state this is */
+    _Atomic bool has_worker;
+    bool sleeps;              /* the worker waits for a signal on `work` */
+    _Atomic pid_t worker;
+    _Atomic int arriving;     /* threads that are about to submit */
+    struct submission *head, **tail, *unused;
+    struct random choices, retries;
+    struct pace pace;
+    uint64_t submitted, batches, members, retried, dropped, records;
+};
+extern struct order_state order;
+/* Whether a thread of ours does the work. */
+bool order_is_async(void);
+/* The following are called with the lock. */
+void order_give_back(struct submission *s); /* its memory, for a later one */
+void order_find_epoch(struct submission *s);
+void order_step(struct submission *s);
 
 #endif

@@ -1,5 +1,5 @@
 /* Random numbers by place: the same seed and the same place give the same number. */
-#include "order.h"
+#include "random.h"
 
 static const uint64_t golden = 0x9e3779b97f4a7c15;
 

@@ -56,11 +56,14 @@ static void library_path(char path[PATH_MAX])
 /// Has the loader load our library, after those that are asked for already, such as a sanitizer's.
 static void preload(void)
 {
-    char library[PATH_MAX], all[2 * PATH_MAX];
+    char library[PATH_MAX], *all;
     const char *before = getenv("LD_PRELOAD");
     library_path(library);
-    snprintf(all, sizeof all, "%s%s%s", before ? before : "", before && *before ? ":" : "", library);
-    setenv("LD_PRELOAD", all, 1);
+    if (asprintf(&all, "%s%s%s", before ? before : "", before && *before ? ":" : "", library) < 0)
+        fail("LD_PRELOAD");
+    if (setenv("LD_PRELOAD", all, 1))
+        fail("LD_PRELOAD");
+    free(all);
 }
 
 /// In the process of the program: puts the files in place and starts it.
@@ -85,7 +88,8 @@ static void become(const struct options *o, uint64_t seed, const char *folder, c
         fail(tree);
     if (records && snprintf(s.out, sizeof s.out, "%s", records) >= (int)sizeof s.out)
         fail(records);
-    settings_export(&s);
+    if (!settings_export(&s))
+        fail("the environment");
     preload();
     execvp(o->program[0], o->program);
     const int status = errno == ENOENT ? NOT_FOUND : NOT_RUN;

@@ -23,18 +23,20 @@ struct settings settings_default(void)
 }
 
 /// Sets the variables of the environment, for the program that is started next.
-void settings_export(const struct settings *s)
+bool settings_export(const struct settings *s)
 {
     char text[24];
+    int fault = 0;
     for (size_t i = 0; i < NUMBERS; i++) {
         uint64_t value;
         memcpy(&value, (const char *)s + numbers[i].at, sizeof value);
         snprintf(text, sizeof text, "%llu", (unsigned long long)value);
-        setenv(numbers[i].name, text, 1);
+        fault |= setenv(numbers[i].name, text, 1);
     }
-    setenv("DSA_TRACE_ORDER", order_names[s->order], 1);
-    setenv("DSA_TRACE_OUT", s->out, 1);
-    setenv("DSA_TRACE_ROOT", s->root, 1);
+    fault |= setenv("DSA_TRACE_ORDER", order_names[s->order], 1);
+    fault |= setenv("DSA_TRACE_OUT", s->out, 1);
+    fault |= setenv("DSA_TRACE_ROOT", s->root, 1);
+    return !fault;
 }
 
 /// Takes what the environment has; a variable that is not set leaves its setting as it is.

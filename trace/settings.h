@@ -4,6 +4,7 @@
 #define DSA_TRACE_SETTINGS_H
 
 #include <limits.h>
+#include <stdbool.h>
 #include <stdint.h>
 
 /* FIFO and MEMBERS do each submission at once, MEMBERS with the members of an epoch in any order. DATA does those in
@@ -28,8 +29,8 @@ extern const char *const order_names[4];
 
 /* The settings when no option is given. */
 struct settings settings_default(void);
-/* Sets the variables of the environment. */
-void settings_export(const struct settings *s);
+/* Sets the variables of the environment; false, with errno, if there is no memory. */
+bool settings_export(const struct settings *s);
 /* Reads them; those that are not set stay. */
 void settings_import(struct settings *s);
 

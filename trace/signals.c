@@ -57,7 +57,10 @@ static void answer_cpuid(greg_t *g)
     syscall(SYS_arch_prctl, ARCH_SET_CPUID, 0l);
     if (leaf == FEATURES && sub == 0)
         c |= WAITPKG | MOVES;
-    g[REG_RAX] = a, g[REG_RBX] = b, g[REG_RCX] = c, g[REG_RDX] = d;
+    g[REG_RAX] = a;
+    g[REG_RBX] = b;
+    g[REG_RCX] = c;
+    g[REG_RDX] = d;
     g[REG_RIP] += 2;
 }
 

@@ -43,9 +43,11 @@ static void cut_parts(const char *records, const char *base, const char *events,
 {
     unsigned last = 0;
     off_t length = 0;
-    for (const char *line = events; line < end; line = memchr(line, '\n', end - line) + 1) {
+    for (const char *line = events, *next; line && line < end; line = next) {
         unsigned members, part;
         unsigned long entry;
+        next = memchr(line, '\n', end - line);
+        next = next ? next + 1 : NULL;
         if (*line == 'S' &&
             sscanf(line, "S %*u %*s op %*u members %u tid %*u part %u entry %lu", &members, &part, &entry) == 3) {
             if (part != last)
@@ -53,8 +55,6 @@ static void cut_parts(const char *records, const char *base, const char *events,
             last = part;
             length = (off_t)ENTRY * (entry + 1 + members);
         }
-        if (!memchr(line, '\n', end - line))
-            break;
     }
     cut_part(records, base, last, length);
 }
@@ -70,16 +70,16 @@ static void tidy_one(const char *records, const char *name)
             close(file);
         return;
     }
-    const char *events = mmap(NULL, s.st_size, PROT_READ, MAP_PRIVATE, file, 0);
+    char *events = mmap(NULL, s.st_size, PROT_READ, MAP_PRIVATE, file, 0);
     const char *end = events == MAP_FAILED ? NULL : memchr(events, 0, s.st_size);
     if (end) {
         const off_t length = end - events;
         cut_parts(records, base, events, end);
-        munmap((void *)events, s.st_size);
+        munmap(events, s.st_size);
         if (ftruncate(file, length))
             fprintf(stderr, "dsa_trace: %s: %s\n", path, strerror(errno));
     } else if (events != MAP_FAILED)
-        munmap((void *)events, s.st_size);
+        munmap(events, s.st_size);
     close(file);
 }
 
@@ -87,11 +87,12 @@ static void tidy_one(const char *records, const char *name)
 void tidy(const char *records)
 {
     DIR *list = opendir(records);
-    for (struct dirent *e; list && (e = readdir(list));) {
+    if (!list)
+        fail(records);
+    for (struct dirent *e; (e = readdir(list));) {
         const char *end = strrchr(e->d_name, '.');
         if (end && strcmp(end, ".events") == 0)
             tidy_one(records, e->d_name);
     }
-    if (list)
-        closedir(list);
+    closedir(list);
 }

@@ -70,12 +70,13 @@ bool valid_is_misplaced(const descriptor *d);
 /* ---- device.c, crc.c and dif.c: operations ---- */
 /* Does one operation, neither batch nor drain, and fills the record. `draw` is a random number, for --fault. */
 void device_run(const descriptor *d, completion *r, uint64_t draw);
-uint32_t crc32c(uint32_t crc, const uint8_t *from, size_t size);
+uint32_t bits_reversed(uint32_t number);
+uint32_t crc32c(uint32_t crc, const uint8_t *from, size_t size, bool is_plain);
 uint16_t crc_t10(uint16_t crc, const uint8_t *from, size_t size);
 /* Check, insert, strip or update; *done counts the source bytes that are done, also when a page is missing. */
 uint8_t dif_run(const descriptor *d, completion *r, volatile uint32_t *done);
 
-/* ---- order.c: submissions in flight, and in which order they are done ---- */
+/* ---- order.c and intake.c: submissions in flight, and in which order they are done ---- */
 enum accepted { ACCEPTED, FULL };
 void order_begin(void);
 /* Starts the thread that does the work, if it does not run in this process. */

@@ -110,6 +110,8 @@ uint8_t valid_descriptor(const descriptor *d, const struct queue *q, bool is_mem
         return DSA_COMP_INVALID_FLAGS;
     if (!reserved_is_zero(d))
         return DSA_COMP_NOZERO_RESERVE;
+    if (d->flags & IDXD_OP_FLAG_RCI) /* the driver lets interrupts be asked for by the kernel's own queues alone */
+        return DSA_COMP_INT_HANDLE_INVAL;
     if (is_batch && (d->desc_count < 2 || d->desc_count > q->greatest_batch))
         return DSA_COMP_DESC_CNT_ERANGE;
     if (is_batch && d->desc_list_addr % sizeof *d)

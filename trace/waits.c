@@ -9,31 +9,35 @@
 #include <string.h>
 
 #include "launcher.h"
+#include "spans.h"
 
-enum { MOST_SHOWN = 20, ENTRY = sizeof(struct dsa_hw_desc) };
+enum { MOST_SHOWN = 20, ENTRY = sizeof(struct dsa_hw_desc), SEED_IS_READ = 0x10000, MOST_MEMBERS = 1024 };
 
 typedef struct dsa_hw_desc descriptor;
 
-/* Bytes from `low` to below `high`; of a member, or -1 of the descriptor itself. */
-struct range { uint64_t low, high; int member; bool writes, is_record; };
-
-/* `tells`: its end is told by a record or an interrupt, or else by a drain alone. Of a member `epoch` has the first
- * member of its epoch, or -1 if its end is not told; `unknown` counts members of which the program does not know. */
+/* A submission of which the program may not know that it has ended. `tells`: its end is told by a record, or else by a
+ * drain alone. Of each member `epoch` has the first member of its epoch, NOT_TOLD, or KNOWN once the program may know
+ * of its end; `unknown` counts those that are not known, and all before `ended` are. Spans of member m begin at
+ * first[m + 1], those of the descriptor itself at first[0]. The submissions of a queue are a list. */
+enum { NOT_TOLD = -1, KNOWN = INT_MAX };
 struct flying {
     uint64_t number;
-    char queue[16];
+    int queue, members, unknown, ended, *epoch;
     bool is_drain, is_watched, tells;
-    size_t count;
-    struct range *ranges;
-    int members, unknown, *epoch;
+    unsigned count, *first;
+    struct span *spans;
+    struct flying *before, *after;
 };
 
+/* `flying` has the submissions by number, NULL for those that have ended. */
 struct recorded {
     const char *records, *base;
     unsigned part;
-    FILE *entries;
-    struct flying *flying;
+    FILE *entries, *report;
+    struct flying **flying;
     size_t count, room;
+    struct { char name[16]; struct flying *last; } queues[MOST_QUEUES];
+    struct spans spans;
     long found;
 };
 
@@ -48,7 +52,8 @@ static void *grown(void *at, size_t size)
 static void add(struct flying *f, uint64_t low, uint64_t size, int member, bool writes)
 {
     if (size)
-        f->ranges[f->count++] = (struct range){low, low + size, member, writes, false};
+        f->spans[f->count++] =
+            (struct span){.low = low, .high = low + size, .of = f, .member = member, .writes = writes};
 }
 
 /// The bytes that a data integrity field operation writes.
@@ -59,11 +64,12 @@ static uint64_t dif_written(const descriptor *d)
     return d->xfer_size / from * (d->opcode == DSA_OPCODE_DIF_STRP ? block : block + 8);
 }
 
-/// What one descriptor reads and writes: at most four ranges.
+/// What one descriptor reads and writes: at most four spans.
 static void add_descriptor(struct flying *f, const descriptor *d, int member)
 {
     const uint64_t size = d->xfer_size;
     const unsigned op = d->opcode, asks = IDXD_OP_FLAG_CRAV | IDXD_OP_FLAG_RCR;
+    const unsigned start = f->count;
     const bool is_dif = op >= DSA_OPCODE_DIF_CHECK && op <= DSA_OPCODE_DIF_UPDT;
     const bool reads = op == DSA_OPCODE_MEMMOVE || (op >= DSA_OPCODE_COMPARE && op <= DSA_OPCODE_CR_DELTA) ||
                        op == DSA_OPCODE_DUALCAST || op == DSA_OPCODE_CRCGEN || op == DSA_OPCODE_COPY_CRC || is_dif;
@@ -73,6 +79,8 @@ static void add_descriptor(struct flying *f, const descriptor *d, int member)
         add(f, d->src_addr, size, member, false);
     if (op == DSA_OPCODE_AP_DELTA)
         add(f, d->src_addr, d->delta_rec_size, member, false);
+    if ((op == DSA_OPCODE_CRCGEN || op == DSA_OPCODE_COPY_CRC) && d->flags & SEED_IS_READ)
+        add(f, d->seed_addr, sizeof d->crc_seed, member, false);
     if (op == DSA_OPCODE_COMPARE || op == DSA_OPCODE_CR_DELTA)
         add(f, d->src2_addr, size, member, false);
     if (op == DSA_OPCODE_MEMMOVE || op == DSA_OPCODE_MEMFILL || op == DSA_OPCODE_AP_DELTA ||
@@ -86,59 +94,64 @@ static void add_descriptor(struct flying *f, const descriptor *d, int member)
         add(f, d->dst_addr, dif_written(d), member, true);
     if ((d->flags & asks) == asks) {
         add(f, d->completion_addr, sizeof(struct dsa_completion_record), member, true);
-        f->ranges[f->count - 1].is_record = true;
+        f->spans[f->count - 1].is_record = true;
     }
+    for (unsigned i = start; i < f->count; i++)
+        f->spans[i].operation = d->opcode;
 }
 
-static void land(struct recorded *r, size_t at)
+static struct flying *find(const struct recorded *r, uint64_t number)
 {
-    free(r->flying[at].ranges);
-    free(r->flying[at].epoch);
-    memmove(r->flying + at, r->flying + at + 1, (--r->count - at) * sizeof *r->flying);
+    return number < r->count ? r->flying[number] : NULL;
 }
 
-static struct flying *find(struct recorded *r, uint64_t number)
+/// The program may know of the end of a submission, so it is no longer looked at.
+static void land(struct recorded *r, struct flying *f)
 {
-    for (size_t i = 0; i < r->count; i++)
-        if (r->flying[i].number == number)
-            return &r->flying[i];
-    return NULL;
+    for (unsigned i = 0; i < f->count; i++)
+        spans_remove(&r->spans, &f->spans[i]);
+    if (f->after)
+        f->after->before = f->before;
+    else
+        r->queues[f->queue].last = f->before;
+    if (f->before)
+        f->before->after = f->after;
+    r->flying[f->number] = NULL;
+    free(f->spans);
+    free(f->first);
+    free(f->epoch);
+    free(f);
 }
 
-/// The program may know of the end of a submission. One who knows of a drain knows of all before it in its queue.
-static void end_of(struct recorded *r, uint64_t number)
+/// One who knows of a submission's end knows, if it is a drain, of all before it in its queue.
+static void end_of(struct recorded *r, struct flying *f)
 {
-    struct flying *f = find(r, number);
-    if (!f)
+    while (f->is_drain && f->before)
+        land(r, f->before);
+    land(r, f);
+}
+
+static void end_of_spans(struct recorded *r, struct flying *f, int member)
+{
+    if (f->epoch[member] == KNOWN)
         return;
-    const struct flying drain = *f;
-    land(r, f - r->flying);
-    for (size_t i = r->count; drain.is_drain && i-- > 0;)
-        if (r->flying[i].number < drain.number && strcmp(r->flying[i].queue, drain.queue) == 0)
-            land(r, i);
+    f->epoch[member] = KNOWN;
+    f->unknown--;
+    for (unsigned i = f->first[member + 1]; i < f->first[member + 2]; i++)
+        spans_remove(&r->spans, &f->spans[i]);
 }
 
 /// A member has ended and told so: the program knows of it, and of all before the fence that it waited for.
-static void end_of_member(struct recorded *r, uint64_t number, int member)
+static void end_of_member(struct recorded *r, struct flying *f, int member)
 {
-    struct flying *f = find(r, number);
-    size_t kept = 0;
-    if (!f || member < 0 || member >= f->members || f->epoch[member] < 0)
+    if (member < 0 || member >= f->members || f->epoch[member] == NOT_TOLD || f->epoch[member] == KNOWN)
         return;
     const int before = f->epoch[member];
-    for (size_t i = 0; i < f->count; i++) {
-        const struct range *it = &f->ranges[i];
-        if (it->member < 0 || (it->member != member && it->member >= before))
-            f->ranges[kept++] = *it;
-    }
-    f->count = kept;
-    for (int i = 0; i < f->members; i++)
-        if (i == member || i < before) {
-            f->unknown -= f->epoch[i] != INT_MAX;
-            f->epoch[i] = INT_MAX;
-        }
+    end_of_spans(r, f, member);
+    for (; f->ended < before; f->ended++)
+        end_of_spans(r, f, f->ended);
     if (f->unknown == 0) /* it has read its list too */
-        land(r, f - r->flying);
+        land(r, f);
 }
 
 static void name_of(char to[64], uint64_t number, int member)
@@ -149,45 +162,43 @@ static void name_of(char to[64], uint64_t number, int member)
         snprintf(to, 64, "member %d of submission %" PRIu64, member, number);
 }
 
-static void show(const struct flying *f, const struct range *later, const struct flying *o, const struct range *earlier)
+static const char *operation_name(uint8_t operation)
+{
+    static const char *const names[] = {
+        [DSA_OPCODE_NOOP] = "no-op", [DSA_OPCODE_BATCH] = "batch", [DSA_OPCODE_DRAIN] = "drain",
+        [DSA_OPCODE_MEMMOVE] = "move", [DSA_OPCODE_MEMFILL] = "fill", [DSA_OPCODE_COMPARE] = "compare",
+        [DSA_OPCODE_COMPVAL] = "compare with a pattern", [DSA_OPCODE_CR_DELTA] = "create delta",
+        [DSA_OPCODE_AP_DELTA] = "apply delta", [DSA_OPCODE_DUALCAST] = "dualcast", [DSA_OPCODE_CRCGEN] = "CRC",
+        [DSA_OPCODE_COPY_CRC] = "copy with CRC", [DSA_OPCODE_DIF_CHECK] = "DIF check",
+        [DSA_OPCODE_DIF_INS] = "DIF insert", [DSA_OPCODE_DIF_STRP] = "DIF strip", [DSA_OPCODE_DIF_UPDT] = "DIF update",
+    };
+    const char *name = operation < sizeof names / sizeof *names ? names[operation] : NULL;
+    return name ? name : "another operation";
+}
+
+static void show(const struct recorded *r, const struct span *later, const struct span *earlier)
 {
     char name[64], other[64];
     const char *kind = !later->writes ? "read after write" : earlier->writes ? "write after write" : "write after read";
-    name_of(name, f->number, later->member);
-    name_of(other, o->number, earlier->member);
-    printf("%s: error: missing wait, %s: %s what %s, in flight, %s, at %#" PRIx64 "%s\n", name, kind,
-           later->writes ? "writes" : "reads", other, earlier->writes ? "writes" : "reads",
-           later->low > earlier->low ? later->low : earlier->low,
-           later->is_record || earlier->is_record ? ", in a completion record" : "");
+    name_of(name, later->of->number, later->member);
+    name_of(other, earlier->of->number, earlier->member);
+    fprintf(r->report, "%s: error: missing wait, %s: %s what %s, in flight, %s, at %#" PRIx64 "%s", name, kind,
+            later->writes ? "writes" : "reads", other, earlier->writes ? "writes" : "reads",
+            later->low > earlier->low ? later->low : earlier->low,
+            later->is_record || earlier->is_record ? ", in a completion record" : "");
+    fprintf(r->report, " (%s on %s after %s on %s)\n", operation_name(later->operation),
+            r->queues[later->of->queue].name, operation_name(earlier->operation),
+            r->queues[earlier->of->queue].name);
 }
 
-static int by_low(const void *one, const void *other)
+/// The first conflict of a new submission with one in flight.
+static void compare(struct recorded *r, const struct flying *f)
 {
-    const struct range *a = one, *b = other;
-    return a->low < b->low ? -1 : a->low > b->low;
-}
-
-/// The first conflict of a new submission with one in flight; its own ranges are in order.
-static void compare(struct recorded *r, const struct flying *f, uint64_t longest, const struct flying *o)
-{
-    for (size_t i = 0; i < o->count; i++) {
-        const struct range *earlier = &o->ranges[i];
-        size_t from = 0, to = f->count;
-        while (from < to) { /* the first that may reach this one */
-            const size_t middle = (from + to) / 2;
-            if (f->ranges[middle].low + longest <= earlier->low)
-                from = middle + 1;
-            else
-                to = middle;
-        }
-        for (; from < f->count && f->ranges[from].low < earlier->high; from++) {
-            const struct range *later = &f->ranges[from];
-            if (later->high <= earlier->low || !(later->writes || earlier->writes))
-                continue;
-            if (r->found++ < MOST_SHOWN)
-                show(f, later, o, earlier);
-            return;
-        }
+    const struct span *earlier = NULL;
+    for (unsigned i = 0; i < f->count && !earlier; i++) {
+        earlier = spans_conflict(&r->spans, &f->spans[i]);
+        if (earlier && r->found++ < MOST_SHOWN)
+            show(r, &f->spans[i], earlier);
     }
 }
 
@@ -205,11 +216,11 @@ static bool seek(struct recorded *r, unsigned part, unsigned long entry)
     return r->entries && fseek(r->entries, (long)entry * ENTRY, SEEK_SET) == 0;
 }
 
-/// Whether the end of a descriptor is told: by a record, or by an interrupt.
+/// Whether the end of a descriptor is told by a record. No interrupt comes.
 static bool tells(const descriptor *d)
 {
     const unsigned asks = IDXD_OP_FLAG_CRAV | IDXD_OP_FLAG_RCR;
-    return (d->flags & asks) == asks || d->flags & IDXD_OP_FLAG_RCI;
+    return (d->flags & asks) == asks;
 }
 
 /// The descriptor of a submission and its members.
@@ -220,47 +231,67 @@ static bool read_descriptors(struct recorded *r, struct flying *f)
     for (int i = -1; i < f->members; i++) {
         if (fread(&d, sizeof d, 1, r->entries) != 1)
             return false;
+        f->first[i + 1] = f->count;
         add_descriptor(f, &d, i);
         if (i < 0)
             f->tells = tells(&d);
         else {
             epoch = d.flags & IDXD_OP_FLAG_FENCE ? i : epoch;
-            f->epoch[i] = tells(&d) ? epoch : -1;
+            f->epoch[i] = tells(&d) ? epoch : NOT_TOLD;
         }
     }
     return true;
 }
 
-/// A submission: compared with all in flight, and then one of them.
-static bool submitted(struct recorded *r, const char *line)
+/// The number of a queue of this name; -1 if there are too many.
+static int queue_of(struct recorded *r, const char *name)
 {
-    struct flying f = {0};
-    unsigned op, members, part;
-    unsigned long entry;
-    uint64_t longest = 0;
-    if (sscanf(line, "S %" SCNu64 " %15s op %u members %u tid %*u part %u entry %lu", &f.number, f.queue, &op, &members,
-               &part, &entry) != 6 ||
-        !seek(r, part, entry))
-        return false;
-    f.is_drain = op == DSA_OPCODE_DRAIN;
-    f.members = f.unknown = (int)members;
-    f.ranges = grown(NULL, sizeof *f.ranges * 4 * (members + 1ul));
-    f.epoch = grown(NULL, sizeof *f.epoch * (members + 1ul));
-    if (!read_descriptors(r, &f)) {
-        free(f.ranges);
-        free(f.epoch);
-        return false;
-    }
-    qsort(f.ranges, f.count, sizeof *f.ranges, by_low);
-    for (size_t i = 0; i < f.count; i++)
-        if (f.ranges[i].high - f.ranges[i].low > longest)
-            longest = f.ranges[i].high - f.ranges[i].low;
-    for (size_t i = 0; i < r->count; i++)
-        compare(r, &f, longest, &r->flying[i]);
+    int i = 0;
+    while (i < MOST_QUEUES && r->queues[i].name[0] && strcmp(r->queues[i].name, name))
+        i++;
+    if (i == MOST_QUEUES)
+        return -1;
+    snprintf(r->queues[i].name, sizeof r->queues[i].name, "%s", name);
+    return i;
+}
+
+/// Puts a submission among those in flight, the last of its queue.
+static void put_in(struct recorded *r, struct flying *f)
+{
     if (r->count == r->room)
         r->flying = grown(r->flying, sizeof f * (r->room = 2 * r->room + 16));
     r->flying[r->count++] = f;
-    return true;
+    f->before = r->queues[f->queue].last;
+    if (f->before)
+        f->before->after = f;
+    r->queues[f->queue].last = f;
+    for (unsigned i = 0; i < f->count; i++)
+        spans_add(&r->spans, &f->spans[i]);
+}
+
+/// A submission: compared with all in flight, and then one of them.
+static bool submitted(struct recorded *r, const char *line)
+{
+    uint64_t number;
+    char queue[16];
+    unsigned op, members, part;
+    unsigned long entry;
+    if (sscanf(line, "S %" SCNu64 " %15s op %u members %u tid %*u part %u entry %lu", &number, queue, &op, &members,
+               &part, &entry) != 6 ||
+        number != r->count || members > MOST_MEMBERS || queue_of(r, queue) < 0 || !seek(r, part, entry))
+        return false;
+    struct flying *f = grown(NULL, sizeof *f);
+    *f = (struct flying){.number = number, .queue = queue_of(r, queue), .is_drain = op == DSA_OPCODE_DRAIN};
+    f->members = f->unknown = (int)members;
+    f->spans = grown(NULL, sizeof *f->spans * 4 * (members + 1ul));
+    f->first = grown(NULL, sizeof *f->first * (members + 2ul));
+    f->epoch = grown(NULL, sizeof *f->epoch * (members + 1ul));
+    const bool is_read = read_descriptors(r, f);
+    f->first[members + 1] = f->count;
+    if (is_read)
+        compare(r, f);
+    put_in(r, f);
+    return is_read;
 }
 
 /// One event.
@@ -273,19 +304,21 @@ static bool event(struct recorded *r, const char *line)
     if (sscanf(line + 1, " %" SCNu64, &number) != 1)
         return false;
     struct flying *f = find(r, number);
+    if (!f)
+        return true;
     if (*line == 'c' && sscanf(line, "c %*u %d", &member) == 1)
-        end_of_member(r, number, member);
-    else if (*line == 'W' && f)
+        end_of_member(r, f, member);
+    else if (*line == 'W')
         f->is_watched = true;
-    else if (*line == 'K' || (*line == 'C' && f && f->tells && !f->is_watched))
-        end_of(r, number);
+    else if (*line == 'K' || (*line == 'C' && f->tells && !f->is_watched))
+        end_of(r, f);
     return true;
 }
 
 /// How many submissions conflict with one in flight; -1, after a sentence, if the recording can't be read.
-long waits_missing(const char *records, const char *base)
+long waits_missing(const char *records, const char *base, FILE *report)
 {
-    struct recorded r = {.records = records, .base = base};
+    struct recorded r = {.records = records, .base = base, .report = report};
     char path[PATH_MAX], name[NAME_MAX + 32], line[256];
     snprintf(name, sizeof name, "%s.events", base);
     FILE *events = fopen(joined(path, records, name), "r");
@@ -297,9 +330,10 @@ long waits_missing(const char *records, const char *base)
         r.found = -1;
     }
     if (r.found > MOST_SHOWN)
-        printf("and %ld more missing waits\n", r.found - MOST_SHOWN);
-    while (r.count)
-        land(&r, r.count - 1);
+        fprintf(report, "and %ld more missing waits\n", r.found - MOST_SHOWN);
+    for (size_t i = 0; i < r.count; i++)
+        if (r.flying[i])
+            land(&r, r.flying[i]);
     free(r.flying);
     if (r.entries)
         fclose(r.entries);

@@ -38,6 +38,24 @@ static void missing_pages(void)
     done(d, "read");
 }
 
+/* Buffers that are unmapped, beyond the end of their file, or can only be read; and a record that can't be written. */
+static void gone(void)
+{
+    uint8_t *unmapped = fresh(PAGE), *beyond, *constant = fresh(PAGE);
+    FILE *file = tmpfile();
+    munmap(unmapped, PAGE);
+    done(move(memory, unmapped, 8, r), "to an unmapped page");
+    done(move(unmapped, memory, 8, r), "from an unmapped page");
+    beyond = mmap(NULL, PAGE, PROT_READ | PROT_WRITE, MAP_SHARED, fileno(file), 0);
+    done(move(memory, beyond, 8, r), "beyond the end of a file");
+    mprotect(constant, PAGE, PROT_READ);
+    done(move(memory, constant, 8, r), "to a page that is read alone");
+    descriptor d = move(memory, memory + PAGE, 8, r);
+    d.completion_addr = (uintptr_t)constant;
+    submit(portal, &d);
+    done(move(memory, memory + 128, 8, r), "the next");
+}
+
 /* Batches whose list is not there, begins at an odd place, or has too few or too many members. */
 static void lists(void)
 {
@@ -69,6 +87,9 @@ static void refused(void)
     d = move(memory, memory + PAGE, 64, r);
     d.flags |= IDXD_OP_FLAG_CR;
     done(d, "check result of a move");
+    d = move(memory, memory + PAGE, 64, r);
+    d.flags |= IDXD_OP_FLAG_RCI;
+    done(d, "interrupt");
     d = move(memory, memory + PAGE, 64, r);
     d.opcode = 0x0a;
     done(d, "operation 0xa");
@@ -281,7 +302,7 @@ int main(int argc, char **argv)
     memory = fresh(3 * PAGE);
     mprotect(memory + 2 * PAGE, PAGE, PROT_NONE);
     static const struct plain { const char *name; void (*run)(void); } plain[] = {
-        {"pages", missing_pages}, {"lists", lists}, {"record", odd_record}, {"refused", refused},
+        {"pages", missing_pages}, {"gone", gone}, {"lists", lists}, {"record", odd_record}, {"refused", refused},
         {"unreadable", unreadable}, {"child", child}, {"partial", partial}, {"retried", retried},
         {"written", written}, {"full", full}, {"maps", maps},
     };

@@ -1,5 +1,6 @@
 /* Each operation once, against values from elsewhere: the check values of CRC-32C and of the T10 checksum for the
- * digits 1 to 9, and fields written by hand. Status 0 when all are right; else it says which are not. */
+ * digits 1 to 9, the polynomial 0x1edc6f41, and fields written by hand. Status 0 when all are right; else it says which
+ * are not. */
 #include "client.h"
 
 static void *portal;
@@ -98,6 +99,51 @@ static void checksums(void)
     expect("its copy", memcmp(b, "123456789", 9), 0);
 }
 
+/* A checksum of one byte without inversion. A byte of which the last bit alone is set leaves the polynomial, and one of
+ * zeros moves the seed by a byte. */
+static uint32_t plain_checksum(uint8_t byte, uint32_t seed, unsigned flags)
+{
+    descriptor d = operation(DSA_OPCODE_CRCGEN, a, NULL, 1);
+    d.flags |= flags;
+    d.crc_seed = flags & 0x10000 ? 0 : seed;
+    d.seed_addr = flags & 0x10000 ? (uintptr_t)b : 0;
+    memcpy(b, &seed, sizeof seed);
+    a[0] = byte;
+    expect("a plain checksum", done(d), DSA_COMP_SUCCESS);
+    return r->crc_val;
+}
+
+/* 0x10000: the seed is read. 0x20000: neither inversion nor reflection of the checksum. 0x40000: none of the data. */
+static void checksum_flags(void)
+{
+    expect("neither", plain_checksum(0x01, 0, 0x60000), 0x1edc6f41);
+    expect("the data reflected", plain_checksum(0x80, 0, 0x20000), 0x1edc6f41);
+    expect("the checksum reflected and inverted", plain_checksum(0x01, ~0u, 0x40000), ~0x82f63b78u);
+    expect("a seed", plain_checksum(0, 0x12, 0x60000), 0x1200);
+    expect("a seed that is read", plain_checksum(0, 0x12, 0x70000), 0x1200);
+    expect("a seed of which a byte leaves", plain_checksum(0, 0x01000000, 0x60000), 0x1edc6f41);
+}
+
+/* Parts of the source's fields that pass through an update of those below: flags of the destination. The guard of the
+ * first is wrong, which flag 0x20 of the source leaves unchecked. */
+static void passing(descriptor d)
+{
+    d.src_upd_flags = 0x20;
+    b[512] = 0xaa, b[513] = 0xbb;
+    for (unsigned flags = 0; flags < 8; flags++) {
+        uint8_t first[8] = {0xd0, 0xdb, 0x56, 0x78, 0, 0, 0, 1}, second[8] = {0, 0, 0x56, 0x78, 0, 0, 0, 2};
+        d.upd_dest_flags = (flags & 1 ? 0x08 : 0) | (flags & 2 ? 0x20 : 0) | (flags & 4 ? 0x40 : 0);
+        if (flags & 1)
+            memcpy(first + 2, "\x12\x34", 2), memcpy(second + 2, "\x12\x34", 2);
+        if (flags & 2)
+            memcpy(first, "\xaa\xbb", 2);
+        if (flags & 4)
+            first[7] = 9, second[7] = 10;
+        expect("an update with parts that pass", done(d), DSA_COMP_SUCCESS);
+        expect("its fields", memcmp(c + 512, first, 8) | memcmp(c + 1032, second, 8), 0);
+    }
+}
+
 /* Block 1 is 503 zero bytes and the digits, of which the checksum is that of the digits, 0xd0db. Block 2 is zeros. */
 static void integrity(void)
 {
@@ -113,8 +159,10 @@ static void integrity(void)
     d.chk_app_tag_seed = 0x1234;
     d.chk_ref_tag_seed = 9;
     expect("checking them", done(d), DSA_COMP_SUCCESS);
+    expect("the next tags", (unsigned long)r->dif_chk_ref_tag << 16 | r->dif_chk_app_tag, 11 << 16 | 0x1234);
     d.chk_ref_tag_seed = 8;
     expect("another reference", done(d) << 8 | r->dif_status, DSA_COMP_DIF_ERR << 8 | 4);
+    expect("the reference that was expected", r->dif_chk_ref_tag, 8);
     d.chk_ref_tag_seed = 9;
     d.chk_app_tag_seed = 0x1235;
     expect("another application", done(d) << 8 | r->dif_status, DSA_COMP_DIF_ERR << 8 | 2);
@@ -133,6 +181,30 @@ static void integrity(void)
     expect("updating them", done(d), DSA_COMP_SUCCESS);
     expect("the new fields",
            memcmp(c + 512, "\xd0\xdb\x56\x78\0\0\0\1", 8) | memcmp(c + 1032, "\0\0\x56\x78\0\0\0\2", 8), 0);
+    expect("the next of them", (unsigned long)r->dif_upd_dest_ref_tag << 16 | r->dif_upd_dest_app_tag, 3 << 16 | 0x5678);
+    passing(d);
+}
+
+/* Operations on fields that come to a page that is missing: 15 blocks of 520 bytes are in two pages. */
+static void integrity_stops(void)
+{
+    uint8_t *pages = fresh(3 * 4096);
+    mprotect(pages + 2 * 4096, 4096, PROT_NONE);
+    descriptor d = operation(DSA_OPCODE_DIF_CHECK, pages, NULL, 20 * 520);
+    d.src_dif_flags = 0x50; /* references unchecked, application tags count */
+    d.chk_ref_tag_seed = 9;
+    d.chk_app_tag_mask = 0xffff;
+    expect("a check that stops", done(d), DSA_COMP_PAGE_FAULT_IR);
+    expect("its bytes", r->bytes_completed, 15 * 520);
+    expect("its tags", (unsigned long)r->dif_chk_ref_tag << 16 | r->dif_chk_app_tag, 24 << 16 | 15);
+    expect("its mask", r->dif_chk_app_tag_mask, 0xffff);
+    memset(a, 0, ROOM);
+    d = operation(DSA_OPCODE_DIF_INS, a, pages, 20 * 512);
+    d.ins_ref_tag_seed = 9;
+    d.ins_app_tag_seed = 7;
+    expect("an insertion that stops", done(d), DSA_COMP_PAGE_FAULT_IR | DSA_COMP_STATUS_WRITE);
+    expect("its bytes", r->bytes_completed, 15 * 512);
+    expect("its tags", (unsigned long)r->dif_ins_ref_tag << 16 | r->dif_ins_app_tag, 24 << 16 | 7);
 }
 
 __attribute__((target("movdir64b,movdiri"))) static void store(const uint8_t *from)
@@ -188,7 +260,9 @@ int main(void)
     compares();
     deltas();
     checksums();
+    checksum_flags();
     integrity();
+    integrity_stops();
     failing_batch();
     instructions();
     return faults ? WRONG : 0;

@@ -6,6 +6,7 @@
  *   polled  eight moves at once, apart, then their records are polled
  *   sleep   does not wait, but sleeps for 20 ms between the two
  *   blind   the same, and the first has no record
+ *   early   one move, of which c is read before its record is there
  *   after   a batch of four, of which the third comes after a fence and has the only record; the second comes after it
  * Status 0: c is right, 3: c is wrong. */
 #include "client.h"
@@ -63,6 +64,15 @@ static void after_a_fence(void *portal, uint8_t *a, volatile completion *r)
     await(&r[1]);
 }
 
+static int read_early(void *portal, uint8_t *a, volatile completion *r)
+{
+    const descriptor d = move(a, a + 2 * SIZE, SIZE, r);
+    submit(portal, &d);
+    const int is_wrong = memcmp(a, a + 2 * SIZE, SIZE);
+    await(r);
+    return is_wrong ? WRONG : 0;
+}
+
 static void alone(void *portal, const char *mode, uint8_t *a, volatile completion *r)
 {
     uint8_t *b = a + SIZE, *c = b + SIZE;
@@ -92,6 +102,8 @@ int main(int argc, char **argv)
         memset(a + i * SIZE, 'a' + i, SIZE);
     if (strcmp(mode, "polled") == 0)
         return copied_apart(portal, r);
+    if (strcmp(mode, "early") == 0)
+        return read_early(portal, a, r);
     if (strcmp(mode, "after") == 0)
         after_a_fence(portal, a, r);
     else if (strncmp(mode, "fence", 5) == 0 || strcmp(mode, "member") == 0)

@@ -1,0 +1,7 @@
+/* Prints the missing waits of one recording: waits FOLDER NAME, of NAME.dsa and NAME.events. */
+#include "launcher.h"
+
+int main(int argc, char **argv)
+{
+    return argc != 3 || waits_missing(argv[1], argv[2], stdout) < 0;
+}

@@ -1,0 +1,120 @@
+/* What is submitted: whether the queue takes it, its members as they are now, its recording, and its place among what
+ * is in flight. */
+#include "order.h"
+
+#include <sys/mman.h>
+#include <sys/syscall.h>
+#include <unistd.h>
+
+static struct submission *take_unused(void)
+{
+    struct submission *s = order.unused;
+    if (s) {
+        order.unused = s->next;
+        return s;
+    }
+    s = mmap(NULL, sizeof *s, PROT_READ | PROT_WRITE, MAP_PRIVATE | MAP_ANONYMOUS, -1, 0);
+    if (s != MAP_FAILED)
+        return s;
+    say("no memory for another submission in flight");
+    return NULL;
+}
+
+/// A batch without members: its list can't be read, or the device refuses it. It is recorded with none.
+static void refuse_batch(struct submission *s, const completion *r)
+{
+    descriptor empty = s->entry;
+    empty.desc_count = 0;
+    say("batch %lu of %u descriptors at %#lx is refused with status %#x (%s)", s->number, s->entry.desc_count,
+        (unsigned long)s->entry.desc_list_addr, r->status, valid_name(r->status));
+    record_submission(&(struct submitted){s->number, s->queue, &empty, NULL, 0});
+    record_event('C', s->number, -1, r->status);
+    order.records += execute_record(&s->entry, r);
+    order_give_back(s);
+}
+
+static void put_in(struct submission *s)
+{
+    for (unsigned i = 0; i < s->count; i++)
+        s->turn[i] = i;
+    order_find_epoch(s);
+    s->next = NULL;
+    *order.tail = s;
+    order.tail = &s->next;
+    s->queue->in_flight++;
+    const unsigned asks = IDXD_OP_FLAG_CRAV | IDXD_OP_FLAG_RCR;
+    if (settings.watch && (s->entry.flags & asks) == asks)
+        s->watch = watch_open(s->entry.completion_addr, order.worker);
+    if (s->watch >= 0)
+        record_event('W', s->number, -1, -1);
+}
+
+/// Takes what is submitted: copies, records, and does it or leaves it to the worker. Called with the lock.
+static void take_in(struct queue *q, const descriptor *d)
+{
+    completion r;
+    struct submission *s = take_unused();
+    if (!s)
+        return;
+    s->number = order.submitted++;
+    s->queue = q;
+    s->entry = *d;
+    s->is_batch = d->opcode == DSA_OPCODE_BATCH;
+    s->has_failed = s->is_done = false;
+    s->watch = -1;
+    s->begun = 0;
+    s->count = 1;
+    s->members[0] = *d;
+    if (settings.watch)
+        watch_note_seen();
+    if (s->is_batch && execute_take(s, &r) != DSA_COMP_SUCCESS) {
+        refuse_batch(s, &r);
+        return;
+    }
+    order.batches += s->is_batch;
+    order.members += s->is_batch ? s->count : 0;
+    record_submission(&(struct submitted){s->number, q, d, s->members, s->is_batch ? s->count : 0});
+    put_in(s);
+    if (order_is_async()) {
+        pace_begin(&order.pace, (pid_t)syscall(SYS_gettid));
+        if (order.sleeps)
+            pthread_cond_signal(&order.work);
+        return;
+    }
+    while (!s->is_done)
+        order_step(s);
+}
+
+/// Whether the queue has room for it; MOVDIR64B does not learn that it has none.
+static bool has_room(struct queue *q, bool is_enqueued)
+{
+    if (q->in_flight < q->size && !(is_enqueued && settings.retry && random_next(&order.retries) % settings.retry == 0))
+        return true;
+    if (is_enqueued)
+        order.retried++;
+    else if (!order.dropped++)
+        say("wq%d.%d is full (%u in flight): MOVDIR64B is lost", q->device, q->id, q->size);
+    return false;
+}
+
+/// Says once of a queue that a device would not take what is submitted so; here it is taken.
+static void note_mode(struct queue *q, bool is_enqueued)
+{
+    if (is_enqueued != q->is_shared && !q->is_mistaken)
+        say("%s to wq%d.%d, which is %s: a device does not take it", is_enqueued ? "ENQCMD" : "MOVDIR64B", q->device,
+            q->id, q->is_shared ? "shared" : "dedicated");
+    q->is_mistaken |= is_enqueued != q->is_shared;
+}
+
+/// One submission, in the handler of signals or in a write to a queue's file.
+enum accepted order_submit(struct queue *q, const descriptor *d, bool is_enqueued)
+{
+    order_start();
+    pthread_mutex_lock(&order.lock);
+    note_mode(q, is_enqueued);
+    const bool is_taken = has_room(q, is_enqueued);
+    if (is_taken)
+        take_in(q, d);
+    pthread_mutex_unlock(&order.lock);
+    return is_taken || !is_enqueued ? ACCEPTED : FULL;
+}

@@ -1,0 +1,36 @@
+use Rattle.std.proofs.Common.{◌↔◌, ◌⊎◌, inl, inr, subst, arith}
+use Rattle.std.proofs.lemmas.List.{take_all}
+use Rattle.std.proofs.lemmas.Option.{slice_get-get_or}
+use Rattle.dsa_descriptor.specs.Spans.{InSome, span}
+use Rattle.dsa_tracker.specs.Kept.{kept}
+use Rattle.dsa_tracker.proofs.Words.{in_taken}
+use Rattle.dsa_tracker.proofs.kept.append.Goals as goal
+
+pub push-requires-clause-room : goal.push-requires-clause-room
+push-requires-clause-room c = omega (arith, c.requires.room, c.loop-span.invariant.count, c.loop-span-test.true, c.loop-span.auto.store)
+
+pub push-requires-clause-addressable : goal.push-requires-clause-addressable
+push-requires-clause-addressable c = c.requires.addressable c.loop-span.span-index _ (slice_get-get_or c.args.spans.now c.loop-span.span-index (span 0 0) c.loop-span-test.true)
+
+pub loop-span-preserved : goal.loop-span-preserved
+loop-span-preserved c =
+    record {
+      spans = λ a.
+          let so_far = c.loop-span.invariant.spans a in
+          let here = c.push.ensures.spans a in
+          let more = in_taken c.args.spans.now c.loop-span.span-index (span 0 0) a c.loop-span-test.true in (
+            λ h. elim (here.0 h) [
+              | inl before ↦ elim (so_far.0 before) [ inl first ↦ inl first | inr earlier ↦ inr (more.1 (inl earlier)) ]
+              | inr now ↦ inr (more.1 (inr now))
+            ],
+            λ h. elim h [
+              | inl first ↦ here.1 (inl (so_far.1 (inl first)))
+              | inr some ↦ elim (more.0 some) [ inl earlier ↦ here.1 (inl (so_far.1 (inr earlier))) | inr now ↦ here.1 (inr now) ]
+            ],
+          );
+      count = omega (arith, c.loop-span.invariant.count, c.push.ensures.count);
+    }
+
+pub returns-clause-spans : goal.returns-clause-spans
+returns-clause-spans c =
+    λ a. subst (λ xs. InSome (kept c.loop-span.store) a ↔ (InSome (kept c.args.store.now) a ⊎ InSome xs a)) (take_all c.loop-span.span-index c.args.spans.now c.loop-span-test.false) (c.loop-span.invariant.spans a)

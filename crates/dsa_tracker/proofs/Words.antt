@@ -5,11 +5,7 @@ use Rattle.std.proofs.lemmas.Bool.{cases_eq, cases_lt}
 use Rattle.std.proofs.lemmas.List.{length-set, get_or-set_same, get_or-set_other, take_more}
 use Rattle.dsa_descriptor.specs.declared.span.Span.{Span}
 use Rattle.dsa_descriptor.specs.Spans.{InSome, InSpan}
-use Rattle.dsa_tracker.specs.Kept.{Touches, kept, kept_count, kept_span}
-
--- one of the first n kept spans has the address
-abbrev pub IsKeptBelow : List ℕ → ℕ → ℕ → Type 0
-IsKeptBelow store n a = (i : ℕ) × (i < n) × InSpan (kept_span store i) a
+use Rattle.dsa_tracker.specs.Kept.{InFirst, Touches, kept, kept_count, kept_span}
 
 abbrev InRange : (ℕ → Span) → ℕ → ℕ → ℕ → Type 0
 InRange f from n a = (i : ℕ) × (from ≤ i) × (i < from + n) × InSpan (f i) a
@@ -41,7 +37,7 @@ in_range f from (suc n) a = in_range_more f from n a (in_range f (from + 1) n a)
 pub count_is : (store : List ℕ) (n : ℕ) → get_or store 0 0 ≡ n → 2 * n < length store → kept_count store ≡ n
 count_is store n is room = omega (arith, is, room)
 
-pub in_kept : (store : List ℕ) (n a : ℕ) → kept_count store ≡ n → InSome (kept store) a ↔ IsKeptBelow store n a
+pub in_kept : (store : List ℕ) (n a : ℕ) → kept_count store ≡ n → InSome (kept store) a ↔ InFirst store n a
 in_kept store n a is = (
   λ h. let r = (in_range (kept_span store) 0 (kept_count store) a).0 h in let lt = r.2 in (r.0, omega (arith, lt, is), r.3),
   λ h. let lt = h.1 in (in_range (kept_span store) 0 (kept_count store) a).1 (h.0, omega arith, omega (arith, lt, is), h.2),
@@ -65,90 +61,57 @@ same_span store new i a first_is last_is = (
 )
 
 -- a span is added at the end
-module _ (store : List ℕ) (first last : ℕ) (room : 2 * get_or store 0 0 + 2 < length store) where
-  abbrev held : ℕ
-  held = get_or store 0 0
-
+module _ (store : List ℕ) (held first last : ℕ) (room : 2 * held + 2 < length store) where
   abbrev one : List ℕ
   one = set store (2 * held + 1) first
 
-  abbrev two : List ℕ
-  two = set one (2 * held + 2) last
-
   abbrev new : List ℕ
-  new = set two 0 (held + 1)
+  new = set one (2 * held + 2) last
 
   len_one : length one ≡ length store
   len_one = length-set store (2 * held + 1) first
 
-  len_two : length two ≡ length store
-  len_two = length-set one (2 * held + 2) last ∙ len_one
-
-  len : length new ≡ length store
-  len = length-set two 0 (held + 1) ∙ len_two
-
-  count_now : get_or new 0 0 ≡ held + 1
-  count_now = get_or-set_same two 0 (held + 1) 0 (omega (arith, room, len_two))
-
-  counts : kept_count new ≡ held + 1
-  counts = count_is new (held + 1) count_now (omega (arith, room, len))
-
-  same_word : (k : ℕ) → 0 < k → k < 2 * held + 1 → get_or new k 0 ≡ get_or store k 0
-  same_word k some below =
-      get_or-set_other two 0 k (held + 1) 0 (λ e. omega (arith, some, e))
-      ∙ get_or-set_other one (2 * held + 2) k last 0 (λ e. omega (arith, below, e))
+  same_word : (k : ℕ) → k < 2 * held + 1 → get_or new k 0 ≡ get_or store k 0
+  same_word k below =
+      get_or-set_other one (2 * held + 2) k last 0 (λ e. omega (arith, below, e))
       ∙ get_or-set_other store (2 * held + 1) k first 0 (λ e. omega (arith, below, e))
 
   first_now : get_or new (1 + 2 * held) 0 ≡ first
   first_now =
-      get_or-set_other two 0 (1 + 2 * held) (held + 1) 0 (λ e. omega (arith, e))
-      ∙ get_or-set_other one (2 * held + 2) (1 + 2 * held) last 0 (λ e. omega (arith, e))
+      get_or-set_other one (2 * held + 2) (1 + 2 * held) last 0 (λ e. omega (arith, e))
       ∙ ap (λ (k : ℕ). get_or one k 0) (omega arith)
       ∙ get_or-set_same store (2 * held + 1) first 0 (omega (arith, room))
 
   last_now : get_or new (2 + 2 * held) 0 ≡ last
-  last_now =
-      get_or-set_other two 0 (2 + 2 * held) (held + 1) 0 (λ e. omega (arith, e))
-      ∙ ap (λ (k : ℕ). get_or two k 0) (omega arith)
-      ∙ get_or-set_same one (2 * held + 2) last 0 (omega (arith, room, len_one))
+  last_now = ap (λ (k : ℕ). get_or new k 0) (omega arith) ∙ get_or-set_same one (2 * held + 2) last 0 (omega (arith, room, len_one))
 
   old_span : (i a : ℕ) → i < held → InSpan (kept_span new i) a ↔ InSpan (kept_span store i) a
-  old_span i a lt = same_span store new i a (same_word (1 + 2 * i) (omega arith) (omega (arith, lt))) (same_word (2 + 2 * i) (omega arith) (omega (arith, lt)))
+  old_span i a lt = same_span store new i a (same_word (1 + 2 * i) (omega (arith, lt))) (same_word (2 + 2 * i) (omega (arith, lt)))
 
-  pub added : (a : ℕ) → InSome (kept new) a ↔ (InSome (kept store) a ⊎ ((first ≤ a) × (a ≤ last)))
+  pub added : (a : ℕ) → InFirst new (held + 1) a ↔ (InFirst store held a ⊎ ((first ≤ a) × (a ≤ last)))
   added a = (there, back)
     where
-      was : kept_count store ≡ held
-      was = count_is store held refl (omega (arith, room))
-
-      there : InSome (kept new) a → InSome (kept store) a ⊎ ((first ≤ a) × (a ≤ last))
-      there h =
-          let at = (in_kept new (held + 1) a counts).0 h in
+      there : InFirst new (held + 1) a → InFirst store held a ⊎ ((first ≤ a) × (a ≤ last))
+      there at =
           let lt = at.1 in
           elim (cases_eq at.0 held) [
             | inl same ↦ inr ((span_here new held first last a first_now last_now).0 (subst (λ i. InSpan (kept_span new i) a) same at.2))
             | inr apart ↦
                 let low : at.0 < held = omega (arith, lt, apart) in
-                inl ((in_kept store held a was).1 (at.0, low, (old_span at.0 a low).0 at.2))
+                inl (at.0, low, (old_span at.0 a low).0 at.2)
           ]
 
-      back : InSome (kept store) a ⊎ ((first ≤ a) × (a ≤ last)) → InSome (kept new) a
-      back (inl h) =
-          let at = (in_kept store held a was).0 h in
-          let lt = at.1 in
-          (in_kept new (held + 1) a counts).1 (at.0, omega (arith, lt), (old_span at.0 a lt).1 at.2)
-      back (inr h) = (in_kept new (held + 1) a counts).1 (held, omega arith, (span_here new held first last a first_now last_now).1 h)
+      back : InFirst store held a ⊎ ((first ≤ a) × (a ≤ last)) → InFirst new (held + 1) a
+      back (inl at) = let lt = at.1 in (at.0, omega (arith, lt), (old_span at.0 a lt).1 at.2)
+      back (inr h) = (held, omega arith, (span_here new held first last a first_now last_now).1 h)
 
 -- the last span is made longer
-module _ (store : List ℕ) (first last n : ℕ) (n_is : get_or store 0 0 ≡ n + 1) (room : 2 * n + 2 < length store) where
+module _ (store : List ℕ) (first last n : ℕ) (room : 2 * n + 2 < length store) where
   abbrev longer : List ℕ
   longer = set store (2 * (n + 1)) last
 
   abbrev from : ℕ
   from = get_or store (1 + 2 * n) 0
-
-  same_length : length longer ≡ length store
-  same_length = length-set store (2 * (n + 1)) last
 
   other_word : (k : ℕ) → k < 2 * n + 2 → get_or longer k 0 ≡ get_or store k 0
   other_word k below = get_or-set_other store (2 * (n + 1)) k last 0 (λ e. omega (arith, below, e))
@@ -162,73 +125,87 @@ module _ (store : List ℕ) (first last n : ℕ) (n_is : get_or store 0 0 ≡ n 
   last_is : (a : ℕ) → InSpan (kept_span longer n) a ↔ ((from ≤ a) × (a ≤ last))
   last_is a = span_here longer n from last a (other_word (1 + 2 * n) (omega arith)) end_now
 
-  pub joined : get_or store (2 + 2 * n) 0 + 1 ≡ first → from ≤ get_or store (2 + 2 * n) 0 → first ≤ last → (a : ℕ) → InSome (kept longer) a ↔ (InSome (kept store) a ⊎ ((first ≤ a) × (a ≤ last)))
+  pub joined : get_or store (2 + 2 * n) 0 + 1 ≡ first → from ≤ get_or store (2 + 2 * n) 0 → first ≤ last → (a : ℕ) → InFirst longer (n + 1) a ↔ (InFirst store (n + 1) a ⊎ ((first ≤ a) × (a ≤ last)))
   joined next ordered some a = (there, back)
     where
-      was : kept_count store ≡ n + 1
-      was = count_is store (n + 1) n_is (omega (arith, room))
-
-      now : kept_count longer ≡ n + 1
-      now = count_is longer (n + 1) (other_word 0 (omega arith) ∙ n_is) (omega (arith, room, same_length))
-
       ended : InSpan (kept_span store n) a ↔ ((from ≤ a) × (a ≤ get_or store (2 + 2 * n) 0))
       ended = span_here store n from (get_or store (2 + 2 * n) 0) a refl refl
 
-      there : InSome (kept longer) a → InSome (kept store) a ⊎ ((first ≤ a) × (a ≤ last))
-      there h =
-          let at = (in_kept longer (n + 1) a now).0 h in
+      there : InFirst longer (n + 1) a → InFirst store (n + 1) a ⊎ ((first ≤ a) × (a ≤ last))
+      there at =
           let lt = at.1 in
           elim (cases_eq at.0 n) [
             | inl same ↦
                 let here = (last_is a).0 (subst (λ i. InSpan (kept_span longer i) a) same at.2) in
                 let le = here.0 in
                 elim (cases_lt a first) [
-                  | inl before ↦ inl ((in_kept store (n + 1) a was).1 (n, omega arith, ended.1 (le, omega (arith, before, next))))
+                  | inl before ↦ inl (n, omega arith, ended.1 (le, omega (arith, before, next)))
                   | inr after ↦ inr (omega (arith, after), here.1)
                 ]
             | inr apart ↦
                 let low : at.0 < n = omega (arith, lt, apart) in
-                inl ((in_kept store (n + 1) a was).1 (at.0, lt, (still at.0 a low).0 at.2))
+                inl (at.0, lt, (still at.0 a low).0 at.2)
           ]
 
-      back : InSome (kept store) a ⊎ ((first ≤ a) × (a ≤ last)) → InSome (kept longer) a
-      back (inl h) =
-          let at = (in_kept store (n + 1) a was).0 h in
+      back : InFirst store (n + 1) a ⊎ ((first ≤ a) × (a ≤ last)) → InFirst longer (n + 1) a
+      back (inl at) =
           let lt = at.1 in
           elim (cases_eq at.0 n) [
             | inl same ↦
                 let here = ended.0 (subst (λ i. InSpan (kept_span store i) a) same at.2) in
                 let le = here.0 in
                 let le' = here.1 in
-                (in_kept longer (n + 1) a now).1 (n, omega arith, (last_is a).1 (le, omega (arith, le', next, some)))
+                (n, omega arith, (last_is a).1 (le, omega (arith, le', next, some)))
             | inr apart ↦
                 let low : at.0 < n = omega (arith, lt, apart) in
-                (in_kept longer (n + 1) a now).1 (at.0, lt, (still at.0 a low).1 at.2)
+                (at.0, lt, (still at.0 a low).1 at.2)
           ]
       back (inr h) =
           let le = h.0 in
-          (in_kept longer (n + 1) a now).1 (n, omega arith, (last_is a).1 (omega (arith, le, next, ordered), h.1))
+          (n, omega arith, (last_is a).1 (omega (arith, le, next, ordered), h.1))
 
 -- the same, where the number of spans is at hand
 pub joined_at :
-    (store : List ℕ) (first last count : ℕ) → get_or store 0 0 ≡ count → 0 < count → 2 * count + 2 < length store → get_or store (2 * count) 0 + 1 ≡ first →
+    (store : List ℕ) (first last count : ℕ) → 0 < count → 2 * count + 2 < length store → get_or store (2 * count) 0 + 1 ≡ first →
     get_or store (2 * count - 1) 0 ≤ get_or store (2 * count) 0 → first ≤ last →
-    (a : ℕ) → InSome (kept (set store (2 * count) last)) a ↔ (InSome (kept store) a ⊎ ((first ≤ a) × (a ≤ last)))
-joined_at store first last zero is some room next ordered le a = absurd (omega (arith, some))
-joined_at store first last (suc n) is some room next ordered le a =
+    (a : ℕ) → InFirst (set store (2 * count) last) count a ↔ (InFirst store count a ⊎ ((first ≤ a) × (a ≤ last)))
+joined_at store first last zero some room next ordered le a = absurd (omega (arith, some))
+joined_at store first last (suc n) some room next ordered le a =
     let at : 2 * suc n ≡ 2 + 2 * n = omega arith in
     let before : 2 * suc n - 1 ≡ 1 + 2 * n = omega arith in
     let ends : get_or store (2 * suc n) 0 ≡ get_or store (2 + 2 * n) 0 = ap (λ (k : ℕ). get_or store k 0) at in
     let begins : get_or store (2 * suc n - 1) 0 ≡ get_or store (1 + 2 * n) 0 = ap (λ (k : ℕ). get_or store k 0) before in
-    let places : 2 * (n + 1) ≡ 2 * suc n = omega arith in
-    subst (λ (k : ℕ). InSome (kept (set store k last)) a ↔ (InSome (kept store) a ⊎ ((first ≤ a) × (a ≤ last)))) places
-    (joined store first last n (omega (arith, is)) (omega (arith, room)) (omega (arith, next, ends)) (omega (arith, ordered, ends, begins)) le a)
+    let same : n + 1 ≡ suc n = omega arith in
+    subst (λ (k : ℕ). InFirst (set store (2 * k) last) k a ↔ (InFirst store k a ⊎ ((first ≤ a) × (a ≤ last)))) same
+    (joined store first last n (omega (arith, room)) (omega (arith, next, ends)) (omega (arith, ordered, ends, begins)) le a)
+
+-- the words of spans, once their number is written
+pub counted : (store : List ℕ) (n : ℕ) → 2 * n < length store → (a : ℕ) → InSome (kept (set store 0 n)) a ↔ InFirst store n a
+counted store n room a = (
+  λ h. let at = (in_kept (set store 0 n) n a now).0 h in (at.0, at.1, (same at.0).0 at.2),
+  λ h. (in_kept (set store 0 n) n a now).1 (h.0, h.1, (same h.0).1 h.2),
+)
+  where
+    now : kept_count (set store 0 n) ≡ n
+    now = count_is (set store 0 n) n (get_or-set_same store 0 n 0 (omega (arith, room))) (let len = length-set store 0 n in omega (arith, len, room))
+
+    same : (i : ℕ) → InSpan (kept_span (set store 0 n) i) a ↔ InSpan (kept_span store i) a
+    same i = same_span store (set store 0 n) i a (get_or-set_other store 0 (1 + 2 * i) n 0 (λ e. omega (arith, e))) (get_or-set_other store 0 (2 + 2 * i) n 0 (λ e. omega (arith, e)))
 
 -- a span, by its first and its last address
 pub range_is : (first len a : ℕ) → (len ≡ 0 → ⊥) → ((first ≤ a) × (a ≤ first + (len - 1))) ↔ ((first ≤ a) × (a < first + len))
 range_is first len a some = (
   λ h. let le = h.1 in (h.0, omega (arith, le, some)),
   λ h. let lt = h.1 in (h.0, omega (arith, lt, some)),
+)
+
+pub then_same : {A B C : Type 0} → A ↔ B → B ↔ C → A ↔ C
+then_same one two = (λ a. two.0 (one.0 a), λ c. one.1 (two.1 c))
+
+pub through : {A B C D E : Type 0} → A ↔ B → B ↔ (C ⊎ D) → E ↔ C → A ↔ (E ⊎ D)
+through one two three = (
+  λ a. elim (two.0 (one.0 a)) [ inl c ↦ inl (three.1 c) | inr d ↦ inr d ],
+  λ h. one.1 (two.1 (elim h [ inl e ↦ inl (three.0 e) | inr d ↦ inr d ])),
 )
 
 pub second_way : {A B C D : Type 0} → A ↔ (B ⊎ C) → C ↔ D → A ↔ (B ⊎ D)

@@ -1,8 +1,8 @@
 -- Spans that are kept in words: a count, and for each span its first and its last address. Private clauses alone cite these.
-use Rattle.std.specs.Prelude.{ℕ, ◌+◌, ◌-◌, ◌*◌, ◌/◌, ◌≤◌, List, min, length, map, slice_index, slice_range}
+use Rattle.std.specs.Prelude.{ℕ, ◌+◌, ◌-◌, ◌*◌, ◌/◌, ◌<◌, ◌≤◌, List, min, length, map, slice_index, slice_range}
 use Rattle.std.specs.List.{range_with_len}
 use Rattle.dsa_descriptor.specs.declared.span.Span.{Span}
-use Rattle.dsa_descriptor.specs.Spans.{InSome}
+use Rattle.dsa_descriptor.specs.Spans.{InSome, InSpan}
 
 -- how many spans the words hold
 abbrev pub kept_count : List ℕ → ℕ
@@ -19,6 +19,10 @@ kept_span store i =
 -- all of them
 abbrev pub kept : List ℕ → List Span
 kept store = map (kept_span store) (range_with_len 0 (kept_count store))
+
+-- one of the first spans has the address
+abbrev pub InFirst : List ℕ → ℕ → ℕ → Type 0
+InFirst store count a = (i : ℕ) × (i < count) × InSpan (kept_span store i) a
 
 -- some kept span has an address from the first to the last
 abbrev pub Touches : List ℕ → ℕ → ℕ → Type 0

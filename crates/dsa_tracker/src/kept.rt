@@ -3,7 +3,7 @@
 ghost use Rattle.std.specs.Prelude.{◌≡◌, ℕ, ◌+◌, ◌-◌, ◌*◌, ◌<◌, ◌≤◌, ◌⊎◌, ◌↔◌, IsTrue, length, slice_index};
 ghost use Rattle.dsa_descriptor.specs.Spans.{InSome, InSpan, IsAddressable};
 ghost use Rattle.dsa_tracker.specs.Calls.{AreAddressable};
-ghost use Rattle.dsa_tracker.specs.Kept.{Touches, kept, kept_count, store_at};
+ghost use Rattle.dsa_tracker.specs.Kept.{InFirst, Touches, kept, kept_count, store_at};
 
 use dsa_descriptor::Span;
 
@@ -51,7 +51,29 @@ fn follows(store: &[u64], count: usize, span: Span) -> bool
     last == span.first - 1 && store[2 * count - 1] <= last
 }
 
-/// Adds a span. One that follows on the last is put together with that.
+/// Puts a span after the first ones, and answers how many there are then. One that follows on the
+/// last is put together with that.
+fn put(store: &mut [u64], count: usize, span: Span) -> usize
+    requires room { 2 * count + 2 < length store.old }
+    requires addressable { IsAddressable span }
+    ensures spans { (a : ℕ) →
+        InFirst store.new result a ↔ (InFirst store.old count a ⊎ InSpan span a) }
+    ensures count { result ≤ count + 1 }
+{
+    if span.len == 0 {
+        return count;
+    }
+    let last = span.first + (span.len - 1);
+    if follows(store, count, span) {
+        store[2 * count] = last;
+        return count;
+    }
+    store[2 * count + 1] = span.first;
+    store[2 * count + 2] = last;
+    count + 1
+}
+
+/// Adds a span.
 pub(crate) fn push(store: &mut [u64], span: Span)
     requires room { 2 * slice_index store.old 0 + 2 < length store.old }
     requires addressable { IsAddressable span }
@@ -59,18 +81,9 @@ pub(crate) fn push(store: &mut [u64], span: Span)
         InSome (kept store.new) a ↔ (InSome (kept store.old) a ⊎ InSpan span a) }
     ensures count { slice_index store.new 0 ≤ slice_index store.old 0 + 1 }
 {
-    if span.len == 0 {
-        return;
-    }
-    let count = store[0] as usize;
-    let last = span.first + (span.len - 1);
-    if follows(store, count, span) {
-        store[2 * count] = last;
-        return;
-    }
-    store[2 * count + 1] = span.first;
-    store[2 * count + 2] = last;
-    store[0] = count as u64 + 1;
+    let before = store[0] as usize;
+    let count = put(store, before, span);
+    store[0] = count as u64;
 }
 
 /// Adds these spans.
@@ -81,9 +94,11 @@ pub(crate) fn append(store: &mut [u64], spans: &[Span])
         InSome (kept store.new) a ↔ (InSome (kept store.old) a ⊎ InSome spans.now a) }
     ensures count { slice_index store.new 0 ≤ slice_index store.old 0 + length spans.now }
 {
+    let mut count = store[0] as usize;
     for span in spans {
-        push(store, *span);
+        count = put(store, count, *span);
     }
+    store[0] = count as u64;
 }
 
 /// Whether some kept span has an address from the first to the last.

@@ -21,7 +21,8 @@ use Rattle.dsa_tracker.specs.Honest.Act.{Submit, Ring, Complete, Withdraw, Work}
 use Rattle.dsa_tracker.specs.Sets.{Has}
 use Rattle.dsa_tracker.specs.Table.{Outstanding, Table, IsHeld, IsReady}
 use Rattle.dsa_tracker.proofs.Deciding.{Decided, spans_conflict}
-use Rattle.dsa_tracker.proofs.Forgotten.{set_same, set_other, element}
+use Rattle.dsa_tracker.proofs.Lists.{set_same, set_other, element}
+use Rattle.dsa_tracker.proofs.Tables.{one_way}
 
 number_same : (f : ℕ → ℕ) (slot n : ℕ) → with_number f slot n slot ≡ n
 number_same f slot n =
@@ -127,7 +128,7 @@ module _ {D P : Type 0} (machine : Machine D P) (r w : D → List Span) (tells :
     slot = submitted.slot
 
     abbrev taken : Outstanding
-    taken = record { reads = reads; writes = writes; waits = submitted.waits }
+    taken = does.call.taken
 
     abbrev after_submit : Moment P
     after_submit =
@@ -217,7 +218,10 @@ module _ {D P : Type 0} (machine : Machine D P) (r w : D → List Span) (tells :
                   let o_is : taken ≡ o = only o (subst (λ n. HeldAs after_submit n o) e held) in
                   let n_is : with_number s.number slot s.submitted k ≡ s.submitted = ap (λ n. with_number s.number slot s.submitted n) e ∙ number_same s.number slot s.submitted in
                   subst (λ (q : Outstanding). Covers (flat_map r a.pieces) (flat_map w a.pieces) q.reads q.writes) o_is
-                  (does.covers a (ap (λ n. slice_get subs n) (sym n_is) ∙ is))
+                  (let said = does.covers a (ap (λ n. slice_get subs n) (sym n_is) ∙ is) in (
+                    λ x h. elim (said.0 x h) [ inl r ↦ inl ((does.call.keeps.what_it_reads x).1 r) | inr w ↦ inr ((does.call.keeps.what_it_writes x).1 w) ],
+                    λ x h. (does.call.keeps.what_it_writes x).1 (said.1 x h),
+                  ))
               | inr ne ↦ sim.covers k o a (sym (there k ne) ∙ held) (ap (λ n. slice_get subs n) (sym (number_other s.number slot s.submitted k ne)) ∙ is)
             ]
 
@@ -235,8 +239,9 @@ module _ {D P : Type 0} (machine : Machine D P) (r w : D → List Span) (tells :
                   elim (cases_eq l slot) [
                     | inl f ↦
                         let q_is : taken ≡ q = only q (subst (λ n. HeldAs after_submit n q) f held_l) in
-                        let conflict' : SpansConflict o.reads o.writes reads writes = subst (λ (x : Outstanding). SpansConflict o.reads o.writes x.reads x.writes) (sym q_is) conflict in
-                        subst (λ (x : Outstanding). Has x.waits k) q_is ((does.call.waits k).1 (o, old_k, inl conflict'))
+                        let with_taken : SpansConflict o.reads o.writes taken.reads taken.writes = subst (λ (x : Outstanding). SpansConflict o.reads o.writes x.reads x.writes) (sym q_is) conflict in
+                        let conflict' = one_way o taken.reads taken.writes reads writes (λ a. (does.call.keeps.what_it_reads a).0) (λ a. (does.call.keeps.what_it_writes a).0) with_taken in
+                        subst (λ (x : Outstanding). Has x.waits k) q_is (subst (λ (w : Slots). Has w k) (sym does.call.keeps.what_it_awaits) ((does.call.waits k).1 (o, old_k, inl conflict')))
                     | inr nf ↦
                         let n_k = number_other s.number slot s.submitted k ne in
                         let n_l = number_other s.number slot s.submitted l nf in

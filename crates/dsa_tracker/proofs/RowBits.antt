@@ -1,5 +1,5 @@
 -- Marks that are set, kept and taken away.
-use Rattle.std.proofs.Common.{◌≡◌, ◌≢◌, ℕ, ◌-◌, ◌*◌, ◌%◌, ◌^◌, ◌<◌, List, [], ◌∷◌, suc, Some, length, slice_get, get_or, set, sym, ap, subst, ◌∙◌, arith, inl, inr, refl}
+use Rattle.std.proofs.Common.{◌≡◌, ◌≢◌, ℕ, ◌-◌, ◌*◌, ◌%◌, ◌^◌, ◌<◌, List, [], ◌∷◌, suc, Some, length, slice_get, get_or, set, sym, ap, subst, ◌∙◌, arith, inl, inr, refl, Bool, true, false}
 use Rattle.std.specs.Prelude.{bit_or, bit_and}
 use Rattle.std.specs.Int.{bit_at, w64}
 use Rattle.std.proofs.lemmas.Bool.{cases_eq}
@@ -7,7 +7,8 @@ use Rattle.std.proofs.lemmas.Nat.Bits.{bit_at_set_same, bit_at_set_other, bit_at
 use Rattle.std.proofs.lemmas.List.{get_or-set_same, get_or-set_other}
 use Rattle.dsa_descriptor.specs.declared.span.Span.{Span}
 use Rattle.dsa_descriptor.specs.Spans.{InSome, InSpan}
-use Rattle.dsa_tracker.specs.Rows.{Holds}
+use Rattle.dsa_tracker.specs.declared.grid.Grid.{Grid}
+use Rattle.dsa_tracker.specs.Rows.{Holds, IsNoted, IsSought}
 
 -- a change of one row that keeps a slot's bit keeps it in all rows
 kept_by : (rows : List ℕ) (row new : ℕ) → row < length rows → (k s : ℕ) → bit_at new s ≡ bit_at (get_or rows row 0) s → Holds rows k s → Holds (set rows row new) k s
@@ -67,3 +68,12 @@ pub span_of : (spans : List Span) (a : ℕ) → InSome spans a → (j : ℕ) × 
 span_of [] a h = absurd h
 span_of (s ∷ ss) a (inl here) = (0, s, refl, here)
 span_of (s ∷ ss) a (inr later) = let rest = span_of ss a later in (suc rest.0, rest.1, rest.2, rest.3)
+
+-- where a slot's bits stay, so do its marks
+pub sought_still : (grid : Grid) (rows new : List ℕ) (is_written : Bool) (unit s : ℕ) → ((k : ℕ) → Holds rows k s → Holds new k s) → IsSought grid rows is_written unit s → IsSought grid new is_written unit s
+sought_still grid rows new false unit s stays h = (stays _ h.0, stays _ h.1)
+sought_still grid rows new true unit s stays h = (stays _ h.0, stays _ h.1)
+
+pub noted_still : (grid : Grid) (rows new : List ℕ) (is_written : Bool) (unit s : ℕ) → ((k : ℕ) → Holds rows k s → Holds new k s) → IsNoted grid rows is_written unit s → IsNoted grid new is_written unit s
+noted_still grid rows new false unit s stays h = (stays _ h.0, stays _ h.1)
+noted_still grid rows new true unit s stays h = let one = h.0 in let two = h.1 in ((stays _ one.0, stays _ one.1), (stays _ two.0, stays _ two.1))

@@ -1,94 +1,152 @@
--- What a tracker shows after a submission.
-use Rattle.std.proofs.Common.{◌≡◌, ◌↔◌, ℕ, ◌≤◌, inl, inr, Bool, IsTrue, refl, List, Option, Some, length, slice_set, sym, ap, ◌∙◌, subst, arith}
-use Rattle.std.proofs.lemmas.Option.{same_Some}
+-- What the table of a tracker is, by its words.
+use Rattle.std.proofs.Common.{◌≡◌, ◌≢◌, ◌↔◌, ℕ, ◌+◌, ◌*◌, ◌<◌, inl, inr, List, Option, Some, length, slice_set, refl, sym, ap, ◌∙◌, subst, arith}
 use Rattle.dsa_descriptor.specs.Fields.{Fields}
 use Rattle.dsa_descriptor.specs.declared.span.Span.{Span}
-use Rattle.dsa_tracker.specs.declared.entry.Entry.{Entry}
+use Rattle.dsa_descriptor.specs.Spans.{InSome}
+use Rattle.dsa_ranges.specs.Ranges.{SpansConflict}
+use Rattle.dsa_tracker.specs.declared.board.Board.{Board}
+use Rattle.dsa_tracker.specs.declared.grid.Shape.{Shape}
 use Rattle.dsa_tracker.specs.declared.owner.Owner.{Owner}
 use Rattle.dsa_tracker.specs.declared.slots.Slots.{Slots}
-use Rattle.dsa_tracker.specs.declared.tracker.Tracker.TheInside.{Inside}
+use Rattle.dsa_tracker.specs.declared.tracker.Retired.{Retired}
 use Rattle.dsa_tracker.specs.declared.fault.TrackFault.{TrackFault}
 use Rattle.dsa_tracker.specs.declared.fault.TrackFault.TheVariants.{NoSlot, TooManySpans, NotOutstanding, Held, Wrap, OtherOwner}
-use Rattle.dsa_tracker.specs.declared.tracker.Retired.{Retired}
-use Rattle.dsa_tracker.specs.Calls.{IsListFault, IsRefused, IsSpanFault, Releases, Retires, Submits}
-use Rattle.dsa_tracker.specs.Entries.{AllHaveRoom, all_shown}
-use Rattle.dsa_tracker.specs.Inside.{IsSound, table}
+use Rattle.dsa_tracker.specs.Calls.{IsListFault, IsRefused, IsSpanFault, Releases, Retires, SameAddresses, Submits}
+use Rattle.dsa_tracker.specs.Finding.{Covers, reads_store, writes_store}
+use Rattle.dsa_tracker.specs.Keeping.{AreOtherStores}
+use Rattle.dsa_tracker.specs.Kept.{kept, store_at}
 use Rattle.dsa_tracker.specs.Sets.{Has, IsEmpty}
-use Rattle.dsa_tracker.specs.Table.{Outstanding, Table, HasOne, IsHeld, IsFirstFree, IsFull, IsReady, ConflictsWith, HasToWait, WaitsFor, IsExactly}
+use Rattle.dsa_tracker.specs.State.{IsState, all_shown, kept_at, waits_of}
+use Rattle.dsa_tracker.specs.Table.{ConflictsWith, HasToWait, IsExactly, IsFirstFree, IsFull, IsHeld, IsReady, Outstanding, Table, WaitsFor}
 use Rattle.dsa_tracker.proofs.Bits.{zero_has_none}
+use Rattle.dsa_tracker.proofs.Showing.{count, free_is, held_is, is_held, one_at, same_all}
 
-module _ (x : Inside) (t : Table) (view_is : table x ≡ t) (entries : List Entry) (is : entries ≡ x.entries.items) where
-  pub slots_are : all_shown entries ≡ t.slots
-  slots_are = ap all_shown is ∙ ap (λ s. s.slots) view_is
+-- an access conflicts by its addresses
+pub one_way : (o : Outstanding) (reads writes reads' writes' : List Span) → ((a : ℕ) → InSome reads a → InSome reads' a) → ((a : ℕ) → InSome writes a → InSome writes' a) → SpansConflict o.reads o.writes reads writes → SpansConflict o.reads o.writes reads' writes'
+one_way o reads writes reads' writes' r w (inl (a, into, t)) = inl (a, into, elim t [ inl x ↦ inl (r a x) | inr y ↦ inr (w a y) ])
+one_way o reads writes reads' writes' r w (inr (a, into, t)) = inr (a, w a into, t)
 
-  pub full : IsFull (all_shown entries) → IsFull t.slots
-  full h = subst (λ s. IsFull s.slots) view_is (subst (λ xs. IsFull (all_shown xs)) is h)
+pub same_waits : (slots : List (Option Outstanding)) (reads writes reads' writes' : List Span) (also set : Slots) → SameAddresses reads reads' → SameAddresses writes writes' → IsExactly set (HasToWait slots reads writes also) → IsExactly set (HasToWait slots reads' writes' also)
+same_waits slots reads writes reads' writes' also set r w exact s = (
+  λ h. let was = (exact s).0 h in (was.0, was.1, elim was.2 [ inl c ↦ inl (one_way was.0 reads writes reads' writes' (λ a. (r a).0) (λ a. (w a).0) c) | inr n ↦ inr n ]),
+  λ h. (exact s).1 (h.0, h.1, elim h.2 [ inl c ↦ inl (one_way h.0 reads' writes' reads writes (λ a. (r a).1) (λ a. (w a).1) c) | inr n ↦ inr n ]),
+)
 
-  pub first_free : (slot : ℕ) → IsFirstFree (all_shown entries) slot → IsFirstFree t.slots slot
-  first_free slot h = subst (λ s. IsFirstFree s.slots slot) view_is (subst (λ xs. IsFirstFree (all_shown xs) slot) is h)
+module _ (board : Board) (waits stores rows : List ℕ) (shape : Shape) (state : IsState board waits stores rows shape) (t : Table) (slots_are : all_shown shape.width board waits stores ≡ t.slots) where
+  pub full : ((s : ℕ) → s < length waits → s < 64 → Has board.outstanding s) → IsFull t.slots
+  full all =
+      subst IsFull slots_are
+      (λ k lt.
+      let low : k < length waits = omega (arith, lt, count shape.width board waits stores) in
+      (kept_at shape.width waits stores k, held_is shape.width board waits stores state.within k (all k low (omega (arith, low, state.few)))))
 
-  pub held : (slot : ℕ) → IsHeld (all_shown entries) slot → IsHeld t.slots slot
-  held slot h = subst (λ s. IsHeld s.slots slot) view_is (subst (λ xs. IsHeld (all_shown xs) slot) is h)
+  pub first_free : (slot : ℕ) → slot < length waits → (Has board.outstanding slot → ⊥) → ((k : ℕ) → k < slot → Has board.outstanding k) → IsFirstFree t.slots slot
+  first_free slot inside free before =
+      subst (λ xs. IsFirstFree xs slot) slots_are
+      (free_is shape.width board waits stores state.within slot inside free, λ k lt. (kept_at shape.width waits stores k, held_is shape.width board waits stores state.within k (before k lt)))
 
-  pub not_held : (slot : ℕ) → (IsHeld (all_shown entries) slot → ⊥) → IsHeld t.slots slot → ⊥
-  not_held slot h held = h (subst (λ xs. IsHeld (all_shown xs) slot) (sym is) (subst (λ s. IsHeld s.slots slot) (sym view_is) held))
+  pub held : (slot : ℕ) → Has board.outstanding slot → IsHeld t.slots slot
+  held slot h = subst (λ xs. IsHeld xs slot) slots_are (kept_at shape.width waits stores slot, held_is shape.width board waits stores state.within slot h)
 
-  pub ready : (slot : ℕ) → IsReady (all_shown entries) slot → IsReady t.slots slot
-  ready slot h = subst (λ xs. IsReady xs slot) slots_are h
+  pub not_held : (slot : ℕ) → (Has board.outstanding slot → ⊥) → IsHeld t.slots slot → ⊥
+  not_held slot free h =
+      let was = subst (λ xs. IsHeld xs slot) (sym slots_are) h in
+      free (is_held shape.width board waits stores state.within slot was.0 was.1).0
 
-  pub not_ready : (slot : ℕ) → (IsReady (all_shown entries) slot → ⊥) → IsReady t.slots slot → ⊥
-  not_ready slot h is_ready = h (subst (λ xs. IsReady xs slot) (sym slots_are) is_ready)
+  pub ready : (slot : ℕ) → Has board.outstanding slot → IsEmpty (waits_of waits slot) → IsReady t.slots slot
+  ready slot h none = subst (λ xs. IsReady xs slot) slots_are ((one_at shape.width board waits stores state.within slot (λ o. IsEmpty o.waits)).1 (h, none))
 
-  pub room_is : x.room ≡ t.room
-  room_is = ap (λ s. s.room) view_is
+  pub is_ready : (slot : ℕ) → IsReady t.slots slot → Has board.outstanding slot × IsEmpty (waits_of waits slot)
+  is_ready slot h = (one_at shape.width board waits stores state.within slot (λ o. IsEmpty o.waits)).0 (subst (λ xs. IsReady xs slot) (sym slots_are) h)
 
-  pub owner_is : x.owner ≡ t.owner
-  owner_is = ap (λ s. s.owner) view_is
+  pub waits_for : (slot s : ℕ) → WaitsFor t.slots s slot ↔ (Has board.outstanding slot × Has (waits_of waits slot) s)
+  waits_for slot s =
+      let at = one_at shape.width board waits stores state.within slot (λ o. Has o.waits s) in (
+        λ h. at.0 (subst (λ xs. WaitsFor xs s slot) (sym slots_are) h),
+        λ h. subst (λ xs. WaitsFor xs s slot) slots_are (at.1 h),
+      )
 
-  module _ (items new : List Entry) (items_are : items ≡ new) where
-    pub sound : length new ≡ length entries → ((room : ℕ) → AllHaveRoom room entries → AllHaveRoom room new) → IsSound x → (length items ≤ 64) × AllHaveRoom x.room items
-    sound count keeps inside =
-        let few = inside.few in
-        let same : length entries ≡ length x.entries.items = ap length is in
-        let same_items : length items ≡ length new = ap length items_are in (
-          omega (arith, few, same, count, same_items),
-          subst (λ xs. AllHaveRoom x.room xs) (sym items_are) (keeps x.room (subst (λ xs. AllHaveRoom x.room xs) (sym is) inside.room)),
-        )
+  pub awaited : (slot : ℕ) → Has board.outstanding slot → IsExactly (waits_of waits slot) (λ s. WaitsFor t.slots s slot)
+  awaited slot out s = (λ h. (waits_for slot s).1 (out, h), λ h. ((waits_for slot s).0 h).1)
 
-    pub submits :
-        (reads writes : List Span) (also waits : Slots) (owner owner' : Option Owner) (slot : ℕ) → owner' ≡ owner → IsFirstFree (all_shown entries) slot →
-        IsExactly waits (HasToWait (all_shown entries) reads writes also) →
-        all_shown new ≡ slice_set (all_shown entries) slot (Some (record { reads = reads; writes = writes; waits = waits })) →
-        Submits t reads writes also owner (record { slot = slot; waits = waits }) (record { slots = all_shown items; room = x.room; owner = owner' })
-    submits reads writes also waits owner owner' slot same_owner first exact new_is =
+  pub none_awaited : (slot : ℕ) → (Has board.outstanding slot → ⊥) → IsExactly (record { 0 = 0 }) (λ s. WaitsFor t.slots s slot)
+  none_awaited slot free s = (λ h. absurd (zero_has_none 0 s refl h), λ h. absurd (free ((waits_for slot s).0 h).0))
+
+  pub in_the_way : (reads writes : List Span) (found : Slots) → IsExactly found (λ k. Has board.outstanding k × SpansConflict (kept (reads_store shape.width stores k)) (kept (writes_store shape.width stores k)) reads writes) → IsExactly found (ConflictsWith t.slots reads writes)
+  in_the_way reads writes found exact s =
+      let at = one_at shape.width board waits stores state.within s (λ o. SpansConflict o.reads o.writes reads writes) in (
+        λ h. subst (λ xs. ConflictsWith xs reads writes s) slots_are (at.1 ((exact s).0 h)),
+        λ h. (exact s).1 (at.0 (subst (λ xs. ConflictsWith xs reads writes s) (sym slots_are) h)),
+      )
+
+  -- the stores of a free slot are filled
+  module _ (slot : ℕ) (free : Has board.outstanding slot → ⊥) (mid stores' : List ℕ) (len : length stores' ≡ length stores) (one : AreOtherStores shape.width (2 * slot) stores mid) (two : AreOtherStores shape.width (2 * slot + 1) mid stores') where
+    other : (place : ℕ) → place ≢ 2 * slot → place ≢ 2 * slot + 1 → store_at shape.width stores' place ≡ store_at shape.width stores place
+    other place first second = two place second ∙ one place first
+
+    same_kept : (s : ℕ) → Has board.outstanding s → kept_at shape.width waits stores' s ≡ kept_at shape.width waits stores s
+    same_kept s h =
+        let apart : s ≢ slot = λ same. free (subst (λ n. Has board.outstanding n) same h) in
+        let reads = other (2 * s) (λ e. apart (omega (arith, e))) (λ e. omega (arith, e)) in
+        let writes = other (2 * s + 1) (λ e. omega (arith, e)) (λ e. apart (omega (arith, e))) in
+        λ i. record { reads = kept (reads i); writes = kept (writes i); waits = waits_of waits s }
+
+    pub filled_state : IsState board waits stores' rows shape
+    filled_state =
         record {
-          slot = first_free slot first;
-          waits = subst (λ xs. IsExactly waits (HasToWait xs reads writes also)) slots_are exact;
-          after =
-              let slots_is : all_shown items ≡ slice_set t.slots slot (Some (record { reads = reads; writes = writes; waits = waits })) =
-              ap all_shown items_are ∙ new_is ∙ ap (λ xs. slice_set xs slot (Some (record { reads = reads; writes = writes; waits = waits }))) slots_are in
-              λ i. record { slots = slots_is i; room = room_is i; owner = same_owner i };
+          few = state.few;
+          wide = state.wide;
+          stored = len ∙ state.stored;
+          sized = state.sized;
+          within = state.within;
+          blocked = state.blocked;
+          covered = λ k h.
+              let same = same_kept k h in
+              subst (λ (o : Outstanding). Covers shape.grid rows board.wide o.reads o.writes k) (sym same) (state.covered k h);
         }
 
-    pub retires :
-        (slot : ℕ) (retired : Retired) → Releases (all_shown entries) slot (all_shown new) →
-        IsExactly retired.waited (WaitsFor (all_shown entries) slot) →
-        IsExactly retired.ready (λ s. WaitsFor (all_shown entries) slot s × IsReady (all_shown new) s) →
-        Retires t slot retired (record { slots = all_shown items; room = x.room; owner = x.owner })
-    retires slot retired released waited ready =
-        subst (λ ys. Retires t slot retired (record { slots = all_shown ys; room = x.room; owner = x.owner })) (sym items_are)
-        (record {
-          released = subst (λ xs. Releases xs slot (all_shown new)) slots_are released;
-          room = room_is;
-          owner = owner_is;
-          waited = subst (λ xs. IsExactly retired.waited (WaitsFor xs slot)) slots_are waited;
-          ready = subst (λ xs. IsExactly retired.ready (λ s. WaitsFor xs slot s × IsReady (all_shown new) s)) slots_are ready;
-        })
+    pub filled_shown : all_shown shape.width board waits stores' ≡ all_shown shape.width board waits stores
+    filled_shown = same_all shape.width board waits stores stores' same_kept
 
--- what stands against the spans is why a submission is refused that found a slot
+    pub submits :
+        (new : Board) (waits' : List ℕ) (reads writes : List Span) (also answer : Slots) (owner owner' : Option Owner) (room : ℕ) → slot < length waits → ((k : ℕ) → k < slot → Has board.outstanding k) →
+        SameAddresses (kept (reads_store shape.width stores' slot)) reads → SameAddresses (kept (writes_store shape.width stores' slot)) writes →
+        IsExactly answer (HasToWait (all_shown shape.width board waits stores') (kept (reads_store shape.width stores' slot)) (kept (writes_store shape.width stores' slot)) also) →
+        all_shown shape.width new waits' stores' ≡ slice_set (all_shown shape.width board waits stores') slot (Some (kept_at shape.width waits' stores' slot)) → waits_of waits' slot ≡ answer →
+        room ≡ t.room → owner' ≡ owner →
+        Submits t reads writes also owner (record { slot = slot; waits = answer }) (record { slots = all_shown shape.width new waits' stores'; room = room; owner = owner' })
+    submits new waits' reads writes also answer owner owner' room inside before reads_are writes_are exact new_is here room_is owner_is =
+        record {
+          slot = first_free slot inside free before;
+          waits =
+              subst (λ xs. IsExactly answer (HasToWait xs reads writes also)) (filled_shown ∙ slots_are)
+              (same_waits (all_shown shape.width board waits stores') (kept (reads_store shape.width stores' slot)) (kept (writes_store shape.width stores' slot)) reads writes also answer reads_are writes_are exact);
+          taken = kept_at shape.width waits' stores' slot;
+          keeps = record { what_it_reads = reads_are; what_it_writes = writes_are; what_it_awaits = here };
+          after =
+              let slots_is = new_is ∙ ap (λ xs. slice_set xs slot (Some (kept_at shape.width waits' stores' slot))) (filled_shown ∙ slots_are) in
+              λ i. record { slots = slots_is i; room = room_is i; owner = owner_is i };
+        }
+
+  pub retires :
+      (new : Board) (waits' : List ℕ) (slot : ℕ) (retired : Retired) (room : ℕ) (owner : Option Owner) → room ≡ t.room → owner ≡ t.owner →
+      Releases (all_shown shape.width board waits stores) slot (all_shown shape.width new waits' stores) →
+      IsExactly retired.waited (WaitsFor (all_shown shape.width board waits stores) slot) →
+      IsExactly retired.ready (λ s. WaitsFor (all_shown shape.width board waits stores) slot s × IsReady (all_shown shape.width new waits' stores) s) →
+      Retires t slot retired (record { slots = all_shown shape.width new waits' stores; room = room; owner = owner })
+  retires new waits' slot retired room owner room_is owner_is released waited ready_now =
+      record {
+        released = subst (λ xs. Releases xs slot (all_shown shape.width new waits' stores)) slots_are released;
+        room = room_is;
+        owner = owner_is;
+        waited = subst (λ xs. IsExactly retired.waited (WaitsFor xs slot)) slots_are waited;
+        ready = subst (λ xs. IsExactly retired.ready (λ s. WaitsFor xs slot s × IsReady (all_shown shape.width new waits' stores) s)) slots_are ready_now;
+      }
+
+-- what is against the spans is why a submission is refused that found a slot
 pub refused_spans : (t : Table) (s : ℕ) (reads writes : List Span) (f : TrackFault) → IsFirstFree t.slots s → IsSpanFault t.room reads writes f → IsRefused t f (IsSpanFault t.room reads writes f)
 refused_spans t s reads writes NoSlot first h = absurd h
-refused_spans t s reads writes (TooManySpans count) first h = ((s, first), h)
+refused_spans t s reads writes (TooManySpans spans) first h = ((s, first), h)
 refused_spans t s reads writes (NotOutstanding slot) first h = absurd h
 refused_spans t s reads writes (Held slot) first h = absurd h
 refused_spans t s reads writes (Wrap span) first h = ((s, first), h)
@@ -96,35 +154,8 @@ refused_spans t s reads writes (OtherOwner piece) first h = absurd h
 
 pub refused_list : (t : Table) (s : ℕ) (owner : Option Owner) (pieces : List Fields) (staging : Span) (f : TrackFault) → IsFirstFree t.slots s → IsListFault t.room owner pieces staging f → IsRefused t f (IsListFault t.room owner pieces staging f)
 refused_list t s owner pieces staging NoSlot first h = absurd h
-refused_list t s owner pieces staging (TooManySpans count) first h = ((s, first), h)
+refused_list t s owner pieces staging (TooManySpans spans) first h = ((s, first), h)
 refused_list t s owner pieces staging (NotOutstanding slot) first h = absurd h
 refused_list t s owner pieces staging (Held slot) first h = absurd h
 refused_list t s owner pieces staging (Wrap span) first h = ((s, first), h)
 refused_list t s owner pieces staging (OtherOwner piece) first h = ((s, first), h)
-
--- no slot is named by the empty set
-pub only_conflicts : (found : Slots) (slots : List (Option Outstanding)) (reads writes : List Span) → IsExactly found (HasToWait slots reads writes (record { 0 = 0 })) → IsExactly found (ConflictsWith slots reads writes)
-only_conflicts found slots reads writes exact s = (λ h. there ((exact s).0 h), λ h. (exact s).1 (h.0, h.1, inl h.2))
-  where
-    there : HasToWait slots reads writes (record { 0 = 0 }) s → ConflictsWith slots reads writes s
-    there (o, is, inl conflict) = (o, is, conflict)
-    there (o, is, inr named) = absurd (zero_has_none 0 s refl named)
-
--- what a slot waits for, by the waits that were found
-pub waits_found : (waits : Slots) (slots : List (Option Outstanding)) (slot : ℕ) → HasOne slots slot (λ o. waits ≡ o.waits) → IsExactly waits (λ s. WaitsFor slots s slot)
-waits_found waits slots slot found s = (
-  λ h. (found.0, found.1, subst (λ w. Has w s) found.2 h),
-  λ h. subst (λ w. Has w s) (sym found.2) (subst (λ (o : Outstanding). Has o.waits s) (same_Some h.0 found.0 (same_Some (Some h.0) (Some found.0) (sym h.1 ∙ found.1))) h.2),
-)
-
-pub none_waits : (slots : List (Option Outstanding)) (slot : ℕ) → (IsHeld slots slot → ⊥) → IsExactly (record { 0 = 0 }) (λ s. WaitsFor slots s slot)
-none_waits slots slot none s = (λ h. absurd (zero_has_none 0 s refl h), λ h. absurd (none (h.0, h.1)))
-
-pub ready_found : (b : Bool) (waits : Slots) (slots : List (Option Outstanding)) (slot : ℕ) → HasOne slots slot (λ o. waits ≡ o.waits) → IsTrue b ↔ IsEmpty waits → IsTrue b ↔ IsReady slots slot
-ready_found b waits slots slot found same = (
-  λ h. (found.0, found.1, subst IsEmpty found.2 (same.0 h)),
-  λ h. same.1 (subst IsEmpty (sym found.2) (subst (λ (o : Outstanding). IsEmpty o.waits) (same_Some h.0 found.0 (same_Some (Some h.0) (Some found.0) (sym h.1 ∙ found.1))) h.2)),
-)
-
-pub none_ready : (slots : List (Option Outstanding)) (slot : ℕ) → (IsHeld slots slot → ⊥) → IsReady slots slot → ⊥
-none_ready slots slot none h = none (h.0, h.1)

@@ -1,8 +1,8 @@
 -- What the calls of a tracker do, and when each refusal comes. (This project's choice.)
-use Rattle.std.specs.Prelude.{◌≡◌, ◌≢◌, ℕ, ◌+◌, ◌*◌, ◌<◌, ◌≤◌, max, List, [], ◌∷◌, ◌++◌, Option, Some, None, length, slice_get, slice_set}
+use Rattle.std.specs.Prelude.{◌≡◌, ◌≢◌, ℕ, ◌+◌, ◌*◌, ◌<◌, ◌≤◌, ◌↔◌, max, List, [], ◌∷◌, ◌++◌, Option, Some, None, length, slice_get, slice_set}
 use Rattle.dsa_descriptor.specs.declared.span.Span.{Span}
 use Rattle.dsa_descriptor.specs.Fields.{Fields}
-use Rattle.dsa_descriptor.specs.Spans.{IsAddressable}
+use Rattle.dsa_descriptor.specs.Spans.{InSome, IsAddressable}
 use Rattle.dsa_tracker.specs.declared.fault.TrackFault.{TrackFault}
 use Rattle.dsa_tracker.specs.declared.fault.TrackFault.TheVariants.{NoSlot, TooManySpans, NotOutstanding, Held, Wrap, OtherOwner}
 use Rattle.dsa_tracker.specs.declared.owner.Owner.{Owner}
@@ -44,7 +44,7 @@ IsFirstOther owner pieces i =
 abbrev pub CanKeep : ℕ → List Span → List Span → Type 0
 CanKeep room reads writes = (length reads ≤ room) × (length writes ≤ room) × AreAddressable (reads ++ writes)
 
--- what stands against it
+-- why it cannot be kept
 abbrev pub IsSpanFault : ℕ → List Span → List Span → TrackFault → Type 0
 IsSpanFault room reads writes NoSlot = ⊥
 IsSpanFault room reads writes (TooManySpans count) = (count ≡ max (length reads) (length writes)) × (room < count)
@@ -62,7 +62,7 @@ most_spans pieces = 3 * pieces + 1
 abbrev pub CanKeepList : ℕ → Option Owner → List Fields → Span → Type 0
 CanKeepList room owner pieces staging = (most_spans (length pieces) ≤ room) × IsAddressable staging × HaveOwner owner pieces
 
--- what stands against it; of its spans the staging area alone can go past 2^64
+-- why it cannot be kept; of its spans the staging area alone can go past 2^64
 abbrev pub IsListFault : ℕ → Option Owner → List Fields → Span → TrackFault → Type 0
 IsListFault room owner pieces staging NoSlot = ⊥
 IsListFault room owner pieces staging (TooManySpans count) = (count ≡ most_spans (length pieces)) × (room < count)
@@ -72,16 +72,24 @@ IsListFault room owner pieces staging (Wrap span) = (span ≡ 0) × (most_spans 
 IsListFault room owner pieces staging (OtherOwner piece) =
     (most_spans (length pieces) ≤ room) × IsAddressable staging × IsFirstOther owner pieces piece
 
+-- the two have the same addresses
+abbrev pub SameAddresses : List Span → List Span → Type 0
+SameAddresses spans others = (address : ℕ) → InSome spans address ↔ InSome others address
+
+-- what a slot has of a submission that reads and writes these spans: the same addresses, of which those that follow each
+-- other may be one span, and what it waits for
+pub record Keeps (o : Outstanding) (reads writes : List Span) (waits : Slots) : Type 0 where
+  pub what_it_reads : SameAddresses o.reads reads
+  pub what_it_writes : SameAddresses o.writes writes
+  pub what_it_awaits : o.waits ≡ waits
+
 -- the submission gets the first free slot, and waits for just those that it has to wait for
 pub record Submits (old : Table) (reads writes : List Span) (also : Slots) (owner : Option Owner) (submitted : Submitted) (new : Table) : Type 0 where
   pub slot : IsFirstFree old.slots submitted.slot
   pub waits : IsExactly submitted.waits (HasToWait old.slots reads writes also)
-  pub after :
-      new ≡ record {
-        slots = slice_set old.slots submitted.slot (Some (record { reads = reads; writes = writes; waits = submitted.waits }));
-        room = old.room;
-        owner = owner;
-      }
+  pub taken : Outstanding
+  pub keeps : Keeps taken reads writes submitted.waits
+  pub after : new ≡ record { slots = slice_set old.slots submitted.slot (Some taken); room = old.room; owner = owner }
 
 -- a slot is free and no other wait is left on it, and else nothing changes
 pub record Releases (old : List (Option Outstanding)) (slot : ℕ) (new : List (Option Outstanding)) : Type 0 where
@@ -100,7 +108,7 @@ pub record Retires (old : Table) (slot : ℕ) (retired : Retired) (new : Table) 
   pub waited : IsExactly retired.waited (WaitsFor old.slots slot)
   pub ready : IsExactly retired.ready (λ s. WaitsFor old.slots slot s × IsReady new.slots s)
 
--- a submission is refused if no slot is free, and else for the first cause that stands against it
+-- a submission is refused if no slot is free, and else for the first reason why it cannot be kept
 abbrev pub IsRefused : Table → TrackFault → Type 0 → Type 0
 IsRefused t NoSlot against = IsFull t.slots
 IsRefused t (TooManySpans count) against = ((s : ℕ) × IsFirstFree t.slots s) × against

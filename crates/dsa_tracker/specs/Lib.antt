@@ -2,9 +2,10 @@ pub mod Sets
 pub mod Causes
 pub mod Table
 pub mod Calls
-pub mod Entries
-pub mod Forgetting
+pub mod Rows
+pub mod Kept
+pub mod Keeping
+pub mod Finding
+pub mod State
 pub mod Inside
 pub mod Honest
-pub mod Rows
-pub mod Filtering

@@ -11,3 +11,12 @@ pub(crate) struct Grid {
     pub log2_unit: u32,
     ghost in_range: { (1 ≤ log2_rows) × (log2_rows ≤ 32) × (1 ≤ log2_unit) × (log2_unit ≤ 63) },
 }
+
+/// How the words of a tracker are cut.
+#[derive(Clone, Copy)]
+pub(crate) struct Shape {
+    /// The words of a store.
+    pub width: usize,
+    /// How units are found in rows.
+    pub grid: Grid,
+}

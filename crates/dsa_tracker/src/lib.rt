@@ -1,19 +1,21 @@
 //! What submissions in flight have to wait for.
 #![tactic(auto)]
 
-mod entry;
+mod asking;
+mod board;
 mod fault;
-mod filter;
+mod finding;
 mod grid;
+mod keeping;
+mod kept;
 mod laws;
 mod limits;
+mod marking;
 mod marks;
 mod owner;
-mod scans;
 mod slots;
-mod spans;
-mod taking;
 mod tracker;
+mod units;
 
 pub use fault::TrackFault;
 pub use laws::tracker_ends_in_turn;

@@ -20,7 +20,7 @@ fn first_past(spans: &[Span]) -> Option<usize>
     None
 }
 
-/// What stands against keeping a submission that reads and writes these spans.
+/// Why it is impossible to keep a submission that reads and writes these spans.
 pub(crate) fn span_fault(room: u32, reads: &[Span], writes: &[Span]) -> Option<TrackFault>
     ensures { MatchOption result (CanKeep room reads.now writes.now)
         (IsSpanFault room reads.now writes.now) }
@@ -36,7 +36,7 @@ pub(crate) fn span_fault(room: u32, reads: &[Span], writes: &[Span]) -> Option<T
     Some(TrackFault::Wrap(reads.len() + span))
 }
 
-/// What stands against keeping a submission of these pieces with this staging area.
+/// Why it is impossible to keep a submission of these pieces with this staging area.
 pub(crate) fn list_fault(
     room: u32,
     owner: Option<Owner>,

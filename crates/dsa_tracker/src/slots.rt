@@ -1,8 +1,9 @@
 //! Sets of slots.
 
-ghost use Rattle.std.specs.Prelude.{◌≡◌, ◌≢◌, ℕ, ◌<◌, ◌⊎◌, ◌↔◌, IsTrue};
+ghost use Rattle.std.specs.Prelude.{◌≡◌, ◌≢◌, ℕ, ◌<◌, ◌⊎◌, ◌↔◌, IsTrue, MatchOption};
 ghost use Rattle.std.specs.Int.{bit_at};
 ghost use Rattle.dsa_tracker.specs.Sets.{Has, IsEmpty};
+ghost use Rattle.dsa_tracker.specs.Table.{IsWithout};
 
 /// A set of slots, which are numbered from 0 to 63: bit `s` of the word is for slot `s`.
 #[derive(Clone, Copy, Debug, Default, PartialEq, Eq)]
@@ -28,7 +29,8 @@ fn has_no_bit(word: u64) -> bool
 /// The word with this bit cleared.
 fn without_bit(word: u64, place: u32) -> u64
     requires { place < 64 }
-    ensures { (s : ℕ) → (0 < bit_at result s) ↔ ((0 < bit_at word s) × (s ≢ place)) }
+    ensures bits { (s : ℕ) → (0 < bit_at result s) ↔ ((0 < bit_at word s) × (s ≢ place)) }
+    ensures lower { 0 < bit_at word place → result < word }
 {
     word & !(1 << place)
 }
@@ -72,5 +74,43 @@ impl Slots {
         ensures { (s : ℕ) → Has result s ↔ (Has self s ⊎ Has other s) }
     {
         Slots(self.0 | other.0)
+    }
+
+    /// Those of the slots that are in the other set, too.
+    pub(crate) fn intersection(self, other: Slots) -> Slots
+        ensures { (s : ℕ) → Has result s ↔ (Has self s × Has other s) }
+    {
+        Slots(self.0 & other.0)
+    }
+
+    /// Those of the slots that are not in the other set.
+    pub(crate) fn minus(self, other: Slots) -> Slots
+        ensures { (s : ℕ) → Has result s ↔ (Has self s × (¬ Has other s)) }
+    {
+        Slots(self.0 & !other.0)
+    }
+
+    /// The lowest slot that is not in the set.
+    pub(crate) fn first_without(self) -> Option<u32>
+        ensures { MatchOption result ((s : ℕ) → s < 64 → Has self s)
+            (λ s. (s < 64) × (¬ Has self s) × ((k : ℕ) → k < s → Has self k)) }
+    {
+        if self.0 == u64::MAX {
+            return None;
+        }
+        Some((!self.0).trailing_zeros())
+    }
+
+    /// Takes the lowest slot out of the set.
+    pub(crate) fn take_first(&mut self) -> Option<u32>
+        ensures { MatchOption result (IsEmpty self.old × (self.new ≡ self.old)) (λ s. (s < 64) ×
+            Has self.old s × IsWithout self.old s self.new × (self.new.0 < self.old.0)) }
+    {
+        if self.0 == 0 {
+            return None;
+        }
+        let slot = self.0.trailing_zeros();
+        self.0 = without_bit(self.0, slot);
+        Some(slot)
     }
 }

@@ -4,20 +4,23 @@ ghost use Rattle.std.specs.Prelude.{◌≡◌, ◌↔◌, ◌≤◌, None, IfOk,
 ghost use Rattle.dsa_descriptor.specs.Descriptors.{fields};
 ghost use Rattle.dsa_flight.specs.Spans.{all_reads, staged_writes};
 ghost use Rattle.dsa_tracker.specs.Calls.{CanKeep, CanKeepList, IsCompleteFault, IsListFault, IsRefused, IsSpanFault, IsWithdrawFault, Retires, Submits, owner_with};
-ghost use Rattle.dsa_tracker.specs.Entries.{AllHaveRoom, all_shown};
 ghost use Rattle.dsa_tracker.specs.Table.{ConflictsWith, IsExactly, IsHeld, IsReady, WaitsFor};
 
-use crate::entry::Entry;
+use crate::asking::slots_in_the_way;
+use crate::board::{Board, first_free, release, take, waits_at};
 use crate::fault::TrackFault;
-use crate::filter::Filter;
+use crate::finding::Others;
+use crate::grid::{Grid, Shape};
+use crate::keeping::{keep_reads, keep_spans, keep_writes};
 use crate::limits::{list_fault, span_fault};
 use crate::owner::{Owner, expected_owner};
-use crate::scans::{first_free, slots_to_await, waits_at};
 use crate::slots::Slots;
-use crate::taking::{release, take_for_pieces, take_for_spans};
 use dsa_descriptor::{Descriptor, Span};
 use std::alloc::{AllocError, Global};
 use std::marker::Model;
+
+/// The number of rows, as a power of two.
+const LOG2_ROWS: u32 = 13;
 
 /// A submission that the tracker has taken.
 #[derive(Clone, Copy, Debug, PartialEq, Eq)]
@@ -40,8 +43,11 @@ pub struct Retired {
 /// The submissions in flight: what each reads and writes, and what it waits for.
 #[derive(Drop)]
 pub struct Tracker {
-    entries: Vec<Entry>,
-    filter: Filter,
+    board: Board,
+    waits: Vec<u64>,
+    stores: Vec<u64>,
+    rows: Vec<u64>,
+    shape: Shape,
     room: u32,
     owner: Option<Owner>,
 }
@@ -56,18 +62,6 @@ impl Model for Tracker {
     ghost view = { table };
 
     ghost invariant = { IsSound };
-}
-
-/// An entry for each slot, all of them free.
-fn free_entries(alloc: Global, slots: u32, room: u32) -> Result<Vec<Entry>, AllocError>
-    ensures slots { IfOk result (λ v. all_shown v.items ≡ replicate slots None) }
-    ensures room { IfOk result (λ v. AllHaveRoom room v.items) }
-{
-    let mut entries = Vec::with_capacity(alloc, slots as usize)?;
-    for _ in 0..slots {
-        entries.push(Entry::with_room(alloc, room as usize)?)?;
-    }
-    Ok(entries)
 }
 
 impl Tracker {
@@ -85,9 +79,21 @@ impl Tracker {
         ensures { IfOk result (λ t. t ≡
             record { slots = replicate slots None; room = room; owner = None }) }
     {
+        let grid = Grid {
+            log2_rows: LOG2_ROWS,
+            log2_unit: unit,
+        };
+        let width = 2 * room as usize + 1;
         Ok(Tracker {
-            entries: free_entries(alloc, slots, room)?,
-            filter: Filter::new(alloc, unit)?,
+            board: Board {
+                outstanding: Slots::EMPTY,
+                blocked: Slots::EMPTY,
+                wide: Slots::EMPTY,
+            },
+            waits: vec![in alloc; 0; slots as usize]?,
+            stores: vec![in alloc; 0; 2 * slots as usize * width]?,
+            rows: vec![in alloc; 0; 2 << LOG2_ROWS]?,
+            shape: Shape { width, grid },
             room,
             owner: None,
         })
@@ -111,18 +117,22 @@ impl Tracker {
             (λ f. IsRefused self.old f (IsSpanFault self.old.room reads.now writes.now f) ×
             (self.new ≡ self.old)) }
     {
-        let Some(slot) = first_free(&self.entries) else {
+        let Some(slot) = first_free(self.board.outstanding, self.waits.len()) else {
             return Err(TrackFault::NoSlot);
         };
         if let Some(fault) = span_fault(self.room, reads, writes) {
             return Err(fault);
         }
-        let waits = take_for_spans(
-            &mut self.entries,
-            &mut self.filter,
+        let width = self.shape.width;
+        keep_spans(&mut self.stores, width, 2 * slot as usize, reads);
+        keep_spans(&mut self.stores, width, 2 * slot as usize + 1, writes);
+        let waits = take(
+            &mut self.board,
+            &mut self.waits,
+            &mut self.rows,
+            &self.stores,
+            self.shape,
             slot,
-            reads,
-            writes,
             also,
         );
         Ok(Submitted { slot, waits })
@@ -149,19 +159,29 @@ impl Tracker {
             (λ f. IsRefused self.old f (IsListFault self.old.room owner list staging f) ×
             (self.new ≡ self.old)) }
     {
-        let Some(slot) = first_free(&self.entries) else {
+        let Some(slot) = first_free(self.board.outstanding, self.waits.len()) else {
             return Err(TrackFault::NoSlot);
         };
         let owner = expected_owner(self.owner, pieces);
         if let Some(fault) = list_fault(self.room, owner, pieces, staging) {
             return Err(fault);
         }
-        let waits = take_for_pieces(
-            &mut self.entries,
-            &mut self.filter,
-            slot,
+        let width = self.shape.width;
+        keep_reads(&mut self.stores, width, 2 * slot as usize, pieces);
+        keep_writes(
+            &mut self.stores,
+            width,
+            2 * slot as usize + 1,
             pieces,
             staging,
+        );
+        let waits = take(
+            &mut self.board,
+            &mut self.waits,
+            &mut self.rows,
+            &self.stores,
+            self.shape,
+            slot,
             also,
         );
         self.owner = owner;
@@ -173,15 +193,21 @@ impl Tracker {
     pub fn ask(&self, reads: &[Span], writes: &[Span]) -> Slots
         ensures { IsExactly result (ConflictsWith self.now.slots reads.now writes.now) }
     {
-        let candidates = self.filter.candidates(reads, writes);
-        slots_to_await(&self.entries, reads, writes, Slots::EMPTY, candidates)
+        let others = Others {
+            among: self.board.outstanding,
+            wide: self.board.wide,
+        };
+        slots_in_the_way(&self.rows, self.shape, &self.stores, others, reads, writes)
     }
 
     /// The slots that the submission of this slot waits for; none if it is not outstanding.
     pub fn waits(&self, slot: u32) -> Slots
         ensures { IsExactly result (λ s. WaitsFor self.now.slots s slot) }
     {
-        waits_at(&self.entries, slot).unwrap_or(Slots::EMPTY)
+        match waits_at(self.board.outstanding, &self.waits, slot) {
+            Some(waits) => waits,
+            None => Slots::EMPTY,
+        }
     }
 
     /// Whether the submission of this slot is outstanding and waits for none, so that it may be
@@ -189,7 +215,7 @@ impl Tracker {
     pub fn is_ready(&self, slot: u32) -> bool
         ensures { IsTrue result ↔ IsReady self.now.slots slot }
     {
-        match waits_at(&self.entries, slot) {
+        match waits_at(self.board.outstanding, &self.waits, slot) {
             Some(waits) => waits.is_empty(),
             None => false,
         }
@@ -204,13 +230,20 @@ impl Tracker {
             (λ r. IsReady self.old.slots slot × Retires self.old slot r self.new)
             (λ f. IsCompleteFault self.old slot f × (self.new ≡ self.old)) }
     {
-        let Some(waits) = waits_at(&self.entries, slot) else {
+        let Some(waits) = waits_at(self.board.outstanding, &self.waits, slot) else {
             return Err(TrackFault::NotOutstanding(slot));
         };
         if !waits.is_empty() {
             return Err(TrackFault::Held(slot));
         }
-        Ok(release(&mut self.entries, &mut self.filter, slot))
+        Ok(release(
+            &mut self.board,
+            &mut self.waits,
+            &mut self.rows,
+            &self.stores,
+            self.shape,
+            slot,
+        ))
     }
 
     /// Takes a submission off that was not rung.
@@ -222,9 +255,16 @@ impl Tracker {
             (λ r. IsHeld self.old.slots slot × Retires self.old slot r self.new)
             (λ f. IsWithdrawFault self.old slot f × (self.new ≡ self.old)) }
     {
-        let Some(_waits) = waits_at(&self.entries, slot) else {
+        let Some(_waits) = waits_at(self.board.outstanding, &self.waits, slot) else {
             return Err(TrackFault::NotOutstanding(slot));
         };
-        Ok(release(&mut self.entries, &mut self.filter, slot))
+        Ok(release(
+            &mut self.board,
+            &mut self.waits,
+            &mut self.rows,
+            &self.stores,
+            self.shape,
+            slot,
+        ))
     }
 }

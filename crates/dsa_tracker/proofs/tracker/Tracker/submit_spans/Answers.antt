@@ -1,37 +1,78 @@
-use Rattle.std.proofs.Common.{refl, subst, sym, ◌∙◌, ◌≡◌}
+use Rattle.std.proofs.Common.{◌≡◌, ℕ, List, refl, subst, sym, ◌∙◌, arith}
 use Rattle.std.specs.Vec.{with_items}
 use Rattle.std.proofs.lemmas.List.{with_items_is}
 use Rattle.dsa_tracker.specs.Calls.{CanKeep, IsSpanFault}
-use Rattle.dsa_tracker.specs.Entries.{all_shown}
-use Rattle.dsa_tracker.specs.Table.{IsFirstFree}
-use Rattle.dsa_tracker.specs.Filtering.{IsCovering}
-use Rattle.dsa_tracker.proofs.Tables.{full, first_free, refused_spans, room_is, owner_is, sound, submits}
+use Rattle.dsa_tracker.specs.State.{IsState}
+use Rattle.dsa_tracker.proofs.Filling.{owner_is, room_is, slots_are, state_filled, submits_filled}
+use Rattle.dsa_tracker.proofs.Pieces.{left_addressable, right_addressable}
+use Rattle.dsa_tracker.proofs.Tables.{first_free, full, refused_spans}
 use Rattle.dsa_tracker.proofs.tracker.Tracker.submit_spans.Goals as goal
-use Rattle.dsa_tracker.proofs.tracker.Tracker.submit_spans.Goals.{After-self-1}
 
 pub returns-in_default : goal.returns-in_default
-returns-in_default c = (full c.self.inside c.args.self.now c.self.view_is c.deref.result.now c.deref.ensures.value c.in_default.ensures, refl)
-
-pub returns-in-Some-span_fault : goal.returns-in-Some-span_fault
-returns-in-Some-span_fault c = (
-  refused_spans c.args.self.now c.in-Some.slot c.args.reads.now c.args.writes.now c.in-Some-span_fault.fault (first_free c.self.inside c.args.self.now c.self.view_is c.deref.result.now c.deref.ensures.value c.in-Some.slot c.in-Some.ensures)
-      (subst (λ r. IsSpanFault r c.args.reads.now c.args.writes.now c.in-Some-span_fault.fault) (room_is c.self.inside c.args.self.now c.self.view_is c.deref.result.now c.deref.ensures.value) c.in-Some-span_fault.ensures),
+returns-in_default c = (
+  full c.self.inside.board c.self.inside.waits.items c.self.inside.stores.items c.self.inside.rows.items c.self.inside.shape c.self.invariant.state c.args.self.now (slots_are c.self.inside c.args.self.now c.self.view_is c.self.invariant)
+      (λ s lt low. c.in_default.ensures s (omega (arith, lt, c.len.ensures)) low),
   refl,
 )
 
-items_are : (c : After-self-1) → (with_items c.self.inside.entries c.take_for_spans-waits.new.entries).items ≡ c.take_for_spans-waits.new.entries
-items_are c = with_items_is c.self.inside.entries c.take_for_spans-waits.new.entries (c.take_for_spans-waits.auto.entries ∙ c.deref_mut.ensures.len)
+pub returns-in-Some-span_fault : goal.returns-in-Some-span_fault
+returns-in-Some-span_fault c = (
+  refused_spans c.args.self.now c.in-Some.slot c.args.reads.now c.args.writes.now c.in-Some-span_fault.fault
+      (first_free c.self.inside.board c.self.inside.waits.items c.self.inside.stores.items c.self.inside.rows.items c.self.inside.shape c.self.invariant.state c.args.self.now (slots_are c.self.inside c.args.self.now c.self.view_is c.self.invariant)
+      c.in-Some.slot (let lt = c.in-Some.ensures.0 in omega (arith, lt, c.len.ensures)) c.in-Some.ensures.2 c.in-Some.ensures.3)
+      (subst (λ r. IsSpanFault r c.args.reads.now c.args.writes.now c.in-Some-span_fault.fault) (room_is c.self.inside c.args.self.now c.self.view_is c.self.invariant) c.in-Some-span_fault.ensures),
+  refl,
+)
+
+pub keep_spans-requires-clause-addressable : goal.keep_spans-requires-clause-addressable
+keep_spans-requires-clause-addressable c = left_addressable c.args.reads.now c.args.writes.now c.in_default-span_fault.ensures.2
+
+pub keep_spans-requires-2-clause-addressable : goal.keep_spans-requires-2-clause-addressable
+keep_spans-requires-2-clause-addressable c = right_addressable c.args.reads.now c.args.writes.now c.in_default-span_fault.ensures.2
+
+pub take-waits-requires-clause-state : goal.take-waits-requires-clause-state
+take-waits-requires-clause-state c =
+    state_filled c.self.inside c.args.self.now c.self.view_is c.self.invariant c.in-Some.slot c.in-Some.ensures.2 c.deref_mut.result.now c.keep_spans.new.stores c.deref_mut-2.result.now c.keep_spans-2.new.stores c.deref.result.now
+    c.deref_mut.ensures.value (c.deref_mut-2.ensures.value ∙ first_are) (c.deref.ensures.value ∙ second_are) c.keep_spans.auto.stores c.keep_spans-2.auto.stores c.keep_spans.ensures.others c.keep_spans-2.ensures.others
+    c.deref_mut-3.result.now c.deref_mut-4.result.now c.deref_mut-3.ensures.value c.deref_mut-4.ensures.value
+  where
+    first_are : (with_items c.self.inside.stores c.keep_spans.new.stores).items ≡ c.keep_spans.new.stores
+    first_are = with_items_is c.self.inside.stores c.keep_spans.new.stores (c.keep_spans.auto.stores ∙ c.deref_mut.ensures.len)
+
+    second_are : (with_items (with_items c.self.inside.stores c.keep_spans.new.stores) c.keep_spans-2.new.stores).items ≡ c.keep_spans-2.new.stores
+    second_are = with_items_is (with_items c.self.inside.stores c.keep_spans.new.stores) c.keep_spans-2.new.stores (c.keep_spans-2.auto.stores ∙ c.deref_mut-2.ensures.len)
 
 pub invariant_of-self : goal.invariant_of-self
 invariant_of-self c =
-    let is = sound c.self.inside c.args.self.now c.self.view_is c.deref_mut.result.now c.deref_mut.ensures.value _ c.take_for_spans-waits.new.entries (items_are c) c.take_for_spans-waits.auto.entries c.take_for_spans-waits.ensures.room c.self.invariant in
-    record { few = is.0; room = is.1; sized = c.take_for_spans-waits.ensures.sized; covering = subst (λ xs. IsCovering c.take_for_spans-waits.new.filter (all_shown xs)) (sym (items_are c)) c.take_for_spans-waits.ensures.covering }
+    record {
+      state =
+          subst (λ (ws : List ℕ). IsState c.take-waits.new.board ws (with_items (with_items c.self.inside.stores c.keep_spans.new.stores) c.keep_spans-2.new.stores).items (with_items c.self.inside.rows c.take-waits.new.rows).items c.self.inside.shape) (sym waits_are)
+          (subst (λ (rs : List ℕ). IsState c.take-waits.new.board c.take-waits.new.waits (with_items (with_items c.self.inside.stores c.keep_spans.new.stores) c.keep_spans-2.new.stores).items rs c.self.inside.shape) (sym rows_are)
+          (subst (λ (ss : List ℕ). IsState c.take-waits.new.board c.take-waits.new.waits ss c.take-waits.new.rows c.self.inside.shape) c.deref.ensures.value c.take-waits.ensures.state));
+      width = c.self.invariant.width;
+    }
+  where
+    waits_are : (with_items c.self.inside.waits c.take-waits.new.waits).items ≡ c.take-waits.new.waits
+    waits_are = with_items_is c.self.inside.waits c.take-waits.new.waits (c.take-waits.auto.waits ∙ c.deref_mut-3.ensures.len)
+
+    rows_are : (with_items c.self.inside.rows c.take-waits.new.rows).items ≡ c.take-waits.new.rows
+    rows_are = with_items_is c.self.inside.rows c.take-waits.new.rows (c.take-waits.auto.rows ∙ c.deref_mut-4.ensures.len)
 
 pub returns : goal.returns
 returns c = (
-  subst (λ r. CanKeep r c.args.reads.now c.args.writes.now) (room_is c.self.inside c.args.self.now c.self.view_is c.deref.result.now c.deref.ensures.value) c.in_default-span_fault.ensures,
-  submits c.self.inside c.args.self.now c.self.view_is c.deref_mut.result.now c.deref_mut.ensures.value _ c.take_for_spans-waits.new.entries (items_are c) c.args.reads.now c.args.writes.now c.args.also c.take_for_spans-waits.result c.args.self.now.owner c.self.inside.owner c.in-Some.slot
-      (owner_is c.self.inside c.args.self.now c.self.view_is c.deref.result.now c.deref.ensures.value)
-      (subst (λ xs. IsFirstFree (all_shown xs) c.in-Some.slot) (c.deref.ensures.value ∙ sym c.deref_mut.ensures.value) c.in-Some.ensures)
-      c.take_for_spans-waits.ensures.waits c.take_for_spans-waits.ensures.slots,
+  subst (λ r. CanKeep r c.args.reads.now c.args.writes.now) (room_is c.self.inside c.args.self.now c.self.view_is c.self.invariant) c.in_default-span_fault.ensures,
+  submits_filled c.self.inside c.args.self.now c.self.view_is c.self.invariant c.in-Some.slot c.in-Some.ensures.2 c.deref_mut.result.now c.keep_spans.new.stores c.deref_mut-2.result.now c.keep_spans-2.new.stores c.deref.result.now
+      c.deref_mut.ensures.value (c.deref_mut-2.ensures.value ∙ first_are) (c.deref.ensures.value ∙ second_are) c.keep_spans.auto.stores c.keep_spans-2.auto.stores c.keep_spans.ensures.others c.keep_spans-2.ensures.others
+      c.take-waits.new.board c.deref_mut-3.result.now c.take-waits.new.waits _ _ c.args.reads.now c.args.writes.now c.args.also c.take-waits.result c.args.self.now.owner c.self.inside.owner c.deref_mut-3.ensures.value waits_are c.deref.ensures.value
+      (let lt = c.in-Some.ensures.0 in omega (arith, lt, c.len.ensures)) c.in-Some.ensures.3 c.keep_spans.ensures.here c.keep_spans-2.ensures.here c.take-waits.ensures.waits c.take-waits.ensures.slots c.take-waits.ensures.here
+      (owner_is c.self.inside c.args.self.now c.self.view_is c.self.invariant),
 )
+  where
+    first_are : (with_items c.self.inside.stores c.keep_spans.new.stores).items ≡ c.keep_spans.new.stores
+    first_are = with_items_is c.self.inside.stores c.keep_spans.new.stores (c.keep_spans.auto.stores ∙ c.deref_mut.ensures.len)
+
+    second_are : (with_items (with_items c.self.inside.stores c.keep_spans.new.stores) c.keep_spans-2.new.stores).items ≡ c.keep_spans-2.new.stores
+    second_are = with_items_is (with_items c.self.inside.stores c.keep_spans.new.stores) c.keep_spans-2.new.stores (c.keep_spans-2.auto.stores ∙ c.deref_mut-2.ensures.len)
+
+    waits_are : (with_items c.self.inside.waits c.take-waits.new.waits).items ≡ c.take-waits.new.waits
+    waits_are = with_items_is c.self.inside.waits c.take-waits.new.waits (c.take-waits.auto.waits ∙ c.deref_mut-3.ensures.len)

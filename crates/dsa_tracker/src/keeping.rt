@@ -1,0 +1,127 @@
+//! What a submission reads and writes, put into the stores of its slot.
+
+ghost use Rattle.std.specs.Prelude.{◌≡◌, ◌≢◌, ℕ, ◌+◌, ◌*◌, ◌<◌, ◌≤◌, ◌⊎◌, ◌↔◌, ◌∷◌, flat_map, length, map, slice_index};
+ghost use Rattle.dsa_descriptor.specs.Descriptors.{fields};
+ghost use Rattle.dsa_descriptor.specs.Spans.{InSome, InSpan, IsAddressable};
+ghost use Rattle.dsa_ranges.specs.Ranges.{read_spans, written_spans};
+ghost use Rattle.dsa_tracker.specs.Calls.{AreAddressable, SameAddresses};
+ghost use Rattle.dsa_tracker.specs.Keeping.{InRecord, InTargets, InSources, AreOtherStores};
+ghost use Rattle.dsa_tracker.specs.Kept.{kept, store_at};
+
+use crate::kept::{append, clear, push};
+use dsa_descriptor::{Descriptor, Span, record_span};
+
+/// Keeps just these spans.
+fn replace(store: &mut [u64], spans: &[Span])
+    requires room { 2 * length spans.now < length store.old }
+    requires addressable { AreAddressable spans.now }
+    ensures { SameAddresses (kept store.new) spans.now }
+{
+    clear(store);
+    append(store, spans);
+}
+
+/// Keeps just these spans in the store of this place.
+pub(crate) fn keep_spans(stores: &mut [u64], width: usize, place: usize, spans: &[Span])
+    requires within { (place + 1) * width ≤ length stores.old }
+    requires room { 2 * length spans.now < width }
+    requires addressable { AreAddressable spans.now }
+    ensures here { SameAddresses (kept (store_at width stores.new place)) spans.now }
+    ensures others { AreOtherStores width place stores.old stores.new }
+{
+    replace(&mut stores[place * width..(place + 1) * width], spans);
+}
+
+/// Adds what these pieces read.
+fn append_reads(store: &mut [u64], pieces: &[Descriptor])
+    requires room { 2 * (slice_index store.old 0 + 2 * length pieces.now) < length store.old }
+    ensures spans { (a : ℕ) → InSome (kept store.new) a ↔
+        (InSome (kept store.old) a ⊎ InSources (map fields pieces.now) a) }
+    ensures count { slice_index store.new 0 ≤ slice_index store.old 0 + 2 * length pieces.now }
+{
+    for piece in pieces {
+        let sources = piece.op.sources(piece.size);
+        append(store, sources.as_slice());
+    }
+}
+
+/// Adds the destinations of these pieces.
+fn append_targets(store: &mut [u64], pieces: &[Descriptor])
+    requires room { 2 * (slice_index store.old 0 + 2 * length pieces.now) < length store.old }
+    ensures spans { (a : ℕ) → InSome (kept store.new) a ↔
+        (InSome (kept store.old) a ⊎ InTargets (map fields pieces.now) a) }
+    ensures count { slice_index store.new 0 ≤ slice_index store.old 0 + 2 * length pieces.now }
+{
+    for piece in pieces {
+        let targets = piece.op.targets(piece.size);
+        append(store, targets.as_slice());
+    }
+}
+
+/// Adds the completion records of these pieces.
+fn append_records(store: &mut [u64], pieces: &[Descriptor])
+    requires room { 2 * (slice_index store.old 0 + length pieces.now) < length store.old }
+    ensures spans { (a : ℕ) → InSome (kept store.new) a ↔
+        (InSome (kept store.old) a ⊎ InRecord (map fields pieces.now) a) }
+    ensures count { slice_index store.new 0 ≤ slice_index store.old 0 + length pieces.now }
+{
+    for piece in pieces {
+        push(store, record_span(piece.record_at));
+    }
+}
+
+/// Keeps just what these pieces read.
+fn replace_by_reads(store: &mut [u64], pieces: &[Descriptor])
+    requires { 2 * (3 * length pieces.now + 1) < length store.old }
+    ensures { SameAddresses (kept store.new) (flat_map read_spans (map fields pieces.now)) }
+{
+    clear(store);
+    append_reads(store, pieces);
+}
+
+/// Keeps just what these pieces write, and their staging area: the records after all destinations,
+/// since records that follow each other are put together.
+fn replace_by_writes(store: &mut [u64], pieces: &[Descriptor], staging: Span)
+    requires room { 2 * (3 * length pieces.now + 1) < length store.old }
+    requires addressable { IsAddressable staging }
+    ensures { SameAddresses (kept store.new)
+        (staging ∷ flat_map written_spans (map fields pieces.now)) }
+{
+    clear(store);
+    push(store, staging);
+    append_targets(store, pieces);
+    append_records(store, pieces);
+}
+
+/// Keeps just what these pieces read in the store of this place.
+pub(crate) fn keep_reads(stores: &mut [u64], width: usize, place: usize, pieces: &[Descriptor])
+    requires within { (place + 1) * width ≤ length stores.old }
+    requires room { 2 * (3 * length pieces.now + 1) < width }
+    ensures here { SameAddresses (kept (store_at width stores.new place))
+        (flat_map read_spans (map fields pieces.now)) }
+    ensures others { AreOtherStores width place stores.old stores.new }
+{
+    replace_by_reads(&mut stores[place * width..(place + 1) * width], pieces);
+}
+
+/// Keeps just what these pieces write, and their staging area, in the store of this place.
+pub(crate) fn keep_writes(
+    stores: &mut [u64],
+    width: usize,
+    place: usize,
+    pieces: &[Descriptor],
+    staging: Span,
+)
+    requires within { (place + 1) * width ≤ length stores.old }
+    requires room { 2 * (3 * length pieces.now + 1) < width }
+    requires addressable { IsAddressable staging }
+    ensures here { SameAddresses (kept (store_at width stores.new place))
+        (staging ∷ flat_map written_spans (map fields pieces.now)) }
+    ensures others { AreOtherStores width place stores.old stores.new }
+{
+    replace_by_writes(
+        &mut stores[place * width..(place + 1) * width],
+        pieces,
+        staging,
+    );
+}

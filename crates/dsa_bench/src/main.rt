@@ -1,19 +1,21 @@
 //! How fast the crates are, where no job of the program shows it. Standard input names the case: `move`, `overlap` (a move to
 //! 32 bytes further on) and `fill` work in an image, beside a plain copy of as many bytes, and so do `compare` (of two equal
 //! regions) and `pattern` (of a region that repeats it); `conflicts` finds the last conflicts of short and long lists of
-//! several shapes, and searches their plans; `list` plans short lists whole, from bytes to bytes. Where it names none nothing
-//! is measured or printed.
+//! several shapes, and searches their plans; `list` plans short lists whole, from bytes to bytes; `tracker`
+//! submits lists to a tracker and completes them. Where it names none nothing is measured or printed.
 #![tactic(auto)]
 
 mod finding;
 mod listing;
 mod operation;
 mod timing;
+mod tracking;
 mod working;
 
 use crate::finding::measure_conflicts;
 use crate::listing::measure_lists;
 use crate::operation::operation;
+use crate::tracking::measure_tracker;
 use crate::working::measure_image;
 use std::io;
 
@@ -33,6 +35,7 @@ fn measure(rt: &HostRuntime, name: &str) -> io::Result<()> {
         "pattern" => measure_image(rt, &operation(0x06, 0, ONES)),
         "conflicts" => measure_conflicts(rt),
         "list" => measure_lists(rt),
+        "tracker" => measure_tracker(rt),
         _ => Ok(()),
     }
 }

@@ -298,7 +298,8 @@ def said():
     text = Path(PREFIX, "share/doc/dsa-planner/PROVED").read_text()
     kit = subprocess.run(["rt", "version"], capture_output=True, text=True, check=True).stdout.split()[0]
     expect(f"Toolchain: {kit}\n" in text and make.commit()[0] in text, "PROVED does not name the toolchain and the commit")
-    rows = re.findall(r"^\| (.*?) \| ", Path("docs/PROOF.md").read_text().split("## What is promised")[1].split("\n## ")[0], re.M)
+    promised = Path("docs/PROOF.md").read_text().split("## What is promised")[1].split("\n## ")[0]
+    rows = re.findall(r"^\| (.*?) \| ", promised, re.M)
     expect(len(rows) > 5 and all(row in text for row in rows[1:]), "PROVED does not have the promises of docs/PROOF.md")
     for name in ("dsa", "dsa_text"):
         summed = tried("sha256sum", "sha256sum", f"{PREFIX}/bin/{name}").split()[0]

@@ -219,7 +219,8 @@ def died():
 
 
 def other_cpus():
-    """The same on a CPU that has the instructions: they raise a page fault at the portal, or a general protection fault.
+    """The same on a CPU that has the instructions: they raise a page fault at the portal, or a general protection
+    fault.
     Another program turns the signals of this CPU into those (tests/trace/faults.c)."""
     sources = ["-I", "trace", "tests/trace/faults.c", "trace/decode.c"]
     told("the build of faults", ran("gcc", *STRICT, "-O1", "-o", client("faults"), *sources), 0)
@@ -292,7 +293,8 @@ def killed_at_any_time():
     for wait in (0.2, 0.25, 0.3, 0.35):
         with tempfile.TemporaryDirectory(dir=WORK) as folder:
             quiet = dict.fromkeys(("stdin", "stdout", "stderr"), subprocess.DEVNULL)
-            child = subprocess.Popen([f"{WORK}/gcc/dsa_trace", "--out", folder, "--", client("ends"), "endless"], **quiet)
+            command = [f"{WORK}/gcc/dsa_trace", "--out", folder, "--", client("ends"), "endless"]
+            child = subprocess.Popen(command, **quiet)
             run = Path(folder, "seed-1")
             for _ in range(500):
                 if list(run.glob("*.events")):
@@ -331,7 +333,8 @@ def waits():
     told("which operations", end, 1, "(move on wq0.0 after move on wq0.0)")
     expect(end.stdout.count("error") == 1, f"of one missing wait is said {end.stdout}")
     end = traced("--audit", "--order", "data", "--", client("ordered"), "early", env=known)
-    told("a program that reads early", end, 3, "the audits find no errors; if the program does not fail with --order fifo")
+    words = "the audits find no errors; if the program does not fail with --order fifo"
+    told("a program that reads early", end, 3, words)
     for mode in ("fence", "fenced", "waited", "member", "drain", "polled", "after"):
         for order in ("data", "all"):
             end = traced("--audit", "--order", order, "--", client("ordered"), mode, env=known)
@@ -376,7 +379,8 @@ def named_waits(name, entries, events):
 
 
 def waits_of_any():
-    """Missing waits of random recordings beside brute force; and of many submissions whose end is never told, in time."""
+    """Missing waits of random recordings beside brute force; and of many submissions whose end is never told, in
+    time."""
     sources = [f"trace/{name}.c" for name in ("waits", "spans", "random", "fail")]
     words = ["-O2", "-I", "trace", "-o", client("waits"), "tests/trace/waits.c"]
     told("the build of waits", ran("gcc", *STRICT, *words, *sources), 0)
@@ -385,7 +389,8 @@ def waits_of_any():
         it = Recorded(seed, 12)
         named, count = named_waits("random", it.entries, it.events)
         lacking += len(it.lacking)
-        expect(named == it.lacking[:20] and count == len(it.lacking), f"seed {seed}: {named} of {count}, not {it.lacking}")
+        is_right = named == it.lacking[:20] and count == len(it.lacking)
+        expect(is_right, f"seed {seed}: {named} of {count}, not {it.lacking}")
     expect(lacking > 300, f"only {lacking} waits are missing in random recordings")
     many = range(200000)
     entries = b"".join(struct.pack("<IIQQQI28x", 0, MOVE << 24, 0, 128 * k, 128 * k + 64, 64) for k in many)

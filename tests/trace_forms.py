@@ -12,7 +12,8 @@ def value(register, is_narrow):
 
 
 def forms():
-    """Each form of address: its text for the assembler, and its address, with which the registers are as in decode.c."""
+    """Each form of address: its text for the assembler, and its address, with which the registers are as in
+    decode.c."""
     for is_narrow in (False, True):
         names, size = (NARROW, 32) if is_narrow else (WIDE, 64)
         for base, index in itertools.product([None, *range(16)], [None, *(k for k in range(16) if k != 4)]):

@@ -160,7 +160,11 @@ int audit_end(struct audits *a, const struct options *o, bool has_failed)
         fwrite(part, 1, length, stdout);
     if (ferror(a->report) || fflush(stdout))
         fail("the report of the audit");
-    if (has_failed && a->recordings && !a->faulty)
+    if (has_failed && a->recordings && !a->faulty && o->settings.fault)
+        fputs("dsa_trace: the audits find no errors; some moves may have been stopped by --fault: the program has to "
+              "look at the status of each record\n",
+              stderr);
+    else if (has_failed && a->recordings && !a->faulty)
         fputs("dsa_trace: the audits find no errors; if the program does not fail with --order fifo, it uses memory "
               "itself before a record says that the operation has ended\n",
               stderr);

@@ -16,7 +16,7 @@ struct settings {
     uint64_t seed;
     uint64_t delay;   /* microseconds that the program has to run on before anything in flight is done */
     uint64_t retry;   /* ENQCMD says "retry" once in this many times; 0: only when the queue is full */
-    uint64_t fault;   /* a move without block-on-fault stops at a page once in this many times; 0: never */
+    uint64_t fault;   /* a move without block-on-fault stops at a page of its source, once in so many; 0: never */
     uint64_t watch;   /* milliseconds for which a submission waits until its record is looked at; 0: off */
     uint64_t cpuid;   /* 1: CPUID says that the instructions exist */
     uint64_t verbose; /* 1: a line of counts at the end of each process */

@@ -3,8 +3,9 @@
 
     bindings/package/make.py [--built] [FOLDER]
 
-It needs the archive and both programs, as the gate proved and recorded them, and proves and builds what is lacking; with
---built it stops instead. It needs the toolchain too, a C compiler (CC names it), make, binutils, and dpkg-deb for the second.
+It needs the archive and both programs, as the gate proved and recorded them, and proves and builds what is lacking;
+with --built it stops instead. It needs the toolchain too, a C compiler (CC names it), make, binutils, and dpkg-deb for
+the second.
 If the folder is given, the packages are written there. Equal inputs give equal packages, byte for byte."""
 
 import gzip

@@ -181,7 +181,8 @@ static void integrity(void)
     expect("updating them", done(d), DSA_COMP_SUCCESS);
     expect("the new fields",
            memcmp(c + 512, "\xd0\xdb\x56\x78\0\0\0\1", 8) | memcmp(c + 1032, "\0\0\x56\x78\0\0\0\2", 8), 0);
-    expect("the next of them", (unsigned long)r->dif_upd_dest_ref_tag << 16 | r->dif_upd_dest_app_tag, 3 << 16 | 0x5678);
+    unsigned long tags = (unsigned long)r->dif_upd_dest_ref_tag << 16 | r->dif_upd_dest_app_tag;
+    expect("the next of them", tags, 3 << 16 | 0x5678);
     passing(d);
 }
 

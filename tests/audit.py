@@ -19,11 +19,12 @@ import common
 from common import move, named, program, run_test
 from model import COMPARE, DELTA, DUALCAST, FILL, MOVE, PATTERN, Op
 
-COUNT = 200
+COUNT = 400
 WRAP = 1 << 64
 GREATEST_BATCH = 6
 KINDS = ("unseen", "missing", "needless", "guarding", "signalling")
 # What is wrong beside fences.
+REPEATED = "repeated operation"
 FLAWS = ("shared record", "overwrites batch", "data over record", "misaligned record", "small batch", "fence without effect")
 # What can be assumed of software: what it looks at, and whether all memory is resident.
 ASSUMED = list(itertools.product(("writes", "signals", "batches"), (False, True)))
@@ -37,9 +38,9 @@ def entry(code, flags=0x0C, record=0x8000, first=0, second=0, size=0, own=0, own
     return text + bytes(4) + own.to_bytes(8, "little") + bytes(16)
 
 
-def batch(*members, flags=0x0C, owner=0):
-    """A batch as it is recorded: its descriptor and its members."""
-    return entry(0x01, flags, 0x7000, 0x10000, size=len(members), owner=owner) + b"".join(members)
+def batch(*members, flags=0x0C, owner=0, at=0x10000):
+    """A batch as it is recorded: its descriptor, which says that its members are at this address, and its members."""
+    return entry(0x01, flags, 0x7000, at, size=len(members), owner=owner) + b"".join(members)
 
 
 def audited(recording, words=""):
@@ -47,6 +48,42 @@ def audited(recording, words=""):
     ran = subprocess.run([TEXT, "audit", "--json", *words.split()], input=recording, capture_output=True)
     common.expect(ran.returncode in (0, 1) and not ran.stderr, f"audit ends with {ran.returncode}: {ran.stderr[:300]}")
     return json.loads(ran.stdout or "{}"), ran.returncode
+
+
+def is_foreign(head, it):
+    """The entry cannot be a member of a batch with this descriptor."""
+    return any(it) and (it[7] == 1 or owner_of(it) != owner_of(head))
+
+
+def batches_of(recording):
+    """Of each batch of a recording its descriptor's number, its descriptor and its members."""
+    entries, at = [recording[k : k + 64] for k in range(0, len(recording), 64)], 0
+    while at < len(entries):
+        size = struct.unpack_from("<I", entries[at], 32)[0] if entries[at][7] == 1 else 0
+        if entries[at][7] == 1:
+            yield at, entries[at], entries[at + 1 : at + 1 + size]
+        at += 1 + size
+
+
+def first_foreign(recording):
+    """The first entry that cannot be a member of its batch, and the descriptor of that."""
+    for at, head, members in batches_of(recording):
+        for k, it in enumerate(members):
+            if is_foreign(head, it):
+                return at + 1 + k, at
+    return None
+
+
+def audited_with_dumps(recording, words=""):
+    """The report on a recording as JSON, and the status, where its members are in dumps."""
+    found = list(batches_of(recording))
+    taken = {at + 1 + k for at, _, members in found for k in range(len(members))}
+    portal = b"".join(recording[64 * k : 64 * k + 64] for k in range(len(recording) // 64) if k not in taken)
+    with tempfile.TemporaryDirectory() as folder:
+        for at, head, members in found:
+            Path(folder, str(at)).write_bytes(b"".join(members))
+            words += f" --staging {int.from_bytes(head[16:24], 'little')}:{Path(folder, str(at))}"
+        return audited(portal, words)
 
 
 # ---- what an entry reads and writes, byte by byte
@@ -131,6 +168,13 @@ def conflict(one, other):
     return bool(one[1] & (other[0] | other[1]) or one[0] & other[1])
 
 
+def is_repeat(one, other):
+    """Both have one operation with the same operands, and neither reads what the other writes."""
+    lengths = {COMPARE: 1, PATTERN: 1, DELTA: 4, DUALCAST: 8}
+    what = [(it[7], it[16:36], it[40 : 40 + lengths.get(it[7], 0)]) for it in (one, other)]
+    return what[0] == what[1] and not parts_of(one)[0] & parts_of(other)[1]
+
+
 def separated(fences, pair):
     """A fence stands behind the earlier member, and at the later one at the latest."""
     return any(pair[0] < fence <= pair[1] for fence in fences)
@@ -177,14 +221,21 @@ class Batch:
         self.operands = [parts_of(it)[:2] for it in entries]
         both = [p for p in pairs if all(is_seen[k] for k in p)]
         clash = {p for p in both if conflict(*(self.known[k] for k in p))}
-        self.certain = [p for p in both if conflict(*(self.operands[k] for k in p))]
+        known = [p for p in both if conflict(*(self.operands[k] for k in p))]
+        self.repeats = {p for p in known if is_repeat(*(entries[k] for k in p))}
+        self.certain = [p for p in known if p not in self.repeats]
+        lasts = {b: max(a for a, other in known if other == b) for _, b in known}
+        self.wanted_repeats = {b: {"kind": REPEATED, "earlier": a} for b, a in lasts.items() if (a, b) in self.repeats}
         self.is_seen = is_seen
         self.possible = [p for p in pairs if p in clash or not all(is_seen[k] for k in p)]
         self.assume(*assumed)
-        self.found, self.flaws = {kind: {} for kind in KINDS}, []
+        self.found, self.flaws, self.repeated = {kind: {} for kind in KINDS}, [], {}
         for finding in findings:
             if finding["what"]["kind"] in FLAWS:
                 self.flaws.append((finding["entry"], finding["severity"], finding["what"]))
+                continue
+            if finding["what"]["kind"] == REPEATED:
+                self.repeated[finding["member"]] = finding["what"]
                 continue
             for kind in finding["what"]["kind"].split(" and "):
                 self.found[kind][finding["member"] or 0] = finding["what"]
@@ -218,13 +269,17 @@ class Batch:
             there = [(count < 2, {"kind": "small batch", "size": count}), (is_misaligned(self.head), {"kind": "misaligned record"})]
             there.append((self.head[4] & 1, {"kind": "fence without effect"}))
             yield from ((at, "error", what) for is_there, what in there if is_there)
-        whole = parts_of(self.head)[2] | set(span(struct.unpack_from("<Q", self.head, 16)[0], 64 * len(self.entries)))
+        list_at = struct.unpack_from("<Q", self.head, 16)[0]
+        listed, kept = set(span(list_at, 64 * len(self.entries))), parts_of(self.head)[2]
         for k, it in enumerate(self.entries):
             reads, writes, record = parts_of(it)
+            # a record within its own descriptor is written after the device has read that
+            own = record <= set(span(list_at + 64 * k, 64))
+            overwrites = (writes | record) & kept or writes & listed or (record & listed and not own)
             earlier = [i for i in range(k) if self.is_seen[i] and self.is_seen[k] and shares_record(self.entries[i], it)]
             there = [
                 (earlier, {"kind": "shared record", "earlier": max(earlier, default=0)}),
-                (self.is_batch and (writes | record) & whole, {"kind": "overwrites batch"}),
+                (self.is_batch and overwrites, {"kind": "overwrites batch"}),
                 ((reads | writes) & record, {"kind": "data over record"}),
                 (is_misaligned(it), {"kind": "misaligned record"}),
                 (not self.is_batch and it[4] & 1, {"kind": "fence without effect"}),
@@ -235,6 +290,8 @@ class Batch:
         wanted = list(self.wanted_flaws(at))
         if self.flaws != wanted:
             yield f"beside fences {self.flaws} is wrong, and not {wanted}"
+        if self.repeated != self.wanted_repeats:
+            yield f"repeated are {self.repeated}, and not {self.wanted_repeats}"
         yield from self.unseen_faults()
         for later, what in self.found["missing"].items():
             yield from self.missing_faults(what, later)
@@ -379,28 +436,32 @@ def judge(recording, report, status, name, assumed=("writes", False)):
 
 
 class Maker:
-    """Makes a recording of a few submissions, which are as the seed says."""
+    """Makes a recording of a few submissions, which are as the seed says; where asked for, with entries that cannot be
+    members, and with repeated operations."""
 
-    def __init__(self, seed):
-        self.random = random.Random(seed)
+    def __init__(self, seed, has_foreign=False, has_repeats=True):
+        self.random, self.list_at = random.Random(seed), 0x10000
+        self.has_foreign, self.has_repeats = has_foreign, has_repeats
         self.crowd = self.random.choice([2, 4, 8, 16, 40])
         self.blocking = self.random.choice([0, 0.5, 1])
 
     def address(self):
         if self.random.random() < 0.01:
-            return self.random.choice([0x10000, 0x7000, 0x800000]) + 8 * self.random.randrange(4)
+            return self.random.choice([self.list_at, 0x7000, 0x800000]) + 8 * self.random.randrange(4)
         return 0x1000 + 8 * self.random.randrange(self.crowd)
 
     def member(self, number, k, is_lone):
         choose, size = self.random.random, 8 * self.random.randint(1, 2)
         record = 0x800000 + 32 * (number * 16 + (k if choose() < 0.97 else 0)) + 8 * (choose() < 0.01)
         record = 0x7000 if choose() < 0.005 else record
+        record = self.list_at + 32 * self.random.randrange(16) if choose() < 0.02 else record
+        foreign = int(self.has_foreign and not is_lone)
         flags = 0x0C if choose() < 0.9 else self.random.choice([0, 0x04, 0x08, 0x1C, 0x0E])
         flags |= int(choose() < (0.35 if k else 0.05))
         flags |= 0x80 * int(choose() < 0.1) | 0x02 * int(choose() < self.blocking) | 0x10 * int(choose() < 0.05)
         code = self.random.choices(
             [MOVE, FILL, COMPARE, PATTERN, DELTA, DUALCAST, 0x00, 0x10, 0x01, 0x02, "empty", "wrap", "owner", "blank"],
-            [45, 15, 15, 5, 3, 4, 8, 1, 0 if is_lone else 1, 1, 1, 1, 0 if is_lone else 1, 1],
+            [45, 15, 15, 5, 3, 4, 8, 1, foreign, 1, 1, 1, foreign, 1],
         )[0]
         if code == "blank":
             return bytes(64)
@@ -414,28 +475,60 @@ class Maker:
         size = 0 if code == 0 else size
         return entry(code, flags, record, self.address(), self.address(), size, own)
 
+    def members(self, number):
+        """The members of a batch, of which some repeat an earlier one with flags and a record of their own."""
+        found = []
+        for k in range(self.random.randint(0, 8)):
+            it = self.member(number, k, False)
+            if found and self.has_repeats and self.random.random() < 0.1:
+                other = self.random.choice(found)
+                it = it[:7] + other[7:8] + it[8:16] + other[16:]
+            found.append(it)
+        return found
+
     def recording(self):
         text = b""
         for number in range(self.random.randint(0, 12)):
+            self.list_at = 0x10000 + 0x1000 * number
             if self.random.random() < 0.15:
                 text += self.member(number, 0, True)
             else:
-                members = [self.member(number, k, False) for k in range(self.random.randint(0, 8))]
-                text += batch(*members, flags=self.random.choice([0x0C, 0x0C, 0x0C, 0x1C, 0x00, 0x0D]))
+                flags = self.random.choice([0x0C, 0x0C, 0x0C, 0x1C, 0x00, 0x0D])
+                text += batch(*self.members(number), flags=flags, at=self.list_at)
         return text
+
+
+def refused(recording, foreign):
+    """A recording with an entry that cannot be a member of its batch is refused, with the option that gives members."""
+    ran = subprocess.run([TEXT, "audit"], input=recording, capture_output=True)
+    reason = (
+        f"entry {foreign[0]}: error: this cannot be a member of the batch at entry {foreign[1]}: "
+        "if members are not recorded, give a dump of them with --staging\n"
+    )
+    common.expect((ran.returncode, ran.stdout, ran.stderr.decode()) == (2, b"", reason), f"foreign at {foreign}: {ran}")
 
 
 def brute_force():
     """Random recordings, judged."""
     sums = {}
     for seed in range(COUNT):
-        recording, assumed = Maker(seed).recording(), ASSUMED[seed % len(ASSUMED)]
+        recording, assumed = Maker(seed, has_foreign=True).recording(), ASSUMED[seed % len(ASSUMED)]
         words = f"--await {assumed[0]}" + " --resident" * assumed[1]
-        report, status = audited(recording, f"--greatest-batch {GREATEST_BATCH} {words}")
+        foreign = first_foreign(recording)
+        if foreign:
+            refused(recording, foreign)
+        audit = audited_with_dumps if foreign else audited
+        report, status = audit(recording, f"--greatest-batch {GREATEST_BATCH} {words}")
         for name, number in judge(recording, report, status, f"seed {seed} {words}", assumed).items():
             sums[name] = sums.get(name, 0) + number
     print(", ".join(f"{number} {name}" for name, number in sums.items()))
     common.expect(all(sums[kind] > COUNT // 10 for kind in (*KINDS, "flaws")), f"too few findings: {sums}")
+
+
+def found_in_batch(members):
+    """What is found of a batch of these members but its size, and records within its descriptors, which move with them."""
+    findings = audited(batch(*members))[0]["findings"]
+    return [it for it in findings if it["what"]["kind"] not in ("small batch", "overwrites batch")]
 
 
 def padded():
@@ -449,9 +542,9 @@ def padded():
         for it, is_batch in submissions(recording, {"findings": []}):
             if not is_batch or not it.entries:
                 continue
-            wanted = [f for f in audited(batch(*it.entries))[0]["findings"] if f["what"]["kind"] != "small batch"]
+            wanted = found_in_batch(it.entries)
             found += len(wanted)
-            got = audited(batch(*it.entries, *idle))[0]["findings"]
+            got = found_in_batch([*it.entries, *idle])
             common.expect(got == wanted, f"seed {seed}, {it.number}: {got} with members behind, and not {wanted}")
             if 0 in it.fences:
                 continue
@@ -462,7 +555,7 @@ def padded():
                         finding["what"][name] += 70
                 if "records" in finding["what"]:
                     finding["what"]["records"] = [k + 70 for k in finding["what"]["records"]]
-            got = audited(batch(*idle, *it.entries))[0]["findings"]
+            got = found_in_batch([*idle, *it.entries])
             common.expect(got == wanted, f"seed {seed}, {it.number}: {got} with members before, and not {wanted}")
     common.expect(found > COUNT // 10, f"only {found} findings")
 
@@ -501,6 +594,8 @@ def wanted_parts(recording, report):
     parts, at, number, end, findings = [], 0, 0, 36, {}
     for it in report["findings"]:
         what = it["what"]
+        if what["kind"] == REPEATED:
+            continue
         if what["kind"] in FLAWS and (what["kind"], entries[it["entry"]][7] == 1, it["member"]) != ("fence without effect", False, None):
             continue
         part = "unseen" if what["kind"] == "unseen" else "mark"
@@ -592,7 +687,7 @@ def pictures():
 def sizes():
     """Pictures of nothing, of batches of several sizes, and of the most submissions and entries that a picture has."""
     apart = [move(0x1000000 + 64 * k, 0x9000000 + 64 * k, record_at=0x20000000 + 32 * k).bytes() for k in range(1025)]
-    same = [move(0x1000, 0x2000, record_at=0x20000000 + 32 * k).bytes() for k in range(1023)]
+    same = [move(0x1000000 + 64 * k, 0x2000, record_at=0x20000000 + 32 * k).bytes() for k in range(1023)]
     none = dict.fromkeys(PARTS, 0)
     common.expect(compare(b"", "nothing") == none, "nothing has parts")
     common.expect(compare(batch(), "an empty batch") == none | {"row": 1}, "an empty batch has other parts")
@@ -837,10 +932,11 @@ def as_list(recording):
 
 def lists():
     """Random recordings as lists, and entries around the records that a list adds. What the planner submits has a line for
-    each piece. The least plan of a list costs at most what the recording costs with the missing fences."""
+    each piece. The least plan of a list costs at most what the recording costs with the missing fences, if no
+    operation is repeated."""
     explained = 0
     for seed in range(COUNT):
-        recording = Maker(seed).recording()
+        recording = Maker(seed, has_repeats=False).recording()
         text = as_list(recording)
         common.expect(text == wanted_list(recording), f"seed {seed}: another list")
         costs = audited(recording)[0]["costs"]
@@ -888,12 +984,13 @@ def unseen():
 def ends():
     """Recordings that end early: status 2, nothing on standard output, and where and why on standard error."""
     whole = batch(*[move(0x1000, 0x2000).bytes()] * 3)
+    hint = "if members are not recorded, give a dump of them with --staging\n"
     for recording, reason in [
         (whole[:65], "entry 1: error: the recording ends after 1 of its 64 bytes\n"),
         (whole[:-1], "entry 3: error: the recording ends after 63 of its 64 bytes\n"),
-        (whole[:64], "entry 0: error: the recording ends after 0 of the 3 members of this batch\n"),
-        (whole + whole[:192], "entry 4: error: the recording ends after 2 of the 3 members of this batch\n"),
-        (entry(0x01, size=0xFFFFFFFF), "entry 0: error: the recording ends after 0 of the 4294967295 members of this batch\n"),
+        (whole[:64], f"entry 0: error: the recording ends after 0 of the 3 members of this batch: {hint}"),
+        (whole + whole[:192], f"entry 4: error: the recording ends after 2 of the 3 members of this batch: {hint}"),
+        (entry(0x01, size=0xFFFFFFFF), f"entry 0: error: the recording ends after 0 of the {0xFFFFFFFF} members of this batch: {hint}"),
     ]:
         ran = subprocess.run([TEXT, "audit"], input=recording, capture_output=True, text=False)
         got = (ran.returncode, ran.stdout, ran.stderr.decode())
@@ -942,15 +1039,17 @@ def forms():
 
 def speed():
     """65,472 members in batches of 1,023, and in one batch. What it takes is printed; more than ten seconds is a fault."""
-    for name, member in [
-        ("apart", lambda k: move(0x1000000 + 64 * k, 0x9000000 + 64 * k, record_at=0x20000000 + 32 * k)),
-        ("fenced all", lambda k: move(0x1000000 + 64 * k, 0x9000000 + 64 * k, record_at=0x20000000 + 32 * k)),
-        ("all conflict", lambda k: move(0x1000, 0x2000, record_at=0x20000000 + 32 * k)),
-        ("all conflict, fenced all", lambda k: move(0x1000, 0x2000, record_at=0x20000000 + 32 * k)),
-        ("first and last conflict", lambda k: move(0x1000000 + 64 * (k % 1022), 0x9000000 + 64 * (k % 1022), record_at=0x20000000 + 32 * k)),
+    for name, places in [
+        ("apart", lambda k: (0x1000000 + 64 * k, 0x9000000 + 64 * k)),
+        ("fenced all", lambda k: (0x1000000 + 64 * k, 0x9000000 + 64 * k)),
+        ("all conflict", lambda k: (0x1000000 + 64 * k, 0x2000)),
+        ("all conflict, fenced all", lambda k: (0x1000000 + 64 * k, 0x2000)),
+        ("all repeat", lambda k: (0x1000, 0x2000)),
+        ("first and last conflict", lambda k: (0x1000000 + 64 * k, 0x9000000 + 64 * (k % 1022))),
     ]:
         for count, size in [(64, 1023), (1, 64 * 1023)]:
-            members = [member(k).bytes(fenced="fenced all" in name) for k in range(size)]
+            moves = [move(*places(k), record_at=0x20000000 + 32 * k) for k in range(size)]
+            members = [it.bytes(fenced="fenced all" in name) for it in moves]
             recording = batch(*members) * count
             start = time.monotonic()
             report, _ = audited(recording)

@@ -40,7 +40,7 @@ first_behind g a (suc b) =
           ]
     ]
 
--- a group that has the first fence behind each member that can fail abandons the same members
+-- a group that has the first fence after each member that can fail abandons the same members
 pub keeps_guards : (bs : List Bool) (g h : Group) → ((m k : ℕ) → k < length g → IsGuard bs g k m → HasFence g k → HasFence h k) → KeepsGuards bs g h
 keeps_guards bs g h kept m b fails within p =
     elim (first_behind g m b) [
@@ -92,7 +92,7 @@ given_before g at last s none =
           ];
     }
 
--- what stands before the last fence, that guards for no later one
+-- what is before the last fence, that guards for no later one
 not_before : (bs : List Bool) (g : Group) (at last m : ℕ) → IsLastGiven g at last → m < last → ¬ IsGuard bs g at m
 not_before bs g at last m s early is =
     let some : 0 < last = omega arith in

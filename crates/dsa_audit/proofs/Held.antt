@@ -8,7 +8,9 @@ use Rattle.dsa_audit.specs.declared.member.Member.{Member}
 use Rattle.dsa_audit.specs.declared.missing.FencePlace.{FencePlace}
 use Rattle.dsa_audit.specs.declared.missing.FencePlace.TheVariants.{NoFence, Given, Missing}
 use Rattle.dsa_audit.specs.declared.needless.FenceUse.{FenceUse}
-use Rattle.dsa_audit.specs.Members.{KnownConflict, PossibleConflict}
+use Rattle.dsa_audit.specs.declared.repeats.Action.{Action}
+use Rattle.dsa_audit.specs.Members.{PossibleConflict}
+use Rattle.dsa_audit.specs.Repeats.{OrderMatters}
 use Rattle.dsa_audit.specs.Audits.{HasFence, IsMissing, PlaceHolds, CanFail, Shows, IsCorrected, IsReduced, Separates}
 use Rattle.dsa_audit.specs.Laws.{IsBetween, AllCanFail, Starts, Holds}
 use Rattle.dsa_audit.proofs.Flags.{fence_within}
@@ -19,11 +21,11 @@ spare ms bs vs T h k uses may reduced separates a b ordered within conflict =
     let inside : b < length h = omega (arith, reduced.less.same_length) in
     reduced.separates a b ordered inside (may a b conflict) (separates a b ordered inside conflict)
 
-given_at : (ds ms : List Member) (bs vs : List Bool) (g h k : Group) (uses : List FenceUse) (m : ℕ) (place : FencePlace) → ((i j : ℕ) → KnownConflict ds i j → PossibleConflict ms i j)
-    → length h ≡ length g → m < length g → IsReduced (PossibleConflict ms) bs vs h uses k → HasFence h m → ¬ HasFence k m → PlaceHolds (KnownConflict ds) g h m place → HasFence g m
-given_at ds ms bs vs g h k uses m NoFence can same within reduced here gone is = absurd (is.1 here)
-given_at ds ms bs vs g h k uses m Given can same within reduced here gone is = is.0
-given_at ds ms bs vs g h k uses m (Missing i) can same within reduced here gone is =
+given_at : (K : ℕ → ℕ → Type 0) (ms : List Member) (bs vs : List Bool) (g h k : Group) (uses : List FenceUse) (m : ℕ) (place : FencePlace) → ((i j : ℕ) → K i j → PossibleConflict ms i j)
+    → length h ≡ length g → m < length g → IsReduced (PossibleConflict ms) bs vs h uses k → HasFence h m → ¬ HasFence k m → PlaceHolds K g h m place → HasFence g m
+given_at K ms bs vs g h k uses m NoFence can same within reduced here gone is = absurd (is.1 here)
+given_at K ms bs vs g h k uses m Given can same within reduced here gone is = is.0
+given_at K ms bs vs g h k uses m (Missing i) can same within reduced here gone is =
     let p = reduced.separates i m is.before (omega arith) (can i m is.conflict) (record { at = m; behind = is.before; up_to = omega arith; fence = here }) in
     elim (cases_lt p.at m) [
       | inl before ↦ absurd (is.alone p.at p.behind before (reduced.less.fences p.at p.fence))
@@ -40,19 +42,20 @@ same_starts ms bs vs h k uses failed b reduced can = (
       starts a fails (record { at = q.at; behind = q.behind; up_to = omega (arith, q.up_to, p.up_to); fence = q.fence })),
 )
 
-pub held : (ds ms : List Member) (bs vs : List Bool) (T : ℕ → ℕ → Type 0) (g h k : Group) (places : List FencePlace) (uses : List FenceUse)
-    → IsBetween ds ms T → IsCorrected (KnownConflict ds) g places h → IsReduced (PossibleConflict ms) bs vs h uses k → Holds T ds bs vs g h k places
-held ds ms bs vs T g h k places uses between corrected reduced =
-    let can : (i j : ℕ) → KnownConflict ds i j → PossibleConflict ms i j = λ i j c. between.possible i j (between.known i j c) in
+pub held : (acts : List Action) (ds ms : List Member) (bs vs : List Bool) (T : ℕ → ℕ → Type 0) (g h k : Group) (places : List FencePlace) (uses : List FenceUse)
+    → IsBetween acts ds ms T → IsCorrected (OrderMatters acts ds) g places h → IsReduced (PossibleConflict ms) bs vs h uses k → Holds T acts ds bs vs g h k places
+held acts ds ms bs vs T g h k places uses between corrected reduced =
+    let K : ℕ → ℕ → Type 0 = OrderMatters acts ds in
+    let can : (i j : ℕ) → K i j → PossibleConflict ms i j = λ i j c. between.possible i j (between.known i j c) in
     record {
       missing = λ i m within is.
-          let found : IsMissing (KnownConflict ds) g h i m = subst (PlaceHolds (KnownConflict ds) g h m) is (corrected.each m within) in
+          let found : IsMissing K g h i m = subst (PlaceHolds K g h m) is (corrected.each m within) in
           (found.before, between.known i m found.conflict, found.unseparated);
       spared = spare ms bs vs T h k uses between.possible reduced;
       given = λ m here gone.
           let w : m < length g = omega (arith, fence_within h m here, corrected.more.same_length) in
-          given_at ds ms bs vs g h k uses m (get_or places m NoFence) can corrected.more.same_length w reduced here gone (corrected.each m w);
-      legal = spare ms bs vs (KnownConflict ds) h k uses can reduced corrected.separates;
+          given_at K ms bs vs g h k uses m (get_or places m NoFence) can corrected.more.same_length w reduced here gone (corrected.each m w);
+      legal = spare ms bs vs K h k uses can reduced corrected.separates;
       starts = λ failed b can. same_starts ms bs vs h k uses failed b reduced can;
       shows = λ a b shows within. (
         reduced.signals a b shows (omega (arith, within, corrected.more.same_length)),

@@ -4,3 +4,4 @@ pub mod Guards
 pub mod Reducing
 pub mod Held
 pub mod LastConflicts
+pub mod Repeated

@@ -108,7 +108,7 @@ open_next C g at epoch ms h s lt (unfenced, none) =
       );
     }
 
--- some fence of another group up to `at` is behind all counted ones
+-- some fence of another group up to `at` is after all counted ones
 pub record IsMore (at epoch : ℕ) (other : Group) : Type 0 where
   pub place : ℕ
   pub behind : (e : ℕ) → e ≤ at → e ≤ suc epoch → e ≤ place

@@ -1,6 +1,6 @@
 -- Missing and needless fences of a batch (all of this file is this project's choice; what a fence does is specification
 -- 341204, batch and fence). `C a b` says that the members a and b conflict; members are numbered from 0. A group `g`
--- says before which members a fence stands.
+-- says which members have a fence before them.
 use Rattle.std.specs.Prelude.{ℕ, ◌≡◌, ◌⊎◌, ◌-◌, ◌<◌, ◌≤◌, Bool, true, false, List, length, get_or}
 use Rattle.dsa_settings.specs.Plan.{Group, fence_count}
 use Rattle.dsa_audit.specs.declared.missing.FencePlace.{FencePlace}
@@ -8,11 +8,11 @@ use Rattle.dsa_audit.specs.declared.missing.FencePlace.TheVariants as fence_plac
 use Rattle.dsa_audit.specs.declared.needless.FenceUse.{FenceUse}
 use Rattle.dsa_audit.specs.declared.needless.FenceUse.TheVariants as fence_use
 
--- a fence stands before member k
+-- there is a fence before member k
 abbrev pub HasFence : Group → ℕ → Type 0
 HasFence g k = get_or g k false ≡ true
 
--- a fence stands after member a, and at member b at the latest: b waits for a
+-- there is a fence after member a, and at member b at the latest: b waits for a
 pub record IsSeparated (g : Group) (a b : ℕ) : Type 0 where
   pub at : ℕ
   pub behind : a < at
@@ -40,7 +40,7 @@ pub record HasFencesOf (g h : Group) : Type 0 where
 -- ---- missing fences
 
 -- a fence is missing before member k: it conflicts with an earlier member i of its epoch, and once all missing fences
--- are added (h), the one before k is the first behind i
+-- are added (h), the one before k is the first after i
 pub record IsMissing (C : ℕ → ℕ → Type 0) (g h : Group) (i k : ℕ) : Type 0 where
   pub before : i < k
   pub conflict : C i k

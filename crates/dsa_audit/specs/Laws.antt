@@ -7,20 +7,25 @@ use Rattle.dsa_audit.specs.declared.missing.FencePlace.{FencePlace}
 use Rattle.dsa_audit.specs.declared.missing.FencePlace.TheVariants.{NoFence, Missing}
 use Rattle.dsa_audit.specs.declared.needless.FenceUse.{FenceUse}
 use Rattle.dsa_audit.specs.declared.audit.Audit.{Audit}
-use Rattle.dsa_audit.specs.Members.{KnownConflict, PossibleConflict}
+use Rattle.dsa_audit.specs.declared.repeats.Action.{Action}
+use Rattle.dsa_audit.specs.Members.{PossibleConflict}
+use Rattle.dsa_audit.specs.Repeats.{OrderMatters, AreRepeats}
 use Rattle.dsa_audit.specs.Audits.{HasFence, IsSeparated, CanFail, Shows, IsCorrected, IsReduced, ShareEpoch, Separates}
 
--- the missing fences by the conflicts that are known of the operands of members; of all fences then, the needless ones by the
--- conflicts that are not ruled out by all that they touch, by the members that can fail, and by those that show
-pub record IsAudit (operands members : List Member) (fallible visible : List Bool) (g : Group) (a : Audit) : Type 0 where
-  pub corrected : IsCorrected (KnownConflict operands) g a.corrected.places.items a.corrected.fences.items
+-- the members that repeat an earlier one; the missing fences by the conflicts that are known of the operands of members,
+-- where their order matters; of all fences then, the needless ones by the conflicts that are not ruled out by all that they
+-- touch, by the members that can fail, and by those that show
+pub record IsAudit (actions : List Action) (operands members : List Member) (fallible visible : List Bool) (g : Group) (a : Audit) : Type 0 where
+  pub repeated : AreRepeats actions operands a.repeated.items
+  pub corrected : IsCorrected (OrderMatters actions operands) g a.corrected.places.items a.corrected.fences.items
   pub reduced :
       IsReduced (PossibleConflict members) fallible visible a.corrected.fences.items a.reduced.uses.items
       a.reduced.fences.items
 
--- T has all conflicts that are known of the operands, and none that is ruled out by all that is touched: it may be the true one
-pub record IsBetween (operands members : List Member) (T : ℕ → ℕ → Type 0) : Type 0 where
-  pub known : (i j : ℕ) → KnownConflict operands i j → T i j
+-- T has all conflicts that are known of the operands whose order matters, and none that is ruled out by all that is touched:
+-- it may be the true one
+pub record IsBetween (actions : List Action) (operands members : List Member) (T : ℕ → ℕ → Type 0) : Type 0 where
+  pub known : (i j : ℕ) → OrderMatters actions operands i j → T i j
   pub possible : (i j : ℕ) → T i j → PossibleConflict members i j
 
 -- where these members fail, member b starts: there is no fence after one of them and at b at the latest (specification
@@ -33,15 +38,15 @@ abbrev pub AllCanFail : List Bool → (ℕ → Bool) → Type 0
 AllCanFail fallible failed = (a : ℕ) → IsTrue (failed a) → CanFail fallible a
 
 -- of an audit that leads from the fences g to h and then to k, where T has the true conflicts
-pub record Holds (T : ℕ → ℕ → Type 0) (operands : List Member) (fallible visible : List Bool) (g h k : Group) (places : List FencePlace) : Type 0 where
+pub record Holds (T : ℕ → ℕ → Type 0) (actions : List Action) (operands : List Member) (fallible visible : List Bool) (g h k : Group) (places : List FencePlace) : Type 0 where
   -- each missing fence has a true conflict within an epoch
   pub missing : (i m : ℕ) → m < length g → get_or places m NoFence ≡ Missing i → (i < m) × T i m × ShareEpoch g i m
   -- where the corrected batch separates the true conflicts, so does the reduced one
   pub spared : Separates T h → Separates T k
   -- only fences that were there may go
   pub given : (m : ℕ) → HasFence h m → ¬ HasFence k m → HasFence g m
-  -- the reduced batch separates all conflicts that are known of the operands
-  pub legal : Separates (KnownConflict operands) k
+  -- the reduced batch separates all conflicts that are known of the operands and whose order matters
+  pub legal : Separates (OrderMatters actions operands) k
   -- whichever members fail of those that can, the same ones start in the corrected and in the reduced batch
   pub starts : (failed : ℕ → Bool) (b : ℕ) → AllCanFail fallible failed → Starts failed h b ↔ Starts failed k b
   -- a member that shows waits for the same members in the corrected and in the reduced batch
@@ -52,11 +57,12 @@ pub record Holds (T : ℕ → ℕ → Type 0) (operands : List Member) (fallible
 -- an audit holds whatever the true conflicts are, given as truth values
 abbrev pub AuditsHold : Type 0
 AuditsHold =
-    (truth : ℕ → ℕ → Bool) (operands members : List Member) (fallible visible : List Bool) (g h k : Group) →
-    (places : List FencePlace) (uses : List FenceUse) →
-    IsBetween operands members (λ i j. IsTrue (truth i j)) → IsCorrected (KnownConflict operands) g places h →
+    (truth : ℕ → ℕ → Bool) (actions : List Action) (operands members : List Member) (fallible visible : List Bool) →
+    (g h k : Group) (places : List FencePlace) (uses : List FenceUse) →
+    IsBetween actions operands members (λ i j. IsTrue (truth i j)) →
+    IsCorrected (OrderMatters actions operands) g places h →
     IsReduced (PossibleConflict members) fallible visible h uses k →
-    Holds (λ i j. IsTrue (truth i j)) operands fallible visible g h k places
+    Holds (λ i j. IsTrue (truth i j)) actions operands fallible visible g h k places
 
 -- fewer members that can fail and fewer that show never leave more fences
 abbrev pub AssumptionsFree : Type 0

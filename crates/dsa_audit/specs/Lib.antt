@@ -1,4 +1,5 @@
 pub mod Members
+pub mod Repeats
 pub mod Audits
 pub mod Steps
 pub mod Laws

@@ -50,7 +50,7 @@ epoch_after (fence_place.Missing i) epoch at = at
 abbrev pub IsUnfencedUpTo : Group → ℕ → ℕ → Type 0
 IsUnfencedUpTo g at end = (k : ℕ) → at < k → k < end → ¬ HasFence g k
 
--- no two members conflict of which one stands from `epoch` on and before `at`, the other from there on and before `end`
+-- no two members conflict of which one is from `epoch` on and before `at`, the other from there on and before `end`
 abbrev pub NoneAcross : (ℕ → ℕ → Type 0) → ℕ → ℕ → ℕ → Type 0
 NoneAcross C epoch at end = (i j : ℕ) → epoch ≤ i → i < at → at ≤ j → j < end → ¬ C i j
 

@@ -7,7 +7,7 @@ ghost use Rattle.dsa_audit.specs.Steps.{AreLasts, IsNextPlace, has_fence, epoch_
 use crate::relation::{Relation, last_conflict};
 use std::alloc::{AllocError, Global};
 
-/// What stands before a member of a batch, and what has to.
+/// What is before a member of a batch, and what has to.
 #[derive(Clone, Copy, Debug, PartialEq, Eq)]
 pub enum FencePlace {
     /// No fence, and none is missing.
@@ -19,7 +19,7 @@ pub enum FencePlace {
 }
 
 impl FencePlace {
-    /// Whether a fence has to stand there.
+    /// Whether a fence has to be there.
     pub fn is_fenced(self) -> bool
         ensures { result ≡ has_fence self }
     {
@@ -29,7 +29,7 @@ impl FencePlace {
         }
     }
 
-    /// The member that the epoch begins with that goes on behind this one.
+    /// The member that the epoch begins with that goes on after this one.
     fn epoch(self, epoch: usize, at: usize) -> usize
         ensures { result ≡ epoch_after self epoch at }
     {
@@ -40,13 +40,13 @@ impl FencePlace {
 /// The fences that a batch has and those that it lacks.
 #[derive(Debug, Drop)]
 pub struct Corrected {
-    /// What stands before each member, and what has to.
+    /// What is before each member, and what has to be.
     pub places: Vec<FencePlace>,
-    /// Whether a fence stands before each member, once the missing ones are added.
+    /// Whether each member has a fence, once the missing ones are added.
     pub fences: Vec<bool>,
 }
 
-/// What stands before the member, where the epoch so far begins with the member `epoch`.
+/// What is before the member, where the epoch so far begins with the member `epoch`.
 fn place_of<R: Relation>(
     fences: &[bool],
     relation: &R,

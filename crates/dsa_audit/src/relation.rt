@@ -73,7 +73,7 @@ fn search_back<R: Relation>(relation: &R, from: usize, before: usize, later: usi
 }
 
 /// Of the members from `from` on and before `before`, the last that conflicts with `later`. Where `lasts` says which is the
-/// last of all, it is searched for only if that is none of them and lies behind.
+/// last of all, it is searched for only if that is none of them and lies after them.
 pub(crate) fn last_conflict<R: Relation>(
     relation: &R,
     lasts: &[Option<usize>],

@@ -21,7 +21,7 @@ pub begun_end : (seen : Bool) (text : List ℕ) (i : ℕ) → length text ≤ i
 unfolding begins_with_digits
 begun_end seen text i le so_far = sym (ap (begins_with_digits seen) (drop_all i text le)) ∙ so_far
 
--- ---- what the code answers behind digits
+-- ---- what the code answers after digits
 
 blank_then : (s b n : Bool) → s ≡ true → b ≡ true → b ≡ (s && (b || n))
 blank_then true true n e f = refl

@@ -1,4 +1,4 @@
--- Submissions one behind the other.
+-- Submissions one after the other.
 use Rattle.std.proofs.Common.{◌≡◌, ℕ, ◌<◌, ◌≤◌, List, [], ◌∷◌, ◌++◌, length, refl, sym, ap, subst, ◌∙◌, arith}
 use Rattle.dsa_recording.specs.declared.stream.Submission.{Submission}
 use Rattle.dsa_recording.specs.Streams.{submission_at, end_of, ReadsUpTo}

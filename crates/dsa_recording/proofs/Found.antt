@@ -12,7 +12,9 @@ use Rattle.dsa_audit.specs.declared.missing.FencePlace.{FencePlace}
 use Rattle.dsa_audit.specs.declared.missing.FencePlace.TheVariants as fence_place
 use Rattle.dsa_audit.specs.declared.needless.FenceUse.{FenceUse}
 use Rattle.dsa_audit.specs.declared.needless.FenceUse.TheVariants as fence_use
+use Rattle.dsa_audit.specs.declared.repeats.Action.{Action}
 use Rattle.dsa_audit.specs.Members.{KnownConflict, PossibleConflict}
+use Rattle.dsa_audit.specs.Repeats.{AreRepeats, OrderMatters}
 use Rattle.dsa_audit.specs.Audits.{PlaceHolds, UseHolds}
 use Rattle.dsa_audit.specs.Steps.{AreLasts}
 use Rattle.dsa_recording.specs.declared.assumptions.Assumptions.{Assumptions}
@@ -29,7 +31,7 @@ use Rattle.dsa_recording.specs.declared.findings.Flaw.TheVariants.{OverwritesBat
 use Rattle.dsa_recording.specs.declared.findings.Place.{Place}
 use Rattle.dsa_recording.specs.declared.findings.Place.TheVariants.{Head, Member}
 use Rattle.dsa_recording.specs.Flaws.{no_flaws}
-use Rattle.dsa_recording.specs.Findings.{unseen_kind, missing_kind, use_kind, shared_kind, flaw_kind, head_kinds, member_kinds, all_found, head_findings, findings_upto, submission_findings, recording_findings}
+use Rattle.dsa_recording.specs.Findings.{unseen_kind, missing_kind, use_kind, shared_kind, repeated_kind, flaw_kind, head_kinds, member_kinds, all_found, head_findings, findings_upto, submission_findings, recording_findings}
 use Rattle.dsa_recording.specs.Details.{IsOf, IsPlaceOf, IsPlaced, entry_at}
 use Rattle.dsa_recording.specs.Reports.{IsReport}
 use Rattle.dsa_recording.proofs.Within.{each_within, has_all}
@@ -73,11 +75,11 @@ fits_flaw : (ms : List KnownMember) (place : Place) (flaw : Flaw) (is_there : Bo
 fits_flaw ms place flaw true fits = fits
 fits_flaw ms place flaw false fits = tt
 
-fits_missing : (k : ℕ) (ms : List KnownMember) (g h : List _) (p : FencePlace) → k < length ms → PlaceHolds (KnownConflict ms) g h k p
+fits_missing : (k : ℕ) (actions : List Action) (ms : List KnownMember) (g h : List _) (p : FencePlace) → k < length ms → PlaceHolds (OrderMatters actions ms) g h k p
     → Fits ms (Member k) (missing_kind p)
-fits_missing k ms g h fence_place.NoFence lt holds = tt
-fits_missing k ms g h fence_place.Given lt holds = tt
-fits_missing k ms g h (fence_place.Missing i) lt holds = (holds.before, lt, holds.conflict)
+fits_missing k actions ms g h fence_place.NoFence lt holds = tt
+fits_missing k actions ms g h fence_place.Given lt holds = tt
+fits_missing k actions ms g h (fence_place.Missing i) lt holds = (holds.before, lt, holds.conflict.0)
 
 fits_needless : (ms : List KnownMember) (k : ℕ) (is_batch : Bool) → Fits ms (Member k) (use_kind is_batch fence_use.Needless)
 fits_needless ms k true = tt
@@ -99,6 +101,12 @@ fits_shared : (k : ℕ) (ms rs : List KnownMember) (shared : List (Option ℕ)) 
 fits_shared k ms rs shared None lasts at = tt
 fits_shared k ms rs shared (Some i) lasts at = (lasts k (Some i) at).0.0
 
+-- a repeated member is an earlier one
+fits_repeated : (k : ℕ) (actions : List Action) (ms : List KnownMember) (repeated : List (Option ℕ)) (o : Option ℕ) → AreRepeats actions ms repeated → slice_get repeated k ≡ Some o
+    → Fits ms (Member k) (repeated_kind o)
+fits_repeated k actions ms repeated None are at = tt
+fits_repeated k actions ms repeated (Some i) are at = (are.each k (Some i) at).0.0.0
+
 found_upto : (assumed : Assumptions) (es : List (List ℕ)) (s : Submission) (number : ℕ) (a : Audited) (k : ℕ) → IsAudited assumed es s a → k ≤ length a.members.items
     → AllByRecursion (IsAt number a.operands.items) (findings_upto number a k)
 found_upto assumed es s number a zero is le = tt
@@ -117,6 +125,8 @@ found_upto assumed es s number a (suc k) is le =
     let used = is.audit.reduced.each k (omega (arith, within, more)) in
     let o : Option ℕ = get_or a.shared.items k None in
     let there : slice_get a.shared.items k ≡ Some o = slice_get-get_or a.shared.items k None (omega (arith, le, has.shared)) in
+    let r : Option ℕ = get_or a.audit.repeated.items k None in
+    let repeats : slice_get a.audit.repeated.items k ≡ Some r = slice_get-get_or a.audit.repeated.items k None (omega (arith, le, has.repeated)) in
     let kinds : AllByRecursion (Fits ms (Member k)) (member_kinds a k) = (
       fits_unseen k ms (get_or a.members.items k (member.Unknown Operation)),
       (
@@ -128,11 +138,14 @@ found_upto assumed es s number a (suc k) is le =
             (
               fits_flaw ms (Member k) MisalignedRecord (get_or a.flaws.items k no_flaws).misaligned_record tt,
               (
-                fits_missing k ms a.fences.items a.audit.corrected.fences.items p lt holds,
+                fits_repeated k a.actions.items ms a.audit.repeated.items r is.audit.repeated repeats,
                 (
-                  fits_use k a.is_batch ms (PossibleConflict a.members.items) a.fallible.items a.visible.items a.audit.corrected.fences.items a.audit.reduced.fences.items u
-                      (omega (arith, members, operands, has.places, places, more)) used,
-                  tt,
+                  fits_missing k a.actions.items ms a.fences.items a.audit.corrected.fences.items p lt holds,
+                  (
+                    fits_use k a.is_batch ms (PossibleConflict a.members.items) a.fallible.items a.visible.items a.audit.corrected.fences.items a.audit.reduced.fences.items u
+                        (omega (arith, members, operands, has.places, places, more)) used,
+                    tt,
+                  ),
                 ),
               ),
             ),

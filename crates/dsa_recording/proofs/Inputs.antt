@@ -11,7 +11,7 @@ use Rattle.dsa_recording.specs.declared.answer.AuditAnswer.{AuditAnswer}
 use Rattle.dsa_recording.specs.declared.answer.AuditOptions.{AuditOptions}
 use Rattle.dsa_recording.specs.declared.forms.Form.{Form}
 use Rattle.dsa_recording.specs.Forms.{IsText, SpellsBytes, SpellsNone, form_of, digits_of}
-use Rattle.dsa_recording.specs.Answers.{AnswersRecording}
+use Rattle.dsa_recording.specs.Foreign.{AnswersEntries}
 use Rattle.dsa_recording.specs.Inputs.{IsInLines, SpellsRecording, OneRecording, AnswersInput}
 use Rattle.dsa_recording.specs.Inputs.SpellsRecording.{as_it_stands, in_lines, in_digits}
 
@@ -42,7 +42,7 @@ one_recording input bytes other (in_digits text e) (in_digits text' f) = one_of_
 
 -- the answer of the bytes is that of the input that spells them
 pub of_bytes : {E : Type 0} (r : Result AuditAnswer E) (options : AuditOptions) (input bytes : List ℕ)
-    → SpellsRecording input bytes → IfOk r (AnswersRecording options bytes) → IfOk r (AnswersInput options input)
+    → SpellsRecording input bytes → IfOk r (AnswersEntries options bytes) → IfOk r (AnswersInput options input)
 of_bytes (Ok x) options input bytes s ok = inl (bytes, s, ok)
 of_bytes (Err e) options input bytes s ok = tt
 

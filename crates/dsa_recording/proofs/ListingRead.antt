@@ -83,7 +83,7 @@ listed_parts : (fs gs : List Fields) → AllByRecursion IsListed (fs ++ gs) → 
 listed_parts [] gs all = (tt, all)
 listed_parts (f ∷ fs) gs all = let rest = listed_parts fs gs all.1 in ((all.0, rest.0), rest.1)
 
--- the lines of members stand before others
+-- the lines of members are before others
 members_read : (es : List (List ℕ)) (at : ℕ) (ms : List Member) (rest : List ℕ) (more : List Fields) → AllByRecursion IsListed (member_operations es at ms)
     → TextSpells rest more → TextSpells (member_lines es at ms ++ rest) (member_operations es at ms ++ more)
 unfolding member_lines member_operations

@@ -31,4 +31,5 @@ behind_entry first member entry (cause.GuardingFence earlier) e lt = tt
 behind_entry first member entry (cause.SignallingFence awaited) e lt = tt
 behind_entry first member entry (cause.GuardingAndSignallingFence earlier awaited) e lt = tt
 behind_entry first member entry cause.NeedlessFence e lt = tt
+behind_entry first member entry (cause.Repeated earlier) e lt = tt
 behind_entry first member entry (cause.Flawed flaw) e lt = tt

@@ -36,6 +36,8 @@ pub has_all : (assumed : Assumptions) (es : List (List ℕ)) (s : Submission) (a
 has_all assumed es s a is =
     let fences : length a.fences.items ≡ length (members_in es s) = ap length is.fences ∙ length-map (members_in es s) is_fenced in
     let members : length a.members.items ≡ length (members_in es s) = is.members.count in
+    let operands : length a.operands.items ≡ length (members_in es s) = is.operands.count in
+    let repeated : length a.audit.repeated.items ≡ length a.operands.items = is.audit.repeated.count in
     let places : length a.audit.corrected.places.items ≡ length a.fences.items = is.audit.corrected.count in
     let more : length a.audit.corrected.fences.items ≡ length a.fences.items = is.audit.corrected.more.same_length in
     let uses : length a.audit.reduced.uses.items ≡ length a.audit.corrected.fences.items = is.audit.reduced.count in
@@ -43,6 +45,7 @@ has_all assumed es s a is =
     let flaws : length a.flaws.items ≡ length (members_in es s) = is.flaws.count in
     record {
       shared = omega (arith, members, shared);
+      repeated = omega (arith, members, operands, repeated);
       flaws = omega (arith, members, flaws);
       places = omega (arith, fences, members, places);
       uses = omega (arith, fences, members, more, uses);

@@ -9,7 +9,7 @@ use Rattle.dsa_recording.specs.declared.answer.AuditFormat.TheVariants.{Text, Js
 use Rattle.dsa_recording.specs.declared.answer.AuditOptions.{AuditOptions}
 use Rattle.dsa_recording.specs.declared.findings.Finding.{Finding}
 use Rattle.dsa_recording.specs.declared.findings.FindingKind.{FindingKind}
-use Rattle.dsa_recording.specs.declared.findings.FindingKind.TheVariants.{NotSeen, MissingFence, GuardingFence, SignallingFence, GuardingAndSignallingFence, NeedlessFence, Flawed}
+use Rattle.dsa_recording.specs.declared.findings.FindingKind.TheVariants.{NotSeen, MissingFence, GuardingFence, SignallingFence, GuardingAndSignallingFence, NeedlessFence, Repeated, Flawed}
 use Rattle.dsa_recording.specs.declared.report.Report.{Report}
 use Rattle.dsa_recording.specs.declared.stream.Submission.{Submission}
 use Rattle.dsa_recording.specs.Streams.{ReadsStream}
@@ -25,8 +25,10 @@ is_harmless denied (GuardingFence earlier) = not denied.guarding
 is_harmless denied (SignallingFence awaited) = not denied.signalling
 is_harmless denied (GuardingAndSignallingFence earlier awaited) = not denied.guarding && not denied.signalling
 is_harmless denied NeedlessFence = not denied.needless
+is_harmless denied (Repeated earlier) = true
 is_harmless denied (Flawed flaw) = false
 
+-- all findings are
 abbrev pub AreHarmless : Denied → List Finding → Type 0
 AreHarmless denied findings = AllByRecursion (λ f. is_harmless denied f.kind ≡ true) findings
 
@@ -57,6 +59,7 @@ AnswersFormat Json es r denied answer = IsStatusOf denied r.findings.items answe
 AnswersFormat Picture es r denied answer = Draws es r denied answer ⊎ ((answer.status ≡ 2) × IsTooLarge es r)
 AnswersFormat Listed es r denied answer = Lists es r answer
 
+-- the same with the format and what is denied of the options
 abbrev pub AnswersReport : AuditOptions → List (List ℕ) → Report → AuditAnswer → Type 0
 AnswersReport options es r answer = AnswersFormat options.format es r options.denied answer
 

@@ -20,7 +20,7 @@ fences_of Recorded a = a.fences.items
 fences_of Corrected a = a.audit.corrected.fences.items
 fences_of Reduced a = a.audit.reduced.fences.items
 
--- the plan that submissions stand for, with these fences: a group for each that has a price
+-- the plan that is made of submissions, with these fences: a group for each that has a price
 unfoldable pub plan_of : ℕ → FenceSet → List Audited → Plan
 plan_of greatest_batch set [] = []
 plan_of greatest_batch set (a ∷ audits) =

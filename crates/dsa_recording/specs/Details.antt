@@ -14,7 +14,7 @@ use Rattle.dsa_recording.specs.declared.findings.Flaw.{Flaw}
 use Rattle.dsa_recording.specs.declared.findings.Flaw.TheVariants.{SharedRecord, OverwritesBatch, DataOverRecord, MisalignedRecord, SmallBatch, FenceWithoutEffect}
 use Rattle.dsa_recording.specs.declared.findings.Place.{Place}
 use Rattle.dsa_recording.specs.declared.findings.Place.TheVariants.{Head, Member}
-use Rattle.dsa_recording.specs.declared.findings.FindingKind.TheVariants.{NotSeen, MissingFence, GuardingFence, SignallingFence, GuardingAndSignallingFence, NeedlessFence, Flawed}
+use Rattle.dsa_recording.specs.declared.findings.FindingKind.TheVariants.{NotSeen, MissingFence, GuardingFence, SignallingFence, GuardingAndSignallingFence, NeedlessFence, Repeated, Flawed}
 use Rattle.dsa_recording.specs.declared.detail.Cause.{Cause}
 use Rattle.dsa_recording.specs.declared.detail.Cause.TheVariants as cause
 use Rattle.dsa_recording.specs.declared.detail.Detail.{Detail}
@@ -44,10 +44,12 @@ IsOfHead (GuardingFence earlier) = ⊥
 IsOfHead (SignallingFence awaited) = ⊥
 IsOfHead (GuardingAndSignallingFence earlier awaited) = ⊥
 IsOfHead NeedlessFence = ⊥
+IsOfHead (Repeated earlier) = ⊥
 IsOfHead (Flawed flaw) = IsFlawAt Head flaw
 
 -- what is found of member k can be said of members with these operands: where a fence is missing, the earlier member is
--- known to conflict with it; where one guards, the other member is an earlier one; where one signals, it is not
+-- known to conflict with it; where one guards, or the member repeats another, that is an earlier one; where one signals,
+-- it is not
 abbrev pub IsOfMember : List KnownMember → ℕ → FindingKind → Type 0
 IsOfMember ms k (NotSeen why) = Unit
 IsOfMember ms k (MissingFence earlier) = (earlier < k) × (k < length ms) × KnownConflict ms earlier k
@@ -55,8 +57,10 @@ IsOfMember ms k (GuardingFence earlier) = earlier < k
 IsOfMember ms k (SignallingFence awaited) = (k ≤ awaited) × (awaited < length ms)
 IsOfMember ms k (GuardingAndSignallingFence earlier awaited) = (earlier < k) × (k ≤ awaited) × (awaited < length ms)
 IsOfMember ms k NeedlessFence = Unit
+IsOfMember ms k (Repeated earlier) = earlier < k
 IsOfMember ms k (Flawed flaw) = IsFlawAt (Member k) flaw
 
+-- the kind can be found of the place
 abbrev pub IsOf : List KnownMember → Place → FindingKind → Type 0
 IsOf ms Head kind = IsOfHead kind
 IsOf ms (Member k) kind = IsOfMember ms k kind
@@ -69,6 +73,7 @@ kind_of (cause.GuardingFence earlier) = GuardingFence earlier
 kind_of (cause.SignallingFence awaited) = SignallingFence awaited
 kind_of (cause.GuardingAndSignallingFence earlier awaited) = GuardingAndSignallingFence earlier awaited
 kind_of cause.NeedlessFence = NeedlessFence
+kind_of (cause.Repeated earlier) = Repeated earlier
 kind_of (cause.Flawed flaw) = Flawed flaw
 
 -- the hazard of a missing fence before member k is between the two members
@@ -79,15 +84,18 @@ HasHazard ms k (cause.GuardingFence earlier) = Unit
 HasHazard ms k (cause.SignallingFence awaited) = Unit
 HasHazard ms k (cause.GuardingAndSignallingFence earlier awaited) = Unit
 HasHazard ms k cause.NeedlessFence = Unit
+HasHazard ms k (cause.Repeated earlier) = Unit
 HasHazard ms k (cause.Flawed flaw) = Unit
 
 -- what is found of the descriptor of a batch; of a member, with the hazard of a missing fence
 abbrev pub IsHeadCause : FindingKind → Cause → Type 0
 IsHeadCause kind c = IsOfHead kind × (kind_of c ≡ kind)
 
+-- this is found of member k: a cause of this kind, and of a missing fence its hazard
 abbrev pub IsMemberCause : List KnownMember → ℕ → FindingKind → Cause → Type 0
 IsMemberCause ms k kind c = (kind_of c ≡ kind) × HasHazard ms k c
 
+-- this is found of the place
 abbrev pub IsCause : List KnownMember → Place → FindingKind → Cause → Type 0
 IsCause ms Head kind c = IsHeadCause kind c
 IsCause ms (Member k) kind c = IsMemberCause ms k kind c
@@ -108,6 +116,7 @@ shared_records es first at (cause.GuardingFence earlier) = record { earlier = fa
 shared_records es first at (cause.SignallingFence awaited) = record { earlier = false; later = false }
 shared_records es first at (cause.GuardingAndSignallingFence earlier awaited) = record { earlier = false; later = false }
 shared_records es first at cause.NeedlessFence = record { earlier = false; later = false }
+shared_records es first at (cause.Repeated earlier) = record { earlier = false; later = false }
 shared_records es first at (cause.Flawed flaw) = record { earlier = false; later = false }
 
 -- the entry of a place: the descriptor of the submission, or a member
@@ -165,7 +174,7 @@ IsRight (fence_place.Missing earlier) = ⊥
 
 -- ---- for private clauses
 
--- of a missing fence the earlier member stands before entry `at`
+-- of a missing fence the earlier member is before entry `at`
 abbrev pub IsBehind : ℕ → ℕ → Cause → Type 0
 IsBehind first at (cause.MissingFence earlier h) = first + earlier < at
 IsBehind first at (cause.NotSeen why) = Unit
@@ -173,4 +182,5 @@ IsBehind first at (cause.GuardingFence earlier) = Unit
 IsBehind first at (cause.SignallingFence awaited) = Unit
 IsBehind first at (cause.GuardingAndSignallingFence earlier awaited) = Unit
 IsBehind first at cause.NeedlessFence = Unit
+IsBehind first at (cause.Repeated earlier) = Unit
 IsBehind first at (cause.Flawed flaw) = Unit

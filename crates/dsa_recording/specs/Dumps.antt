@@ -28,15 +28,17 @@ bytes_at at size (d ∷ ds) = if covers at size d then Some (part_of at size d) 
 
 -- ---- the stream
 
+-- bytes after others, if there are any
 abbrev pub behind : List ℕ → Option (List ℕ) → Option (List ℕ)
 behind front None = None
 behind front (Some back) = Some (front ++ back)
 
--- an entry of a portal, and behind the descriptor of a batch (0x01) its members, which stand in memory at the address of
+-- an entry of a portal, and after the descriptor of a batch (0x01) its members, which are in memory at the address of
 -- bytes 16 to 23, as many as bytes 32 to 35 say (specification 341204, batch descriptor)
 abbrev pub with_members : List Dump → List ℕ → Option (List ℕ)
 with_members ds e = if code_at e == 1 then behind e (bytes_at (u64_at 16 e) (64 * u32_at 32 e) ds) else Some e
 
+-- two parts, if both are there
 abbrev pub joined : Option (List ℕ) → Option (List ℕ) → Option (List ℕ)
 joined None back = None
 joined (Some front) back = behind front back
@@ -68,6 +70,7 @@ abbrev pub IsFirstUnstaged : List Dump → List (List ℕ) → ℕ → Type 0
 IsFirstUnstaged ds es at =
     (front : List ℕ) × StagesBefore ds es at front × (with_members ds (slice_index_or es at []) ≡ None)
 
+-- or with it and its members the stream has too many bytes
 abbrev pub IsFirstTooLong : List Dump → List (List ℕ) → ℕ → Type 0
 IsFirstTooLong ds es at =
     (front more : List ℕ) × StagesBefore ds es at front × (with_members ds (slice_index_or es at []) ≡ Some more)

@@ -8,6 +8,7 @@ use Rattle.dsa_descriptor.specs.Data.{sources, targets, record_span}
 use Rattle.dsa_descriptor.specs.Lists.{AgreeOnOwner}
 use Rattle.dsa_descriptor.specs.Places.{u32_at, u64_at, flags_at, code_at, op_at}
 use Rattle.dsa_descriptor.specs.Spans.{IsAddressable}
+use Rattle.dsa_audit.specs.declared.repeats.Action.{Action}
 use Rattle.dsa_audit.specs.declared.member.Unseen.{Unseen}
 use Rattle.dsa_audit.specs.declared.member.Unseen.TheVariants.{Blank, Operation, Nested, Owner, Empty, Wrap}
 use Rattle.dsa_audit.specs.declared.member.Member.{Member}
@@ -25,22 +26,30 @@ abbrev pub sources_of : Option Op → ℕ → List Span
 sources_of (Some op) size = sources op size
 sources_of None size = []
 
+-- and those that it writes
 abbrev pub targets_of : Option Op → ℕ → List Span
 targets_of (Some op) size = targets op size
 targets_of None size = []
 
--- the data that the entry reads, the data that it writes, both, and all that it writes
+-- the data that the entry reads
 abbrev pub entry_reads : List ℕ → List Span
 entry_reads e = sources_of (op_at e) (u32_at 32 e)
 
+-- the data that it writes
 abbrev pub entry_targets : List ℕ → List Span
 entry_targets e = targets_of (op_at e) (u32_at 32 e)
 
+-- both
 abbrev pub entry_data : List ℕ → List Span
 entry_data e = entry_reads e ++ entry_targets e
 
+-- all that it writes, its record too
 abbrev pub entry_writes : List ℕ → List Span
 entry_writes e = records_of e ++ entry_targets e
+
+-- what it does: its operation with all operands, and its size
+abbrev pub action_of : List ℕ → Action
+action_of e = record { op = op_at e; size = u32_at 32 e }
 
 -- ---- why it is not looked at (this project's choice)
 
@@ -75,10 +84,11 @@ IsKnownAs reads writes head e (Known touched) =
     ((why : Unseen) → ¬ Applies head e why) × (touched.reads.items ≡ reads) × (touched.writes.items ≡ writes)
 IsKnownAs reads writes head e (Unknown why) = IsFirstReason head e why
 
--- all that is known of the entry; its data alone
+-- all that is known of the entry
 abbrev pub IsMember : List ℕ → List ℕ → Member → Type 0
 IsMember head e m = IsKnownAs (entry_reads e) (entry_writes e) head e m
 
+-- its data alone
 abbrev pub IsOperands : List ℕ → List ℕ → Member → Type 0
 IsOperands head e m = IsKnownAs (entry_reads e) (entry_targets e) head e m
 

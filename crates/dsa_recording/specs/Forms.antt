@@ -18,7 +18,7 @@ is_blank c = c == 32 || c == 9 || c == 13
 abbrev pub is_digit : ℕ → Bool
 is_digit c = nat_lt (digit_value c) 16
 
--- the part of its line that the byte behind c belongs to, where c belongs to this one: an offset ends with ':' (xxd) or with
+-- the part of its line that the byte after c belongs to, where c belongs to this one: an offset ends with ':' (xxd) or with
 -- a blank (hexdump), the digits end with two blanks (xxd) or with '|' (hexdump), and the rest goes up to the newline
 abbrev pub part_of_line : Form → Part → ℕ → Part
 part_of_line Plain part c = Digits
@@ -37,10 +37,11 @@ first_part Plain = Digits
 first_part Xxd = Offset
 first_part Hexdump = Offset
 
+-- the part of the next byte, after byte c: a newline begins a line
 abbrev pub next_part : Form → Part → ℕ → Part
 next_part form part c = if c == 10 then first_part form else part_of_line form part c
 
--- what belongs to a part and spells nothing: of an offset its digits and what ends it, blanks between digits, the '|' behind
+-- what belongs to a part and spells nothing: of an offset its digits and what ends it, blanks between digits, the '|' after
 -- them, and all of the rest
 abbrev pub is_passed : Form → Part → ℕ → Bool
 is_passed Plain part c = is_blank c
@@ -72,7 +73,7 @@ digits_of form text = digits_from form (first_part form) text
 abbrev pub is_text_byte : ℕ → Bool
 is_text_byte c = c == 9 || (c == 10 || (c == 13 || (nat_le 32 c && nat_le c 126)))
 
--- the recording is a text; a recording that is none is its entries as they stand
+-- the recording is a text; a recording that is none is its entries as they are
 abbrev pub IsText : List ℕ → Type 0
 IsText bytes = AllByRecursion (λ c. is_text_byte c ≡ true) bytes
 
@@ -80,7 +81,7 @@ IsText bytes = AllByRecursion (λ c. is_text_byte c ≡ true) bytes
 abbrev pub is_spread : ℕ → Bool
 is_spread c = is_digit c || (is_blank c || c == 10)
 
--- what the first other byte says: ':' ends an offset of xxd; '|' begins the characters of hexdump, and '*' stands for lines
+-- what the first other byte says: ':' ends an offset of xxd; '|' begins the characters of hexdump, and '*' is for lines
 -- that it leaves out
 abbrev pub form_by : ℕ → Option Form
 form_by c = if c == 58 then Some Xxd else if c == 124 || c == 42 then Some Hexdump else None
@@ -90,8 +91,8 @@ unfoldable pub form_of : List ℕ → Option Form
 form_of [] = Some Plain
 form_of (c ∷ cs) = if is_spread c then form_of cs else form_by c
 
--- the text begins with digits, and a blank, a newline or its end stands behind them, as in a text of bytes; no line of a
--- recording does. `seen`: digits stand before it
+-- the text begins with digits, and a blank, a newline or its end comes after them, as in a text of bytes; no line of a
+-- recording does. `seen`: digits come before it
 unfoldable pub begins_with_digits : Bool → List ℕ → Bool
 begins_with_digits seen [] = seen
 begins_with_digits seen (c ∷ cs) =

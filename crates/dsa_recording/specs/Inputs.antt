@@ -5,7 +5,7 @@ use Rattle.dsa_lines.specs.Recordings.{LinesSpell}
 use Rattle.dsa_recording.specs.declared.answer.AuditAnswer.{AuditAnswer}
 use Rattle.dsa_recording.specs.declared.answer.AuditOptions.{AuditOptions}
 use Rattle.dsa_recording.specs.Forms.{IsText, SpellsBytes, begins_with_digits, form_of}
-use Rattle.dsa_recording.specs.Answers.{AnswersRecording}
+use Rattle.dsa_recording.specs.Foreign.{AnswersEntries}
 
 -- the input is in lines: a text that has none of the forms of digits, and its first word has other characters
 pub record IsInLines (input : List ℕ) : Type 0 where
@@ -31,4 +31,4 @@ IsRefused input answer = (answer.status ≡ 2) × ((bytes : List ℕ) → ¬ Spe
 -- the answer of an input: that of the bytes that it spells; or it is refused
 abbrev pub AnswersInput : AuditOptions → List ℕ → AuditAnswer → Type 0
 AnswersInput options input answer =
-    ((bytes : List ℕ) × SpellsRecording input bytes × AnswersRecording options bytes answer) ⊎ IsRefused input answer
+    ((bytes : List ℕ) × SpellsRecording input bytes × AnswersEntries options bytes answer) ⊎ IsRefused input answer

@@ -10,6 +10,7 @@ pub mod Details
 pub mod Forms
 pub mod Words
 pub mod Answers
+pub mod Foreign
 pub mod Inputs
 pub mod Dumps
 pub mod Totals

@@ -29,6 +29,7 @@ use Rattle.dsa_recording.specs.Words.{unseen_words}
 abbrev pub records_from : ℕ
 records_from = 2 ^ 62
 
+-- the address of the record: that of the entry if it requests one, else an address of its own
 abbrev pub record_in_list : ℕ → List ℕ → ℕ
 record_in_list number e =
     if bit_and (flags_at e) required_flags == required_flags then u64_at 8 e else records_from + 32 * number
@@ -42,7 +43,7 @@ expecting_zero (ComparePattern src pattern expected) = ComparePattern src patter
 expecting_zero (ApplyDelta delta dst record_size) = ApplyDelta delta dst record_size
 expecting_zero (Dualcast src dst dst2) = Dualcast src dst dst2
 
--- what stands in the list for the entry of this number: its operation, size and owner, with that record, and with no other
+-- what the list has for the entry of this number: its operation, size and owner, with that record, and with no other
 -- flags than a list requires
 abbrev pub stand_in : ℕ → List ℕ → Op → Fields
 stand_in number e op =
@@ -56,7 +57,7 @@ stand_in number e op =
       op = expecting_zero op;
     }
 
--- the span has no address, or lies below the records that entries of this number may get, or behind them
+-- the span has no address, or lies below the records that entries of this number may get, or above them
 abbrev pub is_clear : ℕ → Span → Bool
 is_clear count s = s.len == 0 || (nat_le (s.first + s.len) records_from || nat_le (records_from + 32 * count) s.first)
 
@@ -70,7 +71,7 @@ is_apart_from_added count t = list_all (is_clear count) t.reads.items && list_al
 abbrev pub left_out : ℕ → List ℕ → List ℕ
 left_out number why = codes "# entry " ++ (decimal number ++ (codes ", " ++ why))
 
--- an operation, and behind it the number of its entry
+-- an operation, and after it the number of its entry
 abbrev pub operation_line : ℕ → List ℕ → Op → List ℕ
 operation_line number e op = line_text (stand_in number e op) ++ (codes " # entry " ++ decimal number)
 
@@ -82,6 +83,7 @@ known_line count number e t (Some op) =
     then operation_line number e op
     else left_out number (codes "left out: it touches addresses that this list keeps for records")
 
+-- the line of a member: its operation, or why there is none
 abbrev pub member_line : ℕ → ℕ → List ℕ → Member → List ℕ
 member_line count number e (Known t) = known_line count number e t (op_at e)
 member_line count number e (Unknown why) = left_out number (unseen_words why (code_at e))
@@ -101,11 +103,12 @@ listing_text es (s ∷ ss) (a ∷ audits) = member_lines es s.first a.members.it
 
 -- ---- its operations
 
--- that of an entry that is looked at stands in the list where it has one and is apart from added records
+-- that of an entry that is looked at is in the list if it has one and is apart from added records
 abbrev pub known_operation : ℕ → ℕ → List ℕ → Touched → Option Op → List Fields
 known_operation count number e t None = []
 known_operation count number e t (Some op) = if is_apart_from_added count t then stand_in number e op ∷ [] else []
 
+-- the operation of a member, if the list has it
 abbrev pub member_operation : ℕ → ℕ → List ℕ → Member → List Fields
 member_operation count number e (Known t) = known_operation count number e t (op_at e)
 member_operation count number e (Unknown why) = []
@@ -128,7 +131,7 @@ abbrev pub requested_records : List ℕ → List Span
 requested_records e =
     if bit_and (flags_at e) required_flags == required_flags then record_span (u64_at 8 e) ∷ [] else []
 
--- an entry reads and writes just this, where its record is requested or it does not fail
+-- an entry reads and writes just this if its record is requested whatever its status, or it does not fail
 pub record Does (e : List ℕ) (t : Touched) : Type 0 where
   pub reads : t.reads.items ≡ entry_reads e
   pub writes : t.writes.items ≡ requested_records e ++ entry_targets e

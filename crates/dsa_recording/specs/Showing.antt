@@ -21,6 +21,7 @@ asks_interrupt flags = bit_and flags 0x10 == 0x10
 abbrev pub has_record : ℕ → Bool
 has_record flags = bit_and flags 0x04 == 0x04
 
+-- the record is requested whatever the status is
 abbrev pub requests_record : ℕ → Bool
 requests_record flags = bit_and flags required_flags == required_flags
 
@@ -66,6 +67,7 @@ shown_to Signals assumed head m e = is_signal assumed m e
 shown_to Batches assumed head m e =
     if is_awaited_whole head then shows_beside_batch assumed m e else is_signal assumed m e
 
+-- software can see that the member has ended, if it looks at what is assumed
 abbrev pub can_show : Assumptions → List ℕ → Member → List ℕ → Bool
 can_show assumed head m e = shown_to assumed.awaited assumed head m e
 

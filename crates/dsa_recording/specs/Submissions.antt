@@ -10,7 +10,7 @@ use Rattle.dsa_recording.specs.declared.submission.Audited.{Audited}
 use Rattle.dsa_recording.specs.Streams.{end_of}
 use Rattle.dsa_audit.specs.Members.{KnownConflict}
 use Rattle.dsa_audit.specs.Steps.{AreLasts}
-use Rattle.dsa_recording.specs.Entries.{IsMember, IsOperands, IsRecord}
+use Rattle.dsa_recording.specs.Entries.{IsMember, IsOperands, IsRecord, action_of}
 use Rattle.dsa_recording.specs.Flaws.{AreAllFlaws, HasMisalignedRecord}
 use Rattle.dsa_recording.specs.Failures.{AreFallible}
 use Rattle.dsa_recording.specs.Showing.{AreVisible}
@@ -38,10 +38,12 @@ pub record AreMembers (head : List ℕ) (es : List (List ℕ)) (ms : List Member
   pub count : length ms ≡ length es
   pub each : (k : ℕ) → k < length es → IsMember head (get_or es k []) (get_or ms k (Unknown Operation))
 
+-- the same of their data alone
 pub record AreOperands (head : List ℕ) (es : List (List ℕ)) (ms : List Member) : Type 0 where
   pub count : length ms ≡ length es
   pub each : (k : ℕ) → k < length es → IsOperands head (get_or es k []) (get_or ms k (Unknown Operation))
 
+-- and of their records
 pub record AreRecords (head : List ℕ) (es : List (List ℕ)) (ms : List Member) : Type 0 where
   pub count : length ms ≡ length es
   pub each : (k : ℕ) → k < length es → IsRecord head (get_or es k []) (get_or ms k (Unknown Operation))
@@ -54,7 +56,7 @@ pub record AreShared (head : List ℕ) (es : List (List ℕ)) (shared : List (Op
   pub count : length shared ≡ length es
   pub lasts : AreLasts (KnownConflict records) shared
 
--- whether it is a batch, the fences of the submission's entries, what is known of them and of their data, which share
+-- whether it is a batch, the fences of the submission's entries, what is known of them, what they do and with which data, which share
 -- records, what else is wrong with each, which can fail and which show under these assumptions, and an audit of these
 pub record IsAudited (assumed : Assumptions) (es : List (List ℕ)) (s : Submission) (a : Audited) : Type 0 where
   pub is_batch : a.is_batch ≡ s.is_batch
@@ -65,10 +67,11 @@ pub record IsAudited (assumed : Assumptions) (es : List (List ℕ)) (s : Submiss
   pub fallible : AreFallible assumed a.members.items (members_in es s) a.fallible.items
   pub visible :
       AreVisible assumed (slice_index_or es (head_at s) []) a.members.items (members_in es s) a.visible.items
+  pub actions : a.actions.items ≡ map action_of (members_in es s)
   pub operands : AreOperands (slice_index_or es (head_at s) []) (members_in es s) a.operands.items
   pub shared : AreShared (slice_index_or es (head_at s) []) (members_in es s) a.shared.items
   pub flaws : AreAllFlaws s.is_batch (slice_index_or es (head_at s) []) (members_in es s) a.flaws.items
-  pub audit : IsAudit a.operands.items a.members.items a.fallible.items a.visible.items a.fences.items a.audit
+  pub audit : IsAudit a.actions.items a.operands.items a.members.items a.fallible.items a.visible.items a.fences.items a.audit
 
 -- each submission is audited, in order
 abbrev pub AreAudited : Assumptions → List (List ℕ) → List Submission → List Audited → Type 0

@@ -4,7 +4,7 @@ use Rattle.std.specs.List.{count_by, sum_by}
 use Rattle.dsa_recording.specs.declared.submission.Audited.{Audited}
 use Rattle.dsa_recording.specs.declared.findings.Finding.{Finding}
 use Rattle.dsa_recording.specs.declared.findings.FindingKind.{FindingKind}
-use Rattle.dsa_recording.specs.declared.findings.FindingKind.TheVariants.{NotSeen, MissingFence, GuardingFence, SignallingFence, GuardingAndSignallingFence, NeedlessFence, Flawed}
+use Rattle.dsa_recording.specs.declared.findings.FindingKind.TheVariants.{NotSeen, MissingFence, GuardingFence, SignallingFence, GuardingAndSignallingFence, NeedlessFence, Repeated, Flawed}
 use Rattle.dsa_recording.specs.declared.report.Report.{Report}
 use Rattle.dsa_recording.specs.declared.totals.Counts.{Counts}
 use Rattle.dsa_recording.specs.declared.totals.Totals.{Totals}
@@ -21,6 +21,7 @@ set_count a = count_by (λ b. b) a.fences.items
 
 -- ---- of a finding
 
+-- a member that is not looked at
 abbrev pub is_unseen : FindingKind → Bool
 is_unseen (NotSeen why) = true
 is_unseen (MissingFence earlier) = false
@@ -28,8 +29,10 @@ is_unseen (GuardingFence earlier) = false
 is_unseen (SignallingFence awaited) = false
 is_unseen (GuardingAndSignallingFence earlier awaited) = false
 is_unseen NeedlessFence = false
+is_unseen (Repeated earlier) = false
 is_unseen (Flawed flaw) = false
 
+-- a missing fence
 abbrev pub is_missing : FindingKind → Bool
 is_missing (NotSeen why) = false
 is_missing (MissingFence earlier) = true
@@ -37,8 +40,10 @@ is_missing (GuardingFence earlier) = false
 is_missing (SignallingFence awaited) = false
 is_missing (GuardingAndSignallingFence earlier awaited) = false
 is_missing NeedlessFence = false
+is_missing (Repeated earlier) = false
 is_missing (Flawed flaw) = false
 
+-- a needless fence
 abbrev pub is_needless : FindingKind → Bool
 is_needless (NotSeen why) = false
 is_needless (MissingFence earlier) = false
@@ -46,8 +51,10 @@ is_needless (GuardingFence earlier) = false
 is_needless (SignallingFence awaited) = false
 is_needless (GuardingAndSignallingFence earlier awaited) = false
 is_needless NeedlessFence = true
+is_needless (Repeated earlier) = false
 is_needless (Flawed flaw) = false
 
+-- a fence that guards, or does both
 abbrev pub is_guarding : FindingKind → Bool
 is_guarding (NotSeen why) = false
 is_guarding (MissingFence earlier) = false
@@ -55,8 +62,10 @@ is_guarding (GuardingFence earlier) = true
 is_guarding (SignallingFence awaited) = false
 is_guarding (GuardingAndSignallingFence earlier awaited) = true
 is_guarding NeedlessFence = false
+is_guarding (Repeated earlier) = false
 is_guarding (Flawed flaw) = false
 
+-- a fence that signals, or does both
 abbrev pub is_signalling : FindingKind → Bool
 is_signalling (NotSeen why) = false
 is_signalling (MissingFence earlier) = false
@@ -64,8 +73,10 @@ is_signalling (GuardingFence earlier) = false
 is_signalling (SignallingFence awaited) = true
 is_signalling (GuardingAndSignallingFence earlier awaited) = true
 is_signalling NeedlessFence = false
+is_signalling (Repeated earlier) = false
 is_signalling (Flawed flaw) = false
 
+-- something wrong beside fences
 abbrev pub is_flaw : FindingKind → Bool
 is_flaw (NotSeen why) = false
 is_flaw (MissingFence earlier) = false
@@ -73,12 +84,13 @@ is_flaw (GuardingFence earlier) = false
 is_flaw (SignallingFence awaited) = false
 is_flaw (GuardingAndSignallingFence earlier awaited) = false
 is_flaw NeedlessFence = false
+is_flaw (Repeated earlier) = false
 is_flaw (Flawed flaw) = true
 
 -- ---- of a report
 
 -- how many submissions are batches and how many are not, how many members and fences all of them have, and how many
--- findings of each kind there are; a fence that guards and signals counts as both
+-- findings of each kind but repeated operations there are; a fence that guards and signals counts as both
 pub record IsTotals (r : Report) (t : Totals) : Type 0 where
   pub batches : t.batches ≡ count_by (λ s. s.is_batch) r.submissions.items
   pub lone : t.lone ≡ count_by (λ s. not s.is_batch) r.submissions.items
@@ -93,7 +105,7 @@ pub record IsTotals (r : Report) (t : Totals) : Type 0 where
 
 -- ---- for private clauses
 
--- how many of the findings are of each kind
+-- how many of the findings are of each kind but repeated operations
 pub record AreCounts (findings : List Finding) (c : Counts) : Type 0 where
   pub unseen : c.unseen ≡ count_by (λ f. is_unseen f.kind) findings
   pub missing : c.missing ≡ count_by (λ f. is_missing f.kind) findings

@@ -6,7 +6,7 @@ use Rattle.dsa_ranges.specs.declared.hazards.HazardKind.{HazardKind}
 use Rattle.dsa_ranges.specs.declared.hazards.HazardKind.TheVariants.{ReadAfterWrite, WriteAfterRead, WriteAfterWrite}
 use Rattle.dsa_recording.specs.declared.detail.Detail.{Detail}
 use Rattle.dsa_recording.specs.declared.detail.Cause.{Cause}
-use Rattle.dsa_recording.specs.declared.detail.Cause.TheVariants.{NotSeen, MissingFence, GuardingFence, SignallingFence, GuardingAndSignallingFence, NeedlessFence, Flawed}
+use Rattle.dsa_recording.specs.declared.detail.Cause.TheVariants.{NotSeen, MissingFence, GuardingFence, SignallingFence, GuardingAndSignallingFence, NeedlessFence, Repeated, Flawed}
 use Rattle.dsa_lines.specs.Numbers.{hex}
 use Rattle.dsa_recording.specs.declared.findings.Flaw.{Flaw}
 use Rattle.dsa_recording.specs.declared.findings.Flaw.TheVariants.{SharedRecord, OverwritesBatch, DataOverRecord, MisalignedRecord, SmallBatch, FenceWithoutEffect}
@@ -18,22 +18,27 @@ use Rattle.dsa_recording.specs.declared.words.Denied.{Denied}
 
 -- ---- where
 
+-- which member it is, or that it is none
 abbrev pub member_words : Bool → Place → List ℕ
 member_words is_batch Head = codes ", its descriptor)"
 member_words true (Member k) = codes ", member " ++ (decimal k ++ codes ")")
 member_words false (Member k) = codes ", lone)"
 
+-- the number of the entry and of its submission, and what follows
 abbrev pub entry_words : ℕ → ℕ → List ℕ → List ℕ
 entry_words entry submission behind = codes "entry " ++ (decimal entry ++ (codes " (submission " ++ (decimal submission ++ behind)))
 
+-- where a finding is
 abbrev pub place_words : Detail → List ℕ
 place_words d = entry_words d.entry d.submission (member_words d.is_batch d.place)
 
 -- ---- how severe: a missing fence is an error, and so is what is denied
 
+-- an error if it is denied
 abbrev pub note_unless : Bool → Severity
 note_unless denied = if denied then Error else Note
 
+-- how severe each cause is
 abbrev pub severity_of : Denied → Cause → Severity
 severity_of denied (NotSeen why) = if denied.unseen then Error else Warning
 severity_of denied (MissingFence earlier hazard) = Error
@@ -41,8 +46,10 @@ severity_of denied (GuardingFence earlier) = note_unless denied.guarding
 severity_of denied (SignallingFence awaited) = note_unless denied.signalling
 severity_of denied (GuardingAndSignallingFence earlier awaited) = note_unless (denied.guarding || denied.signalling)
 severity_of denied NeedlessFence = note_unless denied.needless
+severity_of denied (Repeated earlier) = Note
 severity_of denied (Flawed flaw) = Error
 
+-- its word
 abbrev pub severity_words : Severity → List ℕ
 severity_words Error = codes ": error: "
 severity_words Warning = codes ": warning: "
@@ -50,6 +57,7 @@ severity_words Note = codes ": note: "
 
 -- ---- what, and why
 
+-- why a member is not looked at
 abbrev pub unseen_words : Unseen → ℕ → List ℕ
 unseen_words Blank code = codes "not looked at: 64 zero bytes"
 unseen_words Operation code = codes "not looked at: operation " ++ hex code
@@ -58,6 +66,7 @@ unseen_words Owner code = codes "not looked at: another PASID or privilege than 
 unseen_words Empty code = codes "not looked at: size 0"
 unseen_words Wrap code = codes "not looked at: data or completion record past the last address"
 
+-- that a fence is missing, and why
 abbrev pub hazard_words : HazardKind → ℕ → ℕ → List ℕ
 hazard_words ReadAfterWrite earlier address =
     codes "missing fence, read after write: reads what member " ++ (decimal earlier ++ (codes " writes, at " ++ hex address))
@@ -66,21 +75,31 @@ hazard_words WriteAfterRead earlier address =
 hazard_words WriteAfterWrite earlier address =
     codes "missing fence, write after write: writes what member " ++ (decimal earlier ++ (codes " writes, at " ++ hex address))
 
+-- that a fence is needless, at once or with the missing ones
 abbrev pub needless_words : Bool → List ℕ
 needless_words true = codes "needless fence"
 needless_words false = codes "needless fence, once the missing fences of its batch are set"
 
+-- that a fence guards against a member
 abbrev pub guarding_words : ℕ → List ℕ
 guarding_words earlier = codes "guarding fence: member " ++ (decimal earlier ++ codes " can fail")
 
+-- that a member can be awaited by it
 abbrev pub signalling_words : ℕ → List ℕ
 signalling_words awaited = codes "signalling fence: member " ++ (decimal awaited ++ codes " can be awaited")
 
+-- both
 abbrev pub both_words : ℕ → ℕ → List ℕ
 both_words earlier awaited =
     codes "guarding and signalling fence: member " ++ (decimal earlier ++ (codes " can fail, member " ++ (decimal awaited
     ++ codes " can be awaited")))
 
+-- that a member does what an earlier one does
+abbrev pub repeated_words : ℕ → List ℕ
+repeated_words earlier =
+    codes "repeated operation: member " ++ (decimal earlier ++ codes " does the same")
+
+-- what is wrong beside fences
 abbrev pub flaw_words : Flaw → List ℕ
 flaw_words (SharedRecord earlier) =
     codes "shared record: it and member " ++ (decimal earlier ++ codes " meet in a completion record, use another")
@@ -98,6 +117,7 @@ cause_words complete code (GuardingFence earlier) = guarding_words earlier
 cause_words complete code (SignallingFence awaited) = signalling_words awaited
 cause_words complete code (GuardingAndSignallingFence earlier awaited) = both_words earlier awaited
 cause_words complete code NeedlessFence = needless_words complete
+cause_words complete code (Repeated earlier) = repeated_words earlier
 cause_words complete code (Flawed flaw) = flaw_words flaw
 
 -- of an owner, bytes 0 to 3 of an entry, bits 0 to 19 are the PASID, and bit 31 is the privilege (specification 341204)
@@ -122,7 +142,7 @@ record_words true false earlier = codes ", in the record of member " ++ decimal 
 record_words false true earlier = codes ", in its own record"
 record_words true true earlier = codes ", in its own record and that of member " ++ decimal earlier
 
--- what is said behind the cause
+-- what is said after the cause
 abbrev pub more_words : Detail → Cause → List ℕ
 more_words d (NotSeen why) = owners_words why d.owner d.head_owner
 more_words d (MissingFence earlier hazard) = record_words d.records.earlier d.records.later earlier
@@ -130,10 +150,12 @@ more_words d (GuardingFence earlier) = []
 more_words d (SignallingFence awaited) = []
 more_words d (GuardingAndSignallingFence earlier awaited) = []
 more_words d NeedlessFence = []
+more_words d (Repeated earlier) = []
 more_words d (Flawed flaw) = []
 
 -- ---- the line of a finding
 
+-- the whole line
 abbrev pub finding_words : Denied → Bool → Detail → List ℕ
 finding_words denied complete d =
     place_words d

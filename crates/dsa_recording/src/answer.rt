@@ -12,6 +12,7 @@ use crate::assumptions::Assumptions;
 use crate::costs::{costs_of, costs_text};
 use crate::detail::{detail_of, has_all_fences};
 use crate::findings::{Finding, FindingKind};
+use crate::foreign::STAGING_HINT;
 use crate::freed::{freed_by, freed_text};
 use crate::listing::listing_text;
 use crate::picture::{draw_report, is_too_large, too_large_text};
@@ -83,6 +84,7 @@ fn is_harmless(denied: Denied, kind: FindingKind) -> bool
         FindingKind::SignallingFence(_) => !denied.signalling,
         FindingKind::GuardingAndSignallingFence(_, _) => !denied.guarding && !denied.signalling,
         FindingKind::NeedlessFence => !denied.needless,
+        FindingKind::Repeated(_) => true,
         FindingKind::Flawed(_) => false,
     }
 }
@@ -220,7 +222,7 @@ fn fault_text(alloc: Global, bytes: &[u8], fault: StreamFault) -> Result<String,
             };
             let there = all.len().saturating_sub(at).saturating_sub(1);
             format!(in alloc;
-                "entry {at}: error: the recording ends after {there} of the {size} members of this batch\n"
+                "entry {at}: error: the recording ends after {there} of the {size} members of this batch: {STAGING_HINT}\n"
             )
         }
         StreamFault::Memory => Err(AllocError),

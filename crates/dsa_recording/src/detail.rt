@@ -29,6 +29,8 @@ pub enum Cause {
     GuardingAndSignallingFence(usize, usize),
     /// The fence before it may go, once the missing ones of its batch are set.
     NeedlessFence,
+    /// The member does what this earlier one does, and neither reads what the other writes.
+    Repeated(usize),
     /// Something beside fences is wrong.
     Flawed(Flaw),
 }
@@ -119,6 +121,12 @@ fn member_cause(operands: &[Member], member: usize, kind: FindingKind) -> Option
             Some(Cause::GuardingAndSignallingFence(earlier, awaited))
         }
         FindingKind::NeedlessFence => Some(Cause::NeedlessFence),
+        FindingKind::Repeated(earlier) => {
+            if earlier >= member {
+                return None;
+            }
+            Some(Cause::Repeated(earlier))
+        }
         FindingKind::Flawed(flaw) => {
             if !is_flaw_at(Place::Member(member), flaw) {
                 return None;
@@ -144,7 +152,8 @@ fn head_cause(kind: FindingKind) -> Option<Cause>
         | FindingKind::GuardingFence(_)
         | FindingKind::SignallingFence(_)
         | FindingKind::GuardingAndSignallingFence(_, _)
-        | FindingKind::NeedlessFence => None,
+        | FindingKind::NeedlessFence
+        | FindingKind::Repeated(_) => None,
     }
 }
 
@@ -176,6 +185,7 @@ fn shared_records(all: &[[u8; 64]], first: usize, at: usize, cause: Cause) -> Re
         | Cause::SignallingFence(_)
         | Cause::GuardingAndSignallingFence(_, _)
         | Cause::NeedlessFence
+        | Cause::Repeated(_)
         | Cause::Flawed(_) => Records {
             earlier: false,
             later: false,

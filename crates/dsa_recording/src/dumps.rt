@@ -101,7 +101,7 @@ fn staged_entries(alloc: Global, all: &[[u8; 64]], dumps: &[Dump]) -> Result<Vec
     Ok(bytes)
 }
 
-/// The recording of a portal: its entries, and behind the descriptor of each batch its members, from the first dump that
+/// The recording of a portal: its entries, and after the descriptor of each batch its members, from the first dump that
 /// has all of them at the batch's list address.
 ///
 /// # Errors

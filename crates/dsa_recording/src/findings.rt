@@ -1,7 +1,7 @@
 //! What an audit of a recording finds.
 
 ghost use Rattle.std.specs.Prelude.{◌≡◌, ◌++◌, ◌<◌, All, IfOk, OnOk, length};
-ghost use Rattle.dsa_recording.specs.Findings.{unseen_kind, missing_kind, use_kind, shared_kind, flaw_kind, size_kind, head_kinds, member_kinds, finding_of, all_found, findings_upto, submission_findings, recording_findings, HasAll};
+ghost use Rattle.dsa_recording.specs.Findings.{unseen_kind, missing_kind, use_kind, shared_kind, repeated_kind, flaw_kind, size_kind, head_kinds, member_kinds, finding_of, all_found, findings_upto, submission_findings, recording_findings, HasAll};
 
 use crate::submission::Audited;
 use dsa_audit::{FencePlace, FenceUse, Member, Unseen};
@@ -10,8 +10,8 @@ use std::alloc::{AllocError, Global};
 /// What is wrong beside fences.
 #[derive(Clone, Copy, Debug, PartialEq, Eq)]
 pub enum Flaw {
-    /// The completion record of the member, or its data, meets the record of this earlier one; or its record meets data of
-    /// that.
+    /// The completion record of the member, or its data, meets the record of this earlier one; or its record meets
+    /// data of that.
     SharedRecord(usize),
     /// The member writes the descriptors of its batch, or the batch's completion record.
     OverwritesBatch,
@@ -40,6 +40,8 @@ pub enum FindingKind {
     GuardingAndSignallingFence(usize, usize),
     /// The fence before it may go, once the missing ones of its batch are set.
     NeedlessFence,
+    /// The member does what this earlier one does, and neither reads what the other writes.
+    Repeated(usize),
     /// Something beside fences is wrong.
     Flawed(Flaw),
 }
@@ -115,6 +117,16 @@ fn shared_kind(shared: Option<usize>) -> Option<FindingKind>
     }
 }
 
+/// Whether a member does what an earlier one does.
+fn repeated_kind(repeated: Option<usize>) -> Option<FindingKind>
+    ensures { result ≡ repeated_kind repeated }
+{
+    match repeated {
+        Some(earlier) => Some(FindingKind::Repeated(earlier)),
+        None => None,
+    }
+}
+
 /// The flaw, if it is there.
 fn flaw_kind(flaw: Flaw, is_there: bool) -> Option<FindingKind>
     ensures { result ≡ flaw_kind flaw is_there }
@@ -145,7 +157,7 @@ fn head_kinds(audited: &Audited) -> [Option<FindingKind>; 3]
 }
 
 /// What may be found of a member, in this order.
-fn member_kinds(audited: &Audited, k: usize) -> [Option<FindingKind>; 7]
+fn member_kinds(audited: &Audited, k: usize) -> [Option<FindingKind>; 8]
     requires all { HasAll audited.now }
     requires within { k < length audited.now.members.items }
     ensures { result ≡ member_kinds audited.now k }
@@ -157,6 +169,7 @@ fn member_kinds(audited: &Audited, k: usize) -> [Option<FindingKind>; 7]
         flaw_kind(Flaw::OverwritesBatch, flaws.overwrites_batch),
         flaw_kind(Flaw::DataOverRecord, flaws.data_over_record),
         flaw_kind(Flaw::MisalignedRecord, flaws.misaligned_record),
+        repeated_kind(audited.audit.repeated[k]),
         missing_kind(audited.audit.corrected.places[k]),
         use_kind(audited.is_batch, audited.audit.reduced.uses[k]),
     ]
@@ -232,8 +245,9 @@ fn push_submission(
     push_members(findings, number, audited)
 }
 
-/// All that is found in submissions, in order: of the descriptor of a batch and then of each member what is wrong beside
-/// fences, members that are not looked at, missing fences, and fences that no conflict needs.
+/// All that is found in submissions, in order: of the descriptor of a batch and then of each member what is wrong
+/// beside fences, members that are not looked at, repeated operations, missing fences, and fences that no conflict
+/// needs.
 pub fn findings_of(alloc: Global, audits: &[Audited]) -> Result<Vec<Finding>, AllocError>
     requires { All HasAll audits.now }
     ensures { IfOk result (λ findings. findings.items ≡ recording_findings 0 audits.now) }

@@ -1,7 +1,9 @@
 //! What is wrong with an entry beside fences.
 
-ghost use Rattle.std.specs.Prelude.{◌≡◌, ◌↔◌, IfOk, IsTrue};
-ghost use Rattle.dsa_recording.specs.Flaws.{batch_spans, OverwritesBatch, HasDataOverRecord, HasMisalignedRecord, AreFlaws, AreAllFlaws};
+ghost use Rattle.std.specs.Prelude.{◌≡◌, ◌↔◌, [], IfOk, IsTrue};
+ghost use Rattle.dsa_ranges.specs.Ranges.{SpansConflict};
+ghost use Rattle.dsa_recording.specs.Entries.{entry_targets, entry_writes, records_of};
+ghost use Rattle.dsa_recording.specs.Flaws.{list_spans, IsInOwnDescriptor, OverwritesBatch, HasDataOverRecord, HasMisalignedRecord, AreFlaws, AreAllFlaws};
 
 use crate::member::{operands_of, records_of, touched_by};
 use arrayvec::ArrayVec;
@@ -12,7 +14,8 @@ use std::alloc::{AllocError, Global};
 /// What is wrong with an entry beside fences.
 #[derive(Clone, Copy, Debug, PartialEq, Eq)]
 pub struct Flaws {
-    /// It writes the descriptors of its batch, or the batch's completion record; or its own record is there.
+    /// It writes the descriptors of its batch, or the batch's completion record; or its own record is there, but not within
+    /// its own descriptor.
     pub overwrites_batch: bool,
     /// Its data meet its own completion record.
     pub data_over_record: bool,
@@ -20,33 +23,98 @@ pub struct Flaws {
     pub misaligned_record: bool,
 }
 
-/// The memory of a batch: the descriptors of its members, and its completion record, if it has one.
-fn batch_spans(head: &[u8; 64]) -> ArrayVec<Span, 3>
-    ensures { result.items ≡ batch_spans head.now }
+/// The memory of a batch's descriptors.
+fn list_spans(head: &[u8; 64]) -> ArrayVec<Span, 3>
+    ensures { result.items ≡ list_spans head.now }
 {
     let mut spans = ArrayVec::new();
     spans.push(Span {
         first: u64_at(head, 16),
         len: 64 * u64::from(u32_at(head, 32)),
     });
-    let record = records_of(head);
-    spans.try_extend_from_slice(record.as_slice()).unwrap();
     spans
 }
 
-/// Whether an entry writes the memory of its batch.
-fn overwrites_batch(head: &[u8; 64], entry: &[u8; 64]) -> bool
-    ensures { IsTrue result ↔ OverwritesBatch head.now entry.now }
+/// Whether what an entry writes meets the record of its batch.
+fn meets_record(head: &[u8; 64], entry: &[u8; 64]) -> bool
+    ensures { IsTrue result ↔ SpansConflict [] (entry_writes entry.now) [] (records_of head.now) }
 {
     let written = Touched {
         reads: ArrayVec::new(),
         writes: touched_by(entry).writes,
     };
-    let batch = Touched {
+    let record = Touched {
         reads: ArrayVec::new(),
-        writes: batch_spans(head),
+        writes: records_of(head),
     };
-    in_conflict(&written, &batch)
+    in_conflict(&written, &record)
+}
+
+/// Whether the data that an entry writes meet the descriptors of its batch.
+fn data_meet_list(head: &[u8; 64], entry: &[u8; 64]) -> bool
+    ensures { IsTrue result ↔ SpansConflict [] (entry_targets entry.now) [] (list_spans head.now) }
+{
+    let written = Touched {
+        reads: ArrayVec::new(),
+        writes: operands_of(entry).writes,
+    };
+    let list = Touched {
+        reads: ArrayVec::new(),
+        writes: list_spans(head),
+    };
+    in_conflict(&written, &list)
+}
+
+/// Whether the record of an entry meets the descriptors of its batch.
+fn record_meets_list(head: &[u8; 64], entry: &[u8; 64]) -> bool
+    ensures { IsTrue result ↔ SpansConflict [] (records_of entry.now) [] (list_spans head.now) }
+{
+    let record = Touched {
+        reads: ArrayVec::new(),
+        writes: records_of(entry),
+    };
+    let list = Touched {
+        reads: ArrayVec::new(),
+        writes: list_spans(head),
+    };
+    in_conflict(&record, &list)
+}
+
+/// Whether the record of an entry, which is member `k` of a batch, lies within its own descriptor.
+fn is_in_own_descriptor(head: &[u8; 64], k: usize, entry: &[u8; 64]) -> bool
+    ensures { IsTrue result ↔ IsInOwnDescriptor head.now k entry.now }
+{
+    let (list, record) = (u64_at(head, 16), u64_at(entry, 8));
+    if record < list {
+        return false;
+    }
+    (record - list) / 64 == k as u64 && (record - list) % 64 <= 32
+}
+
+/// Whether an entry, which is member `k` of a batch, writes the descriptors of the batch or the batch's completion record.
+fn overwrites_batch(head: &[u8; 64], k: usize, entry: &[u8; 64]) -> bool
+    ensures { IsTrue result ↔ OverwritesBatch head.now k entry.now }
+{
+    if meets_record(head, entry) {
+        return true;
+    }
+    if data_meet_list(head, entry) {
+        return true;
+    }
+    if is_in_own_descriptor(head, k, entry) {
+        return false;
+    }
+    record_meets_list(head, entry)
+}
+
+/// The same of an entry that may be in none.
+fn overwrites_its_batch(is_batch: bool, head: &[u8; 64], k: usize, entry: &[u8; 64]) -> bool
+    ensures { IsTrue result ↔ (IsTrue is_batch × OverwritesBatch head.now k entry.now) }
+{
+    if !is_batch {
+        return false;
+    }
+    overwrites_batch(head, k, entry)
 }
 
 /// Whether the data of an entry meet its own completion record.
@@ -67,12 +135,13 @@ pub(crate) fn has_misaligned_record(entry: &[u8; 64]) -> bool
     u32_at(entry, 4) % (1 << 24) & 0x04 == 0x04 && u64_at(entry, 8) % 32 != 0
 }
 
-/// All that is wrong with an entry beside fences, whose batch, if it is in one, has the descriptor `head`.
-pub fn flaws_of(is_batch: bool, head: &[u8; 64], entry: &[u8; 64]) -> Flaws
-    ensures { AreFlaws is_batch head.now entry.now result }
+/// All that is wrong with an entry beside fences. If it is in a batch, it is member `k` of that, which has the descriptor
+/// `head`.
+pub fn flaws_of(is_batch: bool, head: &[u8; 64], k: usize, entry: &[u8; 64]) -> Flaws
+    ensures { AreFlaws is_batch head.now k entry.now result }
 {
     Flaws {
-        overwrites_batch: is_batch && overwrites_batch(head, entry),
+        overwrites_batch: overwrites_its_batch(is_batch, head, k, entry),
         data_over_record: has_data_over_record(entry),
         misaligned_record: has_misaligned_record(entry),
     }
@@ -88,8 +157,8 @@ pub(crate) fn all_flaws(
     ensures { IfOk result (λ flaws. AreAllFlaws is_batch head.now entries.now flaws.items) }
 {
     let mut flaws = Vec::with_capacity(alloc, entries.len())?;
-    for entry in entries {
-        flaws.push(flaws_of(is_batch, head, entry))?;
+    for k in 0..entries.len() {
+        flaws.push(flaws_of(is_batch, head, k, &entries[k]))?;
     }
     Ok(flaws)
 }

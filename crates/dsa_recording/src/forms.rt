@@ -11,7 +11,7 @@ use std::alloc::{AllocError, Global};
 /// A form of text.
 #[derive(Clone, Copy, Debug, PartialEq, Eq)]
 pub enum Form {
-    /// Digits alone, as `xxd -p` writes them; blanks and newlines may stand between.
+    /// Digits alone, as `xxd -p` writes them; blanks and newlines may be between.
     Plain,
     /// An offset and a colon, digits, two blanks, and the bytes as characters, as `xxd` writes them.
     Xxd,
@@ -26,9 +26,9 @@ pub enum Part {
     Offset,
     /// The digits of its bytes.
     Digits,
-    /// A blank behind digits.
+    /// A blank after digits.
     Blank,
-    /// What stands behind the digits.
+    /// What comes after the digits.
     Rest,
 }
 
@@ -46,7 +46,7 @@ fn is_digit(byte: u8) -> bool
     (byte as char).to_digit(16).is_some()
 }
 
-/// The part of its line that the byte behind this one belongs to.
+/// The part of its line that the byte after this one belongs to.
 fn part_of_line(form: Form, part: Part, byte: u8) -> Part
     ensures { result ≡ part_of_line form part byte }
 {
@@ -93,7 +93,7 @@ pub fn first_part(form: Form) -> Part
     }
 }
 
-/// The part that the byte behind this one belongs to.
+/// The part that the byte after this one belongs to.
 pub fn next_part(form: Form, part: Part, byte: u8) -> Part
     ensures { result ≡ next_part form part byte }
 {
@@ -163,7 +163,7 @@ fn is_text_byte(byte: u8) -> bool
     byte == b'\t' || byte == b'\n' || byte == b'\r' || (byte >= 32 && byte <= 126)
 }
 
-/// Whether a recording is a text. One that is none is its entries as they stand.
+/// Whether a recording is a text. One that is none is its entries as they are.
 pub fn is_text(bytes: &[u8]) -> bool
     ensures { IsTrue result ↔ IsText bytes.now }
 {

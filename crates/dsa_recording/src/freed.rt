@@ -57,6 +57,7 @@ fn is_needless(kind: FindingKind) -> bool
         | FindingKind::GuardingFence(_)
         | FindingKind::SignallingFence(_)
         | FindingKind::GuardingAndSignallingFence(_, _)
+        | FindingKind::Repeated(_)
         | FindingKind::Flawed(_) => false,
     }
 }
@@ -95,6 +96,7 @@ fn is_kept(kind: FindingKind) -> bool {
         FindingKind::NotSeen(_)
         | FindingKind::MissingFence(_)
         | FindingKind::NeedlessFence
+        | FindingKind::Repeated(_)
         | FindingKind::Flawed(_) => false,
     }
 }

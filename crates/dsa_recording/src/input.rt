@@ -2,10 +2,12 @@
 
 ghost use Rattle.std.specs.Prelude.{◌≡◌, IfOk, MatchResult};
 ghost use Rattle.dsa_lines.specs.Texts.{lines_of};
+ghost use Rattle.dsa_recording.specs.Foreign.{AnswersEntries};
 ghost use Rattle.dsa_recording.specs.Forms.{IsText};
 ghost use Rattle.dsa_recording.specs.Inputs.{AnswersInput, IsInLines, IsRefused, OneRecording, SpellsRecording};
 
 use crate::answer::{AuditAnswer, AuditOptions, audit_bytes};
+use crate::foreign::{Foreign, STAGING_HINT, find_foreign};
 use crate::forms::{begins_with_digits, form_of, is_text};
 use crate::places::{BytesFault, bytes_of_input};
 use dsa_lines::{Expected, TextFault, assemble_recording};
@@ -93,8 +95,36 @@ pub(crate) fn bytes_of_text_input(
     bytes_of_lines(alloc, text)
 }
 
+/// That an entry cannot be a member of its batch.
+fn foreign_text(alloc: Global, foreign: Foreign) -> Result<String, AllocError> {
+    let Foreign { head, entry } = foreign;
+    format!(in alloc;
+        "entry {entry}: error: this cannot be a member of the batch at entry {head}: {STAGING_HINT}\n"
+    )
+}
+
+/// The report on entries, each batch with its members after it.
+fn audit_entries(
+    alloc: Global,
+    bytes: &[u8],
+    settings: &Settings,
+    options: AuditOptions,
+) -> Result<AuditAnswer, AllocError>
+    ensures { IfOk result (AnswersEntries options bytes.now) }
+{
+    match find_foreign(alloc, bytes)? {
+        Some(foreign) => {
+            let reason = foreign_text(alloc, foreign)?;
+            Ok(refusal(reason))
+        }
+        None => audit_bytes(alloc, bytes, settings, options),
+    }
+}
+
 /// The report on a recording, as bytes or as a text: of bytes in hexadecimal, or of lines. The status is 0 if nothing
-/// is an error, 1 if something is, and 2 with the reason if there is no recording, or it is too large for a picture. The report has what the submissions cost under the settings.
+/// is an error, 1 if something is, and 2 with the reason if there is no recording, if an entry cannot be a member of
+/// its batch, or if the recording is too large for a picture. The report has what the submissions cost under the
+/// settings.
 pub fn audit(
     alloc: Global,
     input: &[u8],
@@ -104,10 +134,10 @@ pub fn audit(
     ensures { IfOk result (AnswersInput options input.now) }
 {
     if !is_text(input) {
-        return audit_bytes(alloc, input, settings, options);
+        return audit_entries(alloc, input, settings, options);
     }
     match bytes_of_text_input(alloc, input)? {
-        Ok(bytes) => audit_bytes(alloc, &bytes, settings, options),
+        Ok(bytes) => audit_entries(alloc, &bytes, settings, options),
         Err(refusal) => Ok(refusal),
     }
 }

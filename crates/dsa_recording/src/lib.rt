@@ -10,6 +10,7 @@ mod dumps;
 mod failure;
 mod findings;
 mod flaws;
+mod foreign;
 mod forms;
 mod freed;
 mod input;

@@ -27,7 +27,7 @@ fn record_in_list(entry: &[u8; 64], number: usize) -> u64
     RECORDS + 32 * number as u64
 }
 
-/// Whether the span has no address, or lies below the records that entries of this number may get, or behind them.
+/// Whether the span has no address, or lies below the records that entries of this number may get, or above them.
 fn is_clear(count: usize, span: Span) -> bool
     requires { count ≤ 2 ^ 58 }
     ensures { result ≡ is_clear count span }
@@ -58,7 +58,7 @@ fn left_out(alloc: Global, number: usize, why: &str) -> Result<String, AllocErro
     format!(in alloc; "# entry {number}, {why}")
 }
 
-/// The number of the entry behind an operation.
+/// The number of the entry after an operation.
 fn entry_text(alloc: Global, number: usize) -> Result<String, AllocError>
     ensures { IfOk result (λ text. string_bytes text ≡ codes " # entry " ++ decimal number) }
 {

@@ -1,4 +1,4 @@
-//! What stands before a member in a picture: a fence and what is wrong with it, or where one is missing.
+//! What is before a member in a picture: a fence and what is wrong with it, or where one is missing.
 
 use crate::submission::Audited;
 use crate::words::{both_text, guarding_text, hazard_text, needless_text, signalling_text};
@@ -7,7 +7,7 @@ use dsa_drawing::{Spot, push_bar, push_conflict, push_text};
 use dsa_ranges::Hazard;
 use std::alloc::{AllocError, Global};
 
-/// What stands before a member.
+/// What is before a member.
 #[derive(Clone, Copy, Debug, PartialEq, Eq)]
 pub(crate) enum Mark {
     /// No fence, and none is missing.
@@ -62,7 +62,7 @@ fn use_mark(used: FenceUse) -> Mark {
     }
 }
 
-/// What stands before a member of a submission.
+/// What is before a member of a submission.
 pub(crate) fn mark_of(audited: &Audited, member: usize) -> Mark {
     let places = &audited.audit.corrected.places;
     match places.get(member).copied().unwrap_or(FencePlace::NoFence) {
@@ -74,7 +74,7 @@ pub(crate) fn mark_of(audited: &Audited, member: usize) -> Mark {
     }
 }
 
-/// Whether words stand under the mark.
+/// Whether words are under the mark.
 pub(crate) fn has_words(mark: Mark) -> bool {
     match mark {
         Mark::Nothing | Mark::Fence => false,
@@ -181,7 +181,7 @@ fn push_shape(alloc: Global, svg: &mut String, mark: Mark, bar: Spot) -> Result<
     }
 }
 
-/// Writes what stands before the box that begins at the spot; `complete`: no fence of its submission is missing.
+/// Writes what is before the box that begins at the spot; `complete`: no fence of its submission is missing.
 pub(crate) fn push_mark(
     alloc: Global,
     svg: &mut String,

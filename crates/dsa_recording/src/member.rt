@@ -4,10 +4,10 @@ ghost use Rattle.std.specs.Prelude.{◌≡◌, ◌↔◌, ◌≤◌, ◌++◌, l
 ghost use Rattle.std.specs.List.{AllByRecursion};
 ghost use Rattle.dsa_descriptor.specs.Spans.{IsAddressable};
 ghost use Rattle.dsa_audit.specs.declared.member.Unseen.{Unseen};
-ghost use Rattle.dsa_recording.specs.Entries.{records_of, entry_reads, entry_targets, entry_data, entry_writes, Applies, IsFirstReason, IsMember, IsOperands, IsRecord};
+ghost use Rattle.dsa_recording.specs.Entries.{records_of, entry_reads, entry_targets, entry_data, entry_writes, Applies, IsFirstReason, IsMember, IsOperands, IsRecord, action_of};
 
 use arrayvec::ArrayVec;
-use dsa_audit::{Member, Unseen};
+use dsa_audit::{Action, Member, Unseen};
 use dsa_descriptor::{Span, agree_on_owner, are_addressable, op_at, record_span, u32_at, u64_at};
 use dsa_ranges::Touched;
 
@@ -64,6 +64,16 @@ pub(crate) fn operands_of(entry: &[u8; 64]) -> Touched
     reads.try_extend_from_slice(sources.as_slice()).unwrap();
     writes.try_extend_from_slice(targets.as_slice()).unwrap();
     Touched { reads, writes }
+}
+
+/// What the entry does.
+pub(crate) fn action_of(entry: &[u8; 64]) -> Action
+    ensures { result ≡ action_of entry.now }
+{
+    Action {
+        op: op_at(entry),
+        size: u32_at(entry, 32),
+    }
 }
 
 /// Its record as written, and its data as read.

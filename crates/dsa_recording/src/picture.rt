@@ -1,4 +1,4 @@
-//! A report on a recording as a picture: a row of boxes for each submission, with a bar for each fence that stands or is
+//! A report on a recording as a picture: a row of boxes for each submission, with a bar for each fence that is there or is
 //! missing, and what is found of it.
 
 ghost use Rattle.std.specs.Prelude.{◌↔◌, IfOk, IsTrue, string_bytes};
@@ -31,7 +31,7 @@ const WIDTH: usize = 900;
 /// Where the first submission begins, under the line that says what the marks mean.
 const TOP: usize = 36;
 
-/// Where a submission stands: each of its lines has this height, and the next submission begins at its end.
+/// Where a submission is drawn: each of its lines has this height, and the next submission begins at its end.
 #[derive(Clone, Copy)]
 struct Row {
     top: usize,
@@ -39,7 +39,7 @@ struct Row {
     end: usize,
 }
 
-/// Whether words stand under a bar of a submission.
+/// Whether words are under a bar of a submission.
 fn is_marked(audited: &Audited) -> bool {
     for member in 0..audited.members.len() {
         if has_words(mark_of(audited, member)) {
@@ -49,7 +49,7 @@ fn is_marked(audited: &Audited) -> bool {
     false
 }
 
-/// Where a submission stands that begins here.
+/// Where a submission is drawn that begins here.
 fn row_of(audited: &Audited, top: usize) -> Row {
     let line: usize = if is_marked(audited) { 68 } else { 48 };
     let lines = lines_of(audited.members.len());
@@ -131,7 +131,7 @@ fn push_member(
     }
 }
 
-/// Writes the members of a submission, whose first stands in this entry, and what stands before each.
+/// Writes the members of a submission, whose first is this entry, and what is before each.
 fn push_members(
     alloc: Global,
     svg: &mut String,
@@ -157,7 +157,7 @@ fn push_members(
             };
             push_member(alloc, svg, member, square, at, entry)?;
         }
-        // behind the box, which would cover a part of a cross
+        // below the box, which would cover a part of a cross
         push_mark(alloc, svg, mark_of(audited, number), complete, spot)?;
     }
     Ok(())
@@ -201,7 +201,7 @@ fn push_totals(
     Ok(())
 }
 
-/// What stands in a picture behind its first word.
+/// What is in a picture after its first word.
 fn picture_body(alloc: Global, all: &[[u8; 64]], report: &Report) -> Result<String, AllocError>
     requires { HasSums report.now }
 {
@@ -217,9 +217,9 @@ fn picture_body(alloc: Global, all: &[[u8; 64]], report: &Report) -> Result<Stri
 
 /// The picture of a report as SVG, without scripts. A submission has 16 boxes to a line, with the index and the operation
 /// of each member, and epochs that are white and grey by turns; the border of a member that is not looked at is of dashes,
-/// with the reason in it. Before a member stands a bar where it is fenced: crossed out where the fence is needless, and
+/// with the reason in it. Before a member is a bar if it is fenced: crossed out if the fence is needless, and
 /// with the member under it against whose failure it guards; and red dashes where a fence is missing, with the two members
-/// that conflict and why the later waits. The numbers stand at the end.
+/// that conflict and why the later waits. The numbers are at the end.
 pub(crate) fn draw_report(
     alloc: Global,
     all: &[[u8; 64]],

@@ -13,7 +13,7 @@ use std::alloc::Global;
 pub enum DigitFault {
     /// A byte that is neither a digit nor anything else of the text's form.
     Stray,
-    /// A line that stands for others, which `hexdump` leaves out.
+    /// A line in place of others, which `hexdump` leaves out.
     LinesLeftOut,
     /// The text ends between the two digits of a byte.
     WithinByte,

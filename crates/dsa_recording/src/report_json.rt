@@ -144,6 +144,10 @@ fn cause_json(alloc: Global, detail: &Detail, complete: bool) -> Result<Value, A
             let later = !complete;
             json!(in alloc; {"kind": "needless", "once_corrected": later})
         }
+        Cause::Repeated(earlier) => {
+            let earlier = earlier as u64;
+            json!(in alloc; {"kind": "repeated operation", "earlier": earlier})
+        }
         Cause::Flawed(flaw) => flaw_json(alloc, flaw),
     }
 }

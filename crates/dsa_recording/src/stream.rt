@@ -90,7 +90,7 @@ fn submissions_of(alloc: Global, all: &[[u8; 64]]) -> Result<Vec<Submission>, St
     Ok(list)
 }
 
-/// The submissions of a recording: entries of 64 bytes in the order of submission, and behind the descriptor of a batch
+/// The submissions of a recording: entries of 64 bytes in the order of submission, and after the descriptor of a batch
 /// its members.
 ///
 /// # Errors

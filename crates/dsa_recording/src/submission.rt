@@ -1,15 +1,16 @@
 //! The fences of a recorded submission.
 
 ghost use Rattle.std.specs.Prelude.{◌≡◌, All, map, IfOk};
+ghost use Rattle.dsa_recording.specs.Entries.{action_of};
 ghost use Rattle.dsa_recording.specs.Submissions.{head_at, is_fenced, IsWithin, AreMembers, AreOperands, AreRecords, AreShared, IsAudited, AreAudited};
 
 use crate::assumptions::Assumptions;
 use crate::failure::fallible_of;
 use crate::flaws::{Flaws, all_flaws, has_misaligned_record};
-use crate::member::{member_of, operands_member, record_member};
+use crate::member::{action_of, member_of, operands_member, record_member};
 use crate::showing::visible_of;
 use crate::stream::Submission;
-use dsa_audit::{Audit, Effects, Member, all_lasts, audit_fences};
+use dsa_audit::{Action, Audit, Effects, Member, all_lasts, audit_fences};
 use dsa_descriptor::u32_at;
 use std::alloc::{AllocError, Global};
 
@@ -22,10 +23,12 @@ pub struct Audited {
     pub is_head_fenced: bool,
     /// Whether the completion record of the descriptor is at an address that is no multiple of 32.
     pub is_head_misaligned: bool,
-    /// Whether a fence stands before each member.
+    /// Whether each member has a fence.
     pub fences: Vec<bool>,
     /// What is known of each member.
     pub members: Vec<Member>,
+    /// What each does.
+    pub actions: Vec<Action>,
     /// What is known of the data of each.
     pub operands: Vec<Member>,
     /// For each, the last member before it of which the record meets its record or data, or the other way round.
@@ -67,6 +70,17 @@ fn fences_of(alloc: Global, entries: &[[u8; 64]]) -> Result<Vec<bool>, AllocErro
         fences.push(is_fenced(entry))?;
     }
     Ok(fences)
+}
+
+/// What each of the entries does.
+fn actions_of(alloc: Global, entries: &[[u8; 64]]) -> Result<Vec<Action>, AllocError>
+    ensures { IfOk result (λ actions. actions.items ≡ map action_of entries.now) }
+{
+    let mut actions = Vec::with_capacity(alloc, entries.len())?;
+    for entry in entries {
+        actions.push(action_of(entry))?;
+    }
+    Ok(actions)
 }
 
 /// What is known of each of the entries, whose batch has the descriptor `head`.
@@ -140,6 +154,7 @@ pub fn audit_submission(
     let entries = &all[submission.first..submission.first + submission.size];
     let fences = fences_of(alloc, entries)?;
     let members = members_of(alloc, &all[at], entries)?;
+    let actions = actions_of(alloc, entries)?;
     let operands = operands_in(alloc, &all[at], entries)?;
     let fallible = fallible_of(alloc, assumptions, &members, entries)?;
     let visible = visible_of(alloc, assumptions, &all[at], &members, entries)?;
@@ -147,13 +162,14 @@ pub fn audit_submission(
         fallible: &fallible,
         visible: &visible,
     };
-    let audit = audit_fences(alloc, &fences, &operands, &members, effects)?;
+    let audit = audit_fences(alloc, &fences, &actions, &operands, &members, effects)?;
     Ok(Audited {
         is_batch: submission.is_batch,
         is_head_fenced: is_fenced(&all[at]),
         is_head_misaligned: has_misaligned_record(&all[at]),
         fences,
         members,
+        actions,
         operands,
         shared: shared_in(alloc, &all[at], entries)?,
         flaws: all_flaws(alloc, submission.is_batch, &all[at], entries)?,

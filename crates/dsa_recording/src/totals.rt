@@ -86,7 +86,7 @@ fn all_fences_in(audits: &[Audited]) -> usize
     fences
 }
 
-/// How many findings there are of each kind.
+/// How many findings there are of each kind but repeated operations.
 #[derive(Clone, Copy)]
 struct Counts {
     unseen: usize,
@@ -97,7 +97,7 @@ struct Counts {
     flaws: usize,
 }
 
-/// How many findings there are of each kind; a fence that guards and signals counts as both.
+/// How many findings there are of each kind but repeated operations; a fence that guards and signals counts as both.
 fn counts_of(findings: &[Finding]) -> Counts
     ensures { AreCounts findings.now result }
 {
@@ -114,6 +114,7 @@ fn counts_of(findings: &[Finding]) -> Counts
                 signalling += 1;
             }
             FindingKind::NeedlessFence => needless += 1,
+            FindingKind::Repeated(_) => {}
             FindingKind::Flawed(_) => flaws += 1,
         }
     }

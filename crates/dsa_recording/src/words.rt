@@ -3,7 +3,7 @@
 ghost use Rattle.std.specs.Prelude.{◌≡◌, ◌++◌, true, IfOk, OnOk, codes, string_bytes};
 ghost use Rattle.dsa_recording.specs.declared.detail.Detail.{Detail};
 ghost use Rattle.dsa_recording.specs.declared.findings.Place.TheVariants as Place;
-ghost use Rattle.dsa_recording.specs.Words.{entry_words, member_words, place_words, note_unless, severity_of, severity_words, unseen_words, hazard_words, guarding_words, signalling_words, both_words, flaw_words, needless_words, cause_words, privilege_words, owners_words, record_words, more_words, finding_words};
+ghost use Rattle.dsa_recording.specs.Words.{entry_words, member_words, place_words, note_unless, severity_of, severity_words, unseen_words, hazard_words, guarding_words, signalling_words, both_words, repeated_words, flaw_words, needless_words, cause_words, privilege_words, owners_words, record_words, more_words, finding_words};
 ghost use Rattle.dsa_audit.specs.declared.member.Unseen.TheVariants.{Owner};
 
 use crate::detail::{Cause, Detail, Records};
@@ -66,6 +66,7 @@ pub fn severity_of(denied: Denied, cause: Cause) -> Severity
             note_unless(denied.guarding || denied.signalling)
         }
         Cause::NeedlessFence => note_unless(denied.needless),
+        Cause::Repeated(_) => Severity::Note,
         Cause::Flawed(_) => Severity::Error,
     }
 }
@@ -144,7 +145,7 @@ pub(crate) fn unseen_text(alloc: Global, why: Unseen, code: u8) -> Result<String
     }
 }
 
-/// Why a fence is missing behind an earlier member.
+/// Why a fence is missing after an earlier member.
 pub(crate) fn hazard_text(
     alloc: Global,
     earlier: usize,
@@ -209,6 +210,13 @@ pub(crate) fn both_text(alloc: Global, earlier: usize, awaited: usize) -> Result
     )
 }
 
+/// That a member does what an earlier one does.
+fn repeated_text(alloc: Global, earlier: usize) -> Result<String, AllocError>
+    ensures { IfOk result (λ s. string_bytes s ≡ repeated_words earlier) }
+{
+    format!(in alloc; "repeated operation: member {earlier} does the same")
+}
+
 /// What is wrong beside fences.
 fn flaw_text(alloc: Global, flaw: Flaw) -> Result<String, AllocError>
     ensures { IfOk result (λ s. string_bytes s ≡ flaw_words flaw) }
@@ -248,6 +256,7 @@ fn cause_text(alloc: Global, detail: &Detail, complete: bool) -> Result<String, 
         Cause::SignallingFence(awaited) => signalling_text(alloc, awaited),
         Cause::GuardingAndSignallingFence(earlier, awaited) => both_text(alloc, earlier, awaited),
         Cause::NeedlessFence => needless_text(alloc, complete),
+        Cause::Repeated(earlier) => repeated_text(alloc, earlier),
         Cause::Flawed(flaw) => flaw_text(alloc, flaw),
     }
 }
@@ -285,7 +294,7 @@ fn record_text(alloc: Global, records: Records, earlier: usize) -> Result<String
     }
 }
 
-/// Writes what is said behind the cause: two owners, or whose completion record has the address.
+/// Writes what is said after the cause: two owners, or whose completion record has the address.
 fn push_more(alloc: Global, line: &mut String, detail: &Detail) -> Result<(), AllocError>
     ensures { OnOk result (string_bytes line.new ≡ string_bytes line.old ++
         more_words detail.now detail.now.cause) }
@@ -304,6 +313,7 @@ fn push_more(alloc: Global, line: &mut String, detail: &Detail) -> Result<(), Al
         | Cause::SignallingFence(_)
         | Cause::GuardingAndSignallingFence(_, _)
         | Cause::NeedlessFence
+        | Cause::Repeated(_)
         | Cause::Flawed(_) => Ok(()),
     }
 }

@@ -2,9 +2,9 @@ use Rattle.std.proofs.Common.{◌∷◌, [], ap, length, length-append, arith}
 use Rattle.dsa_recording.proofs.Flawed.{flaws_pushed}
 use Rattle.dsa_recording.proofs.flaws.all_flaws.Goals as goal
 
-pub loop-entry-preserved : goal.loop-entry-preserved
-loop-entry-preserved c = record {
-  count = omega (arith, ap length c.in_ok-push.ensures.items, length-append c.loop-entry.flaws.items (c.flaws_of.result ∷ []), c.loop-entry.invariant.count);
-  each = flaws_pushed c.args.is_batch c.args.head.now c.args.entries.now c.loop-entry.flaws.items c.push.new.self.items c.flaws_of.result c.loop-entry.entry-index
-      c.loop-entry.invariant.count c.in_ok-push.ensures.items c.loop-entry.invariant.each c.flaws_of.ensures;
+pub loop-k-preserved : goal.loop-k-preserved
+loop-k-preserved c = record {
+  count = omega (arith, ap length c.in_ok-push.ensures.items, length-append c.loop-k.flaws.items (c.flaws_of.result ∷ []), c.loop-k.invariant.count);
+  each = flaws_pushed c.args.is_batch c.args.head.now c.args.entries.now c.loop-k.flaws.items c.push.new.self.items c.flaws_of.result c.loop-k.k
+      c.loop-k.invariant.count c.in_ok-push.ensures.items c.loop-k.invariant.each c.flaws_of.ensures;
 }

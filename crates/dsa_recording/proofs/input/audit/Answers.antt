@@ -6,5 +6,5 @@ use Rattle.dsa_recording.proofs.input.audit.Goals as goal
 pub returns-in-Ok : goal.returns-in-Ok
 returns-in-Ok c =
     let given = rw c.in-Ok.is at c.in_ok-bytes.ensures in
-    of_bytes c.audit_bytes-in-Ok.result c.args.options c.args.input.now c.deref.result.now
-    (subst (SpellsRecording c.args.input.now) (sym c.deref.ensures.value) given) c.audit_bytes-in-Ok.ensures
+    of_bytes c.audit_entries-in-Ok.result c.args.options c.args.input.now c.deref.result.now
+    (subst (SpellsRecording c.args.input.now) (sym c.deref.ensures.value) given) c.audit_entries-in-Ok.ensures

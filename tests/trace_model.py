@@ -39,8 +39,8 @@ class Recorded:
             entry = entry[:16] + struct.pack("<QQI", LIST, 0, count) + entry[36:]
             spans.append((LIST, LIST + 64 * count, 0))
         touched, epoch = [(-1, -1, is_told, *span) for span in spans], 0
-        entry = len(self.entries) // 64
-        self.events.append(f"S {number} wq0.{queue} op {op} members {count} tid 1 part 1 entry {entry}")
+        place = len(self.entries) // 64
+        self.events.append(f"S {number} wq0.{queue} op {op} members {count} tid 1 part 1 entry {place}")
         members = []
         for member in range(count):
             is_fenced = d.random() < 0.3

@@ -1,6 +1,6 @@
 -- Certificates that cross from C and to it.
 use Rattle.std.specs.Prelude.{ℕ, List, map, ◌&&◌, ◌==◌, Option, Some, None, if◌then◌else◌}
-use Rattle.dsa_cert.specs.Document.{Contents}
+use Rattle.dsa_plan.specs.Certificate.{Contents}
 use Rattle.dsa_c.specs.declared.certificate.RawPair.{RawPair}
 
 -- what a pair stands for: two numbers of 2^32 - 1 for none (this project's choice)

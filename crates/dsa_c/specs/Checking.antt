@@ -7,7 +7,7 @@ use Rattle.dsa_plan.specs.Plan.{Plan}
 use Rattle.dsa_plan.specs.Settings.{tariff_of}
 use Rattle.dsa_plan.specs.Legal.{IsLeast}
 use Rattle.dsa_plan.specs.EmissionFaults.{IsEmission}
-use Rattle.dsa_cert.specs.Document.{Contents}
+use Rattle.dsa_plan.specs.Certificate.{Contents}
 use Rattle.dsa_calls.specs.declared.fault.PlanFault.{PlanFault}
 use Rattle.dsa_calls.specs.declared.fault.PlanFault.TheVariants.{Memory}
 use Rattle.dsa_calls.specs.Checked.{Checks}

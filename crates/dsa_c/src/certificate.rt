@@ -1,11 +1,11 @@
 //! Certificates, as C lays them out.
 
 ghost use Rattle.std.specs.Prelude.{◌≡◌, ◌≤◌, IfOk, length, map};
-ghost use Rattle.dsa_cert.specs.Certificates.{contents};
+ghost use Rattle.dsa_plan.specs.Certificate.{contents};
 ghost use Rattle.dsa_c.specs.Raw.{written};
 ghost use Rattle.dsa_c.specs.Certificates.{pair_of, raw_pair_of, contents_of};
 
-use dsa_cert::Certificate;
+use dsa_plan::Certificate;
 use std::alloc::{AllocError, Global};
 
 /// Both numbers of a pair that stands for none.

@@ -15,7 +15,7 @@ use Rattle.dsa_emission.specs.Causes.{emission_is_memory}
 use Rattle.dsa_emission.proofs.OneFault.{one_fault, none_to_tell}
 use Rattle.dsa_emission.proofs.Told.{one_emission}
 use Rattle.dsa_plan.proofs.Steps.{yes_means_least}
-use Rattle.dsa_cert.specs.Document.{Contents}
+use Rattle.dsa_plan.specs.Certificate.{Contents}
 use Rattle.dsa_checker.specs.declared.fault.CheckFault.{CheckFault}
 use Rattle.dsa_checker.specs.Checked.{IsFirstCheckFault}
 use Rattle.dsa_checker.proofs.Answered.{yes_has_no_fault, one_check_fault}

@@ -11,7 +11,7 @@ use Rattle.dsa_plan.specs.Certificate.{IsGood}
 use Rattle.dsa_plan.specs.EmissionFaults.{IsEmission, IsFirstEmissionFault}
 use Rattle.dsa_emission.specs.declared.emission_fault.EmissionFault.{EmissionFault}
 use Rattle.dsa_emission.specs.declared.emission_fault.EmissionFault.TheVariants.{Memory as EmissionMemory}
-use Rattle.dsa_cert.specs.Document.{Contents}
+use Rattle.dsa_plan.specs.Certificate.{Contents}
 use Rattle.dsa_checker.specs.declared.fault.CheckFault.{CheckFault}
 use Rattle.dsa_checker.specs.Checked.{IsFirstCheckFault}
 use Rattle.dsa_calls.specs.declared.fault.PlanFault.{PlanFault}

@@ -14,7 +14,7 @@ use Rattle.dsa_core.specs.declared.event.Event.{Event}
 use Rattle.dsa_plan.specs.Plan.{Plan}
 use Rattle.dsa_plan.specs.Legal.{IsLeast}
 use Rattle.dsa_plan.specs.Certificate.{IsGood}
-use Rattle.dsa_cert.specs.Document.{Contents}
+use Rattle.dsa_plan.specs.Certificate.{Contents}
 use Rattle.dsa_calls.specs.declared.fault.PlanFault.{PlanFault}
 use Rattle.dsa_calls.specs.Judge.{Judges}
 use Rattle.dsa_calls.specs.Planned.{Submission, Plans}

@@ -16,8 +16,8 @@ use Rattle.dsa_splitter.specs.declared.fault.SplitFault.TheVariants.{Memory as S
 use Rattle.dsa_splitter.specs.Pieces.{all_pieces}
 use Rattle.dsa_splitter.specs.Rules.{IsSplit, IsFirstSplitFault}
 use Rattle.dsa_search.specs.Chosen.{IsChosen}
-use Rattle.dsa_cert.specs.Document.{Contents}
-use Rattle.dsa_cert.specs.Certificates.{contents}
+use Rattle.dsa_plan.specs.Certificate.{Contents}
+use Rattle.dsa_plan.specs.Certificate.{contents}
 use Rattle.dsa_calls.specs.declared.fault.PlanFault.{PlanFault}
 use Rattle.dsa_calls.specs.declared.planning.Planned.{Planned}
 use Rattle.dsa_calls.specs.declared.fault.PlanFault.TheVariants.{Split}

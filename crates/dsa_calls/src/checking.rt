@@ -9,16 +9,15 @@ ghost use Rattle.dsa_plan.specs.EmissionFaults.{IsEmission};
 ghost use Rattle.dsa_plan.specs.Legal.{IsLeast};
 ghost use Rattle.dsa_plan.specs.Plan.{Plan};
 ghost use Rattle.dsa_plan.specs.Settings.{tariff_of};
-ghost use Rattle.dsa_cert.specs.Certificates.{contents};
+ghost use Rattle.dsa_plan.specs.Certificate.{contents};
 ghost use Rattle.dsa_calls.specs.declared.fault.PlanFault.{PlanFault};
 ghost use Rattle.dsa_calls.specs.Lists.{OrMemory, IsOrMemory};
 ghost use Rattle.dsa_calls.specs.Checked.{Checks, ChecksPlan};
 
 use crate::fault::PlanFault;
-use dsa_cert::Certificate;
 use dsa_checker::check;
 use dsa_descriptor::Descriptor;
-use dsa_plan::{Plan, Settings, read_emission};
+use dsa_plan::{Certificate, Plan, Settings, read_emission};
 use std::alloc::Global;
 
 /// The cost of the plan that the bytes of a portal and a staging area submit, where it is legal and the certificate

@@ -8,16 +8,15 @@ ghost use Rattle.dsa_ranges.specs.Ranges.{ConflictAt};
 ghost use Rattle.dsa_plan.specs.Legal.{IsLeast};
 ghost use Rattle.dsa_plan.specs.Certificate.{IsGood};
 ghost use Rattle.dsa_plan.specs.Settings.{tariff_of};
-ghost use Rattle.dsa_cert.specs.Certificates.{contents};
+ghost use Rattle.dsa_plan.specs.Certificate.{contents};
 ghost use Rattle.dsa_calls.specs.declared.fault.PlanFault.{PlanFault};
 ghost use Rattle.dsa_calls.specs.Lists.{OrMemory, IsOrMemory};
 ghost use Rattle.dsa_calls.specs.Planned.{CanBePlanned, IsSubmissionOfPieces, Plans, PlansOperations, SplitsList, Submission, submission_of};
 ghost use Rattle.dsa_calls.specs.Checked.{Checks};
 
 use crate::fault::PlanFault;
-use dsa_cert::Certificate;
 use dsa_descriptor::{Descriptor, read_list};
-use dsa_plan::{Emission, Plan, Settings, cost, emit};
+use dsa_plan::{Certificate, Emission, Plan, Settings, cost, emit};
 use dsa_search::{Found, search};
 use dsa_splitter::{into_pieces, pieces};
 use std::alloc::{AllocError, Global};

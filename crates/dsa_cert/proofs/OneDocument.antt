@@ -3,7 +3,8 @@ use Rattle.std.proofs.Common.{◌≡◌, ℕ, [], ◌∷◌, codes, Option, Some
 use Rattle.std.proofs.lemmas.Option.{same_Some}
 use Rattle.serde_json.specs.Find.{get}
 use Rattle.dsa_cert.specs.Spelled.{whole}
-use Rattle.dsa_cert.specs.Document.{Contents, pair_value, document}
+use Rattle.dsa_plan.specs.Certificate.{Contents}
+use Rattle.dsa_cert.specs.Document.{pair_value, document}
 use Rattle.dsa_cert.proofs.Arrays.{same_items, same_array, same_whole}
 
 same_pair : (p q : Option (ℕ × ℕ)) → pair_value p ≡ pair_value q → p ≡ q

@@ -1,14 +1,8 @@
 -- The document of a certificate, as a JSON value.
 use Rattle.std.specs.Prelude.{◌≡◌, ◌≢◌, ℕ, ◌^◌, ◌<◌, ⊤, List, [], ◌∷◌, All, map, codes, Option, Some, None}
 use Rattle.serde_json.specs.Data.{Data, null}
+use Rattle.dsa_plan.specs.Certificate.{Contents}
 use Rattle.dsa_cert.specs.Spelled.{whole, array_of, object_of}
-
--- what a certificate says: the version of the settings, a price for the first 0, 1, .. pieces, and for each piece
--- perhaps a pair of pieces
-pub record Contents : Type 0 where
-  pub version : ℕ
-  pub prices : List ℕ
-  pub pairs : List (Option (ℕ × ℕ))
 
 -- the two numbers fit their places
 abbrev pub PairFits : Option (ℕ × ℕ) → Type 0

@@ -2,11 +2,13 @@
 
 ghost use Rattle.std.specs.Prelude.{◌≡◌, All, option_map, Err, IfOk, MatchResult};
 ghost use Rattle.serde_json.specs.View.{view};
-ghost use Rattle.dsa_cert.specs.Document.{Contents, Documents, PairFits, ReadsPair, ReadsPairs, ReadsPrices, pair_value, pairs_value, prices_value};
-ghost use Rattle.dsa_cert.specs.Certificates.{contents};
+ghost use Rattle.dsa_plan.specs.Certificate.{Contents};
+ghost use Rattle.dsa_cert.specs.Document.{Documents, PairFits, ReadsPair, ReadsPairs, ReadsPrices, pair_value, pairs_value, prices_value};
+ghost use Rattle.dsa_plan.specs.Certificate.{contents};
 
-use crate::certificate::{CertFault, Certificate};
+use crate::fault::CertFault;
 use crate::members::{has_names, number_at};
+use dsa_plan::Certificate;
 use serde_json::{Value, json};
 use std::alloc::{AllocError, Global};
 

@@ -1,11 +1,12 @@
-//! The certificate of a plan, and its document in JSON; how JSON values spell numbers, arrays and objects, and readers of
+//! The document of a certificate in JSON; how JSON values spell numbers, arrays and objects, and readers of
 //! members of objects.
 #![tactic(auto)]
 
-mod certificate;
 mod document;
+mod fault;
 mod members;
 
-pub use certificate::{CertFault, Certificate};
 pub use document::{prices_of, read_json, write_json};
+pub use dsa_plan::Certificate;
+pub use fault::CertFault;
 pub use members::{has_names, number_at, text_at};

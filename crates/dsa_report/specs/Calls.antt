@@ -6,8 +6,9 @@ use Rattle.hex.specs.Hex.{decode_of, encode_lower}
 use Rattle.dsa_plan.specs.Settings.{Limits}
 use Rattle.dsa_image.specs.Memory.{Memory}
 use Rattle.dsa_core.specs.declared.event.Event.{Event}
-use Rattle.dsa_cert.specs.Certificates.{contents}
-use Rattle.dsa_cert.specs.Document.{Contents, Documents, document}
+use Rattle.dsa_plan.specs.Certificate.{contents}
+use Rattle.dsa_plan.specs.Certificate.{Contents}
+use Rattle.dsa_cert.specs.Document.{Documents, document}
 use Rattle.dsa_cert.specs.Spelled.{whole, array_of, object_of}
 use Rattle.dsa_calls.specs.declared.fault.PlanFault.{PlanFault}
 use Rattle.dsa_calls.specs.Judge.{Judges}

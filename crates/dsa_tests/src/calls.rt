@@ -3,13 +3,12 @@ use dsa_calls::{
     PlanFault, check_bytes, judge_bytes, plan_list, refusal_line, replay_bytes, run_bytes,
     run_gated,
 };
-use dsa_cert::Certificate;
 use dsa_checker::CheckFault;
 use dsa_core::{CoreFault, Event, Kind};
 use dsa_descriptor::{FieldFault, ListFault};
 use dsa_engines::{Gate, GateShut, RoomFault};
 use dsa_image::Image;
-use dsa_plan::{EmissionFault, EntryFault, Group, LegalFault, Plan, Settings};
+use dsa_plan::{Certificate, EmissionFault, EntryFault, Group, LegalFault, Plan, Settings};
 use dsa_splitter::SplitFault;
 use std::alloc::{AllocError, Global};
 use std::rt::Clock;

@@ -6,7 +6,7 @@ use Rattle.dsa_descriptor.specs.Descriptors.{fields}
 use Rattle.dsa_plan.specs.Plan.{Plan}
 use Rattle.dsa_plan.specs.Settings.{Limits}
 use Rattle.dsa_plan.specs.EmissionFaults.{IsEmission}
-use Rattle.dsa_cert.specs.Document.{Contents}
+use Rattle.dsa_plan.specs.Certificate.{Contents}
 use Rattle.dsa_lines.specs.declared.fault.TextFault.{TextFault}
 use Rattle.dsa_lines.specs.Texts.{lines_of}
 use Rattle.dsa_lines.specs.Assembled.{Assembles, IsListing}

@@ -1,6 +1,6 @@
 -- What explaining a job answers (this project's choice).
 use Rattle.std.specs.Prelude.{ℕ, List, Ok, Err}
-use Rattle.dsa_cert.specs.Certificates.{contents}
+use Rattle.dsa_plan.specs.Certificate.{contents}
 use Rattle.dsa_calls.specs.declared.fault.PlanFault.{PlanFault}
 use Rattle.dsa_calls.specs.declared.fault.PlanFault.TheVariants.{Do}
 use Rattle.dsa_report.specs.declared.jobs.Job.{Job}

@@ -5,7 +5,7 @@ ghost use Rattle.dsa_descriptor.specs.Descriptors.{fields};
 ghost use Rattle.dsa_descriptor.specs.Lists.{HaveOneOwner};
 ghost use Rattle.dsa_descriptor.specs.Pieces.{most_pieces};
 ghost use Rattle.dsa_plan.specs.EmissionFaults.{IsEmission};
-ghost use Rattle.dsa_cert.specs.Certificates.{contents};
+ghost use Rattle.dsa_plan.specs.Certificate.{contents};
 ghost use Rattle.dsa_calls.specs.declared.fault.PlanFault.{PlanFault};
 ghost use Rattle.dsa_calls.specs.declared.fault.PlanFault.TheVariants.{Memory};
 ghost use Rattle.dsa_calls.specs.Checked.{Checks, ChecksPlan};
@@ -22,10 +22,9 @@ use crate::rows::warnings_of;
 use crate::shown::answer_plan;
 use crate::unplanned::{Source, unplanned};
 use dsa_calls::{PlanFault, Planned, check_plan, plan_operations};
-use dsa_cert::Certificate;
 use dsa_descriptor::{Descriptor, read_list};
 use dsa_lines::parse_operations;
-use dsa_plan::{Plan, Settings, read_emission};
+use dsa_plan::{Certificate, Plan, Settings, read_emission};
 use std::alloc::{AllocError, Global};
 
 /// The answer of planned operations.

@@ -1,4 +1,4 @@
-use Rattle.dsa_cert.specs.Certificates.{contents}
+use Rattle.dsa_plan.specs.Certificate.{contents}
 use Rattle.dsa_c.specs.Certificates.{contents_of}
 use Rattle.dsa_c.proofs.Refusing.{refuses_check}
 use Rattle.dsa_c.proofs.checking.check_for.Goals as goal

@@ -1,7 +1,7 @@
 use Rattle.std.proofs.Common.{List, map, subst}
 use Rattle.dsa_descriptor.specs.declared.descriptor.Descriptor.{Descriptor}
 use Rattle.dsa_descriptor.specs.Descriptors.{fields}
-use Rattle.dsa_cert.specs.Certificates.{contents}
+use Rattle.dsa_plan.specs.Certificate.{contents}
 use Rattle.dsa_calls.specs.Checked.{Checks, ChecksPlan}
 use Rattle.dsa_calls.proofs.Over.{only_outcome}
 use Rattle.dsa_calls.proofs.CheckedOnce.{one_checked, plan_checked, shown_least}

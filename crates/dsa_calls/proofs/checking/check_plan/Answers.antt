@@ -1,5 +1,5 @@
 use Rattle.std.proofs.Common.{refl}
-use Rattle.dsa_cert.specs.Certificates.{contents}
+use Rattle.dsa_plan.specs.Certificate.{contents}
 use Rattle.dsa_calls.proofs.CheckedOnce.{yes_shown, fault_shown}
 use Rattle.dsa_calls.proofs.checking.check_plan.Goals as goal
 

@@ -1,7 +1,8 @@
 use Rattle.std.proofs.Common.{Some, ap, codes, refl, sym, ◌∙◌}
 use Rattle.serde_json.specs.Find.{get}
 use Rattle.serde_json.specs.View.{view}
-use Rattle.dsa_cert.specs.Document.{Contents, document_fields}
+use Rattle.dsa_plan.specs.Certificate.{Contents}
+use Rattle.dsa_cert.specs.Document.{document_fields}
 use Rattle.dsa_cert.proofs.Objects.{object_spelled}
 use Rattle.dsa_cert.proofs.OneDocument.{one_document}
 use Rattle.dsa_cert.proofs.document.read_json.Goals as goal

@@ -1,6 +1,6 @@
 use Rattle.std.proofs.Common.{ℕ, List, Option, ◌++◌, ap, ◌∙◌}
 use Rattle.serde_json.specs.Written.{compact_text}
-use Rattle.dsa_cert.specs.Certificates.{contents}
+use Rattle.dsa_plan.specs.Certificate.{contents}
 use Rattle.dsa_cert.specs.Document.{pairs_value, prices_value}
 use Rattle.dsa_report.proofs.Opened.{certificate_added}
 use Rattle.dsa_report.proofs.planned_line.push_certificate.Goals as goal

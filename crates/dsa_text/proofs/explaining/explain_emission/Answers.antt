@@ -1,7 +1,7 @@
 use Rattle.std.proofs.Common.{inr, Err, Ok, map, refl}
 use Rattle.std.proofs.lemmas.Result.{IfOk-weaker}
 use Rattle.dsa_descriptor.specs.Descriptors.{fields}
-use Rattle.dsa_cert.specs.Certificates.{contents}
+use Rattle.dsa_plan.specs.Certificate.{contents}
 use Rattle.dsa_calls.proofs.CheckedOnce.{one_plan_checked}
 use Rattle.dsa_text.specs.Explained.{is_refused_check, is_checked}
 use Rattle.dsa_text.proofs.Answered.{plan_answered, same_cause}

@@ -6,9 +6,25 @@ ghost use Rattle.dsa_plan.specs.Chain.{GoForward, LeadsTo, IsLastBelow};
 ghost use Rattle.dsa_plan.specs.Settings.{sized_tariff};
 ghost use Rattle.dsa_checker.specs.Steps.{HoldsWithin};
 ghost use Rattle.dsa_checker.specs.Blocks.{place, HasRows, IsFilled, IsRowOf};
+ghost use Rattle.dsa_checker.specs.Sized.{IsSheet};
 
 /// How many pieces a block has.
 pub(crate) const BLOCK: usize = 64;
+
+/// The prices and pairs of a certificate, and what groups cost where a batch has a price by its size.
+#[derive(Clone, Copy)]
+pub(crate) struct PriceSheet<'a> {
+    /// The price of the first 0, 1, .. pieces.
+    pub prices: &'a [u64],
+    /// For each piece perhaps two pieces that conflict.
+    pub pairs: &'a [Option<(u32, u32)>],
+    /// The price of a lone descriptor.
+    pub lone: u64,
+    /// The price of a fence.
+    pub fence: u64,
+    /// The prices of batches without their fences, from that of two pieces on.
+    pub table: &'a [u64],
+}
 
 /// A block: `BLOCK` pieces one behind the other, and the ends of groups that lie behind each of them.
 #[derive(Drop)]
@@ -179,11 +195,7 @@ fn are_within(rows: &[u64], at: usize, table: &[u64], size: usize, count: usize,
 /// `start` up to the block. If every step holds, returns the chain up to the block's end. A sum over `limit` counts as a
 /// step that doesn't hold.
 pub(crate) fn look(
-    prices: &[u64],
-    pairs: &[Option<(u32, u32)>],
-    lone: u64,
-    fence: u64,
-    table: &[u64],
+    sheet: &PriceSheet,
     limit: u64,
     block: &Block,
     first: usize,
@@ -191,39 +203,39 @@ pub(crate) fn look(
     start: usize,
     chain: (usize, u64),
 ) -> Option<(usize, u64)>
-    requires forward { GoForward pairs.now }
-    requires few { length pairs.now ≤ most_pieces }
-    requires count { length prices.now ≡ length pairs.now + 1 }
-    requires limit { (k : ℕ) → k < length table.now → limit + slice_index table.now k < 2 ^ 64 }
+    requires sheet { let s = sheet.now in IsSheet s.prices.now s.pairs.now s.table.now }
+    requires limit { let table = sheet.now.table.now in
+        (k : ℕ) → k < length table → limit + slice_index table k < 2 ^ 64 }
     requires begun { start < past }
-    requires near { first ≤ start + length table.now }
+    requires near { first ≤ start + length sheet.now.table.now }
     requires order { first ≤ past }
-    requires within { past ≤ length pairs.now }
+    requires within { past ≤ length sheet.now.pairs.now }
     requires size { past ≤ first + 64 }
-    requires rows { IsFilled pairs.now prices.now fence first past block.now.rows block.now.lasts
-        block.now.counts }
-    requires chain { IsLastBelow pairs.now start (max first (start + 1)) chain.1 chain.0 }
-    ensures held { IfSome result
-        (λ _. HoldsWithin (length table.now + 1) (sized_tariff lone fence table.now)
-        (length pairs.now) pairs.now prices.now first past start) }
-    ensures chain { IfSome result (λ chain. IsLastBelow pairs.now start past chain.1 chain.0) }
+    requires rows { let s = sheet.now in IsFilled s.pairs.now s.prices.now s.fence first past
+        block.now.rows block.now.lasts block.now.counts }
+    requires chain { IsLastBelow sheet.now.pairs.now start (max first (start + 1)) chain.1 chain.0 }
+    ensures held { let s = sheet.now in IfSome result
+        (λ _. HoldsWithin (length s.table.now + 1) (sized_tariff s.lone s.fence s.table.now)
+        (length s.pairs.now) s.pairs.now s.prices.now first past start) }
+    ensures chain { IfSome result
+        (λ chain. IsLastBelow sheet.now.pairs.now start past chain.1 chain.0) }
 {
-    let before = prices[start];
-    if prices[start + 1] > before.saturating_add(lone) {
+    let before = sheet.prices[start];
+    if sheet.prices[start + 1] > before.saturating_add(sheet.lone) {
         return None;
     }
-    let most = before.saturating_add(fence.saturating_mul(chain.1));
+    let most = before.saturating_add(sheet.fence.saturating_mul(chain.1));
     if most > limit {
         return None;
     }
-    let (row, next) = follow(pairs, block, first, past, chain);
+    let (row, next) = follow(sheet.pairs, block, first, past, chain);
     let low = (first + 1).max(start + 2);
-    let high = past.min(start + table.len() + 1);
+    let high = past.min(start + sheet.table.len() + 1);
     let at = BLOCK * row + (low - first - 1);
     if !are_within(
         &block.rows,
         at,
-        table,
+        sheet.table,
         low - start - 2,
         high + 1 - low,
         most,

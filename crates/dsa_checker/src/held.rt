@@ -6,8 +6,9 @@ ghost use Rattle.dsa_plan.specs.Chain.{GoForward, IsLastBelow};
 ghost use Rattle.dsa_plan.specs.Settings.{sized_tariff};
 ghost use Rattle.dsa_checker.specs.Steps.{HoldsWithin, StepsHoldFrom};
 ghost use Rattle.dsa_checker.specs.Blocks.{IsFilled, AreChains};
+ghost use Rattle.dsa_checker.specs.Sized.{IsSheet};
 
-use crate::block::{BLOCK, Block, fill, look};
+use crate::block::{BLOCK, Block, PriceSheet, fill, look};
 
 /// How many chains have a place: more than there are starts of which a batch reaches into one block.
 const PLACES: usize = 2048;
@@ -40,40 +41,34 @@ fn chain_of(chains: &Chains, first: usize, start: usize) -> (usize, u64)
 /// Whether the steps of all starts hold to the ends of a block. The chains are those up to the block, and then those up
 /// to behind it.
 fn block_holds(
-    prices: &[u64],
-    pairs: &[Option<(u32, u32)>],
-    lone: u64,
-    fence: u64,
-    table: &[u64],
+    sheet: &PriceSheet,
     limit: u64,
     block: &Block,
     first: usize,
     past: usize,
     chains: &mut Chains,
 ) -> bool
-    requires forward { GoForward pairs.now }
-    requires few { length pairs.now ≤ most_pieces }
-    requires count { length prices.now ≡ length pairs.now + 1 }
-    requires sizes { length table.now ≤ 1023 }
-    requires limit { (k : ℕ) → k < length table.now → limit + slice_index table.now k < 2 ^ 64 }
+    requires sheet { let s = sheet.now in IsSheet s.prices.now s.pairs.now s.table.now }
+    requires limit { let table = sheet.now.table.now in
+        (k : ℕ) → k < length table → limit + slice_index table k < 2 ^ 64 }
     requires order { first ≤ past }
-    requires within { past ≤ length pairs.now }
+    requires within { past ≤ length sheet.now.pairs.now }
     requires size { past ≤ first + 64 }
-    requires rows { IsFilled pairs.now prices.now fence first past block.now.rows block.now.lasts
-        block.now.counts }
-    requires chains { AreChains pairs.now (first - length table.now) first first
-        chains.old.fences chains.old.pieces }
-    ensures held { IsTrue result → (i : ℕ) → first - length table.now ≤ i → i < past →
-        HoldsWithin (length table.now + 1) (sized_tariff lone fence table.now)
-        (length pairs.now) pairs.now prices.now first past i }
-    ensures chains { IsTrue result → AreChains pairs.now (first - length table.now) past past
+    requires rows { let s = sheet.now in IsFilled s.pairs.now s.prices.now s.fence first past
+        block.now.rows block.now.lasts block.now.counts }
+    requires chains { let s = sheet.now in AreChains s.pairs.now (first - length s.table.now)
+        first first chains.old.fences chains.old.pieces }
+    ensures held { let s = sheet.now in
+        IsTrue result → (i : ℕ) → first - length s.table.now ≤ i → i < past →
+        HoldsWithin (length s.table.now + 1) (sized_tariff s.lone s.fence s.table.now)
+        (length s.pairs.now) s.pairs.now s.prices.now first past i }
+    ensures chains { let s = sheet.now in
+        IsTrue result → AreChains s.pairs.now (first - length s.table.now) past past
         chains.new.fences chains.new.pieces }
 {
-    for start in first.saturating_sub(table.len())..past {
+    for start in first.saturating_sub(sheet.table.len())..past {
         let chain = chain_of(chains, first, start);
-        let Some((piece, fences)) = look(
-            prices, pairs, lone, fence, table, limit, block, first, past, start, chain,
-        ) else {
+        let Some((piece, fences)) = look(sheet, limit, block, first, past, start, chain) else {
             return false;
         };
         chains.pieces[start % PLACES] = piece as u32;
@@ -96,45 +91,32 @@ fn greatest(table: &[u64]) -> u64
 /// So many starts, of which all steps hold: all of them, or some that come before each step that doesn't hold. This only
 /// saves to look at these starts one by one, and never decides the answer.
 #[inline(never)]
-pub(crate) fn held_starts(
-    prices: &[u64],
-    pairs: &[Option<(u32, u32)>],
-    lone: u64,
-    fence: u64,
-    table: &[u64],
-) -> usize
-    requires forward { GoForward pairs.now }
-    requires few { length pairs.now ≤ most_pieces }
-    requires count { length prices.now ≡ length pairs.now + 1 }
-    requires sizes { length table.now ≤ 1023 }
-    ensures inside { result ≤ length pairs.now }
-    ensures held { (i : ℕ) → i < result → StepsHoldFrom
-        (length table.now + 1) (sized_tariff lone fence table.now)
-        (length pairs.now) pairs.now prices.now i }
+pub(crate) fn held_starts(sheet: &PriceSheet) -> usize
+    requires sheet { let s = sheet.now in IsSheet s.prices.now s.pairs.now s.table.now }
+    ensures inside { result ≤ length sheet.now.pairs.now }
+    ensures held { let s = sheet.now in (i : ℕ) → i < result → StepsHoldFrom
+        (length s.table.now + 1) (sized_tariff s.lone s.fence s.table.now)
+        (length s.pairs.now) s.pairs.now s.prices.now i }
 {
-    let limit = u64::MAX - greatest(table);
+    let limit = u64::MAX - greatest(sheet.table);
     let mut block = Block::new();
     let mut chains = Chains {
         pieces: [0; 2048],
         fences: [0; 2048],
     };
     let mut first = 0;
-    while first < pairs.len() {
-        let past = pairs.len().min(first + BLOCK);
-        fill(prices, pairs, fence, first, past, &mut block);
-        if !block_holds(
-            prices,
-            pairs,
-            lone,
-            fence,
-            table,
-            limit,
-            &block,
+    while first < sheet.pairs.len() {
+        let past = sheet.pairs.len().min(first + BLOCK);
+        fill(
+            sheet.prices,
+            sheet.pairs,
+            sheet.fence,
             first,
             past,
-            &mut chains,
-        ) {
-            return first.saturating_sub(table.len());
+            &mut block,
+        );
+        if !block_holds(sheet, limit, &block, first, past, &mut chains) {
+            return first.saturating_sub(sheet.table.len());
         }
         first = past;
     }

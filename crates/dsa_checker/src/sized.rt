@@ -5,8 +5,9 @@ ghost use Rattle.dsa_descriptor.specs.Pieces.{most_pieces};
 ghost use Rattle.dsa_plan.specs.Chain.{GoForward, LeadsTo};
 ghost use Rattle.dsa_checker.specs.Steps.{StepsHold, StepsHoldFrom, IsFirstBadEnd, IsFirstBadStep};
 ghost use Rattle.dsa_plan.specs.Settings.{sized_tariff};
-ghost use Rattle.dsa_checker.specs.Sized.{AreWithin, IsFirstAbove};
+ghost use Rattle.dsa_checker.specs.Sized.{AreWithin, IsFirstAbove, IsSheet};
 
+use crate::block::PriceSheet;
 use crate::held::held_starts;
 use dsa_plan::{chain_step, last_of_run};
 
@@ -39,86 +40,58 @@ fn first_above(
 }
 
 /// The first end of a group from `start` whose price is too high: run by run, since between two fences all ends have as many.
-fn first_bad_end(
-    prices: &[u64],
-    pairs: &[Option<(u32, u32)>],
-    lone: u64,
-    fence: u64,
-    table: &[u64],
-    start: usize,
-) -> Option<usize>
-    requires forward { GoForward pairs.now }
-    requires few { length pairs.now ≤ most_pieces }
-    requires inside { start < length pairs.now }
-    requires count { length prices.now ≡ length pairs.now + 1 }
-    requires sizes { length table.now ≤ 1023 }
-    ensures { MatchOption result
-        (StepsHoldFrom (length table.now + 1) (sized_tariff lone fence table.now)
-        (length pairs.now) pairs.now prices.now start)
-        (IsFirstBadEnd (length table.now + 1) (sized_tariff lone fence table.now)
-        (length pairs.now) pairs.now prices.now start) }
+fn first_bad_end(sheet: &PriceSheet, start: usize) -> Option<usize>
+    requires sheet { let s = sheet.now in IsSheet s.prices.now s.pairs.now s.table.now }
+    requires inside { start < length sheet.now.pairs.now }
+    ensures { let s = sheet.now in MatchOption result
+        (StepsHoldFrom (length s.table.now + 1) (sized_tariff s.lone s.fence s.table.now)
+        (length s.pairs.now) s.pairs.now s.prices.now start)
+        (IsFirstBadEnd (length s.table.now + 1) (sized_tariff s.lone s.fence s.table.now)
+        (length s.pairs.now) s.pairs.now s.prices.now start) }
 {
-    if prices[start + 1] > prices[start].saturating_add(lone) {
+    if sheet.prices[start + 1] > sheet.prices[start].saturating_add(sheet.lone) {
         return Some(start + 1);
     }
-    let reach = pairs.len().min(start + table.len() + 1);
-    let (mut piece, mut fences) = chain_step(pairs, start, 0, start + 1);
+    let reach = sheet.pairs.len().min(start + sheet.table.len() + 1);
+    let (mut piece, mut fences) = chain_step(sheet.pairs, start, 0, start + 1);
     let mut end = start + 2;
     while end <= reach {
-        let last = last_of_run(pairs, piece, reach);
-        let most = prices[start].saturating_add(fence.saturating_mul(fences));
-        if let Some(bad) = first_above(prices, table, start, end, last + 1, most) {
+        let last = last_of_run(sheet.pairs, piece, reach);
+        let most = sheet.prices[start].saturating_add(sheet.fence.saturating_mul(fences));
+        if let Some(bad) = first_above(sheet.prices, sheet.table, start, end, last + 1, most) {
             return Some(bad);
         }
-        (piece, fences) = chain_step(pairs, piece, fences, last);
+        (piece, fences) = chain_step(sheet.pairs, piece, fences, last);
         end = last + 1;
     }
     None
 }
 
 /// So many starts, of which all steps hold. This only saves to look at them one by one, and never decides the answer.
-fn starts_passed(
-    prices: &[u64],
-    pairs: &[Option<(u32, u32)>],
-    lone: u64,
-    fence: u64,
-    table: &[u64],
-) -> usize
-    requires forward { GoForward pairs.now }
-    requires few { length pairs.now ≤ most_pieces }
-    requires count { length prices.now ≡ length pairs.now + 1 }
-    requires sizes { length table.now ≤ 1023 }
-    ensures { (i : ℕ) → i < result → StepsHoldFrom
-        (length table.now + 1) (sized_tariff lone fence table.now)
-        (length pairs.now) pairs.now prices.now i }
+fn starts_passed(sheet: &PriceSheet) -> usize
+    requires sheet { let s = sheet.now in IsSheet s.prices.now s.pairs.now s.table.now }
+    ensures { let s = sheet.now in (i : ℕ) → i < result → StepsHoldFrom
+        (length s.table.now + 1) (sized_tariff s.lone s.fence s.table.now)
+        (length s.pairs.now) s.pairs.now s.prices.now i }
 {
-    if pairs.len().min(table.len()) < FEW {
+    if sheet.pairs.len().min(sheet.table.len()) < FEW {
         return 0;
     }
-    held_starts(prices, pairs, lone, fence, table)
+    held_starts(sheet)
 }
 
 /// The first start and end whose step is too high, where one piece costs `lone` and a batch of `size` pieces
 /// `table[size - 2]` without its fences.
-pub(crate) fn first_bad_sized_step(
-    prices: &[u64],
-    pairs: &[Option<(u32, u32)>],
-    lone: u64,
-    fence: u64,
-    table: &[u64],
-) -> Option<(usize, usize)>
-    requires forward { GoForward pairs.now }
-    requires few { length pairs.now ≤ most_pieces }
-    requires count { length prices.now ≡ length pairs.now + 1 }
-    requires sizes { length table.now ≤ 1023 }
-    ensures { MatchOption result
-        (StepsHold (length table.now + 1) (sized_tariff lone fence table.now)
-        (length pairs.now) pairs.now prices.now)
-        (λ step. IsFirstBadStep (length table.now + 1) (sized_tariff lone fence table.now)
-        (length pairs.now) pairs.now prices.now step.0 step.1) }
+pub(crate) fn first_bad_sized_step(sheet: &PriceSheet) -> Option<(usize, usize)>
+    requires sheet { let s = sheet.now in IsSheet s.prices.now s.pairs.now s.table.now }
+    ensures { let s = sheet.now in MatchOption result
+        (StepsHold (length s.table.now + 1) (sized_tariff s.lone s.fence s.table.now)
+        (length s.pairs.now) s.pairs.now s.prices.now)
+        (λ step. IsFirstBadStep (length s.table.now + 1) (sized_tariff s.lone s.fence s.table.now)
+        (length s.pairs.now) s.pairs.now s.prices.now step.0 step.1) }
 {
-    for start in starts_passed(prices, pairs, lone, fence, table)..pairs.len() {
-        if let Some(end) = first_bad_end(prices, pairs, lone, fence, table, start) {
+    for start in starts_passed(sheet)..sheet.pairs.len() {
+        if let Some(end) = first_bad_end(sheet, start) {
             return Some((start, end));
         }
     }

@@ -1,6 +1,8 @@
 -- What the pieces of a block know of their chains, for private clauses.
 use Rattle.std.specs.Prelude.{ℕ, ◌≡◌, ◌+◌, ◌-◌, ◌*◌, ◌/◌, ◌<◌, ◌≤◌, List, length, slice_index}
-use Rattle.dsa_plan.specs.Chain.{Pairs, IsLastBelow, HasCountBelow}
+use Rattle.dsa_descriptor.specs.Pieces.{most_pieces}
+use Rattle.dsa_plan.specs.Chain.{Pairs, GoForward, IsLastBelow, HasCountBelow}
+use Rattle.dsa_plan.specs.Settings.{ArePrices, greatest_price}
 
 -- the pieces are parted into blocks of 64: the first piece past that of x
 unfoldable pub past_block : ℕ → ℕ
@@ -18,3 +20,13 @@ pub record HasRows (pairs : Pairs) (from : ℕ) (rows lasts : List ℕ) : Type 0
       (x : ℕ) → from ≤ x → past_block x ≤ length pairs →
       IsLastBelow pairs x (past_block x) (slice_index rows (64 * x + 63)) (slice_index lasts x)
   pub blank : (k : ℕ) → k < 64 * from → slice_index rows k ≡ 0
+
+-- pairs that lead forward, with the rows of all pieces, and prices within their limits: what the offers of groups go by
+pub record IsSheet (pairs : Pairs) (rows lasts : List ℕ) (lone fence : ℕ) (table : List ℕ) : Type 0 where
+  pub forward : GoForward pairs
+  pub few : length pairs ≤ most_pieces
+  pub rows_are : HasRows pairs 0 rows lasts
+  pub sizes : length table ≤ 1023
+  pub prices : ArePrices table
+  pub lone_is : lone ≤ greatest_price
+  pub fence_is : fence ≤ greatest_price

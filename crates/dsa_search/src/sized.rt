@@ -5,7 +5,7 @@ ghost use Rattle.dsa_descriptor.specs.Pieces.{most_pieces};
 ghost use Rattle.dsa_plan.specs.Chain.{GoForward, IsLastBelow};
 ghost use Rattle.dsa_search.specs.Filled.{HasOffers, IsFilled, past_reach, unreached};
 ghost use Rattle.dsa_plan.specs.Settings.{ArePrices, greatest_price, sized_tariff};
-ghost use Rattle.dsa_search.specs.Sized.{HasRows, past_block};
+ghost use Rattle.dsa_search.specs.Sized.{HasRows, IsSheet, past_block};
 
 use crate::costs::{UNREACHED, lower};
 use dsa_plan::{chain_step, last_of_run};
@@ -13,6 +13,23 @@ use std::alloc::{AllocError, Global};
 
 /// How many pieces a block has, and how many counts a row.
 const BLOCK: usize = 64;
+
+/// The pairs of pieces, the rows that count the pairs of their chains, and what groups cost.
+#[derive(Clone, Copy)]
+struct CostSheet<'a> {
+    /// For each piece the conflicting pair from it on that ends first.
+    pairs: &'a [Option<(u32, u32)>],
+    /// For each piece the counts of its chain at the ends up to past its block.
+    rows: &'a [u8],
+    /// For each piece the last one of its block on its chain.
+    lasts: &'a [u32],
+    /// The price of a lone descriptor.
+    lone: u64,
+    /// The price of a fence.
+    fence: u64,
+    /// The prices of batches, from that of two pieces on.
+    table: &'a [u64],
+}
 
 /// The first piece past the block of this one.
 fn block_end(piece: usize) -> usize
@@ -90,9 +107,7 @@ fn lesser(one: u64, other: u64) -> u64
 /// counts stand in the row from `at` on. The fence's price has 32 bits, as each factor of one vector multiplication has.
 fn lower_row(
     costs: &mut [u64],
-    table: &[u64],
-    rows: &[u8],
-    fence: u32,
+    sheet: &CostSheet,
     start: usize,
     from: usize,
     to: usize,
@@ -102,19 +117,20 @@ fn lower_row(
     requires order { from ≤ to }
     requires late { start + 2 ≤ from }
     requires inside { to ≤ length costs.old }
-    requires sizes { to ≤ start + 2 + length table.now }
-    requires counts { at + to ≤ from + length rows.now }
-    requires prices { ArePrices table.now }
-    requires fence { fence ≤ greatest_price }
+    requires sizes { to ≤ start + 2 + length sheet.now.table.now }
+    requires counts { at + to ≤ from + length sheet.now.rows.now }
+    requires prices { ArePrices sheet.now.table.now }
+    requires fence { sheet.now.fence ≤ greatest_price }
     requires small { cost ≤ 1000000000000000 }
     requires reached { (k : ℕ) → k < length costs.old → slice_index costs.old k ≤ unreached }
     ensures count { length costs.new ≡ length costs.old }
     ensures inside { (k : ℕ) → from ≤ k → k < to →
-        slice_index costs.new k ≡ min (slice_index costs.old k) (cost + slice_index table.now
-        (k - start - 2) + fence * slice_index rows.now (at + (k - from))) }
+        slice_index costs.new k ≡ min (slice_index costs.old k) (cost + slice_index sheet.now.table.now
+        (k - start - 2) + sheet.now.fence * slice_index sheet.now.rows.now (at + (k - from))) }
     ensures outside { (k : ℕ) →
         (k < from) ⊎ (to ≤ k) → slice_index costs.new k ≡ slice_index costs.old k }
 {
+    let (table, rows, fence) = (sheet.table, sheet.rows, sheet.fence as u32);
     for end in from..to {
         let fences = u64::from(rows[at + (end - from)]);
         let sum = cost + table[end - start - 2] + u64::from(fence) * fences;
@@ -146,140 +162,109 @@ fn lower_run(costs: &mut [u64], table: &[u64], start: usize, from: usize, to: us
 /// Offers the ends up to past the block of a piece of the chain, by the row of the piece. The answer is the chain's last piece
 /// below the next end, the number of its pairs, and that end.
 fn offer_row(
-    pairs: &[Option<(u32, u32)>],
-    rows: &[u8],
-    lasts: &[u32],
-    lone: u64,
-    fence: u64,
-    table: &[u64],
+    sheet: &CostSheet,
     start: usize,
     chain: (usize, u64),
     end: usize,
     costs: &mut [u64],
 ) -> (usize, u64, usize)
-    requires forward { GoForward pairs.now }
-    requires few { length pairs.now ≤ most_pieces }
-    requires rows { HasRows pairs.now 0 rows.now lasts.now }
-    requires sizes { length table.now ≤ 1023 }
-    requires prices { ArePrices table.now }
-    requires lone { lone ≤ greatest_price }
-    requires fence { fence ≤ greatest_price }
+    requires sheet { let g = sheet.now in
+        IsSheet g.pairs.now g.rows.now g.lasts.now g.lone g.fence g.table.now }
     requires late { start + 2 ≤ end }
-    requires chain { IsLastBelow pairs.now start end chain.1 chain.0 }
+    requires chain { IsLastBelow sheet.now.pairs.now start end chain.1 chain.0 }
     requires near { end ≤ past_block chain.0 }
-    requires within { end < past_reach (length table.now + 1) (length pairs.now) start }
-    requires offers { HasOffers (length table.now + 1) (sized_tariff lone fence table.now)
-        pairs.now start end costs.old }
+    requires within { let g = sheet.now in
+        end < past_reach (length g.table.now + 1) (length g.pairs.now) start }
+    requires offers { let g = sheet.now in HasOffers
+        (length g.table.now + 1) (sized_tariff g.lone g.fence g.table.now)
+        g.pairs.now start end costs.old }
     ensures further { end < result.2 }
-    ensures within { result.2 ≤ past_reach (length table.now + 1) (length pairs.now) start }
-    ensures offers { HasOffers
-        (length table.now + 1) (sized_tariff lone fence table.now)
-        pairs.now start result.2 costs.new }
-    ensures chain { result.2 < past_reach (length table.now + 1) (length pairs.now) start →
-        IsLastBelow pairs.now start result.2 result.1 result.0 }
+    ensures within { let g = sheet.now in
+        result.2 ≤ past_reach (length g.table.now + 1) (length g.pairs.now) start }
+    ensures offers { let g = sheet.now in HasOffers
+        (length g.table.now + 1) (sized_tariff g.lone g.fence g.table.now)
+        g.pairs.now start result.2 costs.new }
+    ensures chain { let g = sheet.now in
+        result.2 < past_reach (length g.table.now + 1) (length g.pairs.now) start →
+        IsLastBelow g.pairs.now start result.2 result.1 result.0 }
 {
     let (piece, fences) = chain;
-    let reach = pairs.len().min(start + table.len() + 1);
+    let reach = sheet.pairs.len().min(start + sheet.table.len() + 1);
     let past = block_end(piece);
     let last = past.min(reach);
-    let cost = costs[start] + fence * fences;
+    let cost = costs[start] + sheet.fence * fences;
     let at = BLOCK * piece + (end + 63 - past);
-    lower_row(
-        costs,
-        table,
-        rows,
-        fence as u32,
-        start,
-        end,
-        last + 1,
-        cost,
-        at,
-    );
+    lower_row(costs, sheet, start, end, last + 1, cost, at);
     if last < past {
         return (piece, fences, last + 1);
     }
-    let more = u64::from(rows[BLOCK * piece + 63]);
-    let (next, count) = chain_step(pairs, lasts[piece] as usize, fences + more, past);
+    let more = u64::from(sheet.rows[BLOCK * piece + 63]);
+    let (next, count) = chain_step(
+        sheet.pairs,
+        sheet.lasts[piece] as usize,
+        fences + more,
+        past,
+    );
     (next, count, past + 1)
 }
 
 /// Offers the ends up to that where the chain goes on from its piece, between which there is no fence. Answers as
 /// [`offer_row`].
 fn offer_run(
-    pairs: &[Option<(u32, u32)>],
-    lone: u64,
-    fence: u64,
-    table: &[u64],
+    sheet: &CostSheet,
     start: usize,
     chain: (usize, u64),
     end: usize,
     costs: &mut [u64],
 ) -> (usize, u64, usize)
-    requires forward { GoForward pairs.now }
-    requires few { length pairs.now ≤ most_pieces }
-    requires sizes { length table.now ≤ 1023 }
-    requires prices { ArePrices table.now }
-    requires lone { lone ≤ greatest_price }
-    requires fence { fence ≤ greatest_price }
+    requires sheet { let g = sheet.now in
+        IsSheet g.pairs.now g.rows.now g.lasts.now g.lone g.fence g.table.now }
     requires late { start + 2 ≤ end }
-    requires chain { IsLastBelow pairs.now start end chain.1 chain.0 }
-    requires within { end < past_reach (length table.now + 1) (length pairs.now) start }
-    requires offers { HasOffers (length table.now + 1) (sized_tariff lone fence table.now)
-        pairs.now start end costs.old }
+    requires chain { IsLastBelow sheet.now.pairs.now start end chain.1 chain.0 }
+    requires within { let g = sheet.now in
+        end < past_reach (length g.table.now + 1) (length g.pairs.now) start }
+    requires offers { let g = sheet.now in HasOffers
+        (length g.table.now + 1) (sized_tariff g.lone g.fence g.table.now)
+        g.pairs.now start end costs.old }
     ensures further { end < result.2 }
-    ensures within { result.2 ≤ past_reach (length table.now + 1) (length pairs.now) start }
-    ensures offers { HasOffers
-        (length table.now + 1) (sized_tariff lone fence table.now)
-        pairs.now start result.2 costs.new }
-    ensures chain { IsLastBelow pairs.now start result.2 result.1 result.0 }
+    ensures within { let g = sheet.now in
+        result.2 ≤ past_reach (length g.table.now + 1) (length g.pairs.now) start }
+    ensures offers { let g = sheet.now in HasOffers
+        (length g.table.now + 1) (sized_tariff g.lone g.fence g.table.now)
+        g.pairs.now start result.2 costs.new }
+    ensures chain { IsLastBelow sheet.now.pairs.now start result.2 result.1 result.0 }
 {
     let (piece, fences) = chain;
-    let reach = pairs.len().min(start + table.len() + 1);
-    let last = last_of_run(pairs, piece, reach);
-    let cost = costs[start] + fence * fences;
-    lower_run(costs, table, start, end, last + 1, cost);
-    let (next, count) = chain_step(pairs, piece, fences, last);
+    let reach = sheet.pairs.len().min(start + sheet.table.len() + 1);
+    let last = last_of_run(sheet.pairs, piece, reach);
+    let cost = costs[start] + sheet.fence * fences;
+    lower_run(costs, sheet.table, start, end, last + 1, cost);
+    let (next, count) = chain_step(sheet.pairs, piece, fences, last);
     (next, count, last + 1)
 }
 
 /// Offers each end that one group from `start` reaches the cost with that group.
-fn offer_sizes(
-    pairs: &[Option<(u32, u32)>],
-    rows: &[u8],
-    lasts: &[u32],
-    lone: u64,
-    fence: u64,
-    table: &[u64],
-    start: usize,
-    costs: &mut [u64],
-)
-    requires forward { GoForward pairs.now }
-    requires few { length pairs.now ≤ most_pieces }
-    requires rows { HasRows pairs.now 0 rows.now lasts.now }
-    requires sizes { length table.now ≤ 1023 }
-    requires prices { ArePrices table.now }
-    requires fence { fence ≤ greatest_price }
-    requires lone { lone ≤ greatest_price }
-    requires inside { start < length pairs.now }
-    requires offers { HasOffers
-        (length table.now + 1) (sized_tariff lone fence table.now)
-        pairs.now start (start + 1) costs.old }
-    ensures { HasOffers
-        (length table.now + 1) (sized_tariff lone fence table.now)
-        pairs.now (start + 1) (start + 2) costs.new }
+fn offer_sizes(sheet: &CostSheet, start: usize, costs: &mut [u64])
+    requires sheet { let g = sheet.now in
+        IsSheet g.pairs.now g.rows.now g.lasts.now g.lone g.fence g.table.now }
+    requires inside { start < length sheet.now.pairs.now }
+    requires offers { let g = sheet.now in HasOffers
+        (length g.table.now + 1) (sized_tariff g.lone g.fence g.table.now)
+        g.pairs.now start (start + 1) costs.old }
+    ensures { let g = sheet.now in HasOffers
+        (length g.table.now + 1) (sized_tariff g.lone g.fence g.table.now)
+        g.pairs.now (start + 1) (start + 2) costs.new }
 {
-    let cost = costs[start] + lone;
+    let cost = costs[start] + sheet.lone;
     lower(costs, start + 1, start + 2, cost);
-    let reach = pairs.len().min(start + table.len() + 1);
-    let mut chain = chain_step(pairs, start, 0, start + 1);
+    let reach = sheet.pairs.len().min(start + sheet.table.len() + 1);
+    let mut chain = chain_step(sheet.pairs, start, 0, start + 1);
     let mut end = start + 2;
     while end <= reach {
         let (piece, fences, further) = if end <= block_end(chain.0) {
-            offer_row(
-                pairs, rows, lasts, lone, fence, table, start, chain, end, costs,
-            )
+            offer_row(sheet, start, chain, end, costs)
         } else {
-            offer_run(pairs, lone, fence, table, start, chain, end, costs)
+            offer_run(sheet, start, chain, end, costs)
         };
         chain = (piece, fences);
         end = further;
@@ -287,29 +272,16 @@ fn offer_sizes(
 }
 
 /// Fills in the costs: each start in turn offers its groups.
-fn fill_sizes(
-    pairs: &[Option<(u32, u32)>],
-    rows: &[u8],
-    lasts: &[u32],
-    lone: u64,
-    fence: u64,
-    table: &[u64],
-    costs: &mut [u64],
-)
-    requires forward { GoForward pairs.now }
-    requires few { length pairs.now ≤ most_pieces }
-    requires rows { HasRows pairs.now 0 rows.now lasts.now }
-    requires sizes { length table.now ≤ 1023 }
-    requires prices { ArePrices table.now }
-    requires fence { fence ≤ greatest_price }
-    requires lone { lone ≤ greatest_price }
-    requires offers { HasOffers (length table.now + 1) (sized_tariff lone fence table.now)
-        pairs.now 0 1 costs.old }
-    ensures { IsFilled (length table.now + 1) (sized_tariff lone fence table.now)
-        pairs.now costs.new }
+fn fill_sizes(sheet: &CostSheet, costs: &mut [u64])
+    requires sheet { let g = sheet.now in
+        IsSheet g.pairs.now g.rows.now g.lasts.now g.lone g.fence g.table.now }
+    requires offers { let g = sheet.now in HasOffers
+        (length g.table.now + 1) (sized_tariff g.lone g.fence g.table.now) g.pairs.now 0 1 costs.old }
+    ensures { let g = sheet.now in IsFilled
+        (length g.table.now + 1) (sized_tariff g.lone g.fence g.table.now) g.pairs.now costs.new }
 {
-    for start in 0..pairs.len() {
-        offer_sizes(pairs, rows, lasts, lone, fence, table, start, costs);
+    for start in 0..sheet.pairs.len() {
+        offer_sizes(sheet, start, costs);
     }
 }
 
@@ -340,6 +312,14 @@ pub(crate) fn least_costs_by_size(
     fill_rows(pairs, &mut rows, &mut lasts);
     let mut costs = vec![in alloc; UNREACHED; pairs.len() + 1]?;
     costs[0] = 0;
-    fill_sizes(pairs, &rows, &lasts, lone, fence, table, &mut costs);
+    let sheet = CostSheet {
+        pairs,
+        rows: &rows,
+        lasts: &lasts,
+        lone,
+        fence,
+        table,
+    };
+    fill_sizes(&sheet, &mut costs);
     Ok(costs)
 }

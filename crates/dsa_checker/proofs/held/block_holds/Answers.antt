@@ -16,26 +16,26 @@ look-requires-clause-chain c =
       | inr late ↦
           let at : max c.args.first (start + 1) ≡ start + 1 = omega (arith, late) in
           let (piece, fences) = c.chain_of-chain.ensures.begun late in
-          rw (at, piece, fences) (IsLastBelow-start c.args.pairs.now c.requires.forward start)
+          rw (at, piece, fences) (IsLastBelow-start c.args.sheet.now.pairs.now c.requires.sheet.forward start)
     ]
 
 pub overflow_cast-chains-in-loop-start : goal.overflow_cast-chains-in-loop-start
 overflow_cast-chains-in-loop-start c =
-    let fits = last_fits c.args.pairs.now c.requires.forward c.loop-start.start c.args.past c.in-Some.fences c.in-Some.piece c.in-Some.ensures.chain in
-    omega (arith, fits, c.requires.few, c.requires.within)
+    let fits = last_fits c.args.sheet.now.pairs.now c.requires.sheet.forward c.loop-start.start c.args.past c.in-Some.fences c.in-Some.piece c.in-Some.ensures.chain in
+    omega (arith, fits, c.requires.sheet.few, c.requires.within)
 
 pub loop-start-preserved : goal.loop-start-preserved
 loop-start-preserved c =
-    let pairs = c.args.pairs.now in
+    let pairs = c.args.sheet.now.pairs.now in
     let s = c.loop-start.start in
-    let least = c.args.first - length c.args.table.now in
+    let least = c.args.first - length c.args.sheet.now.table.now in
     let fences = c.loop-start.chains.fences in
     let pieces = c.loop-start.chains.pieces in
     let begun = c.loop-start.auto.start in
     let on = c.loop-start-test.true in
     let one = chains_one pairs c.args.past s c.in-Some.fences c.in-Some.piece fences pieces (omega arith) (omega arith) c.in-Some.ensures.chain in
     let gone = chains_others pairs c.args.past s c.in-Some.fences c.in-Some.piece fences pieces (omega arith) (omega arith) least s c.loop-start.invariant.gone
-    (λ i low lt. (omega arith, omega arith, omega (arith, low, on, c.requires.size, c.requires.sizes))) in
+    (λ i low lt. (omega arith, omega arith, omega (arith, low, on, c.requires.size, c.requires.sheet.sizes))) in
     record {
       held = λ i low lt.
           elim (cases_eq i s) [
@@ -48,5 +48,5 @@ loop-start-preserved c =
             | inr other ↦ gone i low (omega arith)
           ];
       waiting = chains_others pairs c.args.first s c.in-Some.fences c.in-Some.piece fences pieces (omega arith) (omega arith) (s + 1) c.args.first
-          (λ i low lt. c.loop-start.invariant.waiting i (omega arith) lt) (λ i low lt. (omega arith, omega (arith, lt, begun, c.saturating_sub-start.ensures, c.requires.sizes), omega arith));
+          (λ i low lt. c.loop-start.invariant.waiting i (omega arith) lt) (λ i low lt. (omega arith, omega (arith, lt, begun, c.saturating_sub-start.ensures, c.requires.sheet.sizes), omega arith));
     }

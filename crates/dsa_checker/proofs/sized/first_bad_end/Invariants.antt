@@ -7,8 +7,8 @@ use Rattle.dsa_checker.proofs.sized.first_bad_end.Given as goal
 -- the steps to the ends so far hold
 abbrev pub invariant-loop-end : goal.invariant-loop-end
 invariant-loop-end l = record {
-  held : (k : ℕ) → k < l.end → IsReach (length l.table + 1) (length l.pairs) l.start k → StepHolds (sized_tariff l.lone l.fence l.table) l.pairs l.prices l.start k;
-  chain : IsLastBelow l.pairs l.start l.end l.fences l.piece;
+  held : (k : ℕ) → k < l.end → IsReach (length l.sheet.table.now + 1) (length l.sheet.pairs.now) l.start k → StepHolds (sized_tariff l.sheet.lone l.sheet.fence l.sheet.table.now) l.sheet.pairs.now l.sheet.prices.now l.start k;
+  chain : IsLastBelow l.sheet.pairs.now l.start l.end l.fences l.piece;
   late : l.start + 2 ≤ l.end;
   within : l.end ≤ l.reach + 1;
 }

@@ -8,8 +8,8 @@ loop-end-preserved c =
     let old = c.args.costs.now in
     let costs = c.loop-end.costs in
     let end = c.loop-end.end in
-    let offer : ℕ → ℕ = λ k. c.args.cost + slice_index c.args.table.now (k - c.args.start - 2) + c.args.fence * slice_index c.args.rows.now (c.args.at + (k - c.args.from)) in
-    let is = c.lesser.ensures ∙ ap₂ (λ (fence fences : ℕ). min (slice_index costs end) (c.args.cost + slice_index c.args.table.now (end - c.args.start - 2) + fence * fences)) c.from.ensures c.from-fences.ensures in
+    let offer : ℕ → ℕ = λ k. c.args.cost + slice_index c.args.sheet.now.table.now (k - c.args.start - 2) + c.args.sheet.now.fence * slice_index c.args.sheet.now.rows.now (c.args.at + (k - c.args.from)) in
+    let is = c.lesser.ensures ∙ ap₂ (λ (fence fences : ℕ). min (slice_index costs end) (c.args.cost + slice_index c.args.sheet.now.table.now (end - c.args.start - 2) + fence * fences)) c.from.ensures c.from-fences.ensures in
     let within : end < length costs = omega arith in
     record {
       count = length-set costs end c.lesser.result ∙ c.loop-end.invariant.count;

@@ -187,11 +187,12 @@ static void library(const char *path)
     printf("%d of %d right, rewritten in %d of %d loads\n", count, LOADS * TIMES, jumps, LOADS);
 }
 
+static const uint8_t one[] = {0x66, 0x0f, 0x38, 0xf8, 0x3e, 0xc3}; /* movdir64b (%rsi), %rdi; ret */
+
 /* Code that is made at one address, other code at the same, the first again; and code that is shared. */
 static void made(const char *unused)
 {
-    static const uint8_t near[] = {0x66, 0x0f, 0x38, 0xf8, 0x3e, 0xc3};       /* movdir64b (%rsi), %rdi; ret */
-    static const uint8_t far[] = {0x66, 0x0f, 0x38, 0xf8, 0x7e, 0x40, 0xc3};  /* movdir64b 64(%rsi), %rdi; ret */
+    static const uint8_t other[] = {0x66, 0x0f, 0x38, 0xf8, 0x7e, 0x40, 0xc3}; /* movdir64b 64(%rsi), %rdi; ret */
     uint8_t *const at = fresh(PAGE);
     volatile completion *r = fresh(PAGE);
     const int all = PROT_READ | PROT_WRITE | PROT_EXEC;
@@ -200,7 +201,7 @@ static void made(const char *unused)
         int count = 0;
         munmap(at, PAGE);
         mmap(at, PAGE, all, MAP_ANONYMOUS | MAP_FIXED | (i < 3 ? MAP_PRIVATE : MAP_SHARED), -1, 0);
-        memcpy(at, i == 1 ? far : near, i == 1 ? sizeof far : sizeof near);
+        memcpy(at, i == 1 ? other : one, i == 1 ? sizeof other : sizeof one);
         for (int k = 0; k < 5; k++) {
             const descriptor d[2] = {{.flags = ASKS, .completion_addr = (uintptr_t)r},
                                      {.flags = ASKS, .completion_addr = (uintptr_t)(r + 1)}};
@@ -212,6 +213,46 @@ static void made(const char *unused)
         }
         printf("code %d: %d right, rewritten %d\n", i, count, at[0] == JUMP);
     }
+}
+
+enum { ROUNDS = 300, AT_ONCE = 4 };
+static pthread_barrier_t round_begins;
+static uint8_t *code;
+
+static void *work_on_new_code(void *unused)
+{
+    const struct user u = new_user(portal);
+    const descriptor d = {.flags = ASKS, .completion_addr = (uintptr_t)u.r};
+    for (int i = 0; i < ROUNDS; i++) {
+        pthread_barrier_wait(&round_begins);
+        for (int k = 0; k < 10; k++) {
+            memset((void *)u.r, 0, sizeof *u.r);
+            ((put_function *)(uintptr_t)code)(portal, &d);
+            right += await(u.r) == DSA_COMP_SUCCESS;
+        }
+        pthread_barrier_wait(&round_begins);
+    }
+    return unused;
+}
+
+/* Code that is made anew again and again, to which threads come at once. */
+static void anew(const char *unused)
+{
+    pthread_t list[AT_ONCE];
+    int jumps = 0;
+    (void)unused;
+    code = fresh(PAGE);
+    pthread_barrier_init(&round_begins, NULL, AT_ONCE + 1);
+    start(list, AT_ONCE, work_on_new_code);
+    for (int i = 0; i < ROUNDS; i++) {
+        mmap(code, PAGE, PROT_READ | PROT_WRITE | PROT_EXEC, MAP_ANONYMOUS | MAP_PRIVATE | MAP_FIXED, -1, 0);
+        memcpy(code, one, sizeof one);
+        pthread_barrier_wait(&round_begins);
+        pthread_barrier_wait(&round_begins);
+        jumps += *code == JUMP;
+    }
+    join(list, AT_ONCE);
+    printf("%d of %d right, rewritten in %d of %d rounds\n", right, 10 * AT_ONCE * ROUNDS, jumps, ROUNDS);
 }
 
 static descriptor *missing;
@@ -259,7 +300,7 @@ static void unreadable(const char *unused)
 int main(int argc, char **argv)
 {
     static const struct part { const char *name; void (*run)(const char *); } parts[] = {
-        {"threads", threads}, {"timer", timer}, {"forks", forks}, {"library", library}, {"made", made},
+        {"threads", threads}, {"timer", timer}, {"forks", forks}, {"library", library}, {"made", made}, {"anew", anew},
         {"unreadable", unreadable},
     };
     portal = portal_of("/dev/dsa/wq0.0");

@@ -19,7 +19,7 @@ from pathlib import Path
 
 import common
 from common import ROOT, expect, named, run_test, side_by_side, skip
-from trace_cases import REFUSED, rewriting
+from trace_cases import REFUSED, SYSFS, rewriting
 from trace_forms import NARROW, OTHERS, WIDE, forms
 from trace_model import MOVE, Recorded
 
@@ -448,6 +448,12 @@ def audited():
         end = traced("--audit", "--", client("ordered"), mode, env=known)
         told(mode, end, 0, " 0 missing")
         expect("missing wait" not in end.stdout, f"{mode}: {end.stdout}")
+    end = traced("--audit", "--", client("odd"), "members", env=known)
+    told("a batch and another PASID in a batch", end, 1, "the batch: status 0x5,", "the member: status 0x10\n",
+         "entry 2 (submission 0, member 1): warning: a batch in a batch",
+         "entry 3 (submission 0, member 2): warning: another PASID",
+         "entry 4 (submission 0, member 3): error: missing fence, read after write: reads what member 0 writes",
+         "4 descriptors in 1 batch and 0 lone submissions, 0 not looked at\n")
     end = traced("--audit", "--seeds", 60, "--", client("ordered"), "fence", env=known)
     told("an audit of many seeds", end, 1, "the same again", "missing fence")
 
@@ -510,18 +516,6 @@ def options():
         end = ran("man", "--warnings", "-l", "bindings/package/dsa_trace.1",
                   env=os.environ | {"MANWIDTH": "120", "LC_ALL": "C.UTF-8"})
         expect(end.returncode == 0 and not end.stderr, f"man dsa_trace.1: {end.stderr[:500]}")
-
-
-SYSFS = """
-echo dsa0 > /sys/bus/dsa/drivers/idxd/unbind
-cat /sys/bus/dsa/devices/dsa0/state /sys/bus/dsa/devices/wq0.0/state
-echo dsa0 > /sys/bus/dsa/drivers/idxd/bind
-echo wq0.1 > /sys/bus/dsa/drivers/user/bind
-cat /sys/bus/dsa/devices/dsa0/state /sys/bus/dsa/devices/wq0.0/state /sys/bus/dsa/devices/wq0.1/state
-ls -d /dev/dsa/* /sys/module/idxd
-echo wq0.1 > /sys/bus/dsa/drivers/user/unbind
-ls /dev/dsa | wc -l
-"""
 
 
 def files():

@@ -1,5 +1,17 @@
 """What clients of tests/trace.py print."""
 
+# What a shell does to the driver's files.
+SYSFS = """
+echo dsa0 > /sys/bus/dsa/drivers/idxd/unbind
+cat /sys/bus/dsa/devices/dsa0/state /sys/bus/dsa/devices/wq0.0/state
+echo dsa0 > /sys/bus/dsa/drivers/idxd/bind
+echo wq0.1 > /sys/bus/dsa/drivers/user/bind
+cat /sys/bus/dsa/devices/dsa0/state /sys/bus/dsa/devices/wq0.0/state /sys/bus/dsa/devices/wq0.1/state
+ls -d /dev/dsa/* /sys/module/idxd
+echo wq0.1 > /sys/bus/dsa/drivers/user/unbind
+ls /dev/dsa | wc -l
+"""
+
 # The statuses are those of linux/idxd.h; 0x84 is 4 with the bit of a write. Two pages are there, and the next is missing.
 REFUSED = {
     "pages": ["write, blocking: status 0x84, 0 bytes, at 0x2000", "write: status 0x83, 0 bytes, at 0x2000",

@@ -112,10 +112,13 @@ static void place(const struct form *f, void *portal, const descriptor *d)
     crossing.d = *d;
 }
 
-/* Whether one crossing is right: all is as before, but for flags that ENQCMD sets, and the move is done. */
-static int is_right(const struct form *f, void *portal, volatile completion *r, uint64_t *memory)
+/* Whether one crossing is right: all is as before, but for flags that ENQCMD sets, and the move is done, or is refused
+ * for a reserved flag, with a sentence. */
+static int is_right(const struct form *f, int is_refused, void *portal, volatile completion *r, uint64_t *memory)
 {
-    const descriptor d = move(memory, memory + 1, 8, r);
+    descriptor d = move(memory, memory + 1, 8, r);
+    if (is_refused)
+        d.flags |= 0x40;
     memset((void *)r, 0, sizeof *r);
     memory[0] = (uint64_t)rand() << 32 | (uint64_t)rand();
     memory[1] = 0;
@@ -130,7 +133,9 @@ static int is_right(const struct form *f, void *portal, volatile completion *r, 
     const int same = !memcmp(crossing.given, crossing.got, sizeof crossing.given) && same_area() &&
                      !memcmp(crossing.red_given, crossing.red_got, sizeof crossing.red_given) &&
                      ((crossing.flags_got ^ flags) & (ARITHMETIC | DIRECTION)) == 0;
-    return same && await(r) == DSA_COMP_SUCCESS && memory[1] == memory[0];
+    const uint8_t status = await(r);
+    return same && (is_refused ? status == DSA_COMP_INVALID_FLAGS && memory[1] == 0
+                               : status == DSA_COMP_SUCCESS && memory[1] == memory[0]);
 }
 
 int main(void)
@@ -145,7 +150,7 @@ int main(void)
     for (int i = 0; i < FORMS; i++) {
         int times = 0;
         for (int k = 0; k < TIMES; k++)
-            times += is_right(&forms[i], portals[forms[i].is_enqueued], r, memory);
+            times += is_right(&forms[i], k == TIMES - 1, portals[forms[i].is_enqueued], r, memory);
         if (times != TIMES)
             printf("form %d is right %d times of %d\n", i, times, TIMES);
         right += times == TIMES;

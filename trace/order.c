@@ -221,8 +221,8 @@ static void begin_process(void)
 /// When the library is loaded.
 void order_begin(void)
 {
-    if (process_is_new())
-        begin_process();
+    process_is_new();
+    begin_process();
 }
 
 /// Starts the worker, once in a process. It is called when a portal is mapped, where more may be done than in a
@@ -231,7 +231,8 @@ void order_start(void)
 {
     pthread_t thread;
     sigset_t all, old;
-    order_begin();
+    if (process_is_new())
+        begin_process();
     if (!order_is_async() || atomic_exchange(&order.has_worker, true))
         return;
     sigfillset(&all);

@@ -24,7 +24,7 @@ static bool is_private_code(const char *line, uintptr_t at, size_t size)
 }
 
 /// Whether any line has it. A change of shared code would be seen by others, who have no stub.
-static bool is_private(uintptr_t at, size_t size)
+bool patch_is_private(uintptr_t at, size_t size)
 {
     enum { ENOUGH = 64 }; /* of a line */
     char text[4096], line[ENOUGH];
@@ -47,12 +47,10 @@ static bool is_private(uintptr_t at, size_t size)
     return is_found;
 }
 
-/// The file to write by.
-int patch_open(uintptr_t at, size_t size)
+/// The file to write by. A child of fork may have to ask for barriers of its own.
+int patch_open(void)
 {
-    if (!patch_begin() || !is_private(at, size)) /* a child of fork begins anew */
-        return -1;
-    return (int)syscall(SYS_openat, AT_FDCWD, "/proc/self/mem", O_RDWR | O_CLOEXEC, 0);
+    return patch_begin() ? (int)syscall(SYS_openat, AT_FDCWD, "/proc/self/mem", O_RDWR | O_CLOEXEC, 0) : -1;
 }
 
 bool patch_bytes(int file, uintptr_t at, const void *bytes, size_t size)

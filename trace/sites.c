@@ -81,9 +81,9 @@ static bool change(int file, uintptr_t at, const uint8_t bytes[JUMP])
 /// Puts the jump in place; false if it stays as it was.
 static bool rewrite(struct site *s)
 {
-    if (!s->stub && !stub_make(s))
+    if (!patch_is_private(s->at, s->length) || (!s->stub && !stub_make(s)))
         return false;
-    const int file = patch_open(s->at, s->length);
+    const int file = patch_open();
     if (file < 0)
         return false;
     s->state = CHANGES;
@@ -121,7 +121,7 @@ void sites_forget(void)
     pthread_mutex_init(&sites.lock, NULL);
     for (unsigned i = 0; i < SITES; i++) {
         struct site *s = &sites.table[i];
-        const int file = s->state == CHANGES ? patch_open(s->at, s->length) : -1;
+        const int file = s->state == CHANGES ? patch_open() : -1;
         if (s->state != CHANGES)
             continue;
         s->state = STAYS;

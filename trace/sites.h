@@ -48,8 +48,10 @@ const struct site *stub_site(uintptr_t at);
 /* ---- patch.c: changing code that runs ---- */
 /* Whether the kernel has what it takes. */
 bool patch_begin(void);
-/* A file for the following; -1 if the range is no code of a private mapping. */
-int patch_open(uintptr_t at, size_t size);
+/* Whether the range is code of one private mapping. */
+bool patch_is_private(uintptr_t at, size_t size);
+/* A file for the following; -1 if there is none. */
+int patch_open(void);
 bool patch_bytes(int file, uintptr_t at, const void *bytes, size_t size);
 /* After this no thread executes what was there before the last change. */
 bool patch_sync(void);

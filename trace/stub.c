@@ -191,7 +191,7 @@ bool stub_make(struct site *s)
     if (!stub)
         return false;
     put_distance(code.distance, stub->trap, s->at + s->length);
-    const int file = patch_open((uintptr_t)stub, sizeof code);
+    const int file = patch_open();
     const bool is_written = file >= 0 && patch_bytes(file, (uintptr_t)stub, &code, sizeof code);
     patch_close(file);
     if (!is_written)

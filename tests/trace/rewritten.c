@@ -169,13 +169,13 @@ static void forks(const char *unused)
 /* A library with a site, which is loaded again and again. */
 static void library(const char *path)
 {
-    enum { LOADS = 10, TIMES = 5 };
+    enum { LOADS = 10, LOADED_TIMES = 5 };
     volatile completion *r = fresh(PAGE);
     int count = 0, jumps = 0;
     for (int i = 0; i < LOADS; i++) {
         void *loaded = dlopen(path, RTLD_NOW);
         put_function *put = loaded ? (put_function *)dlsym(loaded, "put") : NULL;
-        for (int k = 0; put && k < TIMES; k++) {
+        for (int k = 0; put && k < LOADED_TIMES; k++) {
             memset((void *)r, 0, sizeof *r);
             put(portal, &(descriptor){.flags = ASKS, .completion_addr = (uintptr_t)r});
             count += await(r) == DSA_COMP_SUCCESS;
@@ -184,7 +184,7 @@ static void library(const char *path)
         if (loaded)
             dlclose(loaded);
     }
-    printf("%d of %d right, rewritten in %d of %d loads\n", count, LOADS * TIMES, jumps, LOADS);
+    printf("%d of %d right, rewritten in %d of %d loads\n", count, LOADS * LOADED_TIMES, jumps, LOADS);
 }
 
 static const uint8_t one[] = {0x66, 0x0f, 0x38, 0xf8, 0x3e, 0xc3}; /* movdir64b (%rsi), %rdi; ret */
@@ -215,32 +215,50 @@ static void made(const char *unused)
     }
 }
 
-enum { ROUNDS = 300, AT_ONCE = 4 };
+enum { ROUNDS = 300, AT_ONCE = 4, TIMES = 10 };
 static pthread_barrier_t round_begins;
 static uint8_t *code;
+
+/* Submits some times by the new code; how often it comes right. */
+static int use_code(const struct user *u)
+{
+    const descriptor d = {.flags = ASKS, .completion_addr = (uintptr_t)u->r};
+    int count = 0;
+    for (int k = 0; k < TIMES; k++) {
+        memset((void *)u->r, 0, sizeof *u->r);
+        ((put_function *)(uintptr_t)code)(u->portal, &d);
+        count += await(u->r) == DSA_COMP_SUCCESS;
+    }
+    return count;
+}
 
 static void *work_on_new_code(void *unused)
 {
     const struct user u = new_user(portal);
-    const descriptor d = {.flags = ASKS, .completion_addr = (uintptr_t)u.r};
     for (int i = 0; i < ROUNDS; i++) {
         pthread_barrier_wait(&round_begins);
-        for (int k = 0; k < 10; k++) {
-            memset((void *)u.r, 0, sizeof *u.r);
-            ((put_function *)(uintptr_t)code)(portal, &d);
-            right += await(u.r) == DSA_COMP_SUCCESS;
-        }
+        right += use_code(&u);
         pthread_barrier_wait(&round_begins);
     }
     return unused;
 }
 
-/* Code that is made anew again and again, to which threads come at once. */
-static void anew(const char *unused)
+/* Whether a child, which may find the code changed in part, can use it with a portal of its own. */
+static int child_uses_code(void)
+{
+    const pid_t child = fork();
+    if (child == 0) {
+        const struct user u = new_user(portal_of("/dev/dsa/wq0.0"));
+        _exit(use_code(&u) != TIMES);
+    }
+    return status_of(child) == 0;
+}
+
+/* Code that is made anew again and again, to which threads come at once, and with "forks" children too. */
+static void anew(const char *how)
 {
     pthread_t list[AT_ONCE];
-    int jumps = 0;
-    (void)unused;
+    int jumps = 0, well = 0;
     code = fresh(PAGE);
     pthread_barrier_init(&round_begins, NULL, AT_ONCE + 1);
     start(list, AT_ONCE, work_on_new_code);
@@ -248,11 +266,13 @@ static void anew(const char *unused)
         mmap(code, PAGE, PROT_READ | PROT_WRITE | PROT_EXEC, MAP_ANONYMOUS | MAP_PRIVATE | MAP_FIXED, -1, 0);
         memcpy(code, one, sizeof one);
         pthread_barrier_wait(&round_begins);
+        well += strcmp(how, "forks") == 0 && child_uses_code();
         pthread_barrier_wait(&round_begins);
         jumps += *code == JUMP;
     }
     join(list, AT_ONCE);
-    printf("%d of %d right, rewritten in %d of %d rounds\n", right, 10 * AT_ONCE * ROUNDS, jumps, ROUNDS);
+    printf("%d of %d right, rewritten in %d of %d rounds, ", right, TIMES * AT_ONCE * ROUNDS, jumps, ROUNDS);
+    printf("%d children right\n", well);
 }
 
 static descriptor *missing;

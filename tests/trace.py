@@ -1,7 +1,8 @@
 """Builds dsa_trace with gcc and clang, and small clients with gcc alone, and runs them: with and without what keeps
-their operations in order, under a hundred seeds each (SEEDS); each operation; what goes wrong; recordings; the decoder on
-every form of address. It uses dsa_text, the tests of accel-config-test and dpdk-dev, valgrind, sanitizers and the rights
-of root where they are, and says so where they aren't. The words are names of parts."""
+their operations in order, under a hundred seeds each (SEEDS); each operation; sites that are rewritten; what goes
+wrong; recordings; the decoder on every form of address. It uses dsa_text, the tests of accel-config-test and dpdk-dev,
+valgrind, sanitizers and the rights of root where they are, and says so where they aren't. The words are names of
+parts."""
 
 import itertools
 import json
@@ -18,12 +19,14 @@ from pathlib import Path
 
 import common
 from common import ROOT, expect, named, run_test, side_by_side, skip
-from trace_forms import NARROW, WIDE, forms
+from trace_cases import REFUSED, SYSFS, rewriting
+from trace_forms import NARROW, OTHERS, WIDE, forms
 from trace_model import MOVE, Recorded
 
 SEEDS = int(os.environ.get("SEEDS", "100"))
 STRICT = ["-std=c11", "-D_GNU_SOURCE", "-Wall", "-Wextra", "-Werror"]
-CLIENTS = ("ordered", "threads", "odd", "operations", "ends")
+CLIENTS = ("ordered", "threads", "odd", "operations", "ends", "registers", "rewritten")
+BY = ([], ["--signals"])  # rewritten sites after the first submissions, and signals alone
 
 
 def ran(*command, **how):
@@ -60,8 +63,8 @@ def built():
             continue
         folder = f"{WORK}/{compiler}"
         told(f"the build by {compiler}", ran("make", "-C", ROOT / "trace", f"CC={compiler}", f"OUT={folder}"), 0)
-        end = ran(f"{folder}/dsa_trace", "--", client("operations"))
-        told(f"all operations on what {compiler} built", end, 0)
+        for name, *lines in (("operations",), ("registers", "7 of 7 forms right, 7 rewritten")):
+            told(f"{name} on what {compiler} built", ran(f"{folder}/dsa_trace", "--", client(name)), 0, *lines)
 
 
 # ---- order
@@ -147,16 +150,18 @@ def seeds():
 
 def operations():
     """Each operation in each order, with threads, a child of fork and a handler of signals beside it."""
-    for order in ("fifo", "members", "data", "all"):
-        told(f"all operations in the order {order}", traced("--order", order, "--", client("operations")), 0)
-        told(f"threads in the order {order}", traced("--order", order, "--", client("threads")), 0)
+    for order, by in itertools.product(("fifo", "members", "data", "all"), BY):
+        told(f"all operations in the order {order} {by}", traced("--order", order, *by, "--", client("operations")), 0)
+        told(f"threads in the order {order} {by}", traced("--order", order, *by, "--", client("threads")), 0)
     told("operations without a namespace", traced("--no-namespace", "--", client("operations")), 0)
     told("submitting in a handler", traced("--", client("odd"), "handler"), 0, "in a handler: status 0x1,")
     told("a move that stops at pages", traced("--fault", 2, "--", client("odd"), "partial"), 0,
          "right, more than one part: 1")
     told("a move that does not stop", traced("--", client("odd"), "partial"), 0, "right, more than one part: 0")
-    told("a queue that says retry", traced("--retry", 3, "--", client("odd"), "retried"), 0, "retries from 20 to 80: 1")
-    told("a queue that does not", traced("--", client("odd"), "retried"), 0, "retries from 20 to 80: 0")
+    for by in BY:
+        told("a queue that says retry", traced("--retry", 3, *by, "--", client("odd"), "retried"), 0,
+             "retries from 20 to 80: 1")
+        told("a queue that does not", traced(*by, "--", client("odd"), "retried"), 0, "retries from 20 to 80: 0")
 
 
 def queues():
@@ -176,28 +181,10 @@ def queues():
          "a device does not take it")
 
 
-# The statuses are those of linux/idxd.h; 0x84 is 4 with the bit of a write. Two pages are there, and the next is missing.
-REFUSED = {
-    "pages": ["write, blocking: status 0x84, 0 bytes, at 0x2000", "write: status 0x83, 0 bytes, at 0x2000",
-              "read: status 0x3, 0 bytes, at 0x2000"],
-    "gone": ["to an unmapped page: status 0x84, 0 bytes", "from an unmapped page: status 0x4, 0 bytes",
-             "beyond the end of a file: status 0x84, 0 bytes", "to a page that is read alone: status 0x84, 0 bytes",
-             "can't be written, so the completion is lost", "the next: status 0x1,"],
-    "lists": ["missing list: status 0x6, 0 bytes, at 0x2000", "odd list: status 0x18,", "one member: status 0x14,",
-              "too many members: status 0x14,"],
-    "record": ["no multiple of 32", "the next: status 0x1,", "moved 0, record 0"],
-    "refused": ["reserved flag: status 0x11,", "invalid flags 0x40\n", "check result of a move: status 0x11,",
-                "interrupt: status 0x19,", "operation 0xa: status 0x10,", "no bytes: status 0x13,",
-                "reserved byte: status 0x12,",
-                "reserved bits: status 0x12,", "dualcast bits: status 0x17,", "dualcast overlap: status 0x16,",
-                "delta of 12 bytes: status 0x13,", "delta record of 11 bytes: status 0x15,"],
-}
-
-
 def refused():
     """Pages that are missing, lists that can't be read, records at odd places, and descriptors that no device takes."""
-    for (case, lines), order in itertools.product(REFUSED.items(), ("fifo", "data")):
-        told(f"{case} in the order {order}", traced("--order", order, "--", client("odd"), case), 0, *lines)
+    for (case, lines), order, by in itertools.product(REFUSED.items(), ("fifo", "data"), BY):
+        told(f"{case} in the order {order} {by}", traced("--order", order, *by, "--", client("odd"), case), 0, *lines)
 
 
 def died():
@@ -205,7 +192,7 @@ def died():
     told("a descriptor that can't be read", traced("--", client("odd"), "unreadable"), 42, "can't be read",
          "signal 11 at 0x2000")
     told("the same without a handler", traced("--", client("ends"), "unread"), 128 + signal.SIGSEGV, "can't be read")
-    for how in ([], ["--order", "fifo"], ["--no-namespace"]):
+    for how in (*BY, ["--order", "fifo"], ["--no-namespace"]):
         for case in ("forks", "spawned"):
             told(f"{case} {how}", traced(*how, "--", client("ends"), case), 0, "30 of 30 children end well",
                  "a move afterwards: 1")
@@ -234,11 +221,37 @@ def other_cpus():
                (["odd", "unreadable"], 42, 1, ["signal 11 at 0x2000"]),
                (["odd", "child"], 0, 2, ["ends by signal 11", "in the parent: status 0x1"])]
     for (words, status, count, lines), order in itertools.product(clients, ("fifo", "data")):
-        end = traced("--order", order, "--", client("faults"), client(words[0]), *words[1:])
-        told(f"{words} by SIGSEGV in the order {order}", end, status, *lines, *[f"{count} signals turned"][:is_turned])
+        for by in BY:
+            end = traced("--order", order, *by, "--", client("faults"), client(words[0]), *words[1:])
+            counted = [f"{count} signals turned"][: is_turned and by != []]
+            told(f"{words} by SIGSEGV in the order {order} {by}", end, status, *lines, *counted)
+    for words, line in ((["registers"], "7 of 7 forms right, 7 rewritten"),
+                        (["rewritten", "threads", "all4000"], "4000 of 4000 right, 64 rewritten")):
+        end = traced("--order", "fifo", "--", client("faults"), client(words[0]), *words[1:])
+        told(f"{words} by SIGSEGV", end, 0, line)
     words = [client("faults"), client("ordered"), "fence"]
     statuses = {traced("--seed", seed, "--", *words).returncode for seed in range(1, 31)}
     expect(statuses == {0, 3}, f"a missing fence by SIGSEGV ends with {statuses}")
+
+
+def rewritten():
+    """Stubs in place of instructions: what a submission leaves of all registers; sites that threads, handlers of signals
+    and children of fork use while they are rewritten; code that is loaded or made anew; what only a signal can do."""
+    words = ["-shared", "-fPIC", "-o", f"{WORK}/loaded.so", "tests/trace/loaded.c"]
+    told("the build of loaded", ran("gcc", *STRICT, *words), 0)
+    for order, by in itertools.product(("fifo", "data"), BY):
+        how, count = ["--order", order, *by, "--"], 100000 if order == "fifo" else 4000
+        told(f"registers {how}", traced(*how, client("registers")), 0,
+             f"7 of 7 forms right, {0 if by else 7} rewritten")
+        for name, (words, *lines) in rewriting(not by, count, f"{WORK}/loaded.so").items():
+            told(f"{name} {how}", traced(*how, client("rewritten"), *words), 0, *lines)
+    for _ in range(10):
+        told("many sites again", traced("--order", "fifo", "--", client("rewritten"), "threads", "all8000"), 0,
+             "8000 of 8000 right, 64 rewritten")
+    parts, lines, _ = recorded(client("rewritten"), "threads", "all2000", options=["--order", "members"])
+    starts = [int(line.split()[1]) for line in lines if line[0] == "S"]
+    expect(starts == list(range(2000)) and len(b"".join(parts)) == 64 * 2000,
+           f"of 2000 submissions {len(starts)} are recorded")
 
 
 # ---- recordings
@@ -435,6 +448,12 @@ def audited():
         end = traced("--audit", "--", client("ordered"), mode, env=known)
         told(mode, end, 0, " 0 missing")
         expect("missing wait" not in end.stdout, f"{mode}: {end.stdout}")
+    end = traced("--audit", "--", client("odd"), "members", env=known)
+    told("a batch and another PASID in a batch", end, 1, "the batch: status 0x5,", "the member: status 0x10\n",
+         "entry 2 (submission 0, member 1): warning: a batch in a batch",
+         "entry 3 (submission 0, member 2): warning: another PASID",
+         "entry 4 (submission 0, member 3): error: missing fence, read after write: reads what member 0 writes",
+         "4 descriptors in 1 batch and 0 lone submissions, 0 not looked at\n")
     end = traced("--audit", "--seeds", 60, "--", client("ordered"), "fence", env=known)
     told("an audit of many seeds", end, 1, "the same again", "missing fence")
 
@@ -488,7 +507,7 @@ def options():
         told(f"the options {words}", traced(*words, *(["--", "true"] if words else [])), 125, why)
     told("a value after =", traced("--seed=7", "--order=all", "true"), 0)
     names = re.findall(r"^ +(?:-h, )?(--[a-z-]+)", end.stdout, re.M)
-    expect(len(names) == 14, f"--help names {names}")
+    expect(len(names) == 15, f"--help names {names}")
     page = Path("bindings/package/dsa_trace.1").read_text().replace("\\-", "-")
     completion = Path("bindings/package/dsa_trace.bash").read_text()
     missing = [name for name in names if name not in page or name not in completion]
@@ -497,18 +516,6 @@ def options():
         end = ran("man", "--warnings", "-l", "bindings/package/dsa_trace.1",
                   env=os.environ | {"MANWIDTH": "120", "LC_ALL": "C.UTF-8"})
         expect(end.returncode == 0 and not end.stderr, f"man dsa_trace.1: {end.stderr[:500]}")
-
-
-SYSFS = """
-echo dsa0 > /sys/bus/dsa/drivers/idxd/unbind
-cat /sys/bus/dsa/devices/dsa0/state /sys/bus/dsa/devices/wq0.0/state
-echo dsa0 > /sys/bus/dsa/drivers/idxd/bind
-echo wq0.1 > /sys/bus/dsa/drivers/user/bind
-cat /sys/bus/dsa/devices/dsa0/state /sys/bus/dsa/devices/wq0.0/state /sys/bus/dsa/devices/wq0.1/state
-ls -d /dev/dsa/* /sys/module/idxd
-echo wq0.1 > /sys/bus/dsa/drivers/user/unbind
-ls /dev/dsa | wc -l
-"""
 
 
 def files():
@@ -625,15 +632,8 @@ def decoder():
             faults.append(f"{line}: {found}, not {right}")
     fault = f"{len(got)} of {len(lines)} forms decoded, {len(faults)} wrong: {faults[:3]}"
     expect(len(got) == len(lines) > 10000 and not faults, fault)
-    others = {"movdiri %rax, 8(%rbx)": "3 6 0 0x444444444444444c 0 0 1",
-              "movdiri %r9d, (%rcx)": "3 5 9 0x2222222222222222 0 0 0",
-              "umonitor %r11": "4 5 11 0 0 0 0", "umwait %ecx": "5 4 1 0 0 0 0", "tpause %r15d": "6 5 15 0 0 0 0",
-              "mfence": "none", "clwb (%rax)": "none", "enqcmds (%rax), %rbx": "none", "ud2": "none",
-              "crc32l %eax, %ebx": "none",
-              "movbe (%rax), %ebx": "none", "incsspd %eax": "none",
-              ".byte 0x66,0x66,0x66,0x66,0x66,0x66,0x66,0x66,0x66,0x66,0x66,0x66,0x66,0x66,0x66,0x66": "none"}
-    lengths, got = decoded(others)
-    for (line, right), found in zip(others.items(), got):
+    lengths, got = decoded(OTHERS)
+    for (line, right), found in zip(OTHERS.items(), got):
         expect(found == right, f"{line} is decoded as {found}, not {right}")
 
 
@@ -641,12 +641,18 @@ def decoder():
 
 
 def cost():
-    """What an instruction takes: printed, not judged, since other work may run beside it."""
+    """What a submission takes, by stubs and by signals: printed, and judged loosely, since other work may run beside
+    it."""
     told("the build of cost", ran("gcc", *STRICT, "-O2", "-o", client("cost"), "tests/trace/cost.c"), 0)
     for words in (["--order", "fifo"], [], ["--out", f"{WORK}/costs"]):
-        end = traced(*words, "--", client("cost"))
-        told("cost", end, 0)
-        print(f"dsa_trace {' '.join(words)}: {end.stdout.strip()}")
+        took = []
+        for by in BY:
+            end = traced(*words, *by, "--", client("cost"))
+            told("cost", end, 0)
+            print(f"dsa_trace {' '.join([*words, *by])}: {end.stdout.strip()}")
+            took += re.findall(r"and ([\d.]+) us to the portal", end.stdout)
+        is_less = len(took) == 2 and float(took[0]) < float(took[1]) / 2
+        expect(is_less or words != ["--order", "fifo"], f"by stubs and by signals a submission takes {took} us")
     start = time.monotonic()
     for _ in range(10):
         traced("--", "/bin/true")
@@ -702,6 +708,8 @@ def sanitized():
     for order in ("fifo", "data"):
         end = traced("--order", order, "--", "valgrind", "-q", "--error-exitcode=9", client("freed"))
         told(f"freed memory under valgrind in the order {order}", end, 9, "Invalid write", "free'd")
+    told("rewritten sites under valgrind", traced("--order", "fifo", "--", "valgrind", "-q", "--error-exitcode=9",
+                                                  client("rewritten"), "threads", "all800"), 0, "800 of 800 right")
     words = ["-g", "-fsanitize=address", "-o", client("freed_asan"), "tests/trace/freed.c"]
     if ran("gcc", *STRICT, *words).returncode:
         skip("AddressSanitizer, which gcc does not have here")
@@ -723,7 +731,7 @@ def undefined():
             return
     known = os.environ | {"DSA_TEXT": "/bin/true"}
     runs = [["operations"], ["threads"], ["odd", "large", "70"], ["odd", "killed", "50"], ["ordered", "wait"],
-            ["ordered", "after"]]
+            ["ordered", "after"], ["registers"], ["rewritten", "threads", "all800"], ["rewritten", "unreadable"]]
     for words in [*runs, *(["odd", case] for case in [*REFUSED, "child", "unreadable", "written", "full", "maps"])]:
         for how in ([], ["--order", "fifo"], ["--watch", "5", "--fault", "2", "--no-namespace"]):
             end = ran(f"{folder}/dsa_trace", "--audit", *how, "--", client(words[0]), *words[1:], env=known)
@@ -761,8 +769,8 @@ def large():
     told("dmadev_autotest", traced("--", *words), 0, "Test OK")
 
 
-PARTS = [built, decoder, ordered, orders, repeated, seeds, operations, queues, refused, died, other_cpus, recordings,
-         killed_at_any_time, full_disk, waits, waits_of_any, audited, statuses]
+PARTS = [built, decoder, ordered, orders, repeated, seeds, operations, queues, refused, died, other_cpus, rewritten]
+PARTS += [recordings, killed_at_any_time, full_disk, waits, waits_of_any, audited, statuses]
 PARTS += [options, files, killed, prices, submit, sanitized, undefined, cost, large]
 
 
@@ -775,7 +783,7 @@ def main(words):
     with tempfile.TemporaryDirectory() as WORK:
         told("the build", ran("make", "-C", ROOT / "trace", "CC=gcc", f"OUT={WORK}/gcc"), 0)
         for name in CLIENTS:
-            words = ["-O1", "-o", client(name), f"tests/trace/{name}.c", "-lpthread"]
+            words = ["-O1", "-o", client(name), f"tests/trace/{name}.c", "-lpthread", "-ldl"]
             told(f"the build of {name}", ran("gcc", *STRICT, *words), 0)
         for part in parts if common.failed == 0 else []:
             part()

@@ -32,3 +32,16 @@ def forms():
     for segment, number in (("fs", 1), ("gs", 2)):
         yield f"%{segment}:0x40", 0x40, False, number
         yield f"%{segment}:8(%r13,%r14,2)", (8 + value(13, False) + 2 * value(14, False)) % 2**64, False, number
+
+
+# Other instructions, as tests/trace/decode.c prints them.
+OTHERS = {
+    "movdiri %rax, 8(%rbx)": "3 6 0 0x444444444444444c 0 0 1",
+    "movdiri %r9d, (%rcx)": "3 5 9 0x2222222222222222 0 0 0",
+    "umonitor %r11": "4 5 11 0 0 0 0",
+    "umwait %ecx": "5 4 1 0 0 0 0",
+    "tpause %r15d": "6 5 15 0 0 0 0",
+    ".byte 0x66,0x66,0x66,0x66,0x66,0x66,0x66,0x66,0x66,0x66,0x66,0x66,0x66,0x66,0x66,0x66": "none",
+}
+OTHERS |= dict.fromkeys(("mfence", "clwb (%rax)", "enqcmds (%rax), %rbx", "ud2", "crc32l %eax, %ebx"), "none")
+OTHERS |= dict.fromkeys(("movbe (%rax), %ebx", "incsspd %eax"), "none")

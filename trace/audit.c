@@ -67,34 +67,38 @@ static int ends_in_dsa(const struct dirent *e)
     return end && strcmp(end, ".dsa") == 0;
 }
 
+/* One run: its recordings, and a folder for temporary files. */
+struct audited { const char *dsa_text, *records, *folder; FILE *report; };
+
 /// One recording: its fences, and with its first part the waits of all parts.
-static int audit_one(const char *dsa_text, const char *records, const char *name, FILE *report)
+static int audit_one(const struct audited *a, const char *name)
 {
-    char path[PATH_MAX], base[NAME_MAX + 1];
-    const int fences = audit_file(dsa_text, joined(path, records, name), report);
+    char path[PATH_MAX], copy[PATH_MAX], base[NAME_MAX + 1];
+    const char *audited = members_audited(joined(path, a->records, name), a->folder, copy, a->report);
+    const int fences = audit_file(a->dsa_text, audited, a->report);
     long waits = 0;
     snprintf(base, sizeof base, "%.*s", (int)(strlen(name) - strlen(".dsa")), name);
     if (!strstr(base, ".part"))
-        waits = waits_missing(records, base, report);
+        waits = waits_missing(a->records, base, a->report);
     if (fences > 1)
-        fprintf(stderr, "dsa_trace: %s does not audit %s\n", dsa_text, path);
+        fprintf(stderr, "dsa_trace: %s does not audit %s\n", a->dsa_text, path);
     if (fences > 1 || waits < 0)
         return FAILED;
     return fences == 1 || waits > 0;
 }
 
 /// All recordings of a run, each with its name if there are several; answers how many there are.
-static int audit_all(const char *dsa_text, const char *records, FILE *report, int *status)
+static int audit_all(const struct audited *a, int *status)
 {
     struct dirent **list;
-    const int count = scandir(records, &list, ends_in_dsa, versionsort);
+    const int count = scandir(a->records, &list, ends_in_dsa, versionsort);
     *status = 0;
     if (count < 0)
-        fail(records);
+        fail(a->records);
     for (int i = 0; i < count; i++) {
         if (count > 1)
-            fprintf(report, "%s:\n", list[i]->d_name);
-        const int of_one = audit_one(dsa_text, records, list[i]->d_name, report);
+            fprintf(a->report, "%s:\n", list[i]->d_name);
+        const int of_one = audit_one(a, list[i]->d_name);
         *status = of_one > *status ? of_one : *status;
         free(list[i]);
     }
@@ -117,7 +121,7 @@ void audit_run(struct audits *a, const char *records, const char *folder, uint64
 {
     int status;
     FILE *report = new_report(folder);
-    a->recordings += audit_all(a->dsa_text, records, report, &status);
+    a->recordings += audit_all(&(struct audited){a->dsa_text, records, folder, report}, &status);
     a->runs++;
     a->faulty += status != 0;
     if (!status && a->status) {

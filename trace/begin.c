@@ -1,9 +1,17 @@
 /* The beginning and the end of the library in a process. */
 #include <pthread.h>
 
+#include "sites.h"
 #include "trace.h"
 
 struct settings settings;
+
+/// In a child of fork.
+static void forget(void)
+{
+    portals_forget();
+    sites_forget();
+}
 
 /// Before the program's own code: its settings, and our handlers.
 __attribute__((constructor)) static void begin(void)
@@ -11,7 +19,8 @@ __attribute__((constructor)) static void begin(void)
     settings = settings_default();
     settings_import(&settings);
     order_begin();
-    pthread_atfork(NULL, NULL, portals_forget);
+    sites_begin(); /* before CPUID faults */
+    pthread_atfork(NULL, NULL, forget);
     signals_install();
 }
 

@@ -3,8 +3,6 @@
 #include "order.h"
 
 #include <sys/mman.h>
-#include <sys/syscall.h>
-#include <unistd.h>
 
 static struct submission *take_unused(void)
 {
@@ -76,7 +74,7 @@ static void take_in(struct queue *q, const descriptor *d)
     record_submission(&(struct submitted){s->number, q, d, s->members, s->is_batch ? s->count : 0});
     put_in(s);
     if (order_is_async()) {
-        pace_begin(&order.pace, (pid_t)syscall(SYS_gettid));
+        pace_begin(&order.pace, process_thread());
         if (order.sleeps)
             pthread_cond_signal(&order.work);
         return;
@@ -106,7 +104,7 @@ static void note_mode(struct queue *q, bool is_enqueued)
     q->is_mistaken |= is_enqueued != q->is_shared;
 }
 
-/// One submission, in the handler of signals or in a write to a queue's file.
+/// One submission, from a stub, the handler of signals or a write to a queue's file.
 enum accepted order_submit(struct queue *q, const descriptor *d, bool is_enqueued)
 {
     order_start();

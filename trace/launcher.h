@@ -49,7 +49,7 @@ void namespace_mount(const char *tree);
 /* ---- tidy.c: recordings of processes that were killed ---- */
 void tidy(const char *records);
 
-/* ---- audit.c and waits.c: what is missing ---- */
+/* ---- audit.c, members.c and waits.c: what is missing ---- */
 /* The program dsa_text; NULL, after a sentence, if there is none. */
 const char *audit_find(void);
 /* What the audits of the runs found. `status` is 0, 1 if fences or waits are missing, or 125 if a recording can't be
@@ -65,6 +65,9 @@ struct audits {
 void audit_run(struct audits *a, const char *records, const char *folder, uint64_t seed);
 /* Prints a report and says of which run, after a program that has failed or not; answers the status. */
 int audit_end(struct audits *a, const struct options *o, bool has_failed);
+/* The path by which dsa_text can read a recording: its own, or that of a copy in the folder, of which the report says
+ * what differs. */
+const char *members_audited(const char *path, const char *folder, char room[PATH_MAX], FILE *report);
 /* How many conflicts one recording has between submissions in flight at once; -1 if it can't be read. */
 long waits_missing(const char *records, const char *name, FILE *report);
 

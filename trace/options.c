@@ -26,6 +26,7 @@ static const char help[] =
     "      --queue <QUEUE>  dedicated,SIZE,NAME or shared,SIZE,NAME; once for each of wq0.0, wq0.1 and so on\n"
     "                       [default: dedicated,16,dpdk_wq0.0 and shared,16,app1]\n"
     "      --cpuid          let CPUID say that MOVDIR64B, ENQCMD and UMWAIT are there\n"
+    "      --signals        change no code of the program's: each submission costs a signal, some microseconds\n"
     "      --no-namespace   turn file names in the library, and mount nothing\n"
     "      --verbose        a line of counts at the end of each process\n"
     "  -h, --help           print this\n"
@@ -91,6 +92,8 @@ static bool take_flag(struct options *o, const char *name)
         o->settings.cpuid = 1;
     else if (strcmp(name, "--no-namespace") == 0)
         o->has_namespace = false;
+    else if (strcmp(name, "--signals") == 0)
+        o->settings.signals = 1;
     else if (strcmp(name, "--verbose") == 0)
         o->settings.verbose = 1;
     else

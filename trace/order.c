@@ -194,7 +194,7 @@ static void *work(void *unused)
 }
 
 /// A child of fork has neither the worker nor what was in flight. Called without the lock, which may be in any state.
-static void begin_process(pid_t pid)
+static void begin_process(void)
 {
     pthread_condattr_t clock;
     pthread_condattr_init(&clock);
@@ -215,11 +215,15 @@ static void begin_process(pid_t pid)
     watch_forget();
     order.submitted = order.batches = order.members = order.retried = order.dropped = order.records = 0;
     record_forget();
-    order.pid = pid;
+    order.pid = getpid();
 }
 
 /// When the library is loaded.
-void order_begin(void) { begin_process(getpid()); }
+void order_begin(void)
+{
+    process_is_new();
+    begin_process();
+}
 
 /// Starts the worker, once in a process. It is called when a portal is mapped, where more may be done than in a
 /// handler.
@@ -227,9 +231,8 @@ void order_start(void)
 {
     pthread_t thread;
     sigset_t all, old;
-    const pid_t pid = getpid();
-    if (order.pid != pid)
-        begin_process(pid);
+    if (process_is_new())
+        begin_process();
     if (!order_is_async() || atomic_exchange(&order.has_worker, true))
         return;
     sigfillset(&all);

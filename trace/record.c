@@ -230,7 +230,7 @@ void record_submission(const struct submitted *s)
         memcpy(room + ENTRY, s->members, ENTRY * (size_t)s->count);
     to = put_pair(put_pair(put_pair(line, "S ", s->number), " wq", s->queue->device), ".", s->queue->id);
     to = put_pair(put_pair(to, " op ", s->entry->opcode), " members ", s->count);
-    to = put_pair(put_pair(to, " tid ", syscall(SYS_gettid)), " part ", recording.part);
+    to = put_pair(put_pair(to, " tid ", process_thread()), " part ", recording.part);
     to = put_pair(to, " entry ", recording.entries.used / ENTRY);
     *to++ = '\n';
     recording.entries.used += ENTRY * (1ul + s->count);

@@ -19,6 +19,7 @@ struct settings {
     uint64_t fault;   /* a move without block-on-fault stops at a page of its source, once in so many; 0: never */
     uint64_t watch;   /* milliseconds for which a submission waits until its record is looked at; 0: off */
     uint64_t cpuid;   /* 1: CPUID says that the instructions exist */
+    uint64_t signals; /* 1: each submission by a signal, and no code is changed */
     uint64_t verbose; /* 1: a line of counts at the end of each process */
     char out[PATH_MAX / 2];  /* the folder of the recordings; empty: none */
     char root[PATH_MAX / 2]; /* the folder of the tree, if names are turned in the library; else empty */

@@ -1,19 +1,19 @@
-/* The instructions that the CPU does not take, or that touch a portal: the handler of SIGILL and SIGSEGV does them. The
- * program's own handlers come after it. */
+/* The instructions that the CPU does not take, or that touch a portal: the handler of SIGILL and SIGSEGV has them done
+ * (emulate.c), and notes where submissions are made (sites.c). The program's own handlers come after it. */
 #include <asm/prctl.h>
 #include <cpuid.h>
 #include <errno.h>
 #include <pthread.h>
-#include <sched.h>
 #include <string.h>
 #include <sys/syscall.h>
 #include <ucontext.h>
 #include <unistd.h>
 
-#include "decode.h"
+#include "emulate.h"
+#include "sites.h"
 #include "trace.h"
 
-enum { HIGHEST = 64, CARRY_AND_LIKE = 0x8d5, ZERO_FLAG = 0x40 };
+enum { HIGHEST = 64 };
 
 /* What the program asked for; written by its calls of sigaction alone. */
 static struct signals {
@@ -38,14 +38,6 @@ static greg_t *register_at(ucontext_t *u, unsigned number)
     return &u->uc_mcontext.gregs[at[number]];
 }
 
-static uint64_t base_of(enum segment segment)
-{
-    uint64_t base = 0;
-    if (segment != NO_SEGMENT)
-        syscall(SYS_arch_prctl, segment == SEGMENT_FS ? ARCH_GET_FS : ARCH_GET_GS, &base);
-    return base;
-}
-
 /// CPUID, which faults while it is asked to: the answer of the CPU, with our instructions beside its own.
 static void answer_cpuid(greg_t *g)
 {
@@ -64,62 +56,42 @@ static void answer_cpuid(greg_t *g)
     g[REG_RIP] += 2;
 }
 
-/* What an instruction came to: done, none of ours, or a fault of the program at an address. */
-enum outcome { DONE, NOT_OURS, FAULTED };
-
-/// MOVDIR64B or ENQCMD. To a portal it is a submission; elsewhere MOVDIR64B is a plain store of 64 bytes.
-static enum outcome move_64(greg_t *g, const struct instruction *in, uint64_t to, struct fault *fault)
+/// Says why an instruction can't be done, if its fault does not.
+static void say_refused(enum outcome outcome, const struct emulated *e)
 {
-    _Alignas(64) descriptor d;
-    const bool is_enqueued = in->kind == ENQCMD;
-    struct queue *queue = portals_at(to);
-    fault->address = 0; /* of a general protection fault */
-    if (to % sizeof d)
-        return FAULTED;
-    if (!memory_copy(&d, (const void *)in->address, sizeof d, fault)) {
-        say("%s: its descriptor at %#lx can't be read", is_enqueued ? "ENQCMD" : "MOVDIR64B",
-            (unsigned long)in->address);
-        return FAULTED;
-    }
-    if (!queue && is_enqueued)
-        say("ENQCMD: no portal is mapped at %#lx (a child of fork has to map its own)", (unsigned long)to);
-    if (!queue)
-        return is_enqueued || !memory_copy((void *)to, &d, sizeof d, fault) ? FAULTED : DONE;
-    const enum accepted accepted = order_submit(queue, &d, is_enqueued);
-    if (is_enqueued)
-        g[REG_EFL] = (g[REG_EFL] & ~CARRY_AND_LIKE) | (accepted == FULL ? ZERO_FLAG : 0);
-    return DONE;
+    const char *name = e->in.kind == ENQCMD ? "ENQCMD" : "MOVDIR64B";
+    if (outcome == UNREADABLE)
+        say("%s: its descriptor at %#lx can't be read", name, (unsigned long)e->in.address);
+    else if (outcome == NO_PORTAL)
+        say("%s: no portal is mapped at %#lx (a child of fork has to map its own)", name, (unsigned long)e->to);
 }
 
-/// Does the instruction at which the program has stopped, if it is one of ours.
-static enum outcome emulate(ucontext_t *u, struct fault *fault)
+/// Does the instruction at which the program has stopped, itself or in the stub that has its place, if it is one of
+/// ours.
+static enum outcome perform(ucontext_t *u, struct fault *fault)
 {
     greg_t *g = u->uc_mcontext.gregs;
-    const uint8_t *code = (const uint8_t *)g[REG_RIP];
-    uint64_t registers[16];
-    struct instruction in;
+    uintptr_t at = g[REG_RIP];
+    uint8_t code[LONGEST_CODE];
+    struct registers r = {.flags = g[REG_EFL]};
+    struct emulated e;
+    const bool is_rewritten = sites_code(&at, code);
+    g[REG_RIP] = (greg_t)at;
     if (signals.fakes_cpuid && memcmp(code, "\x0f\xa2", 2) == 0) {
         answer_cpuid(g);
         return DONE;
     }
     for (unsigned i = 0; i < 16; i++)
-        registers[i] = *register_at(u, i);
-    if (!decode(code, (uint64_t)code, registers, &in))
-        return NOT_OURS;
-    const uint64_t operand = in.is_narrow ? (uint32_t)registers[in.reg] : registers[in.reg];
-    enum outcome outcome = DONE;
-    in.address += base_of(in.segment);
-    if (in.kind == MOVDIR64B || in.kind == ENQCMD)
-        outcome = move_64(g, &in, operand, fault);
-    else if (in.kind == MOVDIRI)
-        outcome = memory_copy((void *)in.address, &registers[in.reg], in.is_wide ? 8 : 4, fault) ? DONE : FAULTED;
-    else if (in.kind != UMONITOR) { /* a wait may end at any time; no carry: not by the system's limit */
-        order_program_waits();
-        sched_yield();
-        g[REG_EFL] &= ~CARRY_AND_LIKE;
-    }
-    if (outcome == DONE)
-        g[REG_RIP] += in.length;
+        r.general[i] = *register_at(u, i);
+    const enum outcome outcome = emulate(code, at, &r, &e);
+    say_refused(outcome, &e);
+    *fault = e.fault;
+    if (outcome != SUBMITTED && outcome != DONE)
+        return outcome;
+    g[REG_EFL] = r.flags;
+    g[REG_RIP] += e.in.length;
+    if (outcome == SUBMITTED && !is_rewritten)
+        sites_note(at, code, e.in.length);
     return outcome;
 }
 
@@ -173,12 +145,12 @@ static void handler(int number, siginfo_t *info, void *context)
     const bool may_be = number == SIGILL || info->si_code == SI_KERNEL || portals_at((uintptr_t)info->si_addr);
     if (number != SIGBUS && info->si_code > 0 && may_be) {
         order_arrive();
-        outcome = emulate(u, &fault);
+        outcome = perform(u, &fault);
         order_leave();
     }
     if (outcome == NOT_OURS)
         pass_on(number, info, u);
-    else if (outcome == FAULTED) {
+    else if (outcome != SUBMITTED && outcome != DONE) {
         siginfo_t theirs = {.si_signo = SIGSEGV, .si_code = fault.address ? SEGV_MAPERR : SI_KERNEL};
         theirs.si_addr = (void *)fault.address;
         pass_on(SIGSEGV, &theirs, u);

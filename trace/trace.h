@@ -37,6 +37,12 @@ void *real(const char *name, void **found);
 #define REAL_OF(name) static void *found_##name
 #define REAL(name) ((__typeof__(&name))real(#name, &found_##name))
 
+/* ---- process.c ---- */
+/* Whether this is called for the first time in this process. */
+bool process_is_new(void);
+/* The number of this thread; process_is_new was called in this process before. */
+pid_t process_thread(void);
+
 /* ---- files.c: the device's files ---- */
 /* The path in the tree, if names are turned and this is one of the device's; else the path itself. */
 const char *files_turned(const char *path, char room[PATH_MAX]);

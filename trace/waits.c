@@ -73,7 +73,7 @@ static void add_descriptor(struct flying *f, const descriptor *d, int member)
     const bool is_dif = op >= DSA_OPCODE_DIF_CHECK && op <= DSA_OPCODE_DIF_UPDT;
     const bool reads = op == DSA_OPCODE_MEMMOVE || (op >= DSA_OPCODE_COMPARE && op <= DSA_OPCODE_CR_DELTA) ||
                        op == DSA_OPCODE_DUALCAST || op == DSA_OPCODE_CRCGEN || op == DSA_OPCODE_COPY_CRC || is_dif;
-    if (op == DSA_OPCODE_BATCH)
+    if (op == DSA_OPCODE_BATCH && member < 0) /* of a member it is refused */
         add(f, d->desc_list_addr, (uint64_t)ENTRY * d->desc_count, member, false);
     if (reads)
         add(f, d->src_addr, size, member, false);

@@ -23,7 +23,7 @@ _dsa_trace()
         *)
             if [[ $word == -* ]]; then
                 COMPREPLY=($(compgen -W "--audit --cpuid --delay --fault --help --no-namespace --order --out --queue
-                    --retry --seed --seeds --verbose --watch" -- "$word"))
+                    --retry --seed --seeds --signals --verbose --watch" -- "$word"))
             else
                 COMPREPLY=($(compgen -c -- "$word"))
             fi

@@ -66,6 +66,20 @@ static void lists(void)
     done(batch(list, 1025, r), "too many members");
 }
 
+/* Among the members of a batch a batch, and one of another PASID; the last reads what the first writes. */
+static void strange_members(void)
+{
+    descriptor *list = fresh(PAGE);
+    list[0] = move(memory, memory + PAGE, 64, NULL);
+    list[1] = batch(list, 2, r + 1);
+    list[2] = move(memory + 1024, memory + 2048, 64, NULL);
+    list[2].pasid = 5;
+    list[3] = move(memory + PAGE, memory + 4096 - 64, 64, NULL);
+    memset((void *)(r + 1), 0, sizeof *r);
+    done(batch(list, 4, r), "the batch");
+    printf("the member: status %#x\n", r[1].status);
+}
+
 /* The device does nothing, and has no place to say so. */
 static void odd_record(void)
 {
@@ -304,7 +318,7 @@ int main(int argc, char **argv)
     static const struct plain { const char *name; void (*run)(void); } plain[] = {
         {"pages", missing_pages}, {"gone", gone}, {"lists", lists}, {"record", odd_record}, {"refused", refused},
         {"unreadable", unreadable}, {"child", child}, {"partial", partial}, {"retried", retried},
-        {"written", written}, {"full", full}, {"maps", maps},
+        {"written", written}, {"full", full}, {"maps", maps}, {"members", strange_members},
     };
     for (size_t i = 0; i < sizeof plain / sizeof *plain; i++)
         if (strcmp(what, plain[i].name) == 0)

@@ -1,0 +1,47 @@
+"""What clients of tests/trace.py print."""
+
+# What a shell does to the driver's files.
+SYSFS = """
+echo dsa0 > /sys/bus/dsa/drivers/idxd/unbind
+cat /sys/bus/dsa/devices/dsa0/state /sys/bus/dsa/devices/wq0.0/state
+echo dsa0 > /sys/bus/dsa/drivers/idxd/bind
+echo wq0.1 > /sys/bus/dsa/drivers/user/bind
+cat /sys/bus/dsa/devices/dsa0/state /sys/bus/dsa/devices/wq0.0/state /sys/bus/dsa/devices/wq0.1/state
+ls -d /dev/dsa/* /sys/module/idxd
+echo wq0.1 > /sys/bus/dsa/drivers/user/unbind
+ls /dev/dsa | wc -l
+"""
+
+# The statuses are those of linux/idxd.h; 0x84 is 4 with the bit of a write. Two pages are there, and the next is missing.
+REFUSED = {
+    "pages": ["write, blocking: status 0x84, 0 bytes, at 0x2000", "write: status 0x83, 0 bytes, at 0x2000",
+              "read: status 0x3, 0 bytes, at 0x2000"],
+    "gone": ["to an unmapped page: status 0x84, 0 bytes", "from an unmapped page: status 0x4, 0 bytes",
+             "beyond the end of a file: status 0x84, 0 bytes", "to a page that is read alone: status 0x84, 0 bytes",
+             "can't be written, so the completion is lost", "the next: status 0x1,"],
+    "lists": ["missing list: status 0x6, 0 bytes, at 0x2000", "odd list: status 0x18,", "one member: status 0x14,",
+              "too many members: status 0x14,"],
+    "record": ["no multiple of 32", "the next: status 0x1,", "moved 0, record 0"],
+    "refused": ["reserved flag: status 0x11,", "invalid flags 0x40\n", "check result of a move: status 0x11,",
+                "interrupt: status 0x19,", "operation 0xa: status 0x10,", "no bytes: status 0x13,",
+                "reserved byte: status 0x12,",
+                "reserved bits: status 0x12,", "dualcast bits: status 0x17,", "dualcast overlap: status 0x16,",
+                "delta of 12 bytes: status 0x13,", "delta record of 11 bytes: status 0x15,"],
+}
+
+
+def rewriting(is_on, count, library):
+    """The cases of tests/trace/rewritten.c: a name, the words, and lines that are printed if sites are rewritten or
+    not."""
+    codes = [f"code {i}: 5 right, rewritten {is_on and i < 3:d}\n" for i in range(4)]
+    return {
+        "one site": (["threads", f"one{count}"], f"{count} of {count} right, {is_on:d} rewritten"),
+        "many sites": (["threads", f"all{count}"], f"{count} of {count} right, {64 * is_on} rewritten"),
+        "a handler": (["timer"], "0 wrong in threads, 0 wrong in the handler, fired 1"),
+        "children": (["forks"], "20 of 20 children right, 0 wrong in threads, without a portal 139, afterwards 1"),
+        "a library": (["library", library], f"50 of 50 right, rewritten in {10 * is_on} of 10 loads"),
+        "other code": (["made"], *codes),
+        "code made anew": (["anew"], f"12000 of 12000 right, rewritten in {300 * is_on} of 300 rounds, "),
+        "children of it": (["anew", "forks"], "12000 of 12000", f"in {300 * is_on} of 300 rounds, 300 children right"),
+        "what faults": (["unreadable"], f"7 right, fault at 1, stored 1, no portal, rewritten {is_on:d}"),
+    }

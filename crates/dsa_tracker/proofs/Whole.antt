@@ -17,7 +17,7 @@ use Rattle.dsa_tracker.specs.Table.{HasToWait, IsExactly, IsFirstFree, IsFull, I
 use Rattle.dsa_tracker.specs.Words.{AreMeasures, IsShapedIn, IsStateIn, IsTracker, board_in, log2_rows_in, rows_in, shown_in, slots_in, stores_in, table_in, waits_in, width_in, words_needed}
 use Rattle.dsa_tracker.proofs.Parted.{Parts, head_written, shaped_out, shown_is, tracker_of}
 use Rattle.dsa_tracker.proofs.Showing.{none_shown}
-use Rattle.dsa_tracker.proofs.Tables.{awaited, first_free, full, held, is_ready, none_awaited, not_held, ready, same_waits}
+use Rattle.dsa_tracker.proofs.Tables.{awaited, first_free, full, held, is_ready, not_held, ready, same_waits}
 
 module _ (words : List ℕ) (h : Head) (shaped : IsShapedIn words) (head : IsHeadOf words h) where
   its_parts : Parts words h (waits_in words) (stores_in words) (rows_in words)
@@ -74,9 +74,6 @@ module _ (words : List ℕ) (h : Head) (shaped : IsShapedIn words) (head : IsHea
 
   pub awaited_in : (slot : ℕ) (w : Slots) → Has h.board.outstanding slot × (w ≡ waits_of (waits_in words) slot) → IsExactly w (λ s. WaitsFor (shown_in words) s slot)
   awaited_in slot w is = subst (λ (x : Slots). IsExactly x (λ s. WaitsFor (shown_in words) s slot)) (sym is.1) (awaited h.board (waits_in words) (stores_in words) (rows_in words) h.shape its_shape (table_in words) slots_are slot is.0)
-
-  pub none_awaited_in : (slot : ℕ) → (Has h.board.outstanding slot → ⊥) → IsExactly (record { 0 = 0 }) (λ s. WaitsFor (shown_in words) s slot)
-  none_awaited_in slot free = none_awaited h.board (waits_in words) (stores_in words) (rows_in words) h.shape its_shape (table_in words) slots_are slot free
 
   -- the stores of the first free slot were filled, and it was taken
   pub submits_in :

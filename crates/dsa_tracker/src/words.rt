@@ -173,22 +173,22 @@ pub fn ask(words: &[u64], reads: &[Span], writes: &[Span]) -> Result<Slots, Word
     Ok(conflicts_in(words, head, reads, writes))
 }
 
-/// The slots that the submission of this slot waits for; none if it is not outstanding.
+/// The slots that the submission of this slot waits for: with none it is ready, so it may be rung.
 ///
 /// # Errors
-/// The words are no tracker's.
+/// The words are no tracker's, or the slot has no outstanding submission.
 pub fn waits(words: &[u64], slot: u32) -> Result<Slots, WordsFault>
     ensures { MatchResult result
-        (λ set. IsShapedIn words.now ×
+        (λ set. IsShapedIn words.now × IsHeld (table_in words.now).slots slot ×
         IsExactly set (λ s. WaitsFor (table_in words.now).slots s slot))
-        (λ f. (f ≡ WordsFault.NotATracker) × (¬ IsShapedIn words.now)) }
+        (λ f. RefusesIn words.now f (IsWithdrawFault (table_in words.now) slot)) }
 {
     let Some(head) = read_head(words) else {
         return Err(WordsFault::NotATracker);
     };
     match waits_at_in(words, head, slot) {
         Some(waits) => Ok(waits),
-        None => Ok(Slots::EMPTY),
+        None => Err(WordsFault::Track(TrackFault::NotOutstanding(slot))),
     }
 }
 

@@ -1,10 +1,10 @@
 -- Bits of words.
-use Rattle.std.proofs.Common.{◌≡◌, ◌≢◌, ℕ, ◌-◌, ◌*◌, ◌%◌, ◌^◌, ◌<◌, ◌≤◌, ◌↔◌, ◌⊎◌, inl, inr, refl, sym, subst, arith}
+use Rattle.std.proofs.Common.{◌≡◌, ◌≢◌, ℕ, ◌+◌, ◌-◌, ◌*◌, ◌/◌, ◌%◌, ◌^◌, ◌<◌, ◌≤◌, ◌↔◌, ◌⊎◌, inl, inr, refl, sym, ap, ◌∙◌, subst, arith}
 use Rattle.std.specs.Prelude.{bit_and, bit_or, max, min}
 use Rattle.std.specs.Int.{bit_at, w64, trailing_zeros}
 use Rattle.std.proofs.lemmas.Bool.{cases_eq, cases_lt}
 use Rattle.std.proofs.lemmas.Nat.Bits.{bit_at_set_same, bit_at_set_other, bit_at_clear_same, bit_at_clear_other, bit_at_above, bit_at_and, bit_at_or, bit_at_not, bit_at_ones, bit_at-zero, bit_at-trailing_zeros, same_from_bits}
-use Rattle.std.proofs.lemmas.Nat.{and_le_l}
+use Rattle.std.proofs.lemmas.Nat.{and_le_l, shr-shr}
 
 -- a bit that is set
 abbrev IsSet : ℕ → ℕ → Type 0
@@ -140,3 +140,19 @@ lower n k small few set =
       | inl same ↦ absurd (((clear_one n k small few k).0 (subst (λ x. IsSet x k) (sym same) set)).1 refl)
       | inr apart ↦ let le = and_le_l n (18446744073709551615 - 1 * 2 ^ k % 18446744073709551616) in omega (arith, le, apart)
     ]
+
+-- the bits of a word from one place on
+shifted : (n k i : ℕ) → bit_at (n / 2 ^ k) i ≡ bit_at n (k + i)
+shifted n k i = ap (λ (m : ℕ). m % 2) (shr-shr n k i)
+
+pub none_from : (n k : ℕ) → ((i : ℕ) → IsSet (n / 2 ^ k) i → ⊥) → (i : ℕ) → IsSet n i → i < k
+none_from n k none i h =
+    elim (cases_lt i k) [
+      | inl lt ↦ lt
+      | inr ge ↦
+          let back : k + (i - k) ≡ i = omega (arith, ge) in
+          absurd (none (i - k) (subst (λ (b : ℕ). 0 < b) (sym (shifted n k (i - k) ∙ ap (λ (j : ℕ). bit_at n j) back)) h))
+    ]
+
+pub all_below : (n k : ℕ) → ((i : ℕ) → IsSet n i → i < k) → (i : ℕ) → IsSet (n / 2 ^ k) i → ⊥
+all_below n k below i h = let lt = below (k + i) (subst (λ (b : ℕ). 0 < b) (shifted n k i) h) in omega (arith, lt)

@@ -41,7 +41,7 @@ module _ (x : Inside) (t : Table) (view_is : table x ≡ t) (sound : IsSound x) 
     state_filled w r w_is r_is =
         subst (λ ws. IsState x.board ws d r x.shape) (sym w_is)
         (subst (λ rs. IsState x.board x.waits.items d rs x.shape) (sym r_is)
-        (filled_state x.board x.waits.items x.stores.items x.rows.items x.shape sound.state t slots_are slot free s1 d len first second))
+        (filled_state x.board x.waits.items x.stores.items x.rows.items x.shape sound.state.shaped t slots_are slot free s1 d len first second sound.state))
 
     pub submits_filled :
         (new : Board) (w w' w_now stores_now : List ℕ) (reads writes : List Span) (also answer : Slots) (owner owner' : Option Owner) → w ≡ x.waits.items → w_now ≡ w' → d ≡ stores_now →
@@ -52,7 +52,7 @@ module _ (x : Inside) (t : Table) (view_is : table x ≡ t) (sound : IsSound x) 
     submits_filled new w w' w_now stores_now reads writes also answer owner owner' w_is now_is stores_are inside before reads_are writes_are exact new_is here owner_same =
         subst (λ ws. Submits t reads writes also owner (record { slot = slot; waits = answer }) (record { slots = all_shown x.shape.width new ws stores_now; room = x.room; owner = owner' })) (sym now_is)
         (subst (λ ss. Submits t reads writes also owner (record { slot = slot; waits = answer }) (record { slots = all_shown x.shape.width new w' ss; room = x.room; owner = owner' })) stores_are
-        (submits x.board x.waits.items x.stores.items x.rows.items x.shape sound.state t slots_are slot free s1 d len first second new w' reads writes also answer owner owner' x.room inside before
+        (submits x.board x.waits.items x.stores.items x.rows.items x.shape sound.state.shaped t slots_are slot free s1 d len first second new w' reads writes also answer owner owner' x.room inside before
         (subst (λ (store : List ℕ). SameAddresses (kept store) reads) (sym (second (2 * slot) (λ e. omega (arith, e)))) reads_are)
         (subst (λ (ss : List ℕ). SameAddresses (kept (store_at x.shape.width ss (2 * slot + 1))) writes) (sym d_is) writes_are)
         (subst (λ ws. IsExactly answer (HasToWait (all_shown x.shape.width x.board ws d) (kept (reads_store x.shape.width d slot)) (kept (writes_store x.shape.width d slot)) also)) w_is exact)
@@ -67,7 +67,7 @@ module _ (x : Inside) (t : Table) (view_is : table x ≡ t) (sound : IsSound x) 
         Retires t slot retired (record { slots = all_shown x.shape.width new w_now x.stores.items; room = x.room; owner = x.owner })
     retires_given released waited ready =
         subst (λ ws. Retires t slot retired (record { slots = all_shown x.shape.width new ws x.stores.items; room = x.room; owner = x.owner })) (sym now_is)
-        (retires x.board x.waits.items x.stores.items x.rows.items x.shape sound.state t slots_are new w' slot retired x.room x.owner room_is owner_is
+        (retires x.board x.waits.items x.stores.items x.rows.items x.shape sound.state.shaped t slots_are new w' slot retired x.room x.owner room_is owner_is
         of.0 of.1 of.2)
       where
         of : Releases (all_shown x.shape.width x.board x.waits.items x.stores.items) slot (all_shown x.shape.width new w' x.stores.items) × IsExactly retired.waited (WaitsFor (all_shown x.shape.width x.board x.waits.items x.stores.items) slot) × IsExactly retired.ready (λ s. WaitsFor (all_shown x.shape.width x.board x.waits.items x.stores.items) slot s × IsReady (all_shown x.shape.width new w' x.stores.items) s)

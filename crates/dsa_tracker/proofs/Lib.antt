@@ -4,7 +4,7 @@ pub mod Deciding
 pub mod Honest
 pub mod RowBits
 pub mod Numbers
-pub mod Words
+pub mod Stored
 pub mod Noting
 pub mod Pieces
 pub mod Stores
@@ -15,3 +15,6 @@ pub mod Asked
 pub mod Tables
 pub mod Filling
 pub mod Lists
+pub mod Parted
+pub mod Rewritten
+pub mod Whole

@@ -14,7 +14,7 @@ use Rattle.dsa_tracker.specs.Sets.{Has}
 use Rattle.dsa_tracker.specs.Table.{IsExactly, IsWithout}
 use Rattle.dsa_tracker.proofs.Bits.{not_above}
 use Rattle.dsa_tracker.proofs.RowBits.{noted_still}
-use Rattle.dsa_tracker.proofs.Words.{in_kept, span_here}
+use Rattle.dsa_tracker.proofs.Stored.{in_kept, span_here}
 
 abbrev Decided : Type 0 → Type 0
 Decided A = A ⊎ (A → ⊥)

@@ -6,10 +6,24 @@ use Rattle.dsa_tracker.specs.declared.slots.Slots.{Slots}
 use Rattle.dsa_tracker.specs.Calls.{Releases}
 use Rattle.dsa_tracker.specs.Rows.{Holds}
 use Rattle.dsa_tracker.specs.Sets.{Has, IsEmpty}
-use Rattle.dsa_tracker.specs.State.{IsState, all_shown, waits_of}
+use Rattle.dsa_tracker.specs.State.{IsShaped, IsState, all_shown, waits_of}
 use Rattle.dsa_tracker.specs.Table.{IsExactly, IsReady, IsWithout, Outstanding, WaitsFor}
 use Rattle.dsa_tracker.proofs.Noting.{covered_still, has}
 use Rattle.dsa_tracker.proofs.Showing.{count, free_is, held_is, is_free, is_held, one_at}
+
+pub released_shaped :
+    (board new : Board) (waits waits' stores rows rows' : List ℕ) (shape : Shape) (slot : ℕ) → IsShaped board waits stores rows shape → length waits' ≡ length waits → (ready : Slots) →
+    ((s : ℕ) → Has new.outstanding s ↔ (Has board.outstanding s × (s ≢ slot))) → ((s : ℕ) → Has new.blocked s ↔ (Has board.blocked s × (¬ Has ready s) × (s ≢ slot))) →
+    length rows' ≡ length rows → IsShaped new waits' stores rows' shape
+released_shaped board new waits waits' stores rows rows' shape slot shaped len ready outstanding blocked sized =
+    record {
+      few = omega (arith, len, shaped.few);
+      wide = shaped.wide;
+      stored = subst (λ (n : ℕ). length stores ≡ 2 * n * shape.width) (sym len) shaped.stored;
+      sized = sized ∙ shaped.sized;
+      within = λ s h. let lt = shaped.within s ((outstanding s).0 h).0 in omega (arith, lt, len);
+      held = λ s h. let was = (blocked s).0 h in (outstanding s).1 (shaped.held s was.0, was.2);
+    }
 
 module _ (board new : Board) (waits waits' stores rows rows' : List ℕ) (shape : Shape) (slot : ℕ) (waited ready answer : Slots)
     (state : IsState board waits stores rows shape) (is_held_slot : Has board.outstanding slot)
@@ -37,23 +51,23 @@ module _ (board new : Board) (waits waits' stores rows rows' : List ℕ) (shape 
       ]
 
   within : (s : ℕ) → Has new.outstanding s → s < length waits'
-  within s h = let lt = state.within s ((outstanding s).0 h).0 in omega (arith, lt, len)
+  within s h = let lt = state.shaped.within s ((outstanding s).0 h).0 in omega (arith, lt, len)
 
   pub released : Releases (all_shown shape.width board waits stores) slot (all_shown shape.width new waits' stores)
   released =
       record {
         count = count shape.width new waits' stores ∙ len ∙ sym (count shape.width board waits stores);
-        freed = let lt = state.within slot is_held_slot in free_is shape.width new waits' stores within slot (omega (arith, lt, len)) (λ h. ((outstanding slot).0 h).1 refl);
+        freed = let lt = state.shaped.within slot is_held_slot in free_is shape.width new waits' stores within slot (omega (arith, lt, len)) (λ h. ((outstanding slot).0 h).1 refl);
         others = others;
         free = λ s h.
-            let was = is_free shape.width board waits stores state.within s h in
+            let was = is_free shape.width board waits stores state.shaped.within s h in
             let lt = was.0 in
             free_is shape.width new waits' stores within s (omega (arith, lt, len)) (λ now. was.1 ((outstanding s).0 now).0);
       }
     where
       others : (s : ℕ) (o : Outstanding) → s ≢ slot → slice_get (all_shown shape.width board waits stores) s ≡ Some (Some o) → (rest : Slots) × (slice_get (all_shown shape.width new waits' stores) s ≡ Some (Some (record o { waits = rest }))) × IsWithout o.waits slot rest
       others s o apart is =
-          let was = is_held shape.width board waits stores state.within s o is in (
+          let was = is_held shape.width board waits stores state.shaped.within s o is in (
             waits_of waits' s,
             held_is shape.width new waits' stores within s ((outstanding s).1 (was.0, apart))
                 ∙ ap {B = Option (Option Outstanding)} (λ (x : Outstanding). Some (Some (record x { waits = waits_of waits' s }))) (sym was.1),
@@ -62,7 +76,7 @@ module _ (board new : Board) (waits waits' stores rows rows' : List ℕ) (shape 
 
   waiting : (s : ℕ) → Has waited s ↔ WaitsFor (all_shown shape.width board waits stores) slot s
   waiting s =
-      let at = one_at shape.width board waits stores state.within s (λ o. Has o.waits slot) in (
+      let at = one_at shape.width board waits stores state.shaped.within s (λ o. Has o.waits slot) in (
         λ h. let both = (waited_is s).0 h in at.1 (((state.blocked s).0 both.0).0, both.1),
         λ h. let both = at.0 h in waits_so s both.0 both.1,
       )
@@ -104,14 +118,10 @@ module _ (board new : Board) (waits waits' stores rows rows' : List ℕ) (shape 
   pub released_state : IsState new waits' stores rows' shape
   released_state =
       record {
-        few = omega (arith, len, state.few);
-        wide = state.wide;
-        stored = subst (λ (n : ℕ). length stores ≡ 2 * n * shape.width) (sym len) state.stored;
-        sized = sized ∙ state.sized;
-        within = within;
+        shaped = released_shaped board new waits waits' stores rows rows' shape slot state.shaped len ready outstanding blocked sized;
         blocked = blocked_now;
         covered =
             covered_still shape.width stores shape.grid rows rows' board.wide new.wide board.outstanding new.outstanding state.covered
             (λ k h. ((outstanding k).0 h).0) (λ k h w. (wide k).1 (w, ((outstanding k).0 h).1))
-            (λ r k h. let out = (outstanding k).0 h in let lt = state.within k out.0 in stays r k (omega (arith, lt, state.few)) out.1);
+            (λ r k h. let out = (outstanding k).0 h in let lt = state.shaped.within k out.0 in stays r k (omega (arith, lt, state.shaped.few)) out.1);
       }

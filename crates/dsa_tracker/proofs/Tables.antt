@@ -16,7 +16,7 @@ use Rattle.dsa_tracker.specs.Finding.{Covers, reads_store, writes_store}
 use Rattle.dsa_tracker.specs.Keeping.{AreOtherStores}
 use Rattle.dsa_tracker.specs.Kept.{kept, store_at}
 use Rattle.dsa_tracker.specs.Sets.{Has, IsEmpty}
-use Rattle.dsa_tracker.specs.State.{IsState, all_shown, kept_at, waits_of}
+use Rattle.dsa_tracker.specs.State.{IsShaped, IsState, all_shown, kept_at, waits_of}
 use Rattle.dsa_tracker.specs.Table.{ConflictsWith, HasToWait, IsExactly, IsFirstFree, IsFull, IsHeld, IsReady, Outstanding, Table, WaitsFor}
 use Rattle.dsa_tracker.proofs.Bits.{zero_has_none}
 use Rattle.dsa_tracker.proofs.Showing.{count, free_is, held_is, is_held, one_at, same_all}
@@ -32,36 +32,36 @@ same_waits slots reads writes reads' writes' also set r w exact s = (
   λ h. (exact s).1 (h.0, h.1, elim h.2 [ inl c ↦ inl (one_way h.0 reads' writes' reads writes (λ a. (r a).1) (λ a. (w a).1) c) | inr n ↦ inr n ]),
 )
 
-module _ (board : Board) (waits stores rows : List ℕ) (shape : Shape) (state : IsState board waits stores rows shape) (t : Table) (slots_are : all_shown shape.width board waits stores ≡ t.slots) where
+module _ (board : Board) (waits stores rows : List ℕ) (shape : Shape) (shaped : IsShaped board waits stores rows shape) (t : Table) (slots_are : all_shown shape.width board waits stores ≡ t.slots) where
   pub full : ((s : ℕ) → s < length waits → s < 64 → Has board.outstanding s) → IsFull t.slots
   full all =
       subst IsFull slots_are
       (λ k lt.
       let low : k < length waits = omega (arith, lt, count shape.width board waits stores) in
-      (kept_at shape.width waits stores k, held_is shape.width board waits stores state.within k (all k low (omega (arith, low, state.few)))))
+      (kept_at shape.width waits stores k, held_is shape.width board waits stores shaped.within k (all k low (omega (arith, low, shaped.few)))))
 
   pub first_free : (slot : ℕ) → slot < length waits → (Has board.outstanding slot → ⊥) → ((k : ℕ) → k < slot → Has board.outstanding k) → IsFirstFree t.slots slot
   first_free slot inside free before =
       subst (λ xs. IsFirstFree xs slot) slots_are
-      (free_is shape.width board waits stores state.within slot inside free, λ k lt. (kept_at shape.width waits stores k, held_is shape.width board waits stores state.within k (before k lt)))
+      (free_is shape.width board waits stores shaped.within slot inside free, λ k lt. (kept_at shape.width waits stores k, held_is shape.width board waits stores shaped.within k (before k lt)))
 
   pub held : (slot : ℕ) → Has board.outstanding slot → IsHeld t.slots slot
-  held slot h = subst (λ xs. IsHeld xs slot) slots_are (kept_at shape.width waits stores slot, held_is shape.width board waits stores state.within slot h)
+  held slot h = subst (λ xs. IsHeld xs slot) slots_are (kept_at shape.width waits stores slot, held_is shape.width board waits stores shaped.within slot h)
 
   pub not_held : (slot : ℕ) → (Has board.outstanding slot → ⊥) → IsHeld t.slots slot → ⊥
   not_held slot free h =
       let was = subst (λ xs. IsHeld xs slot) (sym slots_are) h in
-      free (is_held shape.width board waits stores state.within slot was.0 was.1).0
+      free (is_held shape.width board waits stores shaped.within slot was.0 was.1).0
 
   pub ready : (slot : ℕ) → Has board.outstanding slot → IsEmpty (waits_of waits slot) → IsReady t.slots slot
-  ready slot h none = subst (λ xs. IsReady xs slot) slots_are ((one_at shape.width board waits stores state.within slot (λ o. IsEmpty o.waits)).1 (h, none))
+  ready slot h none = subst (λ xs. IsReady xs slot) slots_are ((one_at shape.width board waits stores shaped.within slot (λ o. IsEmpty o.waits)).1 (h, none))
 
   pub is_ready : (slot : ℕ) → IsReady t.slots slot → Has board.outstanding slot × IsEmpty (waits_of waits slot)
-  is_ready slot h = (one_at shape.width board waits stores state.within slot (λ o. IsEmpty o.waits)).0 (subst (λ xs. IsReady xs slot) (sym slots_are) h)
+  is_ready slot h = (one_at shape.width board waits stores shaped.within slot (λ o. IsEmpty o.waits)).0 (subst (λ xs. IsReady xs slot) (sym slots_are) h)
 
   pub waits_for : (slot s : ℕ) → WaitsFor t.slots s slot ↔ (Has board.outstanding slot × Has (waits_of waits slot) s)
   waits_for slot s =
-      let at = one_at shape.width board waits stores state.within slot (λ o. Has o.waits s) in (
+      let at = one_at shape.width board waits stores shaped.within slot (λ o. Has o.waits s) in (
         λ h. at.0 (subst (λ xs. WaitsFor xs s slot) (sym slots_are) h),
         λ h. subst (λ xs. WaitsFor xs s slot) slots_are (at.1 h),
       )
@@ -74,7 +74,7 @@ module _ (board : Board) (waits stores rows : List ℕ) (shape : Shape) (state :
 
   pub in_the_way : (reads writes : List Span) (found : Slots) → IsExactly found (λ k. Has board.outstanding k × SpansConflict (kept (reads_store shape.width stores k)) (kept (writes_store shape.width stores k)) reads writes) → IsExactly found (ConflictsWith t.slots reads writes)
   in_the_way reads writes found exact s =
-      let at = one_at shape.width board waits stores state.within s (λ o. SpansConflict o.reads o.writes reads writes) in (
+      let at = one_at shape.width board waits stores shaped.within s (λ o. SpansConflict o.reads o.writes reads writes) in (
         λ h. subst (λ xs. ConflictsWith xs reads writes s) slots_are (at.1 ((exact s).0 h)),
         λ h. (exact s).1 (at.0 (subst (λ xs. ConflictsWith xs reads writes s) (sym slots_are) h)),
       )
@@ -91,14 +91,13 @@ module _ (board : Board) (waits stores rows : List ℕ) (shape : Shape) (state :
         let writes = other (2 * s + 1) (λ e. omega (arith, e)) (λ e. apart (omega (arith, e))) in
         λ i. record { reads = kept (reads i); writes = kept (writes i); waits = waits_of waits s }
 
-    pub filled_state : IsState board waits stores' rows shape
-    filled_state =
+    pub filled_shaped : IsShaped board waits stores' rows shape
+    filled_shaped = record { few = shaped.few; wide = shaped.wide; stored = len ∙ shaped.stored; sized = shaped.sized; within = shaped.within; held = shaped.held }
+
+    pub filled_state : IsState board waits stores rows shape → IsState board waits stores' rows shape
+    filled_state state =
         record {
-          few = state.few;
-          wide = state.wide;
-          stored = len ∙ state.stored;
-          sized = state.sized;
-          within = state.within;
+          shaped = filled_shaped;
           blocked = state.blocked;
           covered = λ k h.
               let same = same_kept k h in

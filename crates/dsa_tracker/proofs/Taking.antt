@@ -10,7 +10,7 @@ use Rattle.dsa_tracker.specs.Finding.{Covers, Marks, reads_store, writes_store}
 use Rattle.dsa_tracker.specs.Kept.{kept}
 use Rattle.dsa_tracker.specs.Rows.{Holds}
 use Rattle.dsa_tracker.specs.Sets.{Has, IsEmpty}
-use Rattle.dsa_tracker.specs.State.{IsState, waits_of}
+use Rattle.dsa_tracker.specs.State.{IsShaped, IsState, waits_of}
 use Rattle.dsa_tracker.specs.Table.{IsExactly}
 use Rattle.dsa_tracker.proofs.Noting.{has}
 use Rattle.dsa_tracker.proofs.Showing.{waits_set_here, waits_set_other}
@@ -34,6 +34,24 @@ awaited_exactly outstanding also named among found all P names rest finds union 
   ],
 )
 
+pub taken_shaped :
+    (board new : Board) (waits stores rows rows' : List ℕ) (shape : Shape) (slot : ℕ) (awaited : Slots) (is_whole : Bool) → IsShaped board waits stores rows shape → slot < length waits →
+    ((s : ℕ) → Has new.outstanding s ↔ (Has board.outstanding s ⊎ (s ≡ slot))) → ((s : ℕ) → Has new.blocked s ↔ (Has board.blocked s ⊎ ((s ≡ slot) × (¬ IsEmpty awaited)))) →
+    length rows' ≡ length rows → IsShaped new (set waits slot awaited.0) stores rows' shape
+taken_shaped board new waits stores rows rows' shape slot awaited is_whole shaped inside outstanding blocked sized =
+    let len = length-set waits slot awaited.0 in
+    record {
+      few = omega (arith, len, shaped.few);
+      wide = shaped.wide;
+      stored = subst (λ (n : ℕ). length stores ≡ 2 * n * shape.width) (sym len) shaped.stored;
+      sized = sized ∙ shaped.sized;
+      within = λ s h. elim ((outstanding s).0 h) [
+        | inl was ↦ let lt = shaped.within s was in omega (arith, lt, len)
+        | inr same ↦ omega (arith, same, inside, len)
+      ];
+      held = λ s h. elim ((blocked s).0 h) [ inl was ↦ (outstanding s).1 (inl (shaped.held s was)) | inr here ↦ (outstanding s).1 (inr here.0) ];
+    }
+
 module _ (board new : Board) (waits stores rows rows' : List ℕ) (shape : Shape) (slot : ℕ) (awaited : Slots) (is_whole : Bool)
     (state : IsState board waits stores rows shape) (inside : slot < length waits) (free : ¬ Has board.outstanding slot)
     (outstanding : (s : ℕ) → Has new.outstanding s ↔ (Has board.outstanding s ⊎ (s ≡ slot)))
@@ -49,7 +67,7 @@ module _ (board new : Board) (waits stores rows rows' : List ℕ) (shape : Shape
   len = length-set waits slot awaited.0
 
   within : (s : ℕ) → Has new.outstanding s → s < length waits
-  within s h = elim ((outstanding s).0 h) [ inl was ↦ state.within s was | inr same ↦ subst (λ (n : ℕ). n < length waits) (sym same) inside ]
+  within s h = elim ((outstanding s).0 h) [ inl was ↦ state.shaped.within s was | inr same ↦ subst (λ (n : ℕ). n < length waits) (sym same) inside ]
 
   here : waits_of now slot ≡ awaited
   here = waits_set_here waits slot awaited inside
@@ -92,8 +110,8 @@ module _ (board new : Board) (waits stores rows rows' : List ℕ) (shape : Shape
   covered_now k h =
       elim ((outstanding k).0 h) [
         | inl was ↦
-            let lt = state.within k was in
-            let low : k < 64 = omega (arith, lt, state.few) in
+            let lt = state.shaped.within k was in
+            let low : k < 64 = omega (arith, lt, state.shaped.few) in
             elim (state.covered k was) [
               | inl is_wide ↦ inl ((wide k).1 (inl is_wide))
               | inr marks ↦ inr (
@@ -105,13 +123,4 @@ module _ (board new : Board) (waits stores rows rows' : List ℕ) (shape : Shape
       ]
 
   pub taken_state : IsState new now stores rows' shape
-  taken_state =
-      record {
-        few = omega (arith, len, state.few);
-        wide = state.wide;
-        stored = subst (λ (n : ℕ). length stores ≡ 2 * n * shape.width) (sym len) state.stored;
-        sized = sized ∙ state.sized;
-        within = λ s h. let lt = within s h in omega (arith, lt, len);
-        blocked = blocked_now;
-        covered = covered_now;
-      }
+  taken_state = record { shaped = taken_shaped board new waits stores rows rows' shape slot awaited is_whole state.shaped inside outstanding blocked sized; blocked = blocked_now; covered = covered_now }

@@ -3,6 +3,8 @@ use Rattle.std.specs.Prelude.{ℕ, List, codes}
 use Rattle.dsa_descriptor.specs.declared.indices.Indices.{Indices}
 use Rattle.dsa_descriptor.specs.declared.indices.Indices.TheVariants.{Empty, One}
 use Rattle.dsa_tracker.specs.declared.fault.TrackFault.{TrackFault}
+use Rattle.dsa_tracker.specs.declared.fault.WordsFault.{WordsFault}
+use Rattle.dsa_tracker.specs.declared.fault.WordsFault.TheVariants.{NotATracker, Track}
 use Rattle.dsa_tracker.specs.declared.fault.TrackFault.TheVariants.{NoSlot, TooManySpans, NotOutstanding, Held, Wrap, OtherOwner}
 
 -- the number, the name and the indices
@@ -31,3 +33,13 @@ track_indices (NotOutstanding slot) = One slot
 track_indices (Held slot) = One slot
 track_indices (Wrap span) = One span
 track_indices (OtherOwner piece) = One piece
+
+-- the number of a refusal of words
+abbrev pub words_number : WordsFault → ℕ
+words_number NotATracker = 126
+words_number (Track fault) = track_number fault
+
+-- and the number that it names
+abbrev pub words_indices : WordsFault → Indices
+words_indices NotATracker = Empty
+words_indices (Track fault) = track_indices fault

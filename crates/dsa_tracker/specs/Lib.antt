@@ -8,4 +8,6 @@ pub mod Keeping
 pub mod Finding
 pub mod State
 pub mod Inside
+pub mod Words
+pub mod Head
 pub mod Honest

@@ -27,13 +27,18 @@ shown width board waits stores s = if bit_at board.outstanding.0 s == 1 then Som
 abbrev pub all_shown : ℕ → Board → List ℕ → List ℕ → List (Option Outstanding)
 all_shown width board waits stores = map (shown width board waits stores) (range_with_len 0 (length waits))
 
--- there are at most 64 slots, each with its stores; only slots are outstanding, and just those of them are blocked that wait;
--- the rows cover what is outstanding
-pub record IsState (board : Board) (waits stores rows : List ℕ) (shape : Shape) : Type 0 where
+-- what memory safety rests on, and a few words show: there are at most 64 slots, each with its stores; only slots are
+-- outstanding, and only outstanding ones blocked
+pub record IsShaped (board : Board) (waits stores rows : List ℕ) (shape : Shape) : Type 0 where
   pub few : length waits ≤ 64
   pub wide : 0 < shape.width
   pub stored : length stores ≡ 2 * length waits * shape.width
   pub sized : length rows ≡ 2 * 2 ^ shape.grid.log2_rows
   pub within : (s : ℕ) → Has board.outstanding s → s < length waits
+  pub held : (s : ℕ) → Has board.blocked s → Has board.outstanding s
+
+-- and what answers rest on: just those are blocked that wait, and the rows cover what is outstanding
+pub record IsState (board : Board) (waits stores rows : List ℕ) (shape : Shape) : Type 0 where
+  pub shaped : IsShaped board waits stores rows shape
   pub blocked : (s : ℕ) → Has board.blocked s ↔ (Has board.outstanding s × (¬ IsEmpty (waits_of waits s)))
   pub covered : AreCovered shape.width stores shape.grid rows board.wide board.outstanding

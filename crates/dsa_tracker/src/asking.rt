@@ -26,9 +26,8 @@ fn slots_against_one(
     requires sized { length rows.now ≡ 2 * 2 ^ shape.grid.log2_rows }
     requires wide { 0 < shape.width }
     requires within { HaveStores shape.width stores.now others.among }
-    requires covered { AreCovered shape.width stores.now shape.grid rows.now others.wide
-        others.among }
-    ensures { IsExactly result (λ k. Has others.among k ×
+    ensures { AreCovered shape.width stores.now shape.grid rows.now others.wide others.among →
+        IsExactly result (λ k. Has others.among k ×
         ConflictsWithSpans shape.width stores.now is_written (span ∷ []) k) }
 {
     if span.len == 0 {
@@ -52,9 +51,8 @@ fn slots_against(
     requires sized { length rows.now ≡ 2 * 2 ^ shape.grid.log2_rows }
     requires wide { 0 < shape.width }
     requires within { HaveStores shape.width stores.now others.among }
-    requires covered { AreCovered shape.width stores.now shape.grid rows.now others.wide
-        others.among }
-    ensures { IsExactly result (λ k. Has others.among k ×
+    ensures { AreCovered shape.width stores.now shape.grid rows.now others.wide others.among →
+        IsExactly result (λ k. Has others.among k ×
         ConflictsWithSpans shape.width stores.now is_written spans.now k) }
 {
     let mut found = Slots::EMPTY;
@@ -77,9 +75,8 @@ pub(crate) fn slots_in_the_way(
     requires sized { length rows.now ≡ 2 * 2 ^ shape.grid.log2_rows }
     requires wide { 0 < shape.width }
     requires within { HaveStores shape.width stores.now others.among }
-    requires covered { AreCovered shape.width stores.now shape.grid rows.now others.wide
-        others.among }
-    ensures { IsExactly result (λ k. Has others.among k × SpansConflict
+    ensures { AreCovered shape.width stores.now shape.grid rows.now others.wide others.among →
+        IsExactly result (λ k. Has others.among k × SpansConflict
         (kept (reads_store shape.width stores.now k))
         (kept (writes_store shape.width stores.now k)) reads.now writes.now) }
 {

@@ -5,7 +5,7 @@ ghost use Rattle.dsa_tracker.specs.Calls.{Releases};
 ghost use Rattle.dsa_tracker.specs.Finding.{reads_store, writes_store};
 ghost use Rattle.dsa_tracker.specs.Kept.{kept};
 ghost use Rattle.dsa_tracker.specs.Sets.{Has, IsEmpty};
-ghost use Rattle.dsa_tracker.specs.State.{IsState, all_shown, kept_at, waits_of};
+ghost use Rattle.dsa_tracker.specs.State.{IsShaped, IsState, all_shown, kept_at, waits_of};
 ghost use Rattle.dsa_tracker.specs.Table.{HasToWait, IsExactly, IsReady, IsWithout, WaitsFor};
 
 use crate::finding::Others;
@@ -107,17 +107,20 @@ pub(crate) fn take(
     slot: u32,
     also: Slots,
 ) -> Slots
-    requires state { IsState board.old waits.old stores.now rows.old shape }
+    requires shaped { IsShaped board.old waits.old stores.now rows.old shape }
     requires within { slot < length waits.old }
     requires free { ¬ Has board.old.outstanding slot }
-    ensures waits { IsExactly result (HasToWait (all_shown shape.width board.old waits.old
+    ensures waits { IsState board.old waits.old stores.now rows.old shape →
+        IsExactly result (HasToWait (all_shown shape.width board.old waits.old
         stores.now) (kept (reads_store shape.width stores.now slot))
         (kept (writes_store shape.width stores.now slot)) also) }
     ensures slots { all_shown shape.width board.new waits.new stores.now ≡ slice_set
         (all_shown shape.width board.old waits.old stores.now) slot
         (Some (kept_at shape.width waits.new stores.now slot)) }
     ensures here { waits_of waits.new slot ≡ result }
-    ensures state { IsState board.new waits.new stores.now rows.new shape }
+    ensures shaped { IsShaped board.new waits.new stores.now rows.new shape }
+    ensures state { IsState board.old waits.old stores.now rows.old shape →
+        IsState board.new waits.new stores.now rows.new shape }
 {
     let reads = store(stores, shape.width, 2 * slot as usize);
     let writes = store(stores, shape.width, 2 * slot as usize + 1);
@@ -189,16 +192,21 @@ pub(crate) fn release(
     shape: Shape,
     slot: u32,
 ) -> Retired
-    requires state { IsState board.old waits.old stores.now rows.old shape }
+    requires shaped { IsShaped board.old waits.old stores.now rows.old shape }
     requires held { Has board.old.outstanding slot }
-    ensures released { Releases (all_shown shape.width board.old waits.old stores.now) slot
+    ensures released { IsState board.old waits.old stores.now rows.old shape →
+        Releases (all_shown shape.width board.old waits.old stores.now) slot
         (all_shown shape.width board.new waits.new stores.now) }
-    ensures waited { IsExactly result.waited
+    ensures waited { IsState board.old waits.old stores.now rows.old shape →
+        IsExactly result.waited
         (WaitsFor (all_shown shape.width board.old waits.old stores.now) slot) }
-    ensures ready { IsExactly result.ready (λ s.
+    ensures ready { IsState board.old waits.old stores.now rows.old shape →
+        IsExactly result.ready (λ s.
         WaitsFor (all_shown shape.width board.old waits.old stores.now) slot s ×
         IsReady (all_shown shape.width board.new waits.new stores.now) s) }
-    ensures state { IsState board.new waits.new stores.now rows.new shape }
+    ensures shaped { IsShaped board.new waits.new stores.now rows.new shape }
+    ensures state { IsState board.old waits.old stores.now rows.old shape →
+        IsState board.new waits.new stores.now rows.new shape }
 {
     let reads = store(stores, shape.width, 2 * slot as usize);
     let writes = store(stores, shape.width, 2 * slot as usize + 1);

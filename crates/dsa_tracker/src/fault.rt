@@ -1,7 +1,7 @@
 //! Why a tracker refuses a call.
 
 ghost use Rattle.std.specs.Prelude.{◌≡◌, ◌≤◌, length};
-ghost use Rattle.dsa_tracker.specs.Causes.{track_number, track_name, track_indices};
+ghost use Rattle.dsa_tracker.specs.Causes.{track_indices, track_name, track_number, words_indices, words_number};
 
 use dsa_descriptor::Indices;
 
@@ -20,6 +20,37 @@ pub enum TrackFault {
     Wrap(usize),
     /// The piece of this index has another PASID or privilege.
     OtherOwner(usize),
+}
+
+/// A refusal of a call over an array of words. After one nothing has changed.
+#[derive(Clone, Copy, Debug, PartialEq, Eq)]
+pub enum WordsFault {
+    /// The words have not the form of a tracker, or one of these measures does not fit into them.
+    NotATracker,
+    /// The tracker refuses the call.
+    Track(TrackFault),
+}
+
+impl WordsFault {
+    /// The number of the refusal.
+    pub fn number(self) -> u8
+        ensures { result ≡ words_number self }
+    {
+        match self {
+            WordsFault::NotATracker => 126,
+            WordsFault::Track(fault) => fault.number(),
+        }
+    }
+
+    /// The indices that the refusal names.
+    pub fn indices(self) -> Indices
+        ensures { result ≡ words_indices self }
+    {
+        match self {
+            WordsFault::NotATracker => Indices::Empty,
+            WordsFault::Track(fault) => fault.indices(),
+        }
+    }
 }
 
 impl TrackFault {

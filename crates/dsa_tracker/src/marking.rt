@@ -39,9 +39,8 @@ fn note_store(
     requires few { slot < 64 }
     requires wide { 0 < shape.width }
     requires within { HaveStores shape.width stores.now others.among }
-    requires covered { AreCovered shape.width stores.now shape.grid rows.old others.wide
-        others.among }
-    ensures found { IsExactly result.found (λ k. Has others.among k ×
+    ensures found { AreCovered shape.width stores.now shape.grid rows.old others.wide others.among →
+        IsExactly result.found (λ k. Has others.among k ×
         ConflictsWithStore shape.width stores.now is_written store.now k) }
     ensures noted { IsTrue result.is_whole →
         AreNoted shape.grid rows.new is_written store.now slot }
@@ -94,9 +93,8 @@ pub(crate) fn note_slot(
     requires few { slot < 64 }
     requires wide { 0 < shape.width }
     requires within { HaveStores shape.width stores.now others.among }
-    requires covered { AreCovered shape.width stores.now shape.grid rows.old others.wide
-        others.among }
-    ensures found { IsExactly result.found (λ k. Has others.among k × SpansConflict
+    ensures found { AreCovered shape.width stores.now shape.grid rows.old others.wide others.among →
+        IsExactly result.found (λ k. Has others.among k × SpansConflict
         (kept (reads_store shape.width stores.now k))
         (kept (writes_store shape.width stores.now k))
         (kept reads.now) (kept writes.now)) }

@@ -1,6 +1,6 @@
 //! Sets of slots.
 
-ghost use Rattle.std.specs.Prelude.{◌≡◌, ◌≢◌, ℕ, ◌<◌, ◌⊎◌, ◌↔◌, IsTrue, MatchOption};
+ghost use Rattle.std.specs.Prelude.{◌≡◌, ◌≢◌, ℕ, ◌<◌, ◌≤◌, ◌⊎◌, ◌↔◌, IsTrue, MatchOption};
 ghost use Rattle.std.specs.Int.{bit_at};
 ghost use Rattle.dsa_tracker.specs.Sets.{Has, IsEmpty};
 ghost use Rattle.dsa_tracker.specs.Table.{IsWithout};
@@ -33,6 +33,17 @@ fn without_bit(word: u64, place: u32) -> u64
     ensures lower { 0 < bit_at word place → result < word }
 {
     word & !(1 << place)
+}
+
+/// Whether all slots of the set are below this number.
+pub(crate) fn are_below(set: Slots, slots: usize) -> bool
+    requires { slots ≤ 64 }
+    ensures { IsTrue result ↔ ((s : ℕ) → Has set s → s < slots) }
+{
+    if slots == 64 {
+        return true;
+    }
+    has_no_bit(set.0 >> slots)
 }
 
 impl Slots {

@@ -6,10 +6,10 @@ use Rattle.dsa_tracker.proofs.Noting.{all_low, may_conflict}
 use Rattle.dsa_tracker.proofs.asking.slots_against_one.Goals as goal
 
 pub returns-then-span-eq0 : goal.returns-then-span-eq0
-returns-then-span-eq0 c = λ k. no_addresses c.args.shape.width c.args.stores.now c.args.others.among c.args.span c.if-span-eq0.true c.args.is_written k
+returns-then-span-eq0 c = λ covered k. no_addresses c.args.shape.width c.args.stores.now c.args.others.among c.args.span c.if-span-eq0.true c.args.is_written k
 
 pub returns : goal.returns
-returns c = λ k.
+returns c = λ covered k.
     let same = conflicts_one c.args.shape.width c.args.stores.now (λ i. let fits = c.type_inv.stores i in fits.fits) c.args.span c.saturating_add-last.result c.if-span-eq0.false (omega (arith, c.saturating_add-last.ensures)) c.args.is_written k in
     let exact = c.slots_in_conflict.ensures k in
     let sought = c.candidates-sought.ensures k in (
@@ -21,7 +21,7 @@ returns c = λ k.
               h.0,
               may_conflict c.args.shape.width c.args.stores.now c.args.shape.grid c.args.rows.now c.args.others.wide c.args.is_written c.args.span.first c.saturating_add-last.result k (Some c.look_at_units-noted.result)
                   (λ n is a from to seen. subst (λ (m : ℕ). 0 < bit_at m k) (same_Some c.look_at_units-noted.result n is) (c.look_at_units-noted.ensures a k (all_low c.args.others.among (omega arith) k h.0) from to seen))
-                  (c.requires.covered k h.0) here,
+                  (covered k h.0) here,
             ),
             here,
           ),

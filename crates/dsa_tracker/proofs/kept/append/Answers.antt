@@ -3,7 +3,7 @@ use Rattle.std.proofs.lemmas.List.{take_all}
 use Rattle.std.proofs.lemmas.Option.{slice_get-get_or}
 use Rattle.dsa_descriptor.specs.Spans.{InSome, span}
 use Rattle.dsa_tracker.specs.Kept.{InFirst, kept}
-use Rattle.dsa_tracker.proofs.Words.{count_is, counted, in_kept, in_taken, then_same}
+use Rattle.dsa_tracker.proofs.Stored.{count_is, counted, in_kept, in_taken, then_same}
 use Rattle.dsa_tracker.proofs.kept.append.Goals as goal
 
 pub loop-span-init : goal.loop-span-init

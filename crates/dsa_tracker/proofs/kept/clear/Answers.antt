@@ -1,6 +1,6 @@
 use Rattle.std.proofs.Common.{set}
 use Rattle.std.proofs.lemmas.List.{get_or-set_same}
-use Rattle.dsa_tracker.proofs.Words.{none_kept}
+use Rattle.dsa_tracker.proofs.Stored.{none_kept}
 use Rattle.dsa_tracker.proofs.kept.clear.Goals as goal
 
 pub returns-clause-none : goal.returns-clause-none

@@ -1,5 +1,5 @@
 use Rattle.std.proofs.Common.{refl, arith}
-use Rattle.dsa_tracker.proofs.Words.{count_is, counted, in_kept, through}
+use Rattle.dsa_tracker.proofs.Stored.{count_is, counted, in_kept, through}
 use Rattle.dsa_tracker.proofs.kept.push.Goals as goal
 
 pub returns-clause-spans : goal.returns-clause-spans

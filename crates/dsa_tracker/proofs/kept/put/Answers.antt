@@ -1,5 +1,5 @@
 use Rattle.std.proofs.Common.{◌+◌, ◌-◌, inl, inr, arith}
-use Rattle.dsa_tracker.proofs.Words.{added, joined_at, range_is, second_way}
+use Rattle.dsa_tracker.proofs.Stored.{added, joined_at, range_is, second_way}
 use Rattle.dsa_tracker.proofs.kept.put.Goals as goal
 
 pub returns-then-span-eq0-clause-spans : goal.returns-then-span-eq0-clause-spans

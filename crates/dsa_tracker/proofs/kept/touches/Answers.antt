@@ -1,5 +1,5 @@
 use Rattle.std.proofs.Common.{◌≡◌, false, true, sym, ◌∙◌, arith}
-use Rattle.dsa_tracker.proofs.Words.{touch_here, touch_earlier, touch_later, touched}
+use Rattle.dsa_tracker.proofs.Stored.{touch_here, touch_earlier, touch_later, touched}
 use Rattle.dsa_tracker.proofs.kept.touches.Goals as goal
 use Rattle.dsa_tracker.proofs.kept.touches.Goals.{then-low-high, else-low-high}
 

@@ -1,5 +1,5 @@
 use Rattle.std.proofs.Common.{◌≡◌, ◌↔◌, true}
-use Rattle.dsa_tracker.proofs.Words.{TouchesBelow}
+use Rattle.dsa_tracker.proofs.Stored.{TouchesBelow}
 use Rattle.dsa_tracker.proofs.kept.touches.Given as goal
 
 abbrev pub invariant-loop-index : goal.invariant-loop-index

@@ -7,14 +7,17 @@ pub invariant_of-result : goal.invariant_of-result
 invariant_of-result c =
     record {
       state = record {
-        few = omega (arith, c.in_ok-vec.ensures.len, c.in_ok-vec.field-0.ok, c.requires.few);
-        wide = omega arith;
-        stored =
-            let slots_are : length c.in_ok-vec.field-0.items ≡ c.args.slots = omega (arith, c.in_ok-vec.ensures.len, c.in_ok-vec.field-0.ok) in
-            let stores_are : length c.in_ok-vec-2.field-0.items ≡ 2 * c.args.slots * (2 * c.args.room + 1) = omega (arith, c.in_ok-vec-2.ensures.len, c.in_ok-vec-2.field-0.ok) in
-            subst (λ (n : ℕ). length c.in_ok-vec-2.field-0.items ≡ 2 * n * (2 * c.args.room + 1)) (sym slots_are) stores_are;
-        sized = omega (arith, c.in_ok-vec-3.ensures.len, c.in_ok-vec-3.field-0.ok);
-        within = λ s h. absurd (zero_has_none 0 s refl h);
+        shaped = record {
+          few = omega (arith, c.in_ok-vec.ensures.len, c.in_ok-vec.field-0.ok, c.requires.few);
+          wide = omega arith;
+          stored =
+              let slots_are : length c.in_ok-vec.field-0.items ≡ c.args.slots = omega (arith, c.in_ok-vec.ensures.len, c.in_ok-vec.field-0.ok) in
+              let stores_are : length c.in_ok-vec-2.field-0.items ≡ 2 * c.args.slots * (2 * c.args.room + 1) = omega (arith, c.in_ok-vec-2.ensures.len, c.in_ok-vec-2.field-0.ok) in
+              subst (λ (n : ℕ). length c.in_ok-vec-2.field-0.items ≡ 2 * n * (2 * c.args.room + 1)) (sym slots_are) stores_are;
+          sized = omega (arith, c.in_ok-vec-3.ensures.len, c.in_ok-vec-3.field-0.ok);
+          within = λ s h. absurd (zero_has_none 0 s refl h);
+          held = λ s h. absurd (zero_has_none 0 s refl h);
+        };
         blocked = λ s. (λ h. absurd (zero_has_none 0 s refl h), λ h. absurd (zero_has_none 0 s refl h.0));
         covered = λ k h. absurd (zero_has_none 0 k refl h);
       };

@@ -13,7 +13,7 @@ use Rattle.dsa_tracker.proofs.tracker.Tracker.submit.Goals as goal
 
 pub returns-in_default : goal.returns-in_default
 returns-in_default c = (
-  full c.self.inside.board c.self.inside.waits.items c.self.inside.stores.items c.self.inside.rows.items c.self.inside.shape c.self.invariant.state c.args.self.now (slots_are c.self.inside c.args.self.now c.self.view_is c.self.invariant)
+  full c.self.inside.board c.self.inside.waits.items c.self.inside.stores.items c.self.inside.rows.items c.self.inside.shape c.self.invariant.state.shaped c.args.self.now (slots_are c.self.inside c.args.self.now c.self.view_is c.self.invariant)
       (λ s lt low. c.in_default.ensures s (omega (arith, lt, c.len.ensures)) low),
   refl,
 )
@@ -21,7 +21,7 @@ returns-in_default c = (
 pub returns-in-Some-list_fault : goal.returns-in-Some-list_fault
 returns-in-Some-list_fault c = (
   refused_list c.args.self.now c.in-Some.slot _ (map fields c.args.pieces.now) c.args.staging c.in-Some-list_fault.fault
-      (first_free c.self.inside.board c.self.inside.waits.items c.self.inside.stores.items c.self.inside.rows.items c.self.inside.shape c.self.invariant.state c.args.self.now (slots_are c.self.inside c.args.self.now c.self.view_is c.self.invariant)
+      (first_free c.self.inside.board c.self.inside.waits.items c.self.inside.stores.items c.self.inside.rows.items c.self.inside.shape c.self.invariant.state.shaped c.args.self.now (slots_are c.self.inside c.args.self.now c.self.view_is c.self.invariant)
       c.in-Some.slot (let lt = c.in-Some.ensures.0 in omega (arith, lt, c.len.ensures)) c.in-Some.ensures.2 c.in-Some.ensures.3)
       (subst (λ (o : Option Owner). IsListFault c.args.self.now.room o (map fields c.args.pieces.now) c.args.staging c.in-Some-list_fault.fault)
       (c.expected_owner-owner.ensures ∙ ap (λ o. owner_with o (map fields c.args.pieces.now)) (owner_is c.self.inside c.args.self.now c.self.view_is c.self.invariant))
@@ -29,11 +29,11 @@ returns-in-Some-list_fault c = (
   refl,
 )
 
-pub take-waits-requires-clause-state : goal.take-waits-requires-clause-state
-take-waits-requires-clause-state c =
-    state_filled c.self.inside c.args.self.now c.self.view_is c.self.invariant c.in-Some.slot c.in-Some.ensures.2 c.deref_mut.result.now c.keep_reads.new.stores c.deref_mut-2.result.now c.keep_writes.new.stores c.deref.result.now
+pub take-waits-requires-clause-shaped : goal.take-waits-requires-clause-shaped
+take-waits-requires-clause-shaped c =
+    (state_filled c.self.inside c.args.self.now c.self.view_is c.self.invariant c.in-Some.slot c.in-Some.ensures.2 c.deref_mut.result.now c.keep_reads.new.stores c.deref_mut-2.result.now c.keep_writes.new.stores c.deref.result.now
     c.deref_mut.ensures.value (c.deref_mut-2.ensures.value ∙ first_are) (c.deref.ensures.value ∙ second_are) c.keep_reads.auto.stores c.keep_writes.auto.stores c.keep_reads.ensures.others c.keep_writes.ensures.others
-    c.deref_mut-3.result.now c.deref_mut-4.result.now c.deref_mut-3.ensures.value c.deref_mut-4.ensures.value
+    c.deref_mut-3.result.now c.deref_mut-4.result.now c.deref_mut-3.ensures.value c.deref_mut-4.ensures.value).shaped
   where
     first_are : (with_items c.self.inside.stores c.keep_reads.new.stores).items ≡ c.keep_reads.new.stores
     first_are = with_items_is c.self.inside.stores c.keep_reads.new.stores (c.keep_reads.auto.stores ∙ c.deref_mut.ensures.len)
@@ -47,7 +47,7 @@ invariant_of-self c =
       state =
           subst (λ (ws : List ℕ). IsState c.take-waits.new.board ws (with_items (with_items c.self.inside.stores c.keep_reads.new.stores) c.keep_writes.new.stores).items (with_items c.self.inside.rows c.take-waits.new.rows).items c.self.inside.shape) (sym waits_are)
           (subst (λ (rs : List ℕ). IsState c.take-waits.new.board c.take-waits.new.waits (with_items (with_items c.self.inside.stores c.keep_reads.new.stores) c.keep_writes.new.stores).items rs c.self.inside.shape) (sym rows_are)
-          (subst (λ (ss : List ℕ). IsState c.take-waits.new.board c.take-waits.new.waits ss c.take-waits.new.rows c.self.inside.shape) c.deref.ensures.value c.take-waits.ensures.state));
+          (subst (λ (ss : List ℕ). IsState c.take-waits.new.board c.take-waits.new.waits ss c.take-waits.new.rows c.self.inside.shape) c.deref.ensures.value (c.take-waits.ensures.state filled)));
       width = c.self.invariant.width;
     }
   where
@@ -57,6 +57,18 @@ invariant_of-self c =
     rows_are : (with_items c.self.inside.rows c.take-waits.new.rows).items ≡ c.take-waits.new.rows
     rows_are = with_items_is c.self.inside.rows c.take-waits.new.rows (c.take-waits.auto.rows ∙ c.deref_mut-4.ensures.len)
 
+    first_are : (with_items c.self.inside.stores c.keep_reads.new.stores).items ≡ c.keep_reads.new.stores
+    first_are = with_items_is c.self.inside.stores c.keep_reads.new.stores (c.keep_reads.auto.stores ∙ c.deref_mut.ensures.len)
+
+    second_are : (with_items (with_items c.self.inside.stores c.keep_reads.new.stores) c.keep_writes.new.stores).items ≡ c.keep_writes.new.stores
+    second_are = with_items_is (with_items c.self.inside.stores c.keep_reads.new.stores) c.keep_writes.new.stores (c.keep_writes.auto.stores ∙ c.deref_mut-2.ensures.len)
+
+    filled : IsState c.self.inside.board c.deref_mut-3.result.now c.deref.result.now c.deref_mut-4.result.now c.self.inside.shape
+    filled =
+        state_filled c.self.inside c.args.self.now c.self.view_is c.self.invariant c.in-Some.slot c.in-Some.ensures.2 c.deref_mut.result.now c.keep_reads.new.stores c.deref_mut-2.result.now c.keep_writes.new.stores c.deref.result.now
+        c.deref_mut.ensures.value (c.deref_mut-2.ensures.value ∙ first_are) (c.deref.ensures.value ∙ second_are) c.keep_reads.auto.stores c.keep_writes.auto.stores c.keep_reads.ensures.others c.keep_writes.ensures.others
+        c.deref_mut-3.result.now c.deref_mut-4.result.now c.deref_mut-3.ensures.value c.deref_mut-4.ensures.value
+
 pub returns : goal.returns
 returns c = (
   subst (λ (o : Option Owner). CanKeepList c.args.self.now.room o (map fields c.args.pieces.now) c.args.staging) (c.expected_owner-owner.ensures ∙ ap (λ o. owner_with o (map fields c.args.pieces.now)) (owner_is c.self.inside c.args.self.now c.self.view_is c.self.invariant))
@@ -64,7 +76,7 @@ returns c = (
   submits_filled c.self.inside c.args.self.now c.self.view_is c.self.invariant c.in-Some.slot c.in-Some.ensures.2 c.deref_mut.result.now c.keep_reads.new.stores c.deref_mut-2.result.now c.keep_writes.new.stores c.deref.result.now
       c.deref_mut.ensures.value (c.deref_mut-2.ensures.value ∙ first_are) (c.deref.ensures.value ∙ second_are) c.keep_reads.auto.stores c.keep_writes.auto.stores c.keep_reads.ensures.others c.keep_writes.ensures.others
       c.take-waits.new.board c.deref_mut-3.result.now c.take-waits.new.waits _ _ (flat_map read_spans (map fields c.args.pieces.now)) (c.args.staging ∷ flat_map written_spans (map fields c.args.pieces.now)) c.args.also c.take-waits.result (owner_with c.args.self.now.owner (map fields c.args.pieces.now)) c.expected_owner-owner.result c.deref_mut-3.ensures.value waits_are c.deref.ensures.value
-      (let lt = c.in-Some.ensures.0 in omega (arith, lt, c.len.ensures)) c.in-Some.ensures.3 c.keep_reads.ensures.here c.keep_writes.ensures.here c.take-waits.ensures.waits c.take-waits.ensures.slots c.take-waits.ensures.here
+      (let lt = c.in-Some.ensures.0 in omega (arith, lt, c.len.ensures)) c.in-Some.ensures.3 c.keep_reads.ensures.here c.keep_writes.ensures.here (c.take-waits.ensures.waits filled) c.take-waits.ensures.slots c.take-waits.ensures.here
       (c.expected_owner-owner.ensures ∙ ap (λ o. owner_with o (map fields c.args.pieces.now)) (owner_is c.self.inside c.args.self.now c.self.view_is c.self.invariant)),
 )
   where
@@ -76,3 +88,9 @@ returns c = (
 
     waits_are : (with_items c.self.inside.waits c.take-waits.new.waits).items ≡ c.take-waits.new.waits
     waits_are = with_items_is c.self.inside.waits c.take-waits.new.waits (c.take-waits.auto.waits ∙ c.deref_mut-3.ensures.len)
+
+    filled : IsState c.self.inside.board c.deref_mut-3.result.now c.deref.result.now c.deref_mut-4.result.now c.self.inside.shape
+    filled =
+        state_filled c.self.inside c.args.self.now c.self.view_is c.self.invariant c.in-Some.slot c.in-Some.ensures.2 c.deref_mut.result.now c.keep_reads.new.stores c.deref_mut-2.result.now c.keep_writes.new.stores c.deref.result.now
+        c.deref_mut.ensures.value (c.deref_mut-2.ensures.value ∙ first_are) (c.deref.ensures.value ∙ second_are) c.keep_reads.auto.stores c.keep_writes.auto.stores c.keep_reads.ensures.others c.keep_writes.ensures.others
+        c.deref_mut-3.result.now c.deref_mut-4.result.now c.deref_mut-3.ensures.value c.deref_mut-4.ensures.value

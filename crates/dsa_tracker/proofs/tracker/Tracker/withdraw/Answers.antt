@@ -7,7 +7,7 @@ use Rattle.dsa_tracker.proofs.Tables.{held, not_held}
 use Rattle.dsa_tracker.proofs.tracker.Tracker.withdraw.Goals as goal
 
 pub returns-in_default : goal.returns-in_default
-returns-in_default c = ((refl, not_held c.self.inside.board c.self.inside.waits.items c.self.inside.stores.items c.self.inside.rows.items c.self.inside.shape c.self.invariant.state c.args.self.now (slots_are c.self.inside c.args.self.now c.self.view_is c.self.invariant) c.args.slot c.in_default.ensures), refl)
+returns-in_default c = ((refl, not_held c.self.inside.board c.self.inside.waits.items c.self.inside.stores.items c.self.inside.rows.items c.self.inside.shape c.self.invariant.state.shaped c.args.self.now (slots_are c.self.inside c.args.self.now c.self.view_is c.self.invariant) c.args.slot c.in_default.ensures), refl)
 
 pub invariant_of-self : goal.invariant_of-self
 invariant_of-self c =
@@ -15,7 +15,7 @@ invariant_of-self c =
       state =
           subst (λ (ws : List ℕ). IsState c.release.new.board ws c.self.inside.stores.items (with_items c.self.inside.rows c.release.new.rows).items c.self.inside.shape) (sym waits_are)
           (subst (λ (rs : List ℕ). IsState c.release.new.board c.release.new.waits c.self.inside.stores.items rs c.self.inside.shape) (sym rows_are)
-          (subst (λ (ss : List ℕ). IsState c.release.new.board c.release.new.waits ss c.release.new.rows c.self.inside.shape) c.deref-2.ensures.value c.release.ensures.state));
+          (subst (λ (ss : List ℕ). IsState c.release.new.board c.release.new.waits ss c.release.new.rows c.self.inside.shape) c.deref-2.ensures.value (c.release.ensures.state state)));
       width = c.self.invariant.width;
     }
   where
@@ -25,12 +25,24 @@ invariant_of-self c =
     rows_are : (with_items c.self.inside.rows c.release.new.rows).items ≡ c.release.new.rows
     rows_are = with_items_is c.self.inside.rows c.release.new.rows (c.release.auto.rows ∙ c.deref_mut-2.ensures.len)
 
+    state : IsState c.self.inside.board c.deref_mut.result.now c.deref-2.result.now c.deref_mut-2.result.now c.self.inside.shape
+    state =
+        subst (λ (ws : List ℕ). IsState c.self.inside.board ws c.deref-2.result.now c.deref_mut-2.result.now c.self.inside.shape) (sym c.deref_mut.ensures.value)
+        (subst (λ (ss : List ℕ). IsState c.self.inside.board c.self.inside.waits.items ss c.deref_mut-2.result.now c.self.inside.shape) (sym c.deref-2.ensures.value)
+        (subst (λ (rs : List ℕ). IsState c.self.inside.board c.self.inside.waits.items c.self.inside.stores.items rs c.self.inside.shape) (sym c.deref_mut-2.ensures.value) c.self.invariant.state))
+
 pub returns : goal.returns
 returns c = (
-  held c.self.inside.board c.self.inside.waits.items c.self.inside.stores.items c.self.inside.rows.items c.self.inside.shape c.self.invariant.state c.args.self.now (slots_are c.self.inside c.args.self.now c.self.view_is c.self.invariant) c.args.slot c.in-Some.ensures.0,
+  held c.self.inside.board c.self.inside.waits.items c.self.inside.stores.items c.self.inside.rows.items c.self.inside.shape c.self.invariant.state.shaped c.args.self.now (slots_are c.self.inside c.args.self.now c.self.view_is c.self.invariant) c.args.slot c.in-Some.ensures.0,
   retires_given c.self.inside c.args.self.now c.self.view_is c.self.invariant c.args.slot c.release.new.board c.deref_mut.result.now c.release.new.waits _ c.deref-2.result.now c.release.result c.deref_mut.ensures.value waits_are c.deref-2.ensures.value
-      c.release.ensures.released c.release.ensures.waited c.release.ensures.ready,
+      (c.release.ensures.released state) (c.release.ensures.waited state) (c.release.ensures.ready state),
 )
   where
     waits_are : (with_items c.self.inside.waits c.release.new.waits).items ≡ c.release.new.waits
     waits_are = with_items_is c.self.inside.waits c.release.new.waits (c.release.auto.waits ∙ c.deref_mut.ensures.len)
+
+    state : IsState c.self.inside.board c.deref_mut.result.now c.deref-2.result.now c.deref_mut-2.result.now c.self.inside.shape
+    state =
+        subst (λ (ws : List ℕ). IsState c.self.inside.board ws c.deref-2.result.now c.deref_mut-2.result.now c.self.inside.shape) (sym c.deref_mut.ensures.value)
+        (subst (λ (ss : List ℕ). IsState c.self.inside.board c.self.inside.waits.items ss c.deref_mut-2.result.now c.self.inside.shape) (sym c.deref-2.ensures.value)
+        (subst (λ (rs : List ℕ). IsState c.self.inside.board c.self.inside.waits.items c.self.inside.stores.items rs c.self.inside.shape) (sym c.deref_mut-2.ensures.value) c.self.invariant.state))

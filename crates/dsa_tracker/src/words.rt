@@ -1,0 +1,256 @@
+//! A tracker in an array of words that the caller holds. Whatever the words are, each call is safe,
+//! and a refusal leaves them as they were. The answers are a tracker's if the words are.
+
+ghost use Rattle.std.specs.Prelude.{◌≡◌, ◌↔◌, ℕ, ◌+◌, ◌*◌, ◌≤◌, ◌⊎◌, None, IsTrue, MatchResult, length, map, replicate};
+ghost use Rattle.dsa_descriptor.specs.Descriptors.{fields};
+ghost use Rattle.dsa_flight.specs.Spans.{all_reads, staged_writes};
+ghost use Rattle.dsa_tracker.specs.Calls.{CanKeep, CanKeepList, IsCompleteFault, IsListFault, IsRefused, IsSpanFault, IsWithdrawFault, Retires, Submits, owner_with};
+ghost use Rattle.dsa_tracker.specs.Sets.{Has};
+ghost use Rattle.dsa_tracker.specs.Table.{ConflictsWith, IsExactly, IsHeld, IsReady, WaitsFor};
+ghost use Rattle.dsa_tracker.specs.Words.{AreMeasures, IsShapedIn, IsTracker, RefusesIn, owner_in, room_in, table_in, words_needed};
+
+use crate::board::{Board, first_free};
+use crate::fault::{TrackFault, WordsFault};
+use crate::grid::{Grid, Shape};
+use crate::head::{HEAD_LEN, Head, are_measures, needed, read_head, write_head};
+use crate::limits::{list_fault, span_fault};
+use crate::owner::expected_owner;
+use crate::parts::{conflicts_in, keep_list_in, keep_spans_in, release_in, take_in, waits_at_in};
+use crate::slots::Slots;
+use crate::tracker::{Retired, Submitted};
+use dsa_descriptor::{Descriptor, Span};
+
+/// The head of a tracker all of whose slots are free.
+fn first_head(slots: u32, room: u32, log2_rows: u32, log2_unit: u32) -> Head
+    requires { AreMeasures slots room log2_rows log2_unit }
+    ensures slots { result.slots ≡ slots }
+    ensures room { result.room ≡ room }
+    ensures width { result.shape.width ≡ 2 * room + 1 }
+    ensures rows { result.shape.grid.log2_rows ≡ log2_rows }
+    ensures unit { result.shape.grid.log2_unit ≡ log2_unit }
+    ensures board { (s : ℕ) → ¬ (Has result.board.outstanding s ⊎ Has result.board.blocked s) }
+    ensures owner { result.owner ≡ None }
+{
+    Head {
+        slots: slots as usize,
+        room,
+        shape: Shape {
+            width: 2 * room as usize + 1,
+            grid: Grid {
+                log2_rows,
+                log2_unit,
+            },
+        },
+        board: Board {
+            outstanding: Slots::EMPTY,
+            blocked: Slots::EMPTY,
+            wide: Slots::EMPTY,
+        },
+        owner: None,
+    }
+}
+
+/// Makes the words a tracker with so many slots, for submissions that read at most `room` spans
+/// and write at most `room` spans. The other measures are powers of two: the number of rows (8,192
+/// do for most), and the length of the pieces that addresses are cut into for a first look. They
+/// change no answer.
+///
+/// # Errors
+/// A measure is outside its limits, or there are fewer words than it takes.
+pub fn begin(
+    words: &mut [u64],
+    slots: u32,
+    room: u32,
+    log2_rows: u32,
+    log2_unit: u32,
+) -> Result<(), WordsFault>
+    ensures { MatchResult result
+        (λ _. AreMeasures slots room log2_rows log2_unit ×
+        (words_needed slots room log2_rows ≤ length words.old) × IsTracker words.new ×
+        (table_in words.new ≡
+        record { slots = replicate slots None; room = room; owner = None }))
+        (λ f. (f ≡ WordsFault.NotATracker) × (¬ (AreMeasures slots room log2_rows log2_unit ×
+        (words_needed slots room log2_rows ≤ length words.old))) × (words.new ≡ words.old)) }
+{
+    let (count, spans) = (slots as usize, room as usize);
+    if !are_measures(count, spans, log2_rows as usize, log2_unit as usize) {
+        return Err(WordsFault::NotATracker);
+    }
+    let len = needed(count, spans, log2_rows as usize);
+    if words.len() < len {
+        return Err(WordsFault::NotATracker);
+    }
+    let head = first_head(slots, room, log2_rows, log2_unit);
+    let (front, body) = words.split_at_mut(HEAD_LEN);
+    write_head(front, head);
+    body[..len - HEAD_LEN].fill(0);
+    Ok(())
+}
+
+/// Takes a submission that reads and writes these spans, as `Tracker::submit_spans` does.
+///
+/// # Errors
+/// The words are no tracker's, or its refusal.
+pub fn submit_spans(
+    words: &mut [u64],
+    reads: &[Span],
+    writes: &[Span],
+    also: Slots,
+) -> Result<Submitted, WordsFault>
+    ensures { MatchResult result
+        (λ s. IsShapedIn words.old × IsShapedIn words.new ×
+        CanKeep (room_in words.old) reads.now writes.now × (IsTracker words.old →
+        IsTracker words.new × Submits (table_in words.old) reads.now writes.now also
+        (owner_in words.old) s (table_in words.new)))
+        (λ f. RefusesIn words.old f (λ g. IsRefused (table_in words.old) g
+        (IsSpanFault (room_in words.old) reads.now writes.now g)) ×
+        (words.new ≡ words.old)) }
+{
+    let Some(head) = read_head(words) else {
+        return Err(WordsFault::NotATracker);
+    };
+    let Some(slot) = first_free(head.board.outstanding, head.slots) else {
+        return Err(WordsFault::Track(TrackFault::NoSlot));
+    };
+    if let Some(fault) = span_fault(head.room, reads, writes) {
+        return Err(WordsFault::Track(fault));
+    }
+    keep_spans_in(words, head, slot, reads, writes);
+    let waits = take_in(words, head, slot, also, head.owner);
+    Ok(Submitted { slot, waits })
+}
+
+/// Takes a submission of these pieces, whose staging area counts as written, as `Tracker::submit`
+/// does.
+///
+/// # Errors
+/// The words are no tracker's, or its refusal.
+pub fn submit(
+    words: &mut [u64],
+    pieces: &[Descriptor],
+    staging: Span,
+    also: Slots,
+) -> Result<Submitted, WordsFault>
+    ensures { let list = map fields pieces.now in
+        let owner = owner_with (owner_in words.old) list in
+        MatchResult result
+        (λ s. IsShapedIn words.old × IsShapedIn words.new ×
+        CanKeepList (room_in words.old) owner list staging × (IsTracker words.old →
+        IsTracker words.new × Submits (table_in words.old) (all_reads list)
+        (staged_writes staging list) also owner s (table_in words.new)))
+        (λ f. RefusesIn words.old f (λ g. IsRefused (table_in words.old) g
+        (IsListFault (room_in words.old) owner list staging g)) ×
+        (words.new ≡ words.old)) }
+{
+    let Some(head) = read_head(words) else {
+        return Err(WordsFault::NotATracker);
+    };
+    let Some(slot) = first_free(head.board.outstanding, head.slots) else {
+        return Err(WordsFault::Track(TrackFault::NoSlot));
+    };
+    let owner = expected_owner(head.owner, pieces);
+    if let Some(fault) = list_fault(head.room, owner, pieces, staging) {
+        return Err(WordsFault::Track(fault));
+    }
+    keep_list_in(words, head, slot, pieces, staging);
+    let waits = take_in(words, head, slot, also, owner);
+    Ok(Submitted { slot, waits })
+}
+
+/// The outstanding submissions that conflict with accesses to these spans, as `Tracker::ask` says.
+///
+/// # Errors
+/// The words are no tracker's.
+pub fn ask(words: &[u64], reads: &[Span], writes: &[Span]) -> Result<Slots, WordsFault>
+    ensures { MatchResult result
+        (λ set. IsShapedIn words.now × (IsTracker words.now →
+        IsExactly set (ConflictsWith (table_in words.now).slots reads.now writes.now)))
+        (λ f. (f ≡ WordsFault.NotATracker) × (¬ IsShapedIn words.now)) }
+{
+    let Some(head) = read_head(words) else {
+        return Err(WordsFault::NotATracker);
+    };
+    Ok(conflicts_in(words, head, reads, writes))
+}
+
+/// The slots that the submission of this slot waits for: with none it is ready, so it may be rung.
+///
+/// # Errors
+/// The words are no tracker's, or the slot has no outstanding submission.
+pub fn waits(words: &[u64], slot: u32) -> Result<Slots, WordsFault>
+    ensures { MatchResult result
+        (λ set. IsShapedIn words.now × IsHeld (table_in words.now).slots slot ×
+        IsExactly set (λ s. WaitsFor (table_in words.now).slots s slot))
+        (λ f. RefusesIn words.now f (IsWithdrawFault (table_in words.now) slot)) }
+{
+    let Some(head) = read_head(words) else {
+        return Err(WordsFault::NotATracker);
+    };
+    match waits_at_in(words, head, slot) {
+        Some(waits) => Ok(waits),
+        None => Err(WordsFault::Track(TrackFault::NotOutstanding(slot))),
+    }
+}
+
+/// Whether the submission of this slot is outstanding and waits for none, so that it may be rung.
+///
+/// # Errors
+/// The words are no tracker's.
+pub fn is_ready(words: &[u64], slot: u32) -> Result<bool, WordsFault>
+    ensures { MatchResult result
+        (λ b. IsShapedIn words.now × (IsTrue b ↔ IsReady (table_in words.now).slots slot))
+        (λ f. (f ≡ WordsFault.NotATracker) × (¬ IsShapedIn words.now)) }
+{
+    let Some(head) = read_head(words) else {
+        return Err(WordsFault::NotATracker);
+    };
+    match waits_at_in(words, head, slot) {
+        Some(waits) => Ok(waits.is_empty()),
+        None => Ok(false),
+    }
+}
+
+/// Takes a submission off that was ready, and has ended.
+///
+/// # Errors
+/// The words are no tracker's, or the slot has no outstanding submission, or one that still waits.
+pub fn complete(words: &mut [u64], slot: u32) -> Result<Retired, WordsFault>
+    ensures { MatchResult result
+        (λ r. IsShapedIn words.old × IsShapedIn words.new ×
+        IsReady (table_in words.old).slots slot × (IsTracker words.old →
+        IsTracker words.new × Retires (table_in words.old) slot r (table_in words.new)))
+        (λ f. RefusesIn words.old f (IsCompleteFault (table_in words.old) slot) ×
+        (words.new ≡ words.old)) }
+{
+    let Some(head) = read_head(words) else {
+        return Err(WordsFault::NotATracker);
+    };
+    let Some(waits) = waits_at_in(words, head, slot) else {
+        return Err(WordsFault::Track(TrackFault::NotOutstanding(slot)));
+    };
+    if !waits.is_empty() {
+        return Err(WordsFault::Track(TrackFault::Held(slot)));
+    }
+    Ok(release_in(words, head, slot))
+}
+
+/// Takes a submission off that was not rung.
+///
+/// # Errors
+/// The words are no tracker's, or the slot has no outstanding submission.
+pub fn withdraw(words: &mut [u64], slot: u32) -> Result<Retired, WordsFault>
+    ensures { MatchResult result
+        (λ r. IsShapedIn words.old × IsShapedIn words.new ×
+        IsHeld (table_in words.old).slots slot × (IsTracker words.old →
+        IsTracker words.new × Retires (table_in words.old) slot r (table_in words.new)))
+        (λ f. RefusesIn words.old f (IsWithdrawFault (table_in words.old) slot) ×
+        (words.new ≡ words.old)) }
+{
+    let Some(head) = read_head(words) else {
+        return Err(WordsFault::NotATracker);
+    };
+    let Some(_waits) = waits_at_in(words, head, slot) else {
+        return Err(WordsFault::Track(TrackFault::NotOutstanding(slot)));
+    };
+    Ok(release_in(words, head, slot))
+}

@@ -19,7 +19,7 @@ from pathlib import Path
 
 import common
 from common import ROOT, expect, named, run_test, side_by_side, skip
-from trace_cases import REFUSED, SYSFS, rewriting
+from trace_cases import REFUSED, SYSFS, made_anew, rewriting
 from trace_forms import NARROW, OTHERS, WIDE, forms
 from trace_model import MOVE, Recorded
 
@@ -240,10 +240,11 @@ def rewritten():
     words = ["-shared", "-fPIC", "-o", f"{WORK}/loaded.so", "tests/trace/loaded.c"]
     told("the build of loaded", ran("gcc", *STRICT, *words), 0)
     for order, by in itertools.product(("fifo", "data"), BY):
-        how, count = ["--order", order, *by, "--"], 100000 if order == "fifo" else 4000
+        how, count = ["--order", order, *by, "--"], 100000 if order == "fifo" else 1000
         told(f"registers {how}", traced(*how, client("registers")), 0,
              f"7 of 7 forms right, {0 if by else 7} rewritten")
-        for name, (words, *lines) in rewriting(not by, count, f"{WORK}/loaded.so").items():
+        cases = rewriting(not by, count, f"{WORK}/loaded.so") | (made_anew(not by) if order == "fifo" else {})
+        for name, (words, *lines) in cases.items():
             told(f"{name} {how}", traced(*how, client("rewritten"), *words), 0, *lines)
     for _ in range(10):
         told("many sites again", traced("--order", "fifo", "--", client("rewritten"), "threads", "all8000"), 0,

@@ -41,7 +41,14 @@ def rewriting(is_on, count, library):
         "children": (["forks"], "20 of 20 children right, 0 wrong in threads, without a portal 139, afterwards 1"),
         "a library": (["library", library], f"50 of 50 right, rewritten in {10 * is_on} of 10 loads"),
         "other code": (["made"], *codes),
-        "code made anew": (["anew"], f"12000 of 12000 right, rewritten in {300 * is_on} of 300 rounds, "),
-        "children of it": (["anew", "forks"], "12000 of 12000", f"in {300 * is_on} of 300 rounds, 300 children right"),
         "what faults": (["unreadable"], f"7 right, fault at 1, stored 1, no portal, rewritten {is_on:d}"),
+    }
+
+
+def made_anew(is_on):
+    """Those of code that is made 300 times; it takes its time if each submission waits for another thread."""
+    rounds = f"in {300 * is_on} of 300 rounds, "
+    return {
+        "code made anew": (["anew"], "12000 of 12000 right", rounds),
+        "children of it": (["anew", "forks"], "12000 of 12000 right", f"{rounds}300 children right"),
     }

@@ -94,21 +94,28 @@ static bool rewrite(struct site *s)
     return is_changed;
 }
 
-/// Counts a signal at a site, and rewrites it after a few. What is not the code that is known begins anew.
+/// Begins anew with an entry if other code is there than it has, or its jump is gone. The stub stays with the code.
+static void begin_anew(struct site *s, uintptr_t at, const uint8_t *code, unsigned length)
+{
+    if (s->at != at || s->length != length || memcmp(s->code, code, length)) {
+        *s = (struct site){.at = at, .length = (uint8_t)length};
+        memcpy(s->code, code, length);
+    } else if (s->state == JUMPS) {
+        s->state = TRAPS;
+        s->traps = 0;
+    }
+}
+
+/// Counts a signal at a site, and rewrites it after a few.
 void sites_note(uintptr_t at, const uint8_t *code, unsigned length)
 {
     if (!sites.is_on)
         return;
     pthread_mutex_lock(&sites.lock);
     struct site *s = find(at);
-    const bool is_done = s && s->at && s->state == JUMPS && has(at, s->jump, JUMP); /* by another thread, just now */
+    const bool is_done = s && s->state == JUMPS && has(at, s->jump, JUMP); /* by another thread, just now */
     if (s && !is_done) {
-        if (s->at != at || s->length != length || memcmp(s->code, code, length)) {
-            *s = (struct site){.at = at, .length = (uint8_t)length};
-            memcpy(s->code, code, length);
-        }
-        if (s->state == JUMPS)
-            s->state = TRAPS, s->traps = 0;
+        begin_anew(s, at, code, length);
         if (s->state == TRAPS && ++s->traps >= ENOUGH)
             s->state = rewrite(s) ? JUMPS : STAYS;
     }

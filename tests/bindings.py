@@ -1,6 +1,7 @@
 """Builds callers in C of the proved archive, before it is packed, and looks at what they print: golden output, each
 allocation refused in turn, random lists beside the program. It uses valgrind and sanitizers where they are, and says so
-where they aren't; without a C compiler it is skipped. CC names the compiler, LISTS how many random lists (250), FILLED how many are prepared and filled (1,000).
+where they aren't; without a C compiler it is skipped. CC names the compiler, LISTS how many random lists (250), FILLED
+how many are prepared and filled (1,000), TRACKED how many sequences of a tracker's calls are made (2,000).
 tests/package.py has the callers of the package. The words are names of parts."""
 
 import ast
@@ -120,6 +121,24 @@ def prepared():
     tried("the ring of docs/USING.md", [compiled(f"{WORK}/ring.c")], block_after("docs/USING.md", "It prints", ""))
 
 
+def tracked():
+    """Calls of a tracker on words that nobody began, and sequences of them by the Python module beside a model."""
+    source, count = "tests/bindings/tracked.c", os.environ.get("TRACKED", "2000")
+    tried("a tracker on any words", [compiled(source), "20000", "20261126"])
+    if shutil.which("valgrind"):
+        watch = ["valgrind", "-q", "--error-exitcode=9"]
+        tried("a tracker on any words under valgrind", [*watch, compiled(source), "200", "7"])
+    if sanitizers():
+        tried("a tracker on any words with sanitizers", [compiled(source, *SANITIZE), "2000", "9"])
+    library = f"{WORK}/libdsa_planner.so.1"
+    whole = ["-Wl,--whole-archive", ARCHIVE, "-Wl,--no-whole-archive"]
+    parts = [f"bindings/c/{name}.c" for name in ("memory", "version")]
+    flags = ["-O2", "-fPIC", "-shared", "-I", "bindings/c"]
+    tried("the build of a shared object", [compiler(), *flags, *parts, *whole, "-o", library])
+    how = {**os.environ, "DSA_PLANNER_LIBRARY": library}
+    tried("a tracker beside the model", [sys.executable, "-B", "tests/tracker_model.py", count, "20261126"], env=how)
+
+
 def recorder():
     """Four threads record by the lines of docs/USING.md: each batch is followed by its own members, and none is lost."""
     lines, recording = Path(WORK, "recorder.inc"), Path(WORK, "recording")
@@ -187,7 +206,7 @@ def main(words):
         sys.exit(0)
     make.need_proved("libdsa_c.a")
     with tempfile.TemporaryDirectory() as WORK:
-        for part in named([header, examples, calls, texts, prepared, recorder, random_lists, speed], words):
+        for part in named([header, examples, calls, texts, prepared, tracked, recorder, random_lists, speed], words):
             part()
 
 

@@ -45,9 +45,9 @@
  *   - nothing else writes to inputs or outputs, or reads outputs, during the call.
  *
  * Units:     lengths of byte arrays and `_len` of results are bytes; lengths of prices, pairs, marks, tables, regions,
- *            bases and rows are items. Addresses are the device's. Prices and costs are in one unit of the caller's
- *            choice, for example nanoseconds. Numbers in descriptors are little-endian; numbers in structs are the
- *            machine's.
+ *            bases, rows, spans and words are items. Addresses are the device's. Prices and costs are in one unit of
+ *            the caller's choice, for example nanoseconds. Numbers in descriptors are little-endian; numbers in
+ *            structs are the machine's.
  */
 #ifndef DSA_PLANNER_H
 #define DSA_PLANNER_H
@@ -196,7 +196,15 @@ enum dsa_number {
     DSA_REGIONS_MEET = 108,       /* the region, and an earlier one with which it would overlap */
     DSA_BASE_STAGING_MEETS = 109, /* it would overlap the staging area */
     DSA_STAGING = 110,            /* no index: the staging address is no multiple of 64, or above 2^63 */
-    DSA_NOT_PREPARED = 111        /* no index: the rows do not have the form of a prepared list of this version */
+    DSA_NOT_PREPARED = 111,       /* no index: the rows do not have the form of a prepared list of this version */
+    /* tracking */
+    DSA_NO_SLOT = 120,         /* no index: all slots have outstanding submissions */
+    DSA_TOO_MANY_SPANS = 121,  /* how many spans the submission may read or write */
+    DSA_NOT_OUTSTANDING = 122, /* the slot: it has no outstanding submission */
+    DSA_HELD = 123,            /* the slot: its submission still waits */
+    DSA_SPAN_WRAP = 124,       /* index of the span that goes past 2^64, reads first; 0 of a staging area */
+    DSA_OTHER_OWNER = 125,     /* index of the piece with another PASID or privilege than the first that came */
+    DSA_NOT_A_TRACKER = 126    /* no index: the words do not have the form of a tracker, or are too few */
 };
 
 /* The most bytes of the text of a refusal. */
@@ -361,13 +369,110 @@ uint32_t dsa_fill(const struct dsa_prepared_row *rows, size_t rows_len,
                   struct dsa_refusal *refusal);
 
 /*
+ * A tracker: which submissions in flight a further one has to wait for. A submission is what is rung at once: a
+ * planned list, or any accesses. Two conflict if one writes what the other reads or writes. A submission has a slot
+ * until it is taken off; sets of slots are words, bit s for slot s.
+ *
+ * All that a tracker knows is in an array of words of the caller's, which holds no pointer: it may be moved and
+ * copied. No call keeps state; the calls on one array are made by one thread at a time. The form of the words is
+ * tested by each call, so no words make one read or write out of its arrays. The answers are right if the array is
+ * as dsa_track_begin and later calls left it.
+ *
+ * A caller owes besides: it rings a submission only when it is ready (its waits are 0), completes only what was
+ * rung and has ended, and withdraws only what was not rung. It fills a list's staging area and clears its records
+ * when it is ready, too. Then the submissions that it rings leave what they leave one after another, in the order
+ * in which they were submitted.
+ */
+struct dsa_span {
+    uint64_t first; /* the first address */
+    uint64_t len;   /* how many */
+};
+
+/* The words of a tracker with these measures, and the spans that it has to keep of a list of n pieces. */
+#ifdef __cplusplus
+#define DSA_TRACKER_WORDS(slots, spans, log2_rows) \
+    (16 + static_cast<size_t>(slots) * (3 + 4 * static_cast<size_t>(spans)) + (static_cast<size_t>(2) << (log2_rows)))
+#define DSA_TRACKER_SPANS(n) (3 * static_cast<size_t>(n) + 1)
+#else
+#define DSA_TRACKER_WORDS(slots, spans, log2_rows) \
+    ((size_t)16 + (size_t)(slots) * (3 + 4 * (size_t)(spans)) + ((size_t)2 << (log2_rows)))
+#define DSA_TRACKER_SPANS(n) ((size_t)3 * (size_t)(n) + 1)
+#endif
+
+/*
+ * Makes the words a tracker whose slots are free: at most 64 slots, for submissions that read at most `spans` spans
+ * and write at most `spans` spans. log2_rows, 1 to 32, and log2_unit, 1 to 63, change no answer: there are
+ * 2^log2_rows rows of bits for a first look (13 does for most), and addresses are looked up in units of 2^log2_unit
+ * bytes, best near the length of an operation. Returns 0, or DSA_NOT_A_TRACKER: a measure is outside its limits, or
+ * there are fewer than DSA_TRACKER_WORDS(slots, spans, log2_rows) words; then they are unchanged. It allocates
+ * nothing.
+ */
+uint32_t dsa_track_begin(uint64_t *words, size_t words_len,
+                         uint32_t slots, uint32_t spans, uint32_t log2_rows, uint32_t log2_unit,
+                         struct dsa_refusal *refusal);
+
+/*
+ * Takes a submission of descriptors, 64 bytes for each: the pieces as they are submitted, none of which is split,
+ * whose staging area at `staging` counts as written. All pieces of a tracker have one PASID and privilege. It gets
+ * the first free slot and waits for the outstanding submissions that conflict with it, and for those of `also` that
+ * are outstanding.
+ *
+ * Returns 0: slot and waits are written. Returns another number: refusal has it, and nothing else was written. What
+ * dsa_plan_list refuses of the bytes, 1 to 13, comes first; then DSA_NOT_A_TRACKER, 120, 121, 124 and 125. It
+ * allocates as much as the descriptors take.
+ */
+uint32_t dsa_track_list(uint64_t *words, size_t words_len,
+                        const uint8_t *list, size_t list_len,
+                        uint64_t staging, uint64_t staging_len, uint64_t also,
+                        uint32_t *slot, uint64_t *waits,
+                        struct dsa_refusal *refusal);
+
+/*
+ * The same of a submission that reads and writes these spans, whoever owns them. DSA_NOT_A_TRACKER, 120, 121 and
+ * 124. It allocates 16 bytes for each span, and so does dsa_track_ask.
+ */
+uint32_t dsa_track_spans(uint64_t *words, size_t words_len,
+                         const struct dsa_span *reads, size_t reads_len,
+                         const struct dsa_span *writes, size_t writes_len,
+                         uint64_t also,
+                         uint32_t *slot, uint64_t *waits,
+                         struct dsa_refusal *refusal);
+
+/*
+ * The outstanding submissions that conflict with accesses to these spans: with none, the host may do them at once.
+ * Returns 0, DSA_NOT_A_TRACKER or DSA_MEMORY.
+ */
+uint32_t dsa_track_ask(const uint64_t *words, size_t words_len,
+                       const struct dsa_span *reads, size_t reads_len,
+                       const struct dsa_span *writes, size_t writes_len,
+                       uint64_t *waits,
+                       struct dsa_refusal *refusal);
+
+/* The submissions that a slot's one still waits for: with none it is ready. Returns 0, DSA_NOT_A_TRACKER or 122. */
+uint32_t dsa_track_waits(const uint64_t *words, size_t words_len, uint32_t slot, uint64_t *waits,
+                         struct dsa_refusal *refusal);
+
+/*
+ * Takes a slot's submission off, which was ready and has ended. Its slot is free then, and no other waits for it:
+ * waited has those that did, and ready those of them that are ready now. After a failure the caller may withdraw
+ * those that waited. Returns 0, or DSA_NOT_A_TRACKER, 122 or 123, and then nothing but refusal was written.
+ */
+uint32_t dsa_track_complete(uint64_t *words, size_t words_len, uint32_t slot, uint64_t *waited, uint64_t *ready,
+                            struct dsa_refusal *refusal);
+
+/* The same of a submission that was not rung, ready or not: DSA_NOT_A_TRACKER or 122. */
+uint32_t dsa_track_withdraw(uint64_t *words, size_t words_len, uint32_t slot, uint64_t *waited, uint64_t *ready,
+                            struct dsa_refusal *refusal);
+
+/*
  * What the library takes its memory with, for programs that bring their own (a pool of DPDK or SPDK, an arena) and
  * link libdsa_planner_own_memory.a; the other two libraries neither have nor use functions of these names. `ok` is 1
  * and `at` the block, or `ok` is 0 and `at` some address that is not NULL. A block of size bytes is aligned to align,
  * which is a power of two, at most 16. A size of 0 wants a block too. rattle_realloc gives a block of size bytes that
  * begins as the old one did, and takes the old one back; where it fails, the old one stays as it is. The three are
  * called on the thread of the call, which has given every block back when it returns. dsa_count_pieces, dsa_fill,
- * dsa_refusal_text and dsa_planner_version call none of them.
+ * dsa_refusal_text, dsa_track_begin, dsa_track_waits, dsa_track_complete, dsa_track_withdraw and dsa_planner_version
+ * call none of them.
  */
 struct rattle_block {
     uint64_t ok;

@@ -18,11 +18,11 @@ import ctypes
 import os
 from dataclasses import dataclass
 from pathlib import Path
-from typing import Dict, List, NamedTuple, Optional, Sequence, Tuple, Union
+from typing import Dict, FrozenSet, Iterable, List, NamedTuple, Optional, Sequence, Tuple, Union
 
 __all__ = [
-    "BEGINS", "CAUSES", "FENCED", "MOST_PIECES", "Certificate", "Planned", "Prepared", "Refusal", "Settings", "Summary",
-    "check", "count_pieces", "judge", "library_version", "plan_list", "plan_list_certified", "prepare",
+    "BEGINS", "CAUSES", "FENCED", "MOST_PIECES", "Certificate", "Planned", "Prepared", "Refusal", "Retired", "Settings",
+    "Submitted", "Summary", "Tracker", "check", "count_pieces", "judge", "library_version", "plan_list", "plan_list_certified", "prepare",
 ]
 
 MOST_PIECES = 65_536
@@ -66,6 +66,10 @@ class _Pair(ctypes.Structure):
 
 
 class _Region(ctypes.Structure):
+    _fields_ = [("first", ctypes.c_uint64), ("len", ctypes.c_uint64)]
+
+
+class _Span(ctypes.Structure):
     _fields_ = [("first", ctypes.c_uint64), ("len", ctypes.c_uint64)]
 
 
@@ -135,6 +139,8 @@ def _declare(library: ctypes.CDLL) -> None:
     planned, refusal = ctypes.POINTER(_Planned), ctypes.POINTER(_Refusal)
     regions, rows, info = ctypes.POINTER(_Region), ctypes.POINTER(_Row), ctypes.POINTER(_Info)
     rooms = [byte, size, byte, size]
+    slot, words, spans = ctypes.POINTER(ctypes.c_uint32), [word, size], [ctypes.POINTER(_Span), size] * 2
+    number = ctypes.c_uint32
     certificate = [word, size, pairs, size]
     calls = {
         "dsa_count_pieces": (ctypes.c_uint64, listed),
@@ -144,6 +150,13 @@ def _declare(library: ctypes.CDLL) -> None:
         "dsa_judge": (ctypes.c_uint32, [*listed, byte, size, word, refusal]),
         "dsa_prepare": (ctypes.c_uint32, [*listed, regions, size, rows, size, info, refusal]),
         "dsa_fill": (ctypes.c_uint32, [rows, size, word, size, ctypes.c_uint64, *rooms, refusal]),
+        "dsa_track_begin": (number, [*words, number, number, number, number, refusal]),
+        "dsa_track_list": (number, [*words, byte, size, *[ctypes.c_uint64] * 3, slot, word, refusal]),
+        "dsa_track_spans": (number, [*words, *spans, ctypes.c_uint64, slot, word, refusal]),
+        "dsa_track_ask": (number, [*words, *spans, word, refusal]),
+        "dsa_track_waits": (number, [*words, number, word, refusal]),
+        "dsa_track_complete": (number, [*words, number, word, word, refusal]),
+        "dsa_track_withdraw": (number, [*words, number, word, word, refusal]),
     }
     for name, (result, arguments) in calls.items():
         call = getattr(library, name)
@@ -300,6 +313,13 @@ CAUSES: Dict[int, Tuple[str, str]] = {
     109: ("BaseStagingMeets", "at its new base region {0} has an address in the staging area, 96 bytes for each piece"),
     110: ("Staging", "the staging address is no multiple of 64, or above 2^63"),
     111: ("NotPrepared", "the rows do not have the form of a prepared list"),
+    120: ("NoSlot", "no slot is free: complete a submission first"),
+    121: ("TooManySpans", "the submission may read or write {0} spans, more than the tracker keeps of one"),
+    122: ("NotOutstanding", "slot {0} has no outstanding submission"),
+    123: ("Held", "the submission of slot {0} still waits for another"),
+    124: ("SpanWrap", "span {0} goes past 2^64"),
+    125: ("OtherOwner", "piece {0} has another PASID or privilege than the first piece that came"),
+    126: ("NotATracker", "the words do not have the form of a tracker, or are too few for one of these measures"),
 }
 """The name and the sentence of each cause, by its number; {0} and {1} stand for the places that a refusal names."""
 
@@ -324,8 +344,8 @@ class Refusal(Exception):
     inner: int
     """The number of the cause within, of a plan or a piece that is refused in its turn, else 0."""
     first: int
-    """The first index that the cause names, else 0; of 83 the number of the setting (`SETTINGS`), of 90 the bytes that portal
-    needs, of 91 the number of pieces, of 92 that of rows."""
+    """The first index that the cause names, else 0; of 83 the number of the setting (`SETTINGS`), of 90 the bytes that
+    portal needs, of 91 the number of pieces, of 92 that of rows, of 121 that of spans, of 122 and 123 the slot."""
     second: int
     """The second index, else 0; of 90 the bytes that staging needs."""
 
@@ -489,3 +509,108 @@ def prepare(settings: Settings, operations: Bytes, regions: Sequence[Tuple[int, 
     code = _library.dsa_prepare(raw, table, entries, listed, size, spans, len(regions), rows, room, info, refusal)
     _answered(code, refusal)
     return Prepared(bytes(rows)[: info.rows * ctypes.sizeof(_Row)])
+
+
+# ---- submissions in flight
+
+Spans = Sequence[Tuple[int, int]]
+
+
+class Submitted(NamedTuple):
+    """A submission that a tracker has taken."""
+
+    slot: int
+    """Its slot."""
+    waits: FrozenSet[int]
+    """The slots of those that it waits for; with none it is ready."""
+
+
+class Retired(NamedTuple):
+    """What follows from taking a submission off."""
+
+    waited: FrozenSet[int]
+    """The slots of those that waited for it."""
+    ready: FrozenSet[int]
+    """Those of them that wait for none any more."""
+
+
+def _slots(word: int) -> FrozenSet[int]:
+    return frozenset(slot for slot in range(64) if word >> slot & 1)
+
+
+def _word(slots: Iterable[int]) -> int:
+    return sum({1 << _whole("a slot", slot, 64) for slot in slots})
+
+
+def _spans(name: str, spans: Spans) -> Tuple["ctypes.Array[_Span]", int]:
+    """The spans, each its first address and its length, and how many they are."""
+    laid = (_Span * max(1, len(spans)))()
+    for at, (first, length) in enumerate(spans):
+        laid[at] = _Span(_whole(f"an address of {name}", first), _whole(f"a length of {name}", length))
+    return laid, len(spans)
+
+
+class Tracker:
+    """Says which submissions in flight a further one has to wait for: those of which one writes what the other
+    reads or writes. A submission has a slot until it is taken off. Calls on one tracker are made by one thread
+    at a time.
+
+    Its caller rings a submission only when it is ready, completes only what was rung and has ended, and withdraws
+    only what was not rung. Then what it rings leaves what it leaves one after another. Each call may raise
+    `Refusal`, and has changed nothing then."""
+
+    def __init__(self, slots: int, spans: int, log2_unit: int = 12, log2_rows: int = 13) -> None:
+        """At most 64 slots, for submissions that read at most so many spans and write at most so many; a list of n
+        pieces takes 3 * n + 1. The other two change no answer: addresses are looked up in units of 2^log2_unit
+        bytes, best near the length of an operation, in 2^log2_rows rows."""
+        measures = {"slots": slots, "spans": spans, "log2_rows": log2_rows, "log2_unit": log2_unit}
+        numbers = [_whole(name, value, 2**32) for name, value in measures.items()]
+        if slots > 64 or log2_rows > 32:
+            raise Refusal(126)
+        size = 16 + slots * (3 + 4 * spans) + (2 << log2_rows)
+        self._words, refusal = ((ctypes.c_uint64 * size)(), size), _Refusal()
+        _answered(_library.dsa_track_begin(*self._words, *numbers, refusal), refusal)
+
+    def submit(self, pieces: Bytes, staging: Tuple[int, int], also: Iterable[int] = ()) -> Submitted:
+        """Takes a submission of descriptors as they are submitted, whose staging area, its address and its length,
+        counts as written. It waits for the outstanding ones that conflict with it, and for those of `also` that
+        are outstanding."""
+        slot, waits, refusal = ctypes.c_uint32(), ctypes.c_uint64(), _Refusal()
+        first, length = (_whole("the staging area", value) for value in staging)
+        given = *_given("pieces", pieces), first, length, _word(also)
+        _answered(_library.dsa_track_list(*self._words, *given, slot, waits, refusal), refusal)
+        return Submitted(slot.value, _slots(waits.value))
+
+    def submit_spans(self, reads: Spans, writes: Spans, also: Iterable[int] = ()) -> Submitted:
+        """The same of a submission that reads and writes these spans, each its first address and its length."""
+        slot, waits, refusal = ctypes.c_uint32(), ctypes.c_uint64(), _Refusal()
+        given = *_spans("reads", reads), *_spans("writes", writes), _word(also)
+        _answered(_library.dsa_track_spans(*self._words, *given, slot, waits, refusal), refusal)
+        return Submitted(slot.value, _slots(waits.value))
+
+    def ask(self, reads: Spans, writes: Spans) -> FrozenSet[int]:
+        """The outstanding submissions in conflict with accesses to these spans: with none, the host may do them at
+        once."""
+        waits, refusal = ctypes.c_uint64(), _Refusal()
+        given = *_spans("reads", reads), *_spans("writes", writes)
+        _answered(_library.dsa_track_ask(*self._words, *given, waits, refusal), refusal)
+        return _slots(waits.value)
+
+    def waits(self, slot: int) -> FrozenSet[int]:
+        """The slots that the submission of this slot still waits for: with none it is ready."""
+        waits, refusal = ctypes.c_uint64(), _Refusal()
+        _answered(_library.dsa_track_waits(*self._words, _whole("the slot", slot, 2**32), waits, refusal), refusal)
+        return _slots(waits.value)
+
+    def complete(self, slot: int) -> Retired:
+        """Takes the submission of this slot off, which was ready and has ended."""
+        return self._retired(_library.dsa_track_complete, slot)
+
+    def withdraw(self, slot: int) -> Retired:
+        """Takes the submission of this slot off, which was not rung."""
+        return self._retired(_library.dsa_track_withdraw, slot)
+
+    def _retired(self, call: "ctypes._NamedFuncPointer", slot: int) -> Retired:
+        waited, ready, refusal = ctypes.c_uint64(), ctypes.c_uint64(), _Refusal()
+        _answered(call(*self._words, _whole("the slot", slot, 2**32), waited, ready, refusal), refusal)
+        return Retired(_slots(waited.value), _slots(ready.value))

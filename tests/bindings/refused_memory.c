@@ -37,7 +37,7 @@ struct rattle_block rattle_realloc(void *at, size_t old_size, size_t size, size_
     return block;
 }
 
-enum { N = 24, ROWS = 1 + 2 + 3 * N };
+enum { N = 24, ROWS = 1 + 2 + 3 * N, CALLS = 8, WORDS = 1024 };
 static const struct dsa_settings settings = {1, 5, 4096, 10, 14, 3, UINT64_C(1) << 40};
 static uint8_t list[64 * N], marks_in[N], portal_in[64 * N], staging_in[80 * N];
 static uint64_t prices_in[N + 1];
@@ -55,7 +55,29 @@ static struct outputs {
     struct dsa_planned planned;
     struct dsa_prepared_row rows[ROWS];
     struct dsa_prepared_info info;
+    uint32_t slot;
+    uint64_t waits;
 } outputs, before;
+
+static const struct dsa_span spans[] = {{0x1000, 64}, {0x2000, 64}};
+
+/* Calls of a tracker, whose words a refusal leaves as they were. */
+static uint32_t track(int which, struct dsa_refusal *r)
+{
+    static uint64_t words[WORDS], old[WORDS];
+    struct outputs *o = &outputs;
+    uint32_t code;
+    if (dsa_track_begin(words, WORDS, 2, DSA_TRACKER_SPANS(N), 4, 12, r) != DSA_OK)
+        return DSA_NOT_A_TRACKER;
+    memcpy(old, words, sizeof old);
+    if (which == 5)
+        code = dsa_track_list(words, WORDS, list, sizeof list, 0, 0, 0, &o->slot, &o->waits, r);
+    else if (which == 6)
+        code = dsa_track_spans(words, WORDS, spans, 2, spans, 1, 0, &o->slot, &o->waits, r);
+    else
+        code = dsa_track_ask(words, WORDS, spans, 2, spans, 1, &o->waits, r);
+    return code == DSA_MEMORY && memcmp(words, old, sizeof old) != 0 ? DSA_NOT_A_TRACKER : code;
+}
 
 static uint32_t call(int which, struct dsa_refusal *r)
 {
@@ -73,8 +95,10 @@ static uint32_t call(int which, struct dsa_refusal *r)
                          planned_in.staging_len, 1, prices_in, N + 1, pairs_in, N, &o->cost, r);
     case 3:
         return dsa_judge(&settings, &settings.batch, 0, list, sizeof list, marks_in, N, &o->cost, r);
-    default:
+    case 4:
         return dsa_prepare(&settings, &settings.batch, 0, list, sizeof list, regions, 2, o->rows, ROWS, &o->info, r);
+    default:
+        return track(which, r);
     }
 }
 
@@ -103,7 +127,7 @@ int main(void)
     memcpy(prices_in, outputs.prices, sizeof prices_in);
     memcpy(pairs_in, outputs.pairs, sizeof pairs_in);
     planned_in = outputs.planned;
-    for (int which = 0; which < 5; which++) {
+    for (int which = 0; which < CALLS; which++) {
         refused_at = asked = 0;
         if (call(which, &r) != DSA_OK || live != 0 || asked == 0)
             fail("refused with ample memory, or kept some", which, 0);
@@ -129,7 +153,7 @@ int main(void)
     refused_at = 1;
     asked = 0;
     if (dsa_count_pieces(&settings, &settings.batch, 0, list, sizeof list) != N || asked != 0)
-        fail("counting allocates", 5, asked);
+        fail("counting allocates", CALLS, asked);
     const uint64_t bases[] = {0x40000000, 0x20000000};
     refused_at = 0;
     if (dsa_prepare(&settings, &settings.batch, 0, list, sizeof list, regions, 2, rows_in, ROWS, &info_in, &r) != DSA_OK)
@@ -138,6 +162,6 @@ int main(void)
     asked = 0;
     if (dsa_fill(rows_in, info_in.rows, bases, 2, settings.staging, outputs.portal, sizeof outputs.portal, outputs.staging,
                  sizeof outputs.staging, &r) != DSA_OK || asked != 0)
-        fail("filling allocates", 6, asked);
+        fail("filling allocates", CALLS, asked);
     return EXIT_SUCCESS;
 }

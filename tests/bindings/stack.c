@@ -8,7 +8,7 @@
 
 #include <dsa_planner.h>
 
-enum { MOST = DSA_MOST_PIECES, STACK = 1 << 20, CALLS = 7 };
+enum { MOST = DSA_MOST_PIECES, STACK = 1 << 20, CALLS = 9 };
 
 static const struct dsa_settings settings = {1, 1024, 4096, 10, 14, 3, UINT64_C(1) << 40};
 static uint8_t list[64 * MOST], portal[64 * MOST], staging[80 * MOST], marks[MOST];
@@ -21,6 +21,8 @@ static const struct dsa_region regions[2] = {{0, UINT64_C(0x80000000)}, {UINT64_
 static const uint64_t bases[2] = {UINT64_C(0x100000000), UINT64_C(0x300000000)};
 static struct dsa_prepared_row rows[1 + 2 + 3 * MOST];
 static struct dsa_prepared_info prepared;
+static uint64_t words[DSA_TRACKER_WORDS(1, DSA_TRACKER_SPANS(MOST), 13)], waited, ready;
+static uint32_t slot;
 
 /* Moves of 64 bytes, of which each third reads what the one before writes. */
 static void put_moves(uint64_t n)
@@ -63,8 +65,17 @@ static void *call(void *which)
     case 5:
         code = dsa_prepare(s, &s->batch, 0, list, len, regions, 2, rows, DSA_PREPARED_ROOM(2, MOST), &prepared, &refusal);
         break;
-    default:
+    case 6:
         code = dsa_fill(rows, prepared.rows, bases, 2, s->staging, portal, sizeof portal, staging, sizeof staging, &refusal);
+        break;
+    case 7:
+        code = dsa_track_begin(words, sizeof words / sizeof *words, 1, DSA_TRACKER_SPANS(MOST), 13, 12, &refusal);
+        if (code == DSA_OK)
+            code = dsa_track_list(words, sizeof words / sizeof *words, list, len, s->staging, 96 * n, 0, &slot, &waited,
+                                  &refusal);
+        break;
+    default:
+        code = dsa_track_complete(words, sizeof words / sizeof *words, slot, &waited, &ready, &refusal);
     }
     return code == DSA_OK ? NULL : which;
 }
@@ -97,8 +108,8 @@ static size_t touched_by(void *(*run)(void *), int which)
 
 int main(int argc, char **argv)
 {
-    static const char *const names[CALLS] = {
-        "count_pieces", "plan_list", "plan_list_certified", "check", "judge", "prepare", "fill"};
+    static const char *const names[CALLS] = {"count_pieces", "plan_list", "plan_list_certified", "check", "judge",
+                                             "prepare", "fill", "track_list", "track_complete"};
     static const uint64_t lengths[] = {2, 63, 65, 3000, MOST};
     size_t greatest[CALLS] = {0}, limits[2] = {0, 0};
     if (argc != 3)

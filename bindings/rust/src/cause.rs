@@ -170,6 +170,20 @@ causes! {
     Staging = 110: "the staging address is no multiple of 64, or above 2^63",
     /// The rows do not have the form of a prepared list of this version.
     NotPrepared = 111: "the rows do not have the form of a prepared list",
+    /// All slots have outstanding submissions.
+    NoSlot = 120: "no slot is free: complete a submission first",
+    /// The submission may read or write `first` spans, more than the tracker keeps of one.
+    TooManySpans = 121: "the submission may read or write {0} spans, more than the tracker keeps of one",
+    /// Slot `first` has no outstanding submission.
+    NotOutstanding = 122: "slot {0} has no outstanding submission",
+    /// The submission of slot `first` still waits for another.
+    Held = 123: "the submission of slot {0} still waits for another",
+    /// Span `first` goes past 2^64.
+    SpanWrap = 124: "span {0} goes past 2^64",
+    /// Piece `first` has another PASID or privilege than the first piece that came.
+    OtherOwner = 125: "piece {0} has another PASID or privilege than the first piece that came",
+    /// The words do not have the form of a tracker, or are too few for one of these measures.
+    NotATracker = 126: "the words do not have the form of a tracker, or are too few for one of these measures",
 }
 
 impl fmt::Display for Cause {

@@ -39,6 +39,7 @@ mod cause;
 mod memory;
 mod prepared;
 mod raw;
+mod tracker;
 
 use alloc::vec;
 use alloc::vec::Vec;
@@ -46,6 +47,7 @@ use core::fmt;
 
 pub use cause::Cause;
 pub use prepared::{prepare, Prepared, Region, Row};
+pub use tracker::{Retired, Slots, Span, Submitted, Tracker};
 
 /// The most pieces of a planned list. An operation longer than `greatest_transfer` is several pieces.
 pub const MOST_PIECES: usize = 65_536;
@@ -470,4 +472,5 @@ const _: fn() = || {
     is_send_and_sync::<(BatchPrice, Settings, Cause, Refusal)>();
     is_send_and_sync::<(Summary, Certificate, Planned)>();
     is_send_and_sync::<(Prepared, Region, Row)>();
+    is_send_and_sync::<(Tracker, Span, Slots, Submitted, Retired)>();
 };

@@ -1,6 +1,6 @@
 //! The functions of the archive, as `dsa_planner.h` declares them.
 
-use crate::{Region, Row, Summary};
+use crate::{Region, Row, Span, Summary};
 
 #[repr(C)]
 pub struct Settings {
@@ -139,4 +139,81 @@ extern "C" {
         staging_capacity: usize,
         refusal: &mut Refusal,
     ) -> u32;
+
+    pub fn dsa_track_begin(
+        words: *mut u64,
+        words_len: usize,
+        slots: u32,
+        spans: u32,
+        log2_rows: u32,
+        log2_unit: u32,
+        refusal: &mut Refusal,
+    ) -> u32;
+
+    pub fn dsa_track_list(
+        words: *mut u64,
+        words_len: usize,
+        list: *const u8,
+        list_len: usize,
+        staging: u64,
+        staging_len: u64,
+        also: u64,
+        slot: &mut u32,
+        waits: &mut u64,
+        refusal: &mut Refusal,
+    ) -> u32;
+
+    pub fn dsa_track_spans(
+        words: *mut u64,
+        words_len: usize,
+        reads: *const Span,
+        reads_len: usize,
+        writes: *const Span,
+        writes_len: usize,
+        also: u64,
+        slot: &mut u32,
+        waits: &mut u64,
+        refusal: &mut Refusal,
+    ) -> u32;
+
+    pub fn dsa_track_ask(
+        words: *const u64,
+        words_len: usize,
+        reads: *const Span,
+        reads_len: usize,
+        writes: *const Span,
+        writes_len: usize,
+        waits: &mut u64,
+        refusal: &mut Refusal,
+    ) -> u32;
+
+    pub fn dsa_track_waits(
+        words: *const u64,
+        words_len: usize,
+        slot: u32,
+        waits: &mut u64,
+        refusal: &mut Refusal,
+    ) -> u32;
+
+    pub fn dsa_track_complete(
+        words: *mut u64,
+        words_len: usize,
+        slot: u32,
+        waited: &mut u64,
+        ready: &mut u64,
+        refusal: &mut Refusal,
+    ) -> u32;
+
+    pub fn dsa_track_withdraw(
+        words: *mut u64,
+        words_len: usize,
+        slot: u32,
+        waited: &mut u64,
+        ready: &mut u64,
+        refusal: &mut Refusal,
+    ) -> u32;
 }
+
+/// `dsa_track_complete` or `dsa_track_withdraw`.
+pub type Retire =
+    unsafe extern "C" fn(*mut u64, usize, u32, &mut u64, &mut u64, &mut Refusal) -> u32;

@@ -1,5 +1,5 @@
 -- How many rows a prepared list has.
-use Rattle.std.proofs.Common.{◌≡◌, ℕ, ◌<◌, ◌≤◌, ◌+◌, ◌*◌, inl, inr, List, [], ◌∷◌, ◌++◌, length, map, Ok, ap, subst, sym, arith}
+use Rattle.std.proofs.Common.{◌≡◌, ℕ, ◌<◌, ◌≤◌, ◌*◌, inl, inr, List, [], ◌∷◌, ◌++◌, length, map, Ok, ap, subst, sym, arith}
 use Rattle.std.proofs.lemmas.Bool.{cases_lt}
 use Rattle.std.proofs.lemmas.List.{length-append, length-map}
 use Rattle.std.proofs.lemmas.List.Sums.{sum_by-cons}
@@ -16,7 +16,7 @@ use Rattle.dsa_calls.specs.Planned.{Plans}
 use Rattle.dsa_calls.proofs.Submissions.{planned_is_least_and_shown}
 use Rattle.dsa_prepared.specs.Preparing.{IsCostedOf}
 use Rattle.dsa_prepared.specs.Rows.{entry_row, region_rows_of, rows_of, tie_row}
-use Rattle.dsa_prepared.specs.Templates.{Template, portal_entries, staging_entries, template_of, ties_of, units_of}
+use Rattle.dsa_prepared.specs.Templates.{Template, template_of, units_of}
 use Rattle.dsa_prepared.proofs.SoundTemplates.{few_entries, few_ties}
 use Rattle.dsa_c.specs.Preparing.{prepared_room}
 

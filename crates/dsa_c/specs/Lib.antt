@@ -7,3 +7,4 @@ pub mod Planning
 pub mod Checking
 pub mod Judging
 pub mod Preparing
+pub mod Tracking

@@ -15,6 +15,8 @@ mod preparing;
 mod refusal;
 mod settings;
 mod texts;
+mod tracked;
+mod tracking;
 
 pub use certificate::RawPair;
 pub use certified::dsa_plan_list_certified;
@@ -28,3 +30,5 @@ pub use preparing::{RawInfo, RawRegion, dsa_prepare};
 pub use refusal::RawRefusal;
 pub use settings::RawSettings;
 pub use texts::dsa_refusal_text;
+pub use tracked::{dsa_track_ask, dsa_track_complete, dsa_track_waits, dsa_track_withdraw};
+pub use tracking::{dsa_track_begin, dsa_track_list, dsa_track_spans};

@@ -18,7 +18,7 @@ use std::alloc::{AllocError, Global};
 /// The number of the refusal of an array that is too small for the rows.
 pub const NO_ROOM_FOR_ROWS: u32 = 92;
 
-/// `struct dsa_region`: a buffer with which a list was made.
+/// `struct dsa_region`, a buffer with which a list was made; and `struct dsa_span`, what a submission accesses.
 #[repr(C)]
 #[derive(Clone, Copy)]
 pub struct RawRegion {
@@ -45,7 +45,7 @@ pub struct RawInfo {
 }
 
 /// The regions' addresses.
-fn spans_of(alloc: Global, regions: &[RawRegion]) -> Result<Vec<Span>, AllocError>
+pub(crate) fn spans_of(alloc: Global, regions: &[RawRegion]) -> Result<Vec<Span>, AllocError>
     ensures { IfOk result (λ spans. spans.items ≡ map span_of regions.now) }
 {
     let mut spans = Vec::with_capacity(alloc, regions.len())?;

@@ -100,6 +100,18 @@ of_buffers n =
     if n == 111 then codes "the rows do not have the form of a prepared list" else
     []
 
+-- of trackers
+unfoldable pub of_trackers : ℕ → List ℕ
+of_trackers n =
+    if n == 120 then codes "no slot is free: complete a submission first" else
+    if n == 121 then codes "the submission may read or write # spans, more than the tracker keeps of one" else
+    if n == 122 then codes "slot # has no outstanding submission" else
+    if n == 123 then codes "the submission of slot # still waits for another" else
+    if n == 124 then codes "span # goes past 2^64" else
+    if n == 125 then codes "piece # has another PASID or privilege than the first piece that came" else
+    if n == 126 then codes "the words do not have the form of a tracker, or are too few for one of these measures" else
+    []
+
 -- of settings, by the number of the one that is outside its limits; by another number what is right of each
 unfoldable pub of_settings : ℕ → List ℕ
 of_settings n =
@@ -121,7 +133,8 @@ sentence n =
     if nat_lt n 50 then of_plans n else
     if nat_lt n 70 then of_certificates n else
     if nat_lt n 90 then of_runs n else
-    of_buffers n
+    if nat_lt n 120 then of_buffers n else
+    of_trackers n
 
 -- of any number, where 83 names the setting by its first number
 abbrev pub said : ℕ → ℕ → List ℕ

@@ -2,7 +2,7 @@
 //! second. docs/FORMATS.md has the same sentences.
 
 ghost use Rattle.std.specs.Prelude.{◌≡◌, ◌≤◌};
-ghost use Rattle.dsa_sentences.specs.Sentences.{said, sentence, of_buffers, of_certificates, of_lists, of_operations, of_plans, of_runs, of_settings};
+ghost use Rattle.dsa_sentences.specs.Sentences.{said, sentence, of_buffers, of_certificates, of_lists, of_operations, of_plans, of_runs, of_settings, of_trackers};
 ghost use Rattle.dsa_sentences.specs.Texts.{longest};
 
 /// The causes of a list.
@@ -151,6 +151,25 @@ fn of_buffers(number: u64) -> &'static str
     }
 }
 
+/// The causes of trackers.
+#[tactic(auto, unfolding(crate::specs::Sentences::of_trackers))]
+fn of_trackers(number: u64) -> &'static str
+    ensures value { result.now ≡ of_trackers number }
+    ensures short { longest result.now ≤ 200 }
+{
+    match number {
+        120 => "no slot is free: complete a submission first",
+        121 => "the submission may read or write # spans, more than the tracker keeps of one",
+        122 => "slot # has no outstanding submission",
+        123 => "the submission of slot # still waits for another",
+        124 => "span # goes past 2^64",
+        125 => "piece # has another PASID or privilege than the first piece that came",
+        126 =>
+            "the words do not have the form of a tracker, or are too few for one of these measures",
+        _ => "",
+    }
+}
+
 /// Which setting is outside its limits, by its number; by another number what is right of each.
 #[tactic(auto, unfolding(crate::specs::Sentences::of_settings))]
 fn of_settings(number: u64) -> &'static str
@@ -192,7 +211,10 @@ pub fn sentence_of(number: u64) -> &'static str
     if number < 90 {
         return of_runs(number);
     }
-    of_buffers(number)
+    if number < 120 {
+        return of_buffers(number);
+    }
+    of_trackers(number)
 }
 
 /// What the cause of this number means. Of 83 the first number that the refusal names is that of the setting.

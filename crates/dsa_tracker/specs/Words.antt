@@ -15,16 +15,19 @@ use Rattle.dsa_tracker.specs.Table.{Outstanding, Table}
 abbrev pub tracker_mark : ℕ
 tracker_mark = 7738135728959353700
 
--- the measures: how many slots, for how many spans each, and how units are found in rows
+-- how many slots there are
 abbrev pub slots_in : List ℕ → ℕ
 slots_in words = slice_index words 1
 
+-- how many spans a submission may read, and how many it may write
 abbrev pub room_in : List ℕ → ℕ
 room_in words = slice_index words 2
 
+-- the number of rows, as a power of two
 abbrev pub log2_rows_in : List ℕ → ℕ
 log2_rows_in words = slice_index words 3
 
+-- the addresses of a unit, as a power of two
 abbrev pub log2_unit_in : List ℕ → ℕ
 log2_unit_in words = slice_index words 4
 
@@ -45,6 +48,7 @@ board_in words =
 abbrev pub owner_by : ℕ → ℕ → ℕ → Option Owner
 owner_by known pasid privileged = if known == 1 then Some (record { pasid = pasid; privileged = privileged == 1 }) else None
 
+-- the owner
 abbrev pub owner_in : List ℕ → Option Owner
 owner_in words = owner_by (slice_index words 8) (slice_index words 9) (slice_index words 10)
 

@@ -1,0 +1,247 @@
+//! Which submissions in flight a further one has to wait for.
+
+use alloc::vec;
+use alloc::vec::Vec;
+
+use crate::{answer, raw, Refusal};
+
+/// Addresses that a submission reads or writes.
+#[repr(C)]
+#[derive(Clone, Copy, Debug, PartialEq, Eq, Hash)]
+pub struct Span {
+    /// The first address.
+    pub first: u64,
+    /// How many there are.
+    pub len: u64,
+}
+
+/// A set of slots: bit `s` of the word is for slot `s`, from 0 to 63.
+#[derive(Clone, Copy, Debug, Default, PartialEq, Eq, Hash)]
+pub struct Slots(pub u64);
+
+impl Slots {
+    /// The set of no slots.
+    pub const EMPTY: Slots = Slots(0);
+
+    /// Whether the slot is in the set.
+    #[must_use]
+    pub fn contains(self, slot: u32) -> bool {
+        slot < 64 && self.0 >> slot & 1 == 1
+    }
+
+    /// Whether no slot is in the set.
+    #[must_use]
+    pub fn is_empty(self) -> bool {
+        self.0 == 0
+    }
+}
+
+/// A submission that a tracker has taken.
+#[derive(Clone, Copy, Debug, PartialEq, Eq, Hash)]
+pub struct Submitted {
+    /// Its slot.
+    pub slot: u32,
+    /// The slots of those that it waits for; with none it is ready.
+    pub waits: Slots,
+}
+
+/// What follows from taking a submission off.
+#[derive(Clone, Copy, Debug, PartialEq, Eq, Hash)]
+pub struct Retired {
+    /// The slots of those that waited for it.
+    pub waited: Slots,
+    /// Those of them that wait for none any more.
+    pub ready: Slots,
+}
+
+/// Says which submissions in flight a further one has to wait for: those of which one writes what the other reads
+/// or writes. A submission has a slot until it is taken off.
+///
+/// Its caller rings a submission only when it is ready, completes only what was rung and has ended, and withdraws
+/// only what was not rung. Then what it rings leaves what it leaves one after another. A call that fails has
+/// changed nothing.
+///
+/// ```
+/// use dsa_planner::{Slots, Span, Tracker};
+///
+/// let (buffer, copy) = (Span { first: 0x1000, len: 64 }, Span { first: 0x2000, len: 64 });
+/// let mut tracker = Tracker::new(8, 16, 13, 12)?;
+/// let writes = tracker.submit_spans(&[], &[buffer], Slots::EMPTY)?;
+/// let reads = tracker.submit_spans(&[buffer], &[copy], Slots::EMPTY)?;
+/// assert!(writes.waits.is_empty() && reads.waits.contains(writes.slot));
+/// assert!(tracker.complete(writes.slot)?.ready.contains(reads.slot));
+/// # Ok::<(), dsa_planner::Refusal>(())
+/// ```
+#[derive(Clone, Debug, PartialEq, Eq)]
+pub struct Tracker {
+    words: Vec<u64>,
+}
+
+impl Tracker {
+    /// A tracker with at most 64 slots, for submissions that read at most so many spans and write at most so many;
+    /// a list of n pieces takes 3 n + 1. The other two change no answer: there are 2^`log2_rows` rows of bits for a
+    /// first look, 1 to 32 (13 does for most), and addresses are looked up in units of 2^`log2_unit` bytes, 1 to
+    /// 63, best near the length of an operation.
+    ///
+    /// # Errors
+    /// [`Cause::NotATracker`](crate::Cause::NotATracker): a measure is outside its limits.
+    pub fn new(slots: u32, spans: u32, log2_rows: u32, log2_unit: u32) -> Result<Tracker, Refusal> {
+        let len = if slots <= 64 && log2_rows <= 32 {
+            16 + slots as usize * (3 + 4 * spans as usize) + (2 << log2_rows)
+        } else {
+            0
+        };
+        let (mut words, mut refusal) = (vec![0; len], raw::Refusal::default());
+        // SAFETY: the pointer and the length are those of one vector, and no output overlaps another argument.
+        let code = unsafe {
+            raw::dsa_track_begin(
+                words.as_mut_ptr(),
+                words.len(),
+                slots,
+                spans,
+                log2_rows,
+                log2_unit,
+                &mut refusal,
+            )
+        };
+        answer(code, Tracker { words }, refusal)
+    }
+
+    /// Takes a submission of descriptors, 64 bytes for each, as they are submitted; the staging area counts as
+    /// written. It waits for the outstanding ones that conflict with it, and for those of `also` that are
+    /// outstanding.
+    ///
+    /// # Errors
+    /// What [`plan_list`](crate::plan_list) refuses of the bytes; then the first of
+    /// [`Cause::NoSlot`](crate::Cause::NoSlot), `TooManySpans`, `SpanWrap` and `OtherOwner`.
+    pub fn submit(
+        &mut self,
+        pieces: &[u8],
+        staging: Span,
+        also: Slots,
+    ) -> Result<Submitted, Refusal> {
+        let (mut slot, mut waits, mut refusal) = (0, 0, raw::Refusal::default());
+        // SAFETY: each pointer and length are those of one slice or vector, and no output overlaps another argument.
+        let code = unsafe {
+            raw::dsa_track_list(
+                self.words.as_mut_ptr(),
+                self.words.len(),
+                pieces.as_ptr(),
+                pieces.len(),
+                staging.first,
+                staging.len,
+                also.0,
+                &mut slot,
+                &mut waits,
+                &mut refusal,
+            )
+        };
+        let waits = Slots(waits);
+        answer(code, Submitted { slot, waits }, refusal)
+    }
+
+    /// The same of a submission that reads and writes these spans, whoever owns them.
+    ///
+    /// # Errors
+    /// The first of [`Cause::NoSlot`](crate::Cause::NoSlot), `TooManySpans` and `SpanWrap`; `Memory`.
+    pub fn submit_spans(
+        &mut self,
+        reads: &[Span],
+        writes: &[Span],
+        also: Slots,
+    ) -> Result<Submitted, Refusal> {
+        let (mut slot, mut waits, mut refusal) = (0, 0, raw::Refusal::default());
+        // SAFETY: each pointer and length are those of one slice or vector, and no output overlaps another argument.
+        let code = unsafe {
+            raw::dsa_track_spans(
+                self.words.as_mut_ptr(),
+                self.words.len(),
+                reads.as_ptr(),
+                reads.len(),
+                writes.as_ptr(),
+                writes.len(),
+                also.0,
+                &mut slot,
+                &mut waits,
+                &mut refusal,
+            )
+        };
+        let waits = Slots(waits);
+        answer(code, Submitted { slot, waits }, refusal)
+    }
+
+    /// The outstanding submissions that conflict with accesses to these spans: with none, the host may do them at
+    /// once.
+    ///
+    /// # Errors
+    /// `Memory`.
+    pub fn ask(&self, reads: &[Span], writes: &[Span]) -> Result<Slots, Refusal> {
+        let (mut waits, mut refusal) = (0, raw::Refusal::default());
+        // SAFETY: each pointer and length are those of one slice or vector, and no output overlaps another argument.
+        let code = unsafe {
+            raw::dsa_track_ask(
+                self.words.as_ptr(),
+                self.words.len(),
+                reads.as_ptr(),
+                reads.len(),
+                writes.as_ptr(),
+                writes.len(),
+                &mut waits,
+                &mut refusal,
+            )
+        };
+        answer(code, Slots(waits), refusal)
+    }
+
+    /// The slots that the submission of this slot still waits for: with none it is ready.
+    ///
+    /// # Errors
+    /// [`Cause::NotOutstanding`](crate::Cause::NotOutstanding).
+    pub fn waits(&self, slot: u32) -> Result<Slots, Refusal> {
+        let (mut waits, mut refusal) = (0, raw::Refusal::default());
+        // SAFETY: the pointer and the length are those of one vector, and no output overlaps another argument.
+        let code = unsafe {
+            raw::dsa_track_waits(
+                self.words.as_ptr(),
+                self.words.len(),
+                slot,
+                &mut waits,
+                &mut refusal,
+            )
+        };
+        answer(code, Slots(waits), refusal)
+    }
+
+    /// Takes the submission of this slot off, which was ready and has ended.
+    ///
+    /// # Errors
+    /// [`Cause::NotOutstanding`](crate::Cause::NotOutstanding), or `Held` for one that still waits.
+    pub fn complete(&mut self, slot: u32) -> Result<Retired, Refusal> {
+        self.retire(raw::dsa_track_complete, slot)
+    }
+
+    /// Takes the submission of this slot off, which was not rung.
+    ///
+    /// # Errors
+    /// [`Cause::NotOutstanding`](crate::Cause::NotOutstanding).
+    pub fn withdraw(&mut self, slot: u32) -> Result<Retired, Refusal> {
+        self.retire(raw::dsa_track_withdraw, slot)
+    }
+
+    fn retire(&mut self, call: raw::Retire, slot: u32) -> Result<Retired, Refusal> {
+        let (mut waited, mut ready, mut refusal) = (0, 0, raw::Refusal::default());
+        // SAFETY: the pointer and the length are those of one vector, and no output overlaps another argument.
+        let code = unsafe {
+            call(
+                self.words.as_mut_ptr(),
+                self.words.len(),
+                slot,
+                &mut waited,
+                &mut ready,
+                &mut refusal,
+            )
+        };
+        let (waited, ready) = (Slots(waited), Slots(ready));
+        answer(code, Retired { waited, ready }, refusal)
+    }
+}

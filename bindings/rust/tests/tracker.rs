@@ -1,0 +1,103 @@
+//! Trackers: waits that were worked by hand, and each refusal.
+
+use dsa_planner::{Cause, Refusal, Retired, Slots, Span, Submitted, Tracker};
+
+const fn span(first: u64, len: u64) -> Span {
+    Span { first, len }
+}
+
+fn refused(cause: Cause, first: u64) -> Refusal {
+    Refusal {
+        cause,
+        inner: None,
+        first,
+        second: 0,
+    }
+}
+
+fn fill_bytes(target: u64, record: u64, pasid: u32) -> [u8; 64] {
+    let mut bytes = [0; 64];
+    bytes[..4].copy_from_slice(&pasid.to_le_bytes());
+    bytes[4..8].copy_from_slice(&0x0400_000cu32.to_le_bytes());
+    bytes[8..16].copy_from_slice(&record.to_le_bytes());
+    bytes[24..32].copy_from_slice(&target.to_le_bytes());
+    bytes[32..36].copy_from_slice(&64u32.to_le_bytes());
+    bytes
+}
+
+#[test]
+fn waits_for_conflicts_and_named_slots() {
+    let mut tracker = Tracker::new(3, 4, 8, 12).unwrap();
+    let (a, b, c) = (span(0x1000, 64), span(0x2000, 64), span(0x3000, 64));
+    let taken = |slot, waits| {
+        Ok(Submitted {
+            slot,
+            waits: Slots(waits),
+        })
+    };
+    assert_eq!(tracker.submit_spans(&[a], &[b], Slots::EMPTY), taken(0, 0));
+    assert_eq!(
+        tracker.submit_spans(&[b], &[c], Slots::EMPTY),
+        taken(1, 0b001)
+    );
+    assert_eq!(tracker.ask(&[a], &[]), Ok(Slots::EMPTY));
+    assert_eq!(tracker.ask(&[], &[a, c]), Ok(Slots(0b011)));
+    assert_eq!(
+        tracker.submit_spans(&[a], &[], Slots(0b110)),
+        taken(2, 0b010)
+    );
+    assert_eq!(
+        tracker.submit_spans(&[], &[], Slots::EMPTY),
+        Err(refused(Cause::NoSlot, 0))
+    );
+    assert_eq!(tracker.complete(1), Err(refused(Cause::Held, 1)));
+    let (waited, ready) = (Slots(0b010), Slots(0b010));
+    assert_eq!(tracker.complete(0), Ok(Retired { waited, ready }));
+    let (waited, ready) = (Slots(0b100), Slots(0b100));
+    assert_eq!(tracker.withdraw(1), Ok(Retired { waited, ready }));
+    assert_eq!(tracker.waits(2), Ok(Slots::EMPTY));
+    assert_eq!(tracker.waits(1), Err(refused(Cause::NotOutstanding, 1)));
+}
+
+#[test]
+fn takes_descriptors_of_one_owner() {
+    let mut tracker = Tracker::new(4, 4, 8, 12).unwrap();
+    let staging = span(0x10000, 96);
+    let first = tracker.submit(&fill_bytes(0x1000, 0x8000, 5), staging, Slots::EMPTY);
+    assert_eq!(first.map(|one| one.waits), Ok(Slots::EMPTY));
+    let same_staging = tracker.submit(&fill_bytes(0x2000, 0x8020, 5), staging, Slots::EMPTY);
+    assert_eq!(same_staging.map(|one| one.waits), Ok(Slots(1)));
+    let other = tracker.submit(&fill_bytes(0x2000, 0x8020, 6), staging, Slots::EMPTY);
+    assert_eq!(other, Err(refused(Cause::OtherOwner, 0)));
+    let past = tracker.submit(
+        &fill_bytes(0x2000, 0x8020, 5),
+        span(1, u64::MAX),
+        Slots::EMPTY,
+    );
+    assert_eq!(past.map(|one| one.slot), Ok(2));
+    let wrap = tracker.submit(
+        &fill_bytes(0x2000, 0x8020, 5),
+        span(2, u64::MAX),
+        Slots::EMPTY,
+    );
+    assert_eq!(wrap, Err(refused(Cause::SpanWrap, 0)));
+    assert_eq!(
+        tracker.submit(&[0; 63], staging, Slots::EMPTY),
+        Err(refused(Cause::Length, 0))
+    );
+    let two = [fill_bytes(0x1000, 0x8000, 5), fill_bytes(0x2000, 0x8020, 5)].concat();
+    assert_eq!(
+        tracker.submit(&two, staging, Slots::EMPTY),
+        Err(refused(Cause::TooManySpans, 7))
+    );
+}
+
+#[test]
+fn refuses_measures() {
+    for (slots, rows, unit) in [(65, 8, 12), (4, 0, 12), (4, 33, 12), (4, 8, 0), (4, 8, 64)] {
+        assert_eq!(
+            Tracker::new(slots, 4, rows, unit),
+            Err(refused(Cause::NotATracker, 0))
+        );
+    }
+}

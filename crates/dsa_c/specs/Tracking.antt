@@ -1,0 +1,115 @@
+-- What the calls of a tracker in an array of words promise.
+use Rattle.std.specs.Prelude.{◌≡◌, ◌≢◌, ◌⊎◌, ℕ, ◌≤◌, List, map, slice_index_or}
+use Rattle.dsa_descriptor.specs.declared.descriptor.Descriptor.{Descriptor}
+use Rattle.dsa_descriptor.specs.declared.fault.ListFault.{ListFault}
+use Rattle.dsa_descriptor.specs.declared.fault.ListFault.TheVariants.{Memory as ListMemory}
+use Rattle.dsa_descriptor.specs.declared.span.Span.{Span}
+use Rattle.dsa_descriptor.specs.Causes.{index_list}
+use Rattle.dsa_descriptor.specs.Descriptors.{fields}
+use Rattle.dsa_descriptor.specs.Fields.{Fields}
+use Rattle.dsa_descriptor.specs.Lists.{IsFirstListFault}
+use Rattle.dsa_flight.specs.Spans.{all_reads, staged_writes}
+use Rattle.dsa_calls.specs.declared.fault.PlanFault.TheVariants.{List as InList, Memory}
+use Rattle.dsa_calls.specs.Lists.{IsListOf}
+use Rattle.dsa_tracker.specs.declared.fault.WordsFault.{WordsFault}
+use Rattle.dsa_tracker.specs.declared.fault.WordsFault.TheVariants.{NotATracker}
+use Rattle.dsa_tracker.specs.declared.slots.Slots.{Slots}
+use Rattle.dsa_tracker.specs.declared.tracker.Retired.{Retired}
+use Rattle.dsa_tracker.specs.declared.tracker.Submitted.{Submitted}
+use Rattle.dsa_tracker.specs.Calls.{CanKeep, CanKeepList, IsCompleteFault, IsListFault, IsRefused, IsSpanFault, IsWithdrawFault, Retires, Submits, owner_with}
+use Rattle.dsa_tracker.specs.Causes.{words_indices, words_number}
+use Rattle.dsa_tracker.specs.Table.{ConflictsWith, IsExactly, IsHeld, IsReady, WaitsFor}
+use Rattle.dsa_tracker.specs.Words.{AreMeasures, IsShapedIn, IsTracker, RefusesIn, owner_in, room_in, table_in, words_needed}
+use Rattle.dsa_c.specs.declared.refusal.RawRefusal.{RawRefusal}
+use Rattle.dsa_c.specs.Preparing.{refusal_at}
+use Rattle.dsa_c.specs.Raw.{refusal_of}
+
+-- the slots that the bits of a word are
+abbrev pub slots_of : ℕ → Slots
+slots_of word = record { 0 = word }
+
+-- what the words of a slot and of its waits say
+abbrev pub submitted_of : ℕ → ℕ → Submitted
+submitted_of slot waits = record { slot = slot; waits = slots_of waits }
+
+-- what the words of two sets say
+abbrev pub retired_of : ℕ → ℕ → Retired
+retired_of waited ready = record { waited = slots_of waited; ready = slots_of ready }
+
+-- the refusal of a cause why a call over words changes nothing
+abbrev pub track_refusal_of : WordsFault → RawRefusal
+track_refusal_of fault =
+    refusal_at (words_number fault) (slice_index_or (index_list (words_indices fault)) 0 0) (slice_index_or (index_list (words_indices fault)) 1 0)
+
+-- a tracker of these measures fits into so many words
+abbrev pub CanBegin : ℕ → ℕ → ℕ → ℕ → ℕ → Type 0
+CanBegin slots spans log2_rows log2_unit len = AreMeasures slots spans log2_rows log2_unit × (words_needed slots spans log2_rows ≤ len)
+
+-- ---- what each call leaves: words of the form of a tracker, and of a tracker the next state of it
+
+-- a submission that reads and writes these spans is taken
+abbrev pub TakesSpans : List ℕ → List Span → List Span → Slots → Submitted → List ℕ → Type 0
+TakesSpans words reads writes also submitted new =
+    IsShapedIn words × IsShapedIn new × CanKeep (room_in words) reads writes
+    × (IsTracker words → IsTracker new × Submits (table_in words) reads writes also (owner_in words) submitted (table_in new))
+
+-- one of these pieces is taken
+abbrev pub TakesPieces : List ℕ → List Fields → Span → Slots → Submitted → List ℕ → Type 0
+TakesPieces words pieces staging also submitted new =
+    IsShapedIn words × IsShapedIn new × CanKeepList (room_in words) (owner_with (owner_in words) pieces) pieces staging
+    × (IsTracker words →
+    IsTracker new × Submits (table_in words) (all_reads pieces) (staged_writes staging pieces) also (owner_with (owner_in words) pieces) submitted (table_in new))
+
+-- one of the pieces that these bytes spell is taken
+abbrev pub TakesList : List ℕ → List ℕ → Span → Slots → Submitted → List ℕ → Type 0
+TakesList words list staging also submitted new =
+    (pieces : List Descriptor) × IsListOf list pieces × TakesPieces words (map fields pieces) staging also submitted new
+
+-- the submission of a slot is taken off, which was ready
+abbrev pub Completes : List ℕ → ℕ → Retired → List ℕ → Type 0
+Completes words slot retired new =
+    IsShapedIn words × IsShapedIn new × IsReady (table_in words).slots slot × (IsTracker words → IsTracker new × Retires (table_in words) slot retired (table_in new))
+
+-- or it was not rung
+abbrev pub Withdraws : List ℕ → ℕ → Retired → List ℕ → Type 0
+Withdraws words slot retired new =
+    IsShapedIn words × IsShapedIn new × IsHeld (table_in words).slots slot × (IsTracker words → IsTracker new × Retires (table_in words) slot retired (table_in new))
+
+-- ---- what each call answers that changes nothing
+
+-- these are the outstanding submissions in conflict with what reads and writes these spans, if the words are a tracker
+abbrev pub Asks : List ℕ → List Span → List Span → Slots → Type 0
+Asks words reads writes set = IsShapedIn words × (IsTracker words → IsExactly set (ConflictsWith (table_in words).slots reads writes))
+
+-- the slot has an outstanding submission, and it waits for these
+abbrev pub Awaits : List ℕ → ℕ → Slots → Type 0
+Awaits words slot set = IsShapedIn words × IsHeld (table_in words).slots slot × IsExactly set (λ s. WaitsFor (table_in words).slots s slot)
+
+-- ---- why a call refuses
+
+-- an allocation failed, or the tracker refuses the spans
+abbrev pub RefusesSpans : List ℕ → List Span → List Span → RawRefusal → Type 0
+RefusesSpans words reads writes r =
+    (r ≡ refusal_of Memory)
+    ⊎ ((fault : WordsFault) × RefusesIn words fault (λ f. IsRefused (table_in words) f (IsSpanFault (room_in words) reads writes f)) × (r ≡ track_refusal_of fault))
+
+-- an allocation failed, the bytes are no list, with the first fault of it, or the tracker refuses the pieces
+abbrev pub RefusesList : List ℕ → List ℕ → Span → RawRefusal → Type 0
+RefusesList words list staging r =
+    (r ≡ refusal_of Memory)
+    ⊎ ((fault : ListFault) × (fault ≢ ListMemory) × IsFirstListFault list fault × (r ≡ refusal_of (InList fault)))
+    ⊎ ((pieces : List Descriptor) × (fault : WordsFault) × IsListOf list pieces
+    × RefusesIn words fault (λ f. IsRefused (table_in words) f (IsListFault (room_in words) (owner_with (owner_in words) (map fields pieces)) (map fields pieces) staging f))
+    × (r ≡ track_refusal_of fault))
+
+-- an allocation failed, or the words have not the form
+abbrev pub RefusesAsk : List ℕ → RawRefusal → Type 0
+RefusesAsk words r = (r ≡ refusal_of Memory) ⊎ ((r ≡ track_refusal_of NotATracker) × (¬ IsShapedIn words))
+
+-- the tracker refuses to complete the slot's submission
+abbrev pub RefusesComplete : List ℕ → ℕ → RawRefusal → Type 0
+RefusesComplete words slot r = (fault : WordsFault) × RefusesIn words fault (IsCompleteFault (table_in words) slot) × (r ≡ track_refusal_of fault)
+
+-- or the slot has none
+abbrev pub RefusesSlot : List ℕ → ℕ → RawRefusal → Type 0
+RefusesSlot words slot r = (fault : WordsFault) × RefusesIn words fault (IsWithdrawFault (table_in words) slot) × (r ≡ track_refusal_of fault)

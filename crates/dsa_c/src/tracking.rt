@@ -1,0 +1,179 @@
+//! Submissions handed to a tracker in the caller's words.
+
+ghost use Rattle.std.specs.Prelude.{◌≡◌, ◌≢◌, ◌<◌, None, MatchResult, length, map, replicate};
+ghost use Rattle.dsa_descriptor.specs.Spans.{span};
+ghost use Rattle.dsa_tracker.specs.declared.fault.WordsFault.TheVariants.{NotATracker};
+ghost use Rattle.dsa_tracker.specs.Words.{IsTracker, table_in};
+ghost use Rattle.dsa_c.specs.Preparing.{span_of};
+ghost use Rattle.dsa_c.specs.Tracking.{CanBegin, RefusesList, RefusesSpans, TakesList, TakesSpans, slots_of, submitted_of, track_refusal_of};
+
+use crate::preparing::{RawRegion, spans_of};
+use crate::refusal::{RawRefusal, first_two, refusal, refusal_at};
+use dsa_calls::PlanFault;
+use dsa_descriptor::{Span, read_list};
+use dsa_tracker::{Slots, Submitted, WordsFault, words};
+use std::alloc::Global;
+
+/// The refusal of this cause.
+pub(crate) fn track_refusal(fault: WordsFault) -> RawRefusal
+    ensures value { result ≡ track_refusal_of fault }
+    ensures some { 0 < result.number }
+{
+    let (first, second) = first_two(fault.indices());
+    refusal_at(u32::from(fault.number()), first, second)
+}
+
+/// Makes the words a tracker with so many slots, for submissions of at most so many spans that they read, and that
+/// they write. It takes no memory. It answers 0 then, and else 126, and has written `refusal` alone.
+#[unsafe(no_mangle)]
+pub extern "C" fn dsa_track_begin(
+    words: &mut [u64],
+    slots: u32,
+    spans: u32,
+    log2_rows: u32,
+    log2_unit: u32,
+    refusal: &mut RawRefusal,
+) -> u32
+    ensures begun { result ≡ 0 →
+        CanBegin slots spans log2_rows log2_unit (length words.old) × IsTracker words.new
+        × (table_in words.new ≡
+        record { slots = replicate slots None; room = spans; owner = None }) }
+    ensures refused { result ≢ 0 → (result ≡ refusal.new.number)
+        × (refusal.new ≡ track_refusal_of NotATracker)
+        × (¬ CanBegin slots spans log2_rows log2_unit (length words.old)) }
+    ensures unchanged { result ≢ 0 → words.new ≡ words.old }
+    ensures quiet { result ≡ 0 → refusal.new ≡ refusal.old }
+{
+    match words::begin(words, slots, spans, log2_rows, log2_unit) {
+        Ok(()) => 0,
+        Err(fault) => {
+            let cause = track_refusal(fault);
+            *refusal = cause;
+            cause.number
+        }
+    }
+}
+
+/// Hands a submission of these spans to the tracker.
+fn take_spans(
+    alloc: Global,
+    words: &mut [u64],
+    reads: &[RawRegion],
+    writes: &[RawRegion],
+    also: Slots,
+) -> Result<Submitted, RawRefusal>
+    ensures { let read = map span_of reads.now in let written = map span_of writes.now in
+        MatchResult result
+        (λ s. TakesSpans words.old read written also s words.new)
+        (λ r. (0 < r.number) × RefusesSpans words.old read written r
+        × (words.new ≡ words.old)) }
+{
+    let Ok(read) = spans_of(alloc, reads) else {
+        return Err(refusal(PlanFault::Memory));
+    };
+    let Ok(written) = spans_of(alloc, writes) else {
+        return Err(refusal(PlanFault::Memory));
+    };
+    match words::submit_spans(words, &read, &written, also) {
+        Ok(submitted) => Ok(submitted),
+        Err(fault) => Err(track_refusal(fault)),
+    }
+}
+
+/// Hands a submission of the pieces that the bytes spell to the tracker.
+fn take_list(
+    alloc: Global,
+    words: &mut [u64],
+    list: &[u8],
+    staging: Span,
+    also: Slots,
+) -> Result<Submitted, RawRefusal>
+    ensures { MatchResult result
+        (λ s. TakesList words.old list.now staging also s words.new)
+        (λ r. (0 < r.number) × RefusesList words.old list.now staging r
+        × (words.new ≡ words.old)) }
+{
+    let pieces = match read_list(alloc, list) {
+        Ok(pieces) => pieces,
+        Err(fault) => return Err(refusal(PlanFault::from(fault))),
+    };
+    match words::submit(words, &pieces, staging, also) {
+        Ok(submitted) => Ok(submitted),
+        Err(fault) => Err(track_refusal(fault)),
+    }
+}
+
+/// Takes a submission that reads and writes these spans: writes its slot to `slot`, and the slots of those that it
+/// waits for to `waits`, a bit for each. It answers 0 then, and else the number of the refusal, and has written
+/// `refusal` alone.
+#[unsafe(no_mangle)]
+pub extern "C" fn dsa_track_spans(
+    alloc: Global,
+    words: &mut [u64],
+    reads: &[RawRegion],
+    writes: &[RawRegion],
+    also: u64,
+    slot: &mut u32,
+    waits: &mut u64,
+    refusal: &mut RawRefusal,
+) -> u32
+    ensures taken { result ≡ 0 → TakesSpans words.old (map span_of reads.now)
+        (map span_of writes.now) (slots_of also) (submitted_of slot.new waits.new) words.new }
+    ensures refused { result ≢ 0 → (result ≡ refusal.new.number)
+        × RefusesSpans words.old (map span_of reads.now) (map span_of writes.now) refusal.new }
+    ensures unchanged { result ≢ 0 →
+        (words.new ≡ words.old) × (slot.new ≡ slot.old) × (waits.new ≡ waits.old) }
+    ensures quiet { result ≡ 0 → refusal.new ≡ refusal.old }
+{
+    match take_spans(alloc, words, reads, writes, Slots(also)) {
+        Ok(submitted) => {
+            *slot = submitted.slot;
+            *waits = submitted.waits.0;
+            0
+        }
+        Err(cause) => {
+            *refusal = cause;
+            cause.number
+        }
+    }
+}
+
+/// Takes a submission of the pieces that the bytes of `list` spell, whose staging area counts as written: writes
+/// its slot to `slot`, and the slots of those that it waits for to `waits`, a bit for each. It answers 0 then, and
+/// else the number of the refusal, and has written `refusal` alone.
+#[unsafe(no_mangle)]
+pub extern "C" fn dsa_track_list(
+    alloc: Global,
+    words: &mut [u64],
+    list: &[u8],
+    staging: u64,
+    staging_len: u64,
+    also: u64,
+    slot: &mut u32,
+    waits: &mut u64,
+    refusal: &mut RawRefusal,
+) -> u32
+    ensures taken { result ≡ 0 → TakesList words.old list.now (span staging staging_len)
+        (slots_of also) (submitted_of slot.new waits.new) words.new }
+    ensures refused { result ≢ 0 → (result ≡ refusal.new.number)
+        × RefusesList words.old list.now (span staging staging_len) refusal.new }
+    ensures unchanged { result ≢ 0 →
+        (words.new ≡ words.old) × (slot.new ≡ slot.old) × (waits.new ≡ waits.old) }
+    ensures quiet { result ≡ 0 → refusal.new ≡ refusal.old }
+{
+    let area = Span {
+        first: staging,
+        len: staging_len,
+    };
+    match take_list(alloc, words, list, area, Slots(also)) {
+        Ok(submitted) => {
+            *slot = submitted.slot;
+            *waits = submitted.waits.0;
+            0
+        }
+        Err(cause) => {
+            *refusal = cause;
+            cause.number
+        }
+    }
+}

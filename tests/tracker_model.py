@@ -1,0 +1,196 @@
+"""Random submissions, questions, completions and withdrawals, valid and not, by `Tracker` of the Python module beside a
+model of docs/FORMATS.md and dsa_planner.h in sets of addresses. tests/bindings.py runs it on the proved archive; by
+hand `DSA_PLANNER_LIBRARY=.. tests/tracker_model.py 100000 7` takes as many as one likes, from another seed."""
+
+import random
+import sys
+from pathlib import Path
+
+sys.path.insert(0, str(Path(__file__).resolve().parent.parent / "bindings/python"))
+from dsa_planner import Refusal, Tracker
+
+MOST = 2**64
+MOVE, FILL, COMPARE = 3, 4, 5
+
+
+class Model:
+    """A slot has nothing, or what is read, what is written, and the slots that are still awaited."""
+
+    def __init__(self, slots, room):
+        self.slots, self.room, self.owner = [None] * slots, room, None
+
+    def against(self, reads, writes):
+        """The slots in conflict with these spans."""
+        found = set()
+        for slot, held in enumerate(self.slots):
+            if held and (meet(held[1], reads) or meet(held[0], writes) or meet(held[1], writes)):
+                found.add(slot)
+        return found
+
+    def take(self, reads, writes, also):
+        slot = self.slots.index(None)
+        waits = self.against(reads, writes) | {one for one in also if one < len(self.slots) and self.slots[one]}
+        self.slots[slot] = (reads, writes, waits)
+        return slot, frozenset(waits)
+
+    def submit_spans(self, reads, writes, also):
+        if None not in self.slots:
+            return 120, 0
+        if max(len(reads), len(writes)) > self.room:
+            return 121, max(len(reads), len(writes))
+        for at, (first, length) in enumerate(reads + writes):
+            if first + length > MOST:
+                return 124, at
+        return self.take(reads, writes, also)
+
+    def submit(self, pieces, staging, also):
+        """The pieces are tuples: operation, source or second source, destination, size, record, owner."""
+        owners = [piece[5] for piece in pieces]
+        for at, owner in enumerate(owners):
+            if owner != owners[0]:
+                return 12, at
+        if None not in self.slots:
+            return 120, 0
+        if 3 * len(pieces) + 1 > self.room:
+            return 121, 3 * len(pieces) + 1
+        if sum(staging) > MOST:
+            return 124, 0
+        owner = self.owner if self.owner is not None or not owners else owners[0]
+        if owners and owner != owners[0]:
+            return 125, 0
+        self.owner = owner
+        reads = [(source, size) for code, source, _, size, _, _ in pieces if code != FILL]
+        reads += [(other, size) for code, _, other, size, _, _ in pieces if code == COMPARE]
+        writes = [(target, size) for code, _, target, size, _, _ in pieces if code != COMPARE]
+        return self.take(reads, [staging, *writes, *((record, 32) for *_, record, _ in pieces)], also)
+
+    def retire(self, slot, must_be_ready):
+        if slot >= len(self.slots) or not self.slots[slot]:
+            return 122, slot
+        if must_be_ready and self.slots[slot][2]:
+            return 123, slot
+        self.slots[slot] = None
+        waited = {one for one, held in enumerate(self.slots) if held and slot in held[2]}
+        for one in waited:
+            self.slots[one][2].discard(slot)
+        return frozenset(waited), frozenset(one for one in waited if not self.slots[one][2])
+
+    def waits(self, slot):
+        if slot >= len(self.slots) or not self.slots[slot]:
+            return 122, slot
+        return frozenset(self.slots[slot][2])
+
+
+def meet(spans, others):
+    """Whether some address is in both."""
+    return any(a < b + m and b < a + n and n and m for a, n in spans for b, m in others)
+
+
+def spelled(piece):
+    """The 64 bytes of a descriptor."""
+    code, source, other, size, record, (pasid, privileged) = piece
+    flags = 0x0C if code == COMPARE or code == MOVE or code == FILL else 0
+    words = [pasid | privileged << 31, code << 24 | flags]
+    whole = b"".join(word.to_bytes(4, "little") for word in words) + record.to_bytes(8, "little")
+    whole += source.to_bytes(8, "little") + other.to_bytes(8, "little") + size.to_bytes(4, "little")
+    return whole.ljust(64, b"\0")
+
+
+class Sequence:
+    """One tracker beside its model, and a stream of calls of both."""
+
+    def __init__(self, chance):
+        self.chance = chance
+        slots, self.span = chance.choice([1, 2, 3, 8, 64]), chance.choice([8, 64, 4096])
+        room = chance.choice([0, 2, 7, 30])
+        self.model = Model(slots, room)
+        self.tracker = Tracker(slots, room, chance.choice([1, 3, 12, 63]), chance.choice([1, 4, 8]))
+
+    def spans(self):
+        chance, most = self.chance, self.model.room + (self.chance.random() < 0.05)
+        found = []
+        for _ in range(chance.randrange(min(most, 4) + 1) if chance.random() < 0.9 else most):
+            first = chance.randrange(16) * self.span + chance.choice([0, 0, 1])
+            kind = chance.random()
+            if kind < 0.02:
+                first = MOST - chance.randrange(1, 9)
+            lengths = [0, 1, self.span, self.span, 2 * self.span] if kind < 0.97 else [MOST - 1, 5000 * self.span]
+            length = chance.choice(lengths)
+            found.append((first, length))
+        return found
+
+    def slot(self):
+        return self.chance.randrange(len(self.model.slots) + 1) if self.chance.random() < 0.98 else 2**32 - 1
+
+    def also(self):
+        return [self.chance.randrange(64) for _ in range(self.chance.choice([0, 0, 0, 1, 3]))]
+
+    def pieces(self):
+        """Pieces that planning would read, but perhaps of two owners."""
+        chance, found = self.chance, []
+        owner = chance.choice([(5, 0), (5, 0), (5, 0), (5, 1), (6, 0)])
+        for at in range(chance.randrange(4)):
+            source, target = chance.sample(range(16), 2)
+            one = owner if chance.random() < 0.97 else (7, 1)
+            size = chance.choice([1, 8])
+            record = 0x100000 + 32 * chance.randrange(8)
+            found.append((chance.choice([MOVE, FILL, COMPARE]), 4096 * source, 4096 * target, size, record, one))
+        return found
+
+    def step(self):
+        """A call by both; answers what it was, what the tracker answered, and what the model did."""
+        call = self.chance.choice("spans spans list ask waits complete complete complete withdraw".split())
+        if call == "spans":
+            given = self.spans(), self.spans(), self.also()
+            return call, given, answered(self.tracker.submit_spans, *given), self.model.submit_spans(*given)
+        if call == "list":
+            pieces, also = self.pieces(), self.also()
+            staging = (0x200000 + 4096 * self.chance.randrange(3), self.chance.choice([0, 96, 96, 96, MOST - 1]))
+            got = answered(self.tracker.submit, b"".join(map(spelled, pieces)), staging, also)
+            return call, (pieces, staging, also), got, self.model.submit(pieces, staging, also)
+        if call == "ask":
+            given = self.spans(), self.spans()
+            return call, given, answered(self.tracker.ask, *given), frozenset(self.asked(*given))
+        slot = self.slot()
+        if call == "waits":
+            return call, slot, answered(self.tracker.waits, slot), self.model.waits(slot)
+        if call == "complete":
+            return call, slot, answered(self.tracker.complete, slot), self.model.retire(slot, True)
+        return call, slot, answered(self.tracker.withdraw, slot), self.model.retire(slot, False)
+
+    def asked(self, reads, writes):
+        """What goes past 2^64 is asked for as far as there are addresses."""
+        cut = [[(first, min(length, MOST - first)) for first, length in spans] for spans in (reads, writes)]
+        return self.model.against(*cut)
+
+
+def answered(call, *given):
+    """What the call answers, or the number of its refusal and the first place that it names."""
+    try:
+        answer = call(*given)
+    except Refusal as refusal:
+        return refusal.number, refusal.first
+    return tuple(answer) if isinstance(answer, tuple) else answer
+
+
+def main(count, seed):
+    chance, kinds, calls = random.Random(seed), set(), 0
+    for number in range(count):
+        sequence, trail = Sequence(chance), []
+        for _ in range(chance.choice([5, 20, 60])):
+            call, given, got, wanted = sequence.step()
+            trail.append((call, given, got))
+            kinds.add((call, wanted[0] if isinstance(wanted, tuple) else 0))
+            calls += 1
+            if got != wanted:
+                print(f"sequence {number}: the tracker answers {got}, the model {wanted}, after")
+                print("\n".join(map(str, trail[-12:])))
+                return 1
+    refusals = {("list", 12), ("list", 125), ("complete", 122), ("complete", 123), ("waits", 122), ("withdraw", 122)}
+    lacking = sorted((refusals | {(call, n) for call in ("spans", "list") for n in (120, 121, 124)}) - kinds)
+    print(f"{count} sequences, {calls} calls" + (f", but none refused as {lacking}" if lacking else ""))
+    return 1 if lacking else 0
+
+
+if __name__ == "__main__":
+    sys.exit(main(int(sys.argv[1]), int(sys.argv[2])))

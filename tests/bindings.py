@@ -195,8 +195,10 @@ def speed():
     """How long short lists take from C: printed, not judged."""
     ran = subprocess.run([compiled("tests/bindings/speed.c"), "5"], stdout=subprocess.PIPE, text=True)
     print("\n".join(line for line in ran.stdout.splitlines() if " 32 moves" in line))
-    ran = subprocess.run([compiled("tests/bindings/fill_speed.c"), "20"], stdout=subprocess.PIPE, text=True)
-    print(ran.stdout.rstrip())
+    for name in ("fill_speed", "track_speed"):
+        ran = subprocess.run([compiled(f"tests/bindings/{name}.c"), "20"], stdout=subprocess.PIPE, text=True)
+        expect(ran.returncode == 0, f"{name} ended with status {ran.returncode}")
+        print(ran.stdout.rstrip())
 
 
 def main(words):

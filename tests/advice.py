@@ -1,6 +1,6 @@
-"""Asks `dsa_text audit` which fences of fifteen batches may go, under each combination of what software looks at (`--await`)
-and of whether memory is resident (`--resident`). What is said of each fence is typed by hand, from docs/USING.md. Then the
-words that these options do not take. The words are names of parts."""
+"""Asks `dsa_text audit` which fences of seventeen batches may go, under each combination of what software looks at
+(`--await`) and of whether memory is resident (`--resident`). What is said of each fence is typed by hand, from
+docs/USING.md. Then the words that these options do not take. The words are names of parts."""
 
 import json
 import subprocess
@@ -10,7 +10,7 @@ from audit import batch, entry
 from common import named, program, run_test
 from model import COMPARE, FILL, MOVE
 
-NOOP, CRC = 0x00, 0x10
+NOOP, CRC, DIF_CHECK, DIX_GENERATE = 0x00, 0x10, 0x12, 0x17
 FENCE, BLOCK, VALID, ASK, INTERRUPT, CHECK = 0x01, 0x02, 0x04, 0x08, 0x10, 0x80
 RECORD = VALID | ASK
 NEEDLESS = "needless"
@@ -113,10 +113,10 @@ CASES = {
             "b br": {1: NEEDLESS, 2: NEEDLESS, 3: NEEDLESS},
         },
     ),
-    # the fence after a CRC is needed, since nothing is known of that
+    # the fence after it is needed, since nothing is known of what it reads and writes
     "unseen": (
         batch(
-            entry(CRC, BLOCK | RECORD, own(0), A, 0, 64),
+            entry(DIX_GENERATE, BLOCK | RECORD, own(0), A, 0, 64),
             entry(MOVE, FENCE | RECORD, own(1), B, C, 64),
             entry(FILL, FENCE | BLOCK, 0, 7, X, 64),
         ),
@@ -127,6 +127,22 @@ CASES = {
             "s b": {1: "needed", 2: (1, None)},
             "sr br": {1: "needed", 2: NEEDLESS},
         },
+    ),
+    # a checksum of what a copy writes, and after it one that writes a byte without a record
+    "checksum": (
+        batch(
+            entry(MOVE, BLOCK | RECORD, own(0), A, B, 64),
+            entry(CRC, FENCE | BLOCK | RECORD, own(1), B, 0, 64),
+            entry(FILL, FENCE | BLOCK, 0, 1, X, 8),
+        ),
+        [],
+        {"w wr": {1: "needed", 2: (None, 2)}, "s sr b br": {1: "needed", 2: NEEDLESS}},
+    ),
+    # a check of one block with its field may find a fault, whatever is assumed
+    "fields": (
+        batch(entry(DIF_CHECK, BLOCK | RECORD, own(0), A, 0, 520), entry(FILL, FENCE | BLOCK, 0, 1, X, 8)),
+        [],
+        {"w wr": {1: (0, 1)}, "s sr b br": {1: (0, None)}},
     ),
     # a record that is written on failure alone, of a compare that can fail
     "error": (

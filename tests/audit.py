@@ -25,6 +25,12 @@ GREATEST_BATCH = 6
 KINDS = ("unseen", "missing", "needless", "guarding", "signalling")
 # What is wrong beside fences.
 REPEATED = "repeated operation"
+# Operations beyond those of a plan, with their names: docs/FORMATS.md, and linux/idxd.h but for 0x0a and 0x17.
+DRAIN, CREATE, FETCH, CRC, COPY_CRC, CHECK, INSERT, STRIP, UPDATE, FLUSH = 0x02, 0x07, 0x0A, *range(0x10, 0x16), 0x20
+FURTHER = {DRAIN: "drain", CREATE: "create delta", FETCH: "translation fetch", CRC: "CRC", COPY_CRC: "copy with CRC"}
+FURTHER |= {CHECK: "DIF check", INSERT: "DIF insert", STRIP: "DIF strip", UPDATE: "DIF update", FLUSH: "cache flush"}
+NAMED = FURTHER | {0x17: "DIX generate"}
+BLOCKS = (512, 520, 4096, 4104)
 FLAWS = ("shared record", "overwrites batch", "data over record", "misaligned record", "small batch", "fence without effect")
 # What can be assumed of software: what it looks at, and whether all memory is resident.
 ASSUMED = list(itertools.product(("writes", "signals", "batches"), (False, True)))
@@ -32,10 +38,10 @@ ASSUMED = list(itertools.product(("writes", "signals", "batches"), (False, True)
 # ---- entries
 
 
-def entry(code, flags=0x0C, record=0x8000, first=0, second=0, size=0, own=0, owner=0):
-    """The 64 bytes of an entry, whatever its fields are."""
+def entry(code, flags=0x0C, record=0x8000, first=0, second=0, size=0, own=0, owner=0, last=0):
+    """The 64 bytes of an entry, whatever its fields are: `own` is in bytes 40 to 47, `last` from 48 on."""
     text = struct.pack("<IIQQQI", owner, code << 24 | flags, record, first, second, size)
-    return text + bytes(4) + own.to_bytes(8, "little") + bytes(16)
+    return text + bytes(4) + own.to_bytes(8, "little") + last.to_bytes(16, "little")
 
 
 def batch(*members, flags=0x0C, owner=0, at=0x10000):
@@ -93,25 +99,47 @@ def span(first, size):
     return range(first, first + size)
 
 
+def further_data(it):
+    """The spans that an operation of no plan reads and those that it writes; or None, if they are not certain."""
+    _, word, _, first, second, size = struct.unpack_from("<IIQQQI", it)
+    code, one, other = word >> 24, span(first, size), span(second, size)
+    delta_at, at_48, most = *struct.unpack_from("<QQ", it, 40), struct.unpack_from("<I", it, 48)[0]
+    seed = [span(at_48, 4)] if word & 0x010000 else []
+    block = BLOCKS[it[42] & 3]
+    count, rest = divmod(size, block + 8 * (code != INSERT))
+    if (code in (CHECK, INSERT, STRIP, UPDATE) and rest) or (code == DRAIN and word & 0xFF0000):
+        return None
+    known = {DRAIN: ([], []), FETCH: ([], []), CREATE: ([one, other], [span(delta_at, most)]), FLUSH: ([other], [])}
+    known |= {CRC: ([one, *seed], []), COPY_CRC: ([one, *seed], [other]), CHECK: ([one], []), UPDATE: ([one], [other])}
+    known |= {INSERT: ([one], [span(second, (block + 8) * count)]), STRIP: ([one], [span(second, block * count)])}
+    return known.get(code)
+
+
+def data_of(it):
+    """The spans of data that an entry reads and those that it writes; or None, if its operation is not known."""
+    _, word, record, first, second, size = struct.unpack_from("<IIQQQI", it)
+    code, own = word >> 24, int.from_bytes(it[40:48], "little")
+    if code not in (0, MOVE, FILL, COMPARE, PATTERN, DELTA, DUALCAST):
+        return further_data(it)
+    op = Op(code, size, record, first, second, own & 0xFFFFFFFF if code == DELTA else own)
+    return [span(*it) for it in op.sources()], [span(*it) for it in op.targets()]
+
+
 def spans_of(it, owner):
     """The spans that an entry reads and those that it writes; or why nothing is known of it."""
-    its, word, record, first, second, size = struct.unpack_from("<IIQQQI", it)
-    code, own = word >> 24, int.from_bytes(it[40:48], "little")
+    its, word, record, _, _, size = struct.unpack_from("<IIQQQI", it)
+    code, data = word >> 24, data_of(it)
     if not any(it):
         return "blank"
-    if code not in (0, 1, MOVE, FILL, COMPARE, PATTERN, DELTA, DUALCAST):
+    if data is None and code != 1:
         return "operation"
     if code == 1:
         return "nested"
     if (its & 0x800FFFFF) != (owner & 0x800FFFFF):
         return "owner"
-    if code != 0 and size == 0:
+    if code not in (0, DRAIN) and size == 0:
         return "empty"
-    if code == DELTA:
-        own &= 0xFFFFFFFF
-    op = Op(code, size, record, first, second, own)
-    reads = [span(*it) for it in op.sources()]
-    writes = [span(*it) for it in op.targets()] + ([span(record, 32)] if word & 0x04 else [])
+    reads, writes = data[0], data[1] + ([span(record, 32)] if word & 0x04 else [])
     if any(it.stop > WRAP for it in reads + writes):
         return "wrap"
     return reads, writes
@@ -125,13 +153,9 @@ def accesses(it, owner):
 
 def parts_of(it):
     """The bytes of data that an entry reads, those that it writes, and those of its record, whatever else is wrong with it."""
-    _, word, record, first, second, size = struct.unpack_from("<IIQQQI", it)
-    code, own = word >> 24, int.from_bytes(it[40:48], "little")
-    held = set(span(record, 32)) if word & 0x04 else set()
-    if code not in (MOVE, FILL, COMPARE, PATTERN, DELTA, DUALCAST):
-        return set(), set(), held
-    op = Op(code, size, record, first, second, own & 0xFFFFFFFF if code == DELTA else own)
-    return set().union(*(span(*s) for s in op.sources())), set().union(*(span(*s) for s in op.targets())), held
+    held = set(span(struct.unpack_from("<Q", it, 8)[0], 32)) if it[4] & 0x04 else set()
+    reads, writes = data_of(it) or ([], [])
+    return set().union(*reads), set().union(*writes), held
 
 
 def shares_record(one, other):
@@ -145,10 +169,13 @@ def is_misaligned(it):
 
 
 def can_fail(it, known, resident):
-    """The entry can end with another status than 1: a checked compare, a delta, one with data that does not block on page
+    """The entry can end with another status than 1: a checked compare or creation of a delta, a delta that is applied,
+    an operation on data integrity fields, a drain, a translation fetch, one that is no no-op and does not block on page
     faults where memory may be absent, or one of which nothing is known."""
     flags, code = it[4], it[7]
-    if isinstance(known, str) or code == DELTA or (code in (COMPARE, PATTERN) and flags & 0x80):
+    if isinstance(known, str) or code in (DELTA, DRAIN, FETCH, CHECK, INSERT, STRIP, UPDATE):
+        return True
+    if code in (COMPARE, PATTERN, CREATE) and flags & 0x80:
         return True
     return code != 0 and not resident and not flags & 0x02
 
@@ -160,7 +187,7 @@ def shows(it, known, head, awaited, resident):
     record = bool(flags & 0x04) and (bool(flags & 0x08) or can_fail(it, known, resident))
     if awaited == "batches" and (whole & 0x10 or whole & 0x0C == 0x0C):
         return interrupt or (record and code in (0, 1))
-    writes = isinstance(known, str) or code in (MOVE, FILL, DELTA, DUALCAST)
+    writes = isinstance(known, str) or code in (MOVE, FILL, DELTA, DUALCAST, CREATE, COPY_CRC, INSERT, STRIP, UPDATE)
     return interrupt or record or (awaited == "writes" and writes)
 
 
@@ -169,10 +196,10 @@ def conflict(one, other):
 
 
 def is_repeat(one, other):
-    """Both have one operation with the same operands, and neither reads what the other writes."""
+    """Both have one operation of a plan with the same operands, and neither reads what the other writes."""
     lengths = {COMPARE: 1, PATTERN: 1, DELTA: 4, DUALCAST: 8}
     what = [(it[7], it[16:36], it[40 : 40 + lengths.get(it[7], 0)]) for it in (one, other)]
-    return what[0] == what[1] and not parts_of(one)[0] & parts_of(other)[1]
+    return what[0] == what[1] and one[7] not in FURTHER and not parts_of(one)[0] & parts_of(other)[1]
 
 
 def separated(fences, pair):
@@ -450,6 +477,21 @@ class Maker:
             return self.random.choice([self.list_at, 0x7000, 0x800000]) + 8 * self.random.randrange(4)
         return 0x1000 + 8 * self.random.randrange(self.crowd)
 
+    def further(self, code, flags, record, size):
+        """An operation beyond those of a plan. The seed of a checksum may be in the record of another member."""
+        block, first, second, last = self.random.choices(range(4), [10, 10, 1, 1])[0], self.address(), self.address(), 0
+        if code in (CHECK, INSERT, STRIP, UPDATE):
+            size = self.random.randint(0, 2) * (BLOCKS[block] + 8 * (code != INSERT))
+            size += 8 * (self.random.random() < 0.05)
+        own = self.address() if code == CREATE else block << 16
+        if code == CREATE:
+            last = 10 * self.random.randint(0, 2)
+        if code in (CRC, COPY_CRC):
+            last = self.address() if self.random.random() < 0.5 else (record & -32) - 32 * self.random.randrange(2)
+        if code in (CRC, COPY_CRC, DRAIN) and self.random.random() < 0.5:
+            flags |= self.random.choice([0x010000, 0x010000, 0x020000])
+        return entry(code, flags, record, first, second, size, own, last=last)
+
     def member(self, number, k, is_lone):
         choose, size = self.random.random, 8 * self.random.randint(1, 2)
         record = 0x800000 + 32 * (number * 16 + (k if choose() < 0.97 else 0)) + 8 * (choose() < 0.01)
@@ -460,9 +502,11 @@ class Maker:
         flags |= int(choose() < (0.35 if k else 0.05))
         flags |= 0x80 * int(choose() < 0.1) | 0x02 * int(choose() < self.blocking) | 0x10 * int(choose() < 0.05)
         code = self.random.choices(
-            [MOVE, FILL, COMPARE, PATTERN, DELTA, DUALCAST, 0x00, 0x10, 0x01, 0x02, "empty", "wrap", "owner", "blank"],
-            [45, 15, 15, 5, 3, 4, 8, 1, foreign, 1, 1, 1, foreign, 1],
+            [MOVE, FILL, COMPARE, PATTERN, DELTA, DUALCAST, 0, 0x17, 1, "further", "empty", "wrap", "owner", "blank"],
+            [45, 15, 15, 5, 3, 4, 8, 1, foreign, 20, 1, 1, foreign, 1],
         )[0]
+        if code == "further":
+            return self.further(self.random.choice(list(FURTHER)), flags, record, size)
         if code == "blank":
             return bytes(64)
         if code == "wrap":
@@ -612,7 +656,8 @@ def wanted_parts(recording, report):
                 ground.reverse()
             name, why = NAMES.get(code, f"0x{code:02x}"), found.get(k, {}).get("unseen", {}).get("why")
             border = ["4 3", why] if why else [None]
-            parts.append(("box", x, y, f"{k}: {name}, entry {first + k}", ground[0], f"{k}", name, *border))
+            full = name if why else FURTHER.get(code, name)
+            parts.append(("box", x, y, f"{k}: {full}, entry {first + k}", ground[0], f"{k}", name, *border))
             if mark := mark_of(found, fenced, k):
                 parts.append((mark[0], x - 7, y, *mark[1:]))
         at, number, end = first + size, number + 1, end + max(1, -(-size // 16)) * height + 6
@@ -885,13 +930,19 @@ def operation_line(it, number):
     return f"{front}, record {at:#x}{pasid}{', privileged' if owner >> 31 else ''} # entry {number}"
 
 
+def operation_words(code):
+    return f"operation {code:#x}" + (f" ({NAMED[code]})" if code in NAMED else "")
+
+
 def listed_line(it, owner, number, count):
     """The line of an entry, or the comment in its place."""
     known, code = spans_of(it, owner), it[7]
     if isinstance(known, str):
-        return f"# entry {number}, not looked at: " + (f"operation {code:#x}" if known == "operation" else WHY[known])
+        return f"# entry {number}, not looked at: " + (operation_words(code) if known == "operation" else WHY[known])
     if code == 0:
         return f"# entry {number}, left out: a no-op"
+    if code in FURTHER:
+        return f"# entry {number}, left out: {operation_words(code)}"
     if any(span.start < ADDED + 32 * count and ADDED < span.stop and len(span) for span in known[0] + known[1]):
         return f"# entry {number}, left out: it touches addresses that this list keeps for records"
     return operation_line(it, number)
@@ -964,7 +1015,8 @@ def lists():
 
 def unseen():
     """Every operation code, and a batch of members that are all not looked at."""
-    listed = (0, MOVE, FILL, COMPARE, PATTERN, DELTA, DUALCAST)
+    # the size is that of no block with or without data integrity field
+    listed = {0, MOVE, FILL, COMPARE, PATTERN, DELTA, DUALCAST, *FURTHER} - {CHECK, INSERT, STRIP, UPDATE}
     for code in range(256):
         if code == 1:
             continue
@@ -974,7 +1026,7 @@ def unseen():
         place = {"entry": 0, "member": None, "severity": "warning", "submission": 0, "what": what}
         common.expect(report["findings"] == ([] if code in listed else [place]), f"operation {code}: {report}")
         common.expect(status == 0, f"operation {code}: status {status}")
-    report, status = audited(batch(entry(0x10, size=8), *[entry(0x10, 0x0D, size=8)] * 63), "--deny unseen")
+    report, status = audited(batch(entry(0x17, size=8), *[entry(0x17, 0x0D, size=8)] * 63), "--deny unseen")
     kinds = [it["what"]["kind"] for it in report["findings"]]
     common.expect(kinds == ["unseen"] * 64, f"64 unseen: {kinds}")
     common.expect(status == 1, "members that are denied end with status 1")

@@ -37,12 +37,12 @@ RECORDING = bytes.fromhex(
     "00000000 0c000001 0070000000000000 0000010000000000 0000000000000000 03000000" + "00" * 28
     + "00000000 0c000003 0080000000000000 0010000000000000 0020000000000000 40000000" + "00" * 28
     + "00000000 0c000003 2080000000000000 0020000000000000 0030000000000000 40000000" + "00" * 28
-    + "00000000 0d000010 4080000000000000 0020000000000000 0030000000000000 40000000" + "00" * 28
+    + "00000000 0d000017 4080000000000000 0020000000000000 0030000000000000 40000000" + "00" * 28
 )
 AUDITS = [
     (("audit",), "3 descriptors in 1 batch and 0 lone submissions, 1 not looked at\n1 fence, 1 missing, 0 needless, 0 guarding, 0 signalling\ncost 17 as submitted, 20 with the missing fences\n", 1),
     (("audit", "--json"), '"missing":1,"needless":0,"signalling":0,"unseen":1}}\n', 1),
-    (("audit", "--list"), "# entry 3, not looked at: operation 0x10\n", 0),
+    (("audit", "--list"), "# entry 3, not looked at: operation 0x17 (DIX generate)\n", 0),
 ]
 NO_MEMORY = (("error: there was not enough memory [73 Memory]\n", 2),)
 

@@ -1,6 +1,7 @@
 -- Members that repeat an earlier one, so that it does not matter which of the two comes first (all of this file is this
 -- project's choice).
-use Rattle.std.specs.Prelude.{ℕ, ◌≡◌, ◌<◌, List, length, Option, Some, None, slice_get}
+use Rattle.std.specs.Prelude.{ℕ, ◌≡◌, ◌<◌, IsTrue, Bool, true, false, List, length, Option, Some, None, slice_get}
+use Rattle.dsa_descriptor.specs.declared.op.Op.{Op}
 use Rattle.dsa_descriptor.specs.Spans.{InSome}
 use Rattle.dsa_ranges.specs.declared.span.Touched.{Touched}
 use Rattle.dsa_conflicts.specs.Access.{IsGreatest}
@@ -8,6 +9,16 @@ use Rattle.dsa_audit.specs.declared.member.Member.{Member}
 use Rattle.dsa_audit.specs.declared.member.Member.TheVariants.{Known}
 use Rattle.dsa_audit.specs.declared.repeats.Action.{Action}
 use Rattle.dsa_audit.specs.Members.{KnownConflict}
+
+-- it is one of a plan's operations
+abbrev pub is_listed : Option Op → Bool
+is_listed None = false
+is_listed (Some op) = true
+
+-- the action says all that its member does, so that two equal ones leave the same: of another operation it does not
+abbrev pub is_whole : Option Action → Bool
+is_whole None = false
+is_whole (Some action) = is_listed action.op
 
 -- the members at these two places do the same: one operation on the same operands, and neither reads what the other
 -- writes. Each leaves what the other leaves
@@ -17,6 +28,7 @@ pub record IsRepeated (actions : List Action) (ms : List Member) (i j : ℕ) : T
   pub there : slice_get ms i ≡ Some (Known first)
   pub here : slice_get ms j ≡ Some (Known second)
   pub action : slice_get actions i ≡ slice_get actions j
+  pub whole : IsTrue (is_whole (slice_get actions i))
   pub reads : first.reads.items ≡ second.reads.items
   pub writes : first.writes.items ≡ second.writes.items
   pub apart : (address : ℕ) → InSome first.reads.items address → ¬ InSome second.writes.items address

@@ -4,7 +4,7 @@ ghost use Rattle.std.specs.Prelude.{◌≡◌, ◌↔◌, ◌<◌, ℕ, IfOk, Is
 ghost use Rattle.dsa_descriptor.specs.Spans.{InSome};
 ghost use Rattle.dsa_conflicts.specs.Access.{IsGreatest};
 ghost use Rattle.dsa_audit.specs.Members.{KnownConflict};
-ghost use Rattle.dsa_audit.specs.Repeats.{AreRepeats, IsLastKnown, IsRepeated, OrderMatters, RepeatsLast};
+ghost use Rattle.dsa_audit.specs.Repeats.{AreRepeats, IsLastKnown, IsRepeated, OrderMatters, RepeatsLast, is_whole};
 ghost use Rattle.dsa_audit.specs.Steps.{AreLasts};
 
 use crate::member::{Member, are_known_to_conflict};
@@ -16,7 +16,7 @@ use std::alloc::{AllocError, Global};
 /// What a member does.
 #[derive(Clone, Copy, Debug, PartialEq, Eq)]
 pub struct Action {
-    /// Its operation with all operands; none of a no-op, or if the operation is not known.
+    /// Its operation with all operands, if it is one of a plan's: no other is told to repeat one.
     pub op: Option<Op>,
     /// Its size in bytes.
     pub size: u32,
@@ -49,6 +49,16 @@ fn act_alike(actions: &[Action], first: usize, second: usize) -> bool
     action_at(actions, first) == action_at(actions, second)
 }
 
+/// Whether the action of this member says all that it does: its operation is one of a plan's.
+fn is_whole_at(actions: &[Action], k: usize) -> bool
+    ensures { result ≡ is_whole (slice_get actions.now k) }
+{
+    match action_at(actions, k) {
+        Some(action) => action.op.is_some(),
+        None => false,
+    }
+}
+
 /// Whether the later member does what the earlier one does, and neither reads what the other writes.
 fn is_repeated(actions: &[Action], members: &[Member], earlier: usize, later: usize) -> bool
     requires ordered { earlier < later }
@@ -59,6 +69,9 @@ fn is_repeated(actions: &[Action], members: &[Member], earlier: usize, later: us
         return false;
     };
     if !act_alike(actions, earlier, later) {
+        return false;
+    }
+    if !is_whole_at(actions, earlier) {
         return false;
     }
     if first.reads.as_slice() != second.reads.as_slice() {

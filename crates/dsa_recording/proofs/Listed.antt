@@ -23,6 +23,8 @@ use Rattle.dsa_audit.specs.declared.member.Unseen.{Unseen}
 use Rattle.dsa_audit.specs.declared.member.Unseen.TheVariants.{Blank, Operation, Nested, Owner, Empty, Wrap}
 use Rattle.dsa_audit.specs.declared.member.Member.{Member}
 use Rattle.dsa_audit.specs.declared.member.Member.TheVariants.{Known, Unknown}
+use Rattle.dsa_recording.specs.declared.further.Further.{Further}
+use Rattle.dsa_recording.specs.Furthers.{further_at}
 use Rattle.dsa_recording.specs.Entries.{sources_of, targets_of, entry_reads, entry_writes, Applies, IsMember}
 
 -- one span more
@@ -50,11 +52,11 @@ blank_code : code_at (replicate 64 0) ≡ 0
 unfolding u32_at
 blank_code = refl
 
-reads_by : (o : Option Op) (n : ℕ) (op : Op) (size : ℕ) → o ≡ Some op → n ≡ size → sources_of o n ≡ sources op size
-reads_by o n op size a b = rw (a, b) refl
+reads_by : (o : Option Op) (n : ℕ) (further : Option Further) (op : Op) (size : ℕ) → o ≡ Some op → n ≡ size → sources_of o n further ≡ sources op size
+reads_by o n further op size a b = rw (a, b) refl
 
-targets_by : (o : Option Op) (n : ℕ) (op : Op) (size : ℕ) → o ≡ Some op → n ≡ size → targets_of o n ≡ targets op size
-targets_by o n op size a b = rw (a, b) refl
+targets_by : (o : Option Op) (n : ℕ) (further : Option Further) (op : Op) (size : ℕ) → o ≡ Some op → n ≡ size → targets_of o n further ≡ targets op size
+targets_by o n further op size a b = rw (a, b) refl
 
 valid_by : (f : ℕ) → bit_and f required_flags ≡ required_flags → bit_and f 4 ≡ 4
 valid_by f required = sym (and_assoc 4 f required_flags) ∙ ap (λ (n : ℕ). bit_and n 4) required
@@ -82,12 +84,12 @@ flags f h =
     omega (arith, fits, there)
 
 reads : (f : Fields) → IsListed f → entry_reads (spelling f) ≡ read_spans f
-reads f h = reads_by (op_at (spelling f)) (u32_at 32 (spelling f)) f.op f.size (op_spelt f h) (spelling_stands f h).size_there
+reads f h = reads_by (op_at (spelling f)) (u32_at 32 (spelling f)) (further_at (spelling f)) f.op f.size (op_spelt f h) (spelling_stands f h).size_there
 
 writes : (f : Fields) → IsListed f → entry_writes (spelling f) ≡ written_spans f
 writes f h =
     let records = records_by (flags_at (spelling f)) f.flags (u64_at 8 (spelling f)) f.record_at (flags f h) (spelling_stands f h).record_there h.flags_listed.required in
-    let ranges = targets_by (op_at (spelling f)) (u32_at 32 (spelling f)) f.op f.size (op_spelt f h) (spelling_stands f h).size_there in
+    let ranges = targets_by (op_at (spelling f)) (u32_at 32 (spelling f)) (further_at (spelling f)) f.op f.size (op_spelt f h) (spelling_stands f h).size_there in
     rw (records, ranges) refl
 
 none : (f : Fields) (head : List ℕ) → IsListed f → AgreeOnOwner head (spelling f) → (why : Unseen) → Applies head (spelling f) why → ⊥
@@ -98,7 +100,7 @@ none f head h agree Owner applies = applies agree
 none f head h agree Empty applies =
     let there : u32_at 32 (spelling f) ≡ f.size = (spelling_stands f h).size_there in
     let positive : 0 < f.size = h.size_positive in
-    absurd (omega (arith, there, positive, applies.1))
+    absurd (omega (arith, there, positive, applies.2))
 none f head h agree Wrap applies =
     let all : entry_reads (spelling f) ++ entry_writes (spelling f) ≡ read_spans f ++ written_spans f = rw (reads f h, writes f h) refl in
     applies (subst (AllByRecursion IsAddressable) (sym all) (with_one (sources f.op f.size) (targets f.op f.size) (record_span f.record_at) h.record_addressable h.data_addressable))

@@ -1,6 +1,6 @@
 -- The list of a recording spells its operations.
 use Rattle.std.proofs.Common.{◌≡◌, ℕ, suc, Bool, true, false, cond, Option, Some, None, List, [], ◌∷◌, ◌++◌, length, refl, sym, ap, subst, ◌∙◌, append_assoc, arith}
-use Rattle.std.specs.Prelude.{codes, decimal, map, slice_index_or}
+use Rattle.std.specs.Prelude.{◌==◌, codes, decimal, map, slice_index_or}
 use Rattle.std.specs.Fmt.{digits}
 use Rattle.std.specs.List.{AllByRecursion}
 use Rattle.dsa_audit.specs.declared.member.Member.{Member}
@@ -22,8 +22,9 @@ use Rattle.dsa_lines.proofs.TextLemmas.{all_listed}
 use Rattle.dsa_ranges.specs.declared.span.Touched.{Touched}
 use Rattle.dsa_recording.specs.declared.stream.Submission.{Submission}
 use Rattle.dsa_recording.specs.declared.submission.Audited.{Audited}
-use Rattle.dsa_recording.specs.Listings.{stand_in, is_apart_from_added, left_out, operation_line, known_line, member_line, member_lines, listing_text, known_operation, member_operation, member_operations, listed_operations}
-use Rattle.dsa_recording.specs.Words.{unseen_words}
+use Rattle.dsa_recording.specs.Listings.{stand_in, is_apart_from_added, left_out, operation_line, plain_words, known_line, member_line, member_lines, listing_text, known_operation, member_operation, member_operations, listed_operations}
+use Rattle.dsa_recording.specs.Furthers.{code_name}
+use Rattle.dsa_recording.specs.Words.{named, operation_words, unseen_words}
 
 -- ---- a line
 
@@ -35,10 +36,43 @@ record Reads (line : List ℕ) (here : List Fields) : Type 0 where
 decimal_line : (n : ℕ) → is_line (decimal n) ≡ true
 decimal_line n = digits_line 10 n (omega arith) (omega arith)
 
+chosen : (b : Bool) (this other : List ℕ) → is_line this ≡ true → is_line other ≡ true → is_line (cond b this other) ≡ true
+chosen true this other here there = here
+chosen false this other here there = there
+
+name_line : (code : ℕ) → is_line (code_name code) ≡ true
+name_line code =
+    chosen (code == 0x00) (codes "no-op") _ refl
+    (chosen (code == 0x02) (codes "drain") _ refl
+    (chosen (code == 0x07) (codes "create delta") _ refl
+    (chosen (code == 0x0a) (codes "translation fetch") _ refl
+    (chosen (code == 0x10) (codes "CRC") _ refl
+    (chosen (code == 0x11) (codes "copy with CRC") _ refl
+    (chosen (code == 0x12) (codes "DIF check") _ refl
+    (chosen (code == 0x13) (codes "DIF insert") _ refl
+    (chosen (code == 0x14) (codes "DIF strip") _ refl
+    (chosen (code == 0x15) (codes "DIF update") _ refl
+    (chosen (code == 0x17) (codes "DIX generate") _ refl
+    (chosen (code == 0x20) (codes "cache flush") _ refl refl)))))))))))
+
+named_line : (name : List ℕ) → is_line name ≡ true → is_line (named name) ≡ true
+named_line [] e = refl
+named_line (letter ∷ letters) e =
+    line_append (codes " (") ((letter ∷ letters) ++ codes ")") refl (line_append (letter ∷ letters) (codes ")") e refl)
+
+operation_is_line : (code : ℕ) → is_line (operation_words code) ≡ true
+operation_is_line code =
+    line_append (codes "operation 0x") (digits 16 false code ++ named (code_name code)) refl
+    (line_append (digits 16 false code) (named (code_name code)) (digits_line 16 code (omega arith) (omega arith)) (named_line (code_name code) (name_line code)))
+
+plain_is_line : (code : ℕ) → is_line (plain_words code) ≡ true
+plain_is_line code =
+    chosen (code == 0) (codes "left out: a no-op") (codes "left out: " ++ operation_words code) refl
+    (line_append (codes "left out: ") (operation_words code) refl (operation_is_line code))
+
 unseen_line : (why : Unseen) (code : ℕ) → is_line (unseen_words why code) ≡ true
 unseen_line Blank code = refl
-unseen_line Operation code =
-    line_append (codes "not looked at: operation 0x") (digits 16 false code) refl (digits_line 16 code (omega arith) (omega arith))
+unseen_line Operation code = line_append (codes "not looked at: ") (operation_words code) refl (operation_is_line code)
 unseen_line Nested code = refl
 unseen_line Owner code = refl
 unseen_line Empty code = refl
@@ -69,7 +103,7 @@ apart_reads false number e op all = left_out_reads number (codes "left out: it t
 
 known_reads : (count number : ℕ) (e : List ℕ) (t : Touched) (op : Option Op) → AllByRecursion IsListed (known_operation count number e t op)
     → Reads (known_line count number e t op) (known_operation count number e t op)
-known_reads count number e t None all = left_out_reads number (codes "left out: a no-op") refl
+known_reads count number e t None all = left_out_reads number (plain_words (code_at e)) (plain_is_line (code_at e))
 known_reads count number e t (Some op) all = apart_reads (is_apart_from_added count t) number e op all
 
 member_reads : (count number : ℕ) (e : List ℕ) (m : Member) → AllByRecursion IsListed (member_operation count number e m)

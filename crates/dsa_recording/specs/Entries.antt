@@ -9,6 +9,8 @@ use Rattle.dsa_descriptor.specs.Lists.{AgreeOnOwner}
 use Rattle.dsa_descriptor.specs.Places.{u32_at, u64_at, flags_at, code_at, op_at}
 use Rattle.dsa_descriptor.specs.Spans.{IsAddressable}
 use Rattle.dsa_audit.specs.declared.repeats.Action.{Action}
+use Rattle.dsa_recording.specs.declared.further.Further.{Further}
+use Rattle.dsa_recording.specs.Furthers.{further_at, read_by, written_by}
 use Rattle.dsa_audit.specs.declared.member.Unseen.{Unseen}
 use Rattle.dsa_audit.specs.declared.member.Unseen.TheVariants.{Blank, Operation, Nested, Owner, Empty, Wrap}
 use Rattle.dsa_audit.specs.declared.member.Member.{Member}
@@ -21,23 +23,33 @@ use Rattle.dsa_audit.specs.declared.member.Member.TheVariants.{Known, Unknown}
 abbrev pub records_of : List ℕ → List Span
 records_of e = if bit_and (flags_at e) 0x04 == 0x04 then record_span (u64_at 8 e) ∷ [] else []
 
--- the data that an operation of this size reads and writes; a no-op has none
-abbrev pub sources_of : Option Op → ℕ → List Span
-sources_of (Some op) size = sources op size
-sources_of None size = []
+-- the data that an operation of no plan reads; a no-op has none
+abbrev pub further_reads : Option Further → List Span
+further_reads None = []
+further_reads (Some further) = read_by further
 
--- and those that it writes
-abbrev pub targets_of : Option Op → ℕ → List Span
-targets_of (Some op) size = targets op size
-targets_of None size = []
+-- those that it writes
+abbrev pub further_writes : Option Further → List Span
+further_writes None = []
+further_writes (Some further) = written_by further
+
+-- the data that an operation of a plan, of this size, reads; or another
+abbrev pub sources_of : Option Op → ℕ → Option Further → List Span
+sources_of (Some op) size further = sources op size
+sources_of None size further = further_reads further
+
+-- those that it writes
+abbrev pub targets_of : Option Op → ℕ → Option Further → List Span
+targets_of (Some op) size further = targets op size
+targets_of None size further = further_writes further
 
 -- the data that the entry reads
 abbrev pub entry_reads : List ℕ → List Span
-entry_reads e = sources_of (op_at e) (u32_at 32 e)
+entry_reads e = sources_of (op_at e) (u32_at 32 e) (further_at e)
 
 -- the data that it writes
 abbrev pub entry_targets : List ℕ → List Span
-entry_targets e = targets_of (op_at e) (u32_at 32 e)
+entry_targets e = targets_of (op_at e) (u32_at 32 e) (further_at e)
 
 -- both
 abbrev pub entry_data : List ℕ → List Span
@@ -53,15 +65,16 @@ action_of e = record { op = op_at e; size = u32_at 32 e }
 
 -- ---- why it is not looked at (this project's choice)
 
--- the reason applies, whether or not another does: all 64 bytes are zero, as in memory that nobody wrote; the operation is neither listed, nor a no-op (code 0x00), nor a batch
--- (0x01); it is a batch; PASID or privilege differ from those of the head; the size is 0, of a no-op's nothing is asked;
--- a span goes past 2 ^ 64
+-- the reason applies, whether or not another does: all 64 bytes are zero, as in memory that nobody wrote; the operation is
+-- none of a plan's and none of the further ones, nor a no-op (code 0x00), nor a batch (0x01); it is a batch; PASID or
+-- privilege differ from those of the head; the size is 0, of that of a no-op or of a drain (0x02) nothing is asked; a span
+-- goes past 2 ^ 64
 abbrev pub Applies : List ℕ → List ℕ → Unseen → Type 0
 Applies head e Blank = e ≡ replicate 64 0
-Applies head e Operation = (op_at e ≡ None) × (code_at e ≢ 0) × (code_at e ≢ 1)
+Applies head e Operation = (op_at e ≡ None) × (further_at e ≡ None) × (code_at e ≢ 0) × (code_at e ≢ 1)
 Applies head e Nested = code_at e ≡ 1
 Applies head e Owner = ¬ AgreeOnOwner head e
-Applies head e Empty = (code_at e ≢ 0) × (u32_at 32 e ≡ 0)
+Applies head e Empty = (code_at e ≢ 0) × (code_at e ≢ 2) × (u32_at 32 e ≡ 0)
 Applies head e Wrap = ¬ AllByRecursion IsAddressable (entry_reads e ++ entry_writes e)
 
 -- the order in which reasons are looked for

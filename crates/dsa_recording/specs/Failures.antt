@@ -3,39 +3,56 @@
 use Rattle.std.specs.Prelude.{ℕ, ◌≡◌, ◌<◌, Bool, true, false, not, ◌&&◌, ◌||◌, Option, Some, None, List, [], length, get_or, bit_and, ◌==◌}
 use Rattle.dsa_descriptor.specs.declared.op.Op.{Op}
 use Rattle.dsa_descriptor.specs.declared.op.Op.TheVariants.{Move, Fill, Compare, ComparePattern, ApplyDelta, Dualcast}
-use Rattle.dsa_descriptor.specs.Places.{flags_at, op_at}
+use Rattle.dsa_descriptor.specs.Places.{flags_at, code_at, op_at}
 use Rattle.dsa_audit.specs.declared.member.Member.{Member}
 use Rattle.dsa_audit.specs.declared.member.Member.TheVariants.{Known, Unknown}
 use Rattle.dsa_audit.specs.declared.member.Unseen.TheVariants.{Operation}
+use Rattle.dsa_recording.specs.declared.further.Further.{Further}
+use Rattle.dsa_recording.specs.declared.further.Further.TheVariants.{Drain, CreateDelta, TranslationFetch, Crc, CopyCrc, DifCheck, DifInsert, DifStrip, DifUpdate, CacheFlush}
+use Rattle.dsa_recording.specs.Furthers.{further_at}
 use Rattle.dsa_recording.specs.declared.assumptions.Assumptions.{Assumptions}
 
 -- the flag 0x0080 is set: a compare is checked against the expected result
 abbrev pub checks_result : ℕ → Bool
 checks_result flags = bit_and flags 0x80 == 0x80
 
--- a compare that is checked may end with status 2, a delta with 7 or 8; a no-op (no operation of the list) does not fail
-abbrev pub can_op_fail : Option Op → ℕ → Bool
-can_op_fail None flags = false
-can_op_fail (Some (Move src dst)) flags = false
-can_op_fail (Some (Fill pattern dst)) flags = false
-can_op_fail (Some (Compare src src2 expected)) flags = checks_result flags
-can_op_fail (Some (ComparePattern src pattern expected)) flags = checks_result flags
-can_op_fail (Some (ApplyDelta delta dst record_size)) flags = true
-can_op_fail (Some (Dualcast src dst dst2)) flags = false
+-- a delta that is created and checked may end with status 2, a check of fields with 9; a drain is refused in a batch, and
+-- of a fetch of translations it is not certain, so they can fail too; a no-op (none of these) does not
+abbrev pub can_further_fail : Option Further → ℕ → Bool
+can_further_fail None flags = false
+can_further_fail (Some Drain) flags = true
+can_further_fail (Some (CreateDelta first second delta)) flags = checks_result flags
+can_further_fail (Some TranslationFetch) flags = true
+can_further_fail (Some (Crc src seed)) flags = false
+can_further_fail (Some (CopyCrc src dst seed)) flags = false
+can_further_fail (Some (DifCheck src)) flags = true
+can_further_fail (Some (DifInsert src dst)) flags = true
+can_further_fail (Some (DifStrip src dst)) flags = true
+can_further_fail (Some (DifUpdate src dst)) flags = true
+can_further_fail (Some (CacheFlush flushed)) flags = false
+
+-- a compare that is checked may end with status 2, a delta that is applied with 7 or 8
+abbrev pub can_op_fail : Option Op → Option Further → ℕ → Bool
+can_op_fail None further flags = can_further_fail further flags
+can_op_fail (Some (Move src dst)) further flags = false
+can_op_fail (Some (Fill pattern dst)) further flags = false
+can_op_fail (Some (Compare src src2 expected)) further flags = checks_result flags
+can_op_fail (Some (ComparePattern src pattern expected)) further flags = checks_result flags
+can_op_fail (Some (ApplyDelta delta dst record_size)) further flags = true
+can_op_fail (Some (Dualcast src dst dst2)) further flags = false
 
 -- the flag 0x0002 is set, block on fault: the device waits for an absent page
 abbrev pub blocks_on_fault : ℕ → Bool
 blocks_on_fault flags = bit_and flags 0x02 == 0x02
 
 -- an operation that does not block on a fault may end with status 3 or 4, unless all memory is resident; a no-op has no data
-abbrev pub can_fault : Bool → Option Op → ℕ → Bool
-can_fault resident None flags = false
-can_fault resident (Some op) flags = not resident && not (blocks_on_fault flags)
+abbrev pub can_fault : Bool → ℕ → ℕ → Bool
+can_fault resident code flags = not (code == 0) && (not resident && not (blocks_on_fault flags))
 
 -- of a member that is not looked at nothing is known, so it can fail
 abbrev pub can_fail : Assumptions → Member → List ℕ → Bool
 can_fail assumed (Known touched) e =
-    can_op_fail (op_at e) (flags_at e) || can_fault assumed.resident (op_at e) (flags_at e)
+    can_op_fail (op_at e) (further_at e) (flags_at e) || can_fault assumed.resident (code_at e) (flags_at e)
 can_fail assumed (Unknown why) e = true
 
 -- of each member, whose entry is that of `es`, whether it can fail

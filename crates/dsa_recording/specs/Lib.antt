@@ -1,4 +1,5 @@
 pub mod Streams
+pub mod Furthers
 pub mod Entries
 pub mod Failures
 pub mod Showing

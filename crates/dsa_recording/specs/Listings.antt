@@ -20,7 +20,7 @@ use Rattle.dsa_lines.specs.Texts.{TextSpells}
 use Rattle.dsa_recording.specs.declared.stream.Submission.{Submission}
 use Rattle.dsa_recording.specs.declared.submission.Audited.{Audited}
 use Rattle.dsa_recording.specs.Entries.{entry_reads, entry_targets}
-use Rattle.dsa_recording.specs.Words.{unseen_words}
+use Rattle.dsa_recording.specs.Words.{operation_words, unseen_words}
 
 -- ---- the operation of an entry
 
@@ -75,9 +75,13 @@ left_out number why = codes "# entry " ++ (decimal number ++ (codes ", " ++ why)
 abbrev pub operation_line : ℕ → List ℕ → Op → List ℕ
 operation_line number e op = line_text (stand_in number e op) ++ (codes " # entry " ++ decimal number)
 
--- an entry that is looked at has the line of its operation, where it has one and is apart from added records
+-- a no-op has no line, and no list has an operation that no plan has
+abbrev pub plain_words : ℕ → List ℕ
+plain_words code = if code == 0 then codes "left out: a no-op" else codes "left out: " ++ operation_words code
+
+-- an entry that is looked at has the line of its operation, where a list has that and it is apart from added records
 abbrev pub known_line : ℕ → ℕ → List ℕ → Touched → Option Op → List ℕ
-known_line count number e t None = left_out number (codes "left out: a no-op")
+known_line count number e t None = left_out number (plain_words (code_at e))
 known_line count number e t (Some op) =
     if is_apart_from_added count t
     then operation_line number e op

@@ -8,6 +8,9 @@ use Rattle.dsa_descriptor.specs.Profile.{required_flags}
 use Rattle.dsa_audit.specs.declared.member.Member.{Member}
 use Rattle.dsa_audit.specs.declared.member.Member.TheVariants.{Known, Unknown}
 use Rattle.dsa_audit.specs.declared.member.Unseen.TheVariants.{Operation}
+use Rattle.dsa_recording.specs.declared.further.Further.{Further}
+use Rattle.dsa_recording.specs.declared.further.Further.TheVariants.{Drain, CreateDelta, TranslationFetch, Crc, CopyCrc, DifCheck, DifInsert, DifStrip, DifUpdate, CacheFlush}
+use Rattle.dsa_recording.specs.Furthers.{further_at}
 use Rattle.dsa_recording.specs.declared.assumptions.Assumptions.{Assumptions}
 use Rattle.dsa_recording.specs.declared.assumptions.Await.{Await}
 use Rattle.dsa_recording.specs.declared.assumptions.Await.TheVariants.{Writes, Signals, Batches}
@@ -33,19 +36,33 @@ writes_record assumed m e = has_record (flags_at e) && (requests_record (flags_a
 abbrev pub is_signal : Assumptions → Member → List ℕ → Bool
 is_signal assumed m e = asks_interrupt (flags_at e) || writes_record assumed m e
 
+-- an operation that no plan has writes data
+abbrev pub writes_further : Option Further → Bool
+writes_further None = false
+writes_further (Some Drain) = false
+writes_further (Some (CreateDelta first second delta)) = true
+writes_further (Some TranslationFetch) = false
+writes_further (Some (Crc src seed)) = false
+writes_further (Some (CopyCrc src dst seed)) = true
+writes_further (Some (DifCheck src)) = false
+writes_further (Some (DifInsert src dst)) = true
+writes_further (Some (DifStrip src dst)) = true
+writes_further (Some (DifUpdate src dst)) = true
+writes_further (Some (CacheFlush flushed)) = false
+
 -- the operation writes data
-abbrev pub writes_data : Option Op → Bool
-writes_data None = false
-writes_data (Some (Move src dst)) = true
-writes_data (Some (Fill pattern dst)) = true
-writes_data (Some (Compare src src2 expected)) = false
-writes_data (Some (ComparePattern src pattern expected)) = false
-writes_data (Some (ApplyDelta delta dst record_size)) = true
-writes_data (Some (Dualcast src dst dst2)) = true
+abbrev pub writes_data : Option Op → Option Further → Bool
+writes_data None further = writes_further further
+writes_data (Some (Move src dst)) further = true
+writes_data (Some (Fill pattern dst)) further = true
+writes_data (Some (Compare src src2 expected)) further = false
+writes_data (Some (ComparePattern src pattern expected)) further = false
+writes_data (Some (ApplyDelta delta dst record_size)) further = true
+writes_data (Some (Dualcast src dst dst2)) further = true
 
 -- a member that is not looked at may write anything
 abbrev pub can_write : Member → List ℕ → Bool
-can_write (Known touched) e = writes_data (op_at e)
+can_write (Known touched) e = writes_data (op_at e) (further_at e)
 can_write (Unknown why) e = true
 
 -- software can await the batch as a whole: its descriptor raises an interrupt or requests a record

@@ -8,6 +8,7 @@ use Rattle.dsa_recording.specs.declared.detail.Detail.{Detail}
 use Rattle.dsa_recording.specs.declared.detail.Cause.{Cause}
 use Rattle.dsa_recording.specs.declared.detail.Cause.TheVariants.{NotSeen, MissingFence, GuardingFence, SignallingFence, GuardingAndSignallingFence, NeedlessFence, Repeated, Flawed}
 use Rattle.dsa_lines.specs.Numbers.{hex}
+use Rattle.dsa_recording.specs.Furthers.{code_name}
 use Rattle.dsa_recording.specs.declared.findings.Flaw.{Flaw}
 use Rattle.dsa_recording.specs.declared.findings.Flaw.TheVariants.{SharedRecord, OverwritesBatch, DataOverRecord, MisalignedRecord, SmallBatch, FenceWithoutEffect}
 use Rattle.dsa_recording.specs.declared.findings.Place.{Place}
@@ -57,10 +58,19 @@ severity_words Note = codes ": note: "
 
 -- ---- what, and why
 
+-- an operation by its code, and its name if it has one
+abbrev pub named : List ℕ → List ℕ
+named [] = []
+named (letter ∷ letters) = codes " (" ++ ((letter ∷ letters) ++ codes ")")
+
+-- the same, with the code before it
+abbrev pub operation_words : ℕ → List ℕ
+operation_words code = codes "operation " ++ (hex code ++ named (code_name code))
+
 -- why a member is not looked at
 abbrev pub unseen_words : Unseen → ℕ → List ℕ
 unseen_words Blank code = codes "not looked at: 64 zero bytes"
-unseen_words Operation code = codes "not looked at: operation " ++ hex code
+unseen_words Operation code = codes "not looked at: " ++ operation_words code
 unseen_words Nested code = codes "not looked at: a batch in a batch"
 unseen_words Owner code = codes "not looked at: another PASID or privilege than its batch"
 unseen_words Empty code = codes "not looked at: size 0"

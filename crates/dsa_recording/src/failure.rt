@@ -1,21 +1,38 @@
 //! Which members of a batch can fail.
 
 ghost use Rattle.std.specs.Prelude.{◌≡◌, length, IfOk};
-ghost use Rattle.dsa_descriptor.specs.Places.{flags_at, op_at};
-ghost use Rattle.dsa_recording.specs.Failures.{can_op_fail, can_fault, can_fail, AreFallible};
+ghost use Rattle.dsa_descriptor.specs.Places.{flags_at, code_at, op_at};
+ghost use Rattle.dsa_recording.specs.Furthers.{further_at};
+ghost use Rattle.dsa_recording.specs.Failures.{checks_result, can_further_fail, can_op_fail, can_fault, can_fail, AreFallible};
 
 use crate::assumptions::Assumptions;
+use crate::further::{Further, further_at};
 use dsa_audit::Member;
 use dsa_descriptor::{Op, op_at, u32_at};
 use std::alloc::{AllocError, Global};
 
-/// Whether the operation of an entry can fail by its result, if it has one that is listed.
+/// Whether an operation that no plan has can fail by its result.
+fn can_further_fail(entry: &[u8; 64], is_checked: bool) -> bool
+    requires { is_checked ≡ checks_result (flags_at entry.now) }
+    ensures { result ≡ can_further_fail (further_at entry.now) (flags_at entry.now) }
+{
+    match further_at(entry) {
+        None => false,
+        Some(Further::Crc { .. } | Further::CopyCrc { .. } | Further::CacheFlush { .. }) => false,
+        Some(Further::CreateDelta { .. }) => is_checked,
+        Some(Further::DifCheck { .. } | Further::DifInsert { .. }) => true,
+        Some(Further::DifStrip { .. } | Further::DifUpdate { .. }) => true,
+        Some(Further::Drain | Further::TranslationFetch) => true,
+    }
+}
+
+/// Whether the operation of an entry can fail by its result.
 fn can_op_fail(entry: &[u8; 64]) -> bool
-    ensures { result ≡ can_op_fail (op_at entry.now) (flags_at entry.now) }
+    ensures { result ≡ can_op_fail (op_at entry.now) (further_at entry.now) (flags_at entry.now) }
 {
     let is_checked = u32_at(entry, 4) % (1 << 24) & 0x80 == 0x80;
     match op_at(entry) {
-        None => false,
+        None => can_further_fail(entry, is_checked),
         Some(Op::Move { .. } | Op::Fill { .. } | Op::Dualcast { .. }) => false,
         Some(Op::Compare { .. } | Op::ComparePattern { .. }) => is_checked,
         Some(Op::ApplyDelta { .. }) => true,
@@ -24,10 +41,10 @@ fn can_op_fail(entry: &[u8; 64]) -> bool
 
 /// Whether an entry can end with a page fault: it has data, and does not wait for absent pages.
 fn can_fault(resident: bool, entry: &[u8; 64]) -> bool
-    ensures { result ≡ can_fault resident (op_at entry.now) (flags_at entry.now) }
+    ensures { result ≡ can_fault resident (code_at entry.now) (flags_at entry.now) }
 {
     let blocks = u32_at(entry, 4) % (1 << 24) & 0x02 == 0x02;
-    op_at(entry).is_some() && !resident && !blocks
+    u32_at(entry, 4) >> 24 != 0 && !resident && !blocks
 }
 
 /// Whether a member can fail, so that the next fence stops the rest of its batch: a compare that is checked, a delta, one

@@ -2,12 +2,12 @@
 
 ghost use Rattle.std.specs.Prelude.{◌≡◌, ◌≤◌, ◌<◌, ◌^◌, ◌+◌, ◌*◌, ◌++◌, ◌∷◌, [], length, IfOk, OnOk, codes, decimal, string_bytes};
 ghost use Rattle.std.specs.List.{list_all};
-ghost use Rattle.dsa_descriptor.specs.Places.{op_at, pasid_at, privileged_at};
+ghost use Rattle.dsa_descriptor.specs.Places.{code_at, op_at, pasid_at, privileged_at};
 ghost use Rattle.dsa_lines.specs.Text.{line_text};
-ghost use Rattle.dsa_recording.specs.Listings.{record_in_list, stand_in, is_clear, expecting_zero, is_apart_from_added, left_out, operation_line, known_line, member_line, member_lines, listing_text, AreEntries, StandInsConflict, ListingIsRead};
+ghost use Rattle.dsa_recording.specs.Listings.{record_in_list, stand_in, is_clear, expecting_zero, is_apart_from_added, left_out, operation_line, plain_words, known_line, member_line, member_lines, listing_text, AreEntries, StandInsConflict, ListingIsRead};
 
 use crate::report::Report;
-use crate::words::unseen_text;
+use crate::words::{operation_text, unseen_text};
 use dsa_audit::Member;
 use dsa_descriptor::{Op, Span, op_at, u32_at, u64_at};
 use dsa_ranges::Touched;
@@ -117,6 +117,27 @@ fn operation_line(
     Ok(line)
 }
 
+/// Why no list has the operation of this code.
+fn plain_text(alloc: Global, code: u8) -> Result<String, AllocError>
+    ensures { IfOk result (λ text. string_bytes text ≡ plain_words code) }
+{
+    if code == 0 {
+        return String::from_str(alloc, "left out: a no-op");
+    }
+    let operation = operation_text(alloc, code)?;
+    format!(in alloc; "left out: {operation}")
+}
+
+/// The comment in place of an entry with an operation that no list has.
+fn plain_line(alloc: Global, number: usize, entry: &[u8; 64]) -> Result<String, AllocError>
+    ensures { IfOk result (λ line. string_bytes line ≡
+        left_out number (plain_words (code_at entry.now))) }
+{
+    let code = u32_at(entry, 4) >> 24;
+    let why = plain_text(alloc, code as u8)?;
+    left_out(alloc, number, &why)
+}
+
 /// The line of an entry that is looked at.
 fn known_line(
     alloc: Global,
@@ -131,7 +152,7 @@ fn known_line(
         known_line count number entry.now touched.now (op_at entry.now)) }
 {
     let Some(op) = op_at(entry) else {
-        return left_out(alloc, number, "left out: a no-op");
+        return plain_line(alloc, number, entry);
     };
     if is_apart_from_added(count, touched) {
         return operation_line(alloc, number, entry, &op);

@@ -1,11 +1,14 @@
 //! What is known of an entry of a recording.
 
-ghost use Rattle.std.specs.Prelude.{◌≡◌, ◌↔◌, ◌≤◌, ◌++◌, length, IsTrue, MatchOption};
+ghost use Rattle.std.specs.Prelude.{◌≡◌, ◌↔◌, ◌≤◌, ◌++◌, length, IsTrue, MatchOption, None};
 ghost use Rattle.std.specs.List.{AllByRecursion};
 ghost use Rattle.dsa_descriptor.specs.Spans.{IsAddressable};
+ghost use Rattle.dsa_descriptor.specs.Places.{op_at};
 ghost use Rattle.dsa_audit.specs.declared.member.Unseen.{Unseen};
+ghost use Rattle.dsa_recording.specs.Furthers.{further_at};
 ghost use Rattle.dsa_recording.specs.Entries.{records_of, entry_reads, entry_targets, entry_data, entry_writes, Applies, IsFirstReason, IsMember, IsOperands, IsRecord, action_of};
 
+use crate::further::further_at;
 use arrayvec::ArrayVec;
 use dsa_audit::{Action, Member, Unseen};
 use dsa_descriptor::{Span, agree_on_owner, are_addressable, op_at, record_span, u32_at, u64_at};
@@ -33,6 +36,32 @@ pub(crate) fn records_of(entry: &[u8; 64]) -> ArrayVec<Span, 3>
     writes
 }
 
+/// The data that the entry reads, where its operation is known.
+fn sources_of(entry: &[u8; 64]) -> ArrayVec<Span, 2>
+    ensures { result.items ≡ entry_reads entry.now }
+{
+    if let Some(op) = op_at(entry) {
+        return op.sources(u32_at(entry, 32));
+    }
+    match further_at(entry) {
+        Some(further) => further.sources(),
+        None => ArrayVec::new(),
+    }
+}
+
+/// The data that it writes.
+fn targets_of(entry: &[u8; 64]) -> ArrayVec<Span, 2>
+    ensures { result.items ≡ entry_targets entry.now }
+{
+    if let Some(op) = op_at(entry) {
+        return op.targets(u32_at(entry, 32));
+    }
+    match further_at(entry) {
+        Some(further) => further.targets(),
+        None => ArrayVec::new(),
+    }
+}
+
 /// What the entry reads and writes, where its operation is known.
 pub(crate) fn touched_by(entry: &[u8; 64]) -> Touched
     ensures reads { result.reads.items ≡ entry_reads entry.now }
@@ -40,11 +69,7 @@ pub(crate) fn touched_by(entry: &[u8; 64]) -> Touched
 {
     let mut writes = records_of(entry);
     let mut reads = ArrayVec::new();
-    let Some(op) = op_at(entry) else {
-        return Touched { reads, writes };
-    };
-    let size = u32_at(entry, 32);
-    let (sources, targets) = (op.sources(size), op.targets(size));
+    let (sources, targets) = (sources_of(entry), targets_of(entry));
     reads.try_extend_from_slice(sources.as_slice()).unwrap();
     writes.try_extend_from_slice(targets.as_slice()).unwrap();
     Touched { reads, writes }
@@ -56,11 +81,7 @@ pub(crate) fn operands_of(entry: &[u8; 64]) -> Touched
     ensures writes { result.writes.items ≡ entry_targets entry.now }
 {
     let (mut reads, mut writes) = (ArrayVec::new(), ArrayVec::new());
-    let Some(op) = op_at(entry) else {
-        return Touched { reads, writes };
-    };
-    let size = u32_at(entry, 32);
-    let (sources, targets) = (op.sources(size), op.targets(size));
+    let (sources, targets) = (sources_of(entry), targets_of(entry));
     reads.try_extend_from_slice(sources.as_slice()).unwrap();
     writes.try_extend_from_slice(targets.as_slice()).unwrap();
     Touched { reads, writes }
@@ -83,11 +104,7 @@ fn record_of(entry: &[u8; 64]) -> Touched
 {
     let mut reads = ArrayVec::new();
     let writes = records_of(entry);
-    let Some(op) = op_at(entry) else {
-        return Touched { reads, writes };
-    };
-    let size = u32_at(entry, 32);
-    let (sources, targets) = (op.sources(size), op.targets(size));
+    let (sources, targets) = (sources_of(entry), targets_of(entry));
     reads.try_extend_from_slice(sources.as_slice()).unwrap();
     reads.try_extend_from_slice(targets.as_slice()).unwrap();
     Touched { reads, writes }
@@ -105,6 +122,13 @@ fn is_addressable(entry: &[u8; 64]) -> bool
     are_addressable(&touched.writes)
 }
 
+/// Whether the operation is none of a plan's, and none of the further ones.
+fn is_unknown(entry: &[u8; 64]) -> bool
+    ensures { IsTrue result ↔ (op_at entry.now ≡ None) × (further_at entry.now ≡ None) }
+{
+    op_at(entry).is_none() && further_at(entry).is_none()
+}
+
 /// Whether the reason applies to the entry, whose batch has the descriptor `head`.
 fn applies(head: &[u8; 64], entry: &[u8; 64], why: Unseen) -> bool
     ensures { IsTrue result ↔ Applies head.now entry.now why }
@@ -112,10 +136,10 @@ fn applies(head: &[u8; 64], entry: &[u8; 64], why: Unseen) -> bool
     let code = u32_at(entry, 4) >> 24;
     match why {
         Unseen::Blank => *entry == [0; 64],
-        Unseen::Operation => code != 0 && code != 1 && op_at(entry).is_none(),
+        Unseen::Operation => code != 0 && code != 1 && is_unknown(entry),
         Unseen::Nested => code == 1,
         Unseen::Owner => !agree_on_owner(head, entry),
-        Unseen::Empty => code != 0 && u32_at(entry, 32) == 0,
+        Unseen::Empty => code != 0 && code != 2 && u32_at(entry, 32) == 0,
         Unseen::Wrap => !is_addressable(entry),
     }
 }

@@ -7,6 +7,7 @@ ghost use Rattle.dsa_recording.specs.Answers.{IsTooLarge};
 ghost use Rattle.dsa_recording.specs.Totals.{HasSums};
 
 use crate::detail::has_all_fences;
+use crate::further::code_name;
 use crate::marks::{has_words, mark_of, push_legend, push_mark};
 use crate::report::Report;
 use crate::report_json::unseen_name;
@@ -107,6 +108,12 @@ fn entry_name(alloc: Global, entry: &[u8; 64]) -> Result<String, AllocError> {
     }
 }
 
+/// The name of an entry's operation in full, if no plan has it, else its short name or its code.
+fn entry_title(alloc: Global, entry: &[u8; 64], name: &str) -> Result<String, AllocError> {
+    let full = code_name((u32_at(entry, 4) >> 24) as u8);
+    String::from_str(alloc, if full.is_empty() { name } else { full })
+}
+
 /// Writes the box of a member, which has this entry.
 fn push_member(
     alloc: Global,
@@ -119,7 +126,8 @@ fn push_member(
     let name = entry_name(alloc, entry)?;
     match member {
         Member::Known(_) => {
-            let title = format!(in alloc; "{name}, entry {at}")?;
+            let full = entry_title(alloc, entry, &name)?;
+            let title = format!(in alloc; "{full}, entry {at}")?;
             push_box(alloc, svg, square, &name, &title)
         }
         Member::Unknown(why) => {

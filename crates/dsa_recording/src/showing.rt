@@ -2,20 +2,15 @@
 
 ghost use Rattle.std.specs.Prelude.{◌≡◌, length, IfOk};
 ghost use Rattle.dsa_descriptor.specs.Places.{flags_at, op_at};
-ghost use Rattle.dsa_recording.specs.Showing.{asks_interrupt, has_record, requests_record, writes_record, is_signal, writes_data, can_write, is_awaited_whole, is_marker, shows_beside_batch, can_show, AreVisible};
+ghost use Rattle.dsa_recording.specs.Furthers.{further_at};
+ghost use Rattle.dsa_recording.specs.Showing.{writes_further, asks_interrupt, has_record, requests_record, writes_record, is_signal, writes_data, can_write, is_awaited_whole, is_marker, shows_beside_batch, can_show, AreVisible};
 
 use crate::assumptions::{Assumptions, Await};
 use crate::failure::can_fail;
+use crate::further::{Further, flags_of, further_at};
 use dsa_audit::Member;
 use dsa_descriptor::{Op, op_at, u32_at};
 use std::alloc::{AllocError, Global};
-
-/// The flags of an entry.
-fn flags_of(entry: &[u8; 64]) -> u32
-    ensures { result ≡ flags_at entry.now }
-{
-    u32_at(entry, 4) % (1 << 24)
-}
 
 /// Whether the device raises an interrupt when the descriptor has ended.
 fn asks_interrupt(flags: u32) -> bool
@@ -47,12 +42,26 @@ fn is_signal(assumptions: Assumptions, member: &Member, entry: &[u8; 64]) -> boo
     asks_interrupt(flags_of(entry)) || writes_record(assumptions, member, entry)
 }
 
-/// Whether the operation of an entry writes data, if it has one that is listed.
+/// Whether an operation that no plan has writes data.
+fn writes_further(entry: &[u8; 64]) -> bool
+    ensures { result ≡ writes_further (further_at entry.now) }
+{
+    match further_at(entry) {
+        None => false,
+        Some(Further::Drain | Further::TranslationFetch | Further::CacheFlush { .. }) => false,
+        Some(Further::Crc { .. } | Further::DifCheck { .. }) => false,
+        Some(Further::CreateDelta { .. } | Further::CopyCrc { .. }) => true,
+        Some(Further::DifInsert { .. } | Further::DifStrip { .. }) => true,
+        Some(Further::DifUpdate { .. }) => true,
+    }
+}
+
+/// Whether the operation of an entry writes data.
 fn writes_data(entry: &[u8; 64]) -> bool
-    ensures { result ≡ writes_data (op_at entry.now) }
+    ensures { result ≡ writes_data (op_at entry.now) (further_at entry.now) }
 {
     match op_at(entry) {
-        None => false,
+        None => writes_further(entry),
         Some(Op::Compare { .. } | Op::ComparePattern { .. }) => false,
         Some(Op::Move { .. } | Op::Fill { .. }) => true,
         Some(Op::ApplyDelta { .. } | Op::Dualcast { .. }) => true,

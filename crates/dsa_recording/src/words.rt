@@ -3,11 +3,13 @@
 ghost use Rattle.std.specs.Prelude.{◌≡◌, ◌++◌, true, IfOk, OnOk, codes, string_bytes};
 ghost use Rattle.dsa_recording.specs.declared.detail.Detail.{Detail};
 ghost use Rattle.dsa_recording.specs.declared.findings.Place.TheVariants as Place;
-ghost use Rattle.dsa_recording.specs.Words.{entry_words, member_words, place_words, note_unless, severity_of, severity_words, unseen_words, hazard_words, guarding_words, signalling_words, both_words, repeated_words, flaw_words, needless_words, cause_words, privilege_words, owners_words, record_words, more_words, finding_words};
+ghost use Rattle.dsa_recording.specs.Furthers.{code_name};
+ghost use Rattle.dsa_recording.specs.Words.{entry_words, member_words, place_words, note_unless, severity_of, severity_words, named, operation_words, unseen_words, hazard_words, guarding_words, signalling_words, both_words, repeated_words, flaw_words, needless_words, cause_words, privilege_words, owners_words, record_words, more_words, finding_words};
 ghost use Rattle.dsa_audit.specs.declared.member.Unseen.TheVariants.{Owner};
 
 use crate::detail::{Cause, Detail, Records};
 use crate::findings::{Flaw, Place};
+use crate::further::code_name;
 use dsa_audit::Unseen;
 use dsa_ranges::{Hazard, HazardKind};
 use std::alloc::{AllocError, Global};
@@ -125,13 +127,40 @@ fn push_severity(text: &mut String, severity: Severity) -> Result<(), AllocError
     }
 }
 
+/// The name of an operation code in brackets, if it has one.
+fn named(alloc: Global, code: u8) -> Result<String, AllocError>
+    ensures { IfOk result (λ s. string_bytes s ≡ named (code_name code)) }
+{
+    let name = code_name(code);
+    if name.is_empty() {
+        return Ok(String::new(alloc));
+    }
+    format!(in alloc; " ({name})")
+}
+
+/// An operation by its code, and its name if it has one.
+pub(crate) fn operation_text(alloc: Global, code: u8) -> Result<String, AllocError>
+    ensures { IfOk result (λ s. string_bytes s ≡ operation_words code) }
+{
+    let name = named(alloc, code)?;
+    format!(in alloc; "operation 0x{code:x}{name}")
+}
+
+/// That a member of this operation code is not looked at.
+fn unknown_text(alloc: Global, code: u8) -> Result<String, AllocError>
+    ensures { IfOk result (λ s. string_bytes s ≡ codes "not looked at: " ++ operation_words code) }
+{
+    let operation = operation_text(alloc, code)?;
+    format!(in alloc; "not looked at: {operation}")
+}
+
 /// Why a member of this operation code is not looked at.
 pub(crate) fn unseen_text(alloc: Global, why: Unseen, code: u8) -> Result<String, AllocError>
     ensures { IfOk result (λ s. string_bytes s ≡ unseen_words why code) }
 {
     match why {
         Unseen::Blank => String::from_str(alloc, "not looked at: 64 zero bytes"),
-        Unseen::Operation => format!(in alloc; "not looked at: operation 0x{code:x}"),
+        Unseen::Operation => unknown_text(alloc, code),
         Unseen::Nested => String::from_str(alloc, "not looked at: a batch in a batch"),
         Unseen::Owner => String::from_str(
             alloc,

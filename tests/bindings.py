@@ -139,6 +139,13 @@ def tracked():
     tried("a tracker beside the model", [sys.executable, "-B", "tests/tracker_model.py", count, "20261126"], env=how)
 
 
+def in_flight():
+    """What docs/USING.md shows of a tracker: the program compiles and prints what the page says."""
+    shown = Path(WORK, "in_flight.c")
+    shown.write_text(block_after("docs/USING.md", "## Many submissions in flight", "c"))
+    tried("the tracker of docs/USING.md", [compiled(shown)], block_after("docs/USING.md", "The program prints"))
+
+
 def recorder():
     """Four threads record by the lines of docs/USING.md: each batch is followed by its own members, and none is lost."""
     lines, recording = Path(WORK, "recorder.inc"), Path(WORK, "recording")
@@ -208,7 +215,7 @@ def main(words):
         sys.exit(0)
     make.need_proved("libdsa_c.a")
     with tempfile.TemporaryDirectory() as WORK:
-        for part in named([header, examples, calls, texts, prepared, tracked, recorder, random_lists, speed], words):
+        for part in named([header, examples, calls, texts, prepared, tracked, in_flight, recorder, random_lists, speed], words):
             part()
 
 

@@ -252,7 +252,7 @@ def sentences():
     rows = re.findall(r"^\| (\d+) \| ([A-Z]\w+)([^|]*) \| (.*) \|$", page, re.M)
     common.expect({int(number) for number, *_ in rows} == {*of_rattle}, "FORMATS.md has other causes than the sentences")
     for number, name, places, cause in rows:
-        wanted = re.sub("^(preparing|filling|from C): ", "", cause)
+        wanted = re.sub("^(preparing|filling|tracking|from C): ", "", cause)
         wanted = f"descriptor i: {wanted}" if 2 <= int(number) <= 13 else wanted
         places = places.split() or (["i"] if 2 <= int(number) <= 13 else [])
         for what, known in (("program", of_rattle), ("Rust crate", of_rust), ("Python module", of_python)):

@@ -144,15 +144,23 @@ def tracked():
 def flights():
     """Lists that several threads do as a tracker lets them leave what they leave in order; a dropped wait is seen."""
     source, count = "tests/bindings/flights.c", os.environ.get("FLIGHTS", "300")
-    tried("flights", [compiled(source, "-pthread"), count, "50", "20261126"])
+    plain = compiled(source, "-pthread")
+    tried("flights", [plain, count, "50", "20261126"])
     if shutil.which("valgrind"):
         watch = ["valgrind", "-q", "--error-exitcode=9", "--fair-sched=yes"]
-        tried("flights under valgrind", [*watch, compiled(source, "-pthread"), "3", "0", "7"])
+        tried("flights under valgrind", [*watch, plain, "3", "0", "7"])
     for flags in (SANITIZE, SANITIZE_THREADS):
         if sanitizers(flags):
             tried(f"flights with {flags[0]}", [compiled(source, "-pthread", *flags), "20", "3", "9"])
         else:
             print(f"there is no {flags[0]}")
+
+
+def in_flight():
+    """What docs/USING.md shows of a tracker: the program compiles and prints what the page says."""
+    shown = Path(WORK, "in_flight.c")
+    shown.write_text(block_after("docs/USING.md", "## Many submissions in flight", "c"))
+    tried("the tracker of docs/USING.md", [compiled(shown)], block_after("docs/USING.md", "The program prints"))
 
 
 def recorder():
@@ -224,7 +232,8 @@ def main(words):
         sys.exit(0)
     make.need_proved("libdsa_c.a")
     with tempfile.TemporaryDirectory() as WORK:
-        parts = [header, examples, calls, texts, prepared, tracked, flights, recorder, random_lists, speed]
+        parts = [header, examples, calls, texts, prepared, tracked, flights, in_flight, recorder]
+        parts += [random_lists, speed]
         for part in named(parts, words):
             part()
 

@@ -10,6 +10,7 @@
 #include <stdio.h>
 #include <stdlib.h>
 #include <string.h>
+#include <unistd.h>
 
 #include "dsa_planner.h"
 
@@ -363,6 +364,7 @@ static void submit_all(struct flight *f, uint64_t *state, bool may_withdraw)
 static void begin(struct flight *f, const struct list *lists, const uint8_t *memory, uint32_t slots, uint32_t log2_unit)
 {
     struct dsa_refusal r;
+    alarm(60); /* ends the program if what waits never becomes ready */
     memset(f, 0, sizeof *f);
     f->lists = lists;
     need(!pthread_mutex_init(&f->mutex, NULL) && !pthread_cond_init(&f->changed, NULL), "there is no mutex");

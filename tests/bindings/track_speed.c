@@ -1,7 +1,7 @@
-/* Measures a tracker, beside planning the same lists and comparing all spans of what is in flight: track_speed [ROUNDS].
- * For each length of a list, number of lists in flight and kind of lists it prints nanoseconds for each operation, of one
- * submission and one completion together, best of the rounds. Waiting for everything costs no such time. It judges
- * nothing. */
+/* Measures a tracker, beside planning the same lists and comparing all spans of what is in flight: track_speed
+ * [ROUNDS]. For each length of a list, number of lists in flight and kind of lists it prints nanoseconds for each
+ * operation, of one submission and one completion together, best of the rounds. Waiting for everything costs no such
+ * time. It judges nothing. */
 #include <inttypes.h>
 #include <stdbool.h>
 #include <stdio.h>
@@ -26,7 +26,8 @@ struct list {
 };
 
 static struct list lists[LISTS];
-static uint64_t words[DSA_TRACKER_WORDS(IN_FLIGHT, SPANS, LOG2_ROWS)];
+enum { WORDS = DSA_TRACKER_WORDS(IN_FLIGHT, SPANS, LOG2_ROWS) };
+static uint64_t words[WORDS];
 
 static double now(void)
 {
@@ -38,7 +39,9 @@ static double now(void)
 static uint64_t source_of(enum kind kind, uint64_t list, uint64_t move)
 {
     const uint64_t own = UINT64_C(0x100000000) + (list * MOST_MOVES + move) * PAGE;
-    return kind != AFTER_ONE || move ? own : UINT64_C(0x200000000) + (list + LISTS - 1) % LISTS * MOST_MOVES * PAGE;
+    if (kind != AFTER_ONE || move)
+        return own;
+    return UINT64_C(0x200000000) + (list + LISTS - 1) % LISTS * MOST_MOVES * PAGE;
 }
 
 static uint64_t target_of(enum kind kind, uint64_t list, uint64_t move)
@@ -97,13 +100,15 @@ static bool track(size_t moves, size_t flight)
     uint32_t slots[LISTS];
     uint64_t waits, waited, ready;
     struct dsa_refusal r;
-    if (dsa_track_begin(words, sizeof words / sizeof *words, IN_FLIGHT, SPANS, LOG2_ROWS, LOG2_PAGE, &r))
+    if (dsa_track_begin(words, WORDS, IN_FLIGHT, SPANS, LOG2_ROWS, LOG2_PAGE, &r))
         return false;
     for (size_t i = 0; i < LISTS + flight; i++) {
-        if (i >= flight && dsa_track_complete(words, sizeof words / sizeof *words, slots[i - flight], &waited, &ready, &r))
+        if (i >= flight && dsa_track_complete(words, WORDS, slots[i - flight], &waited, &ready, &r))
             return false;
-        if (i < LISTS && dsa_track_list(words, sizeof words / sizeof *words, lists[i].bytes, 64 * moves, lists[i].staging,
-                                        96 * moves, 0, &slots[i], &waits, &r))
+        if (i >= LISTS)
+            continue;
+        const struct list *l = &lists[i];
+        if (dsa_track_list(words, WORDS, l->bytes, 64 * moves, l->staging, 96 * moves, 0, &slots[i], &waits, &r))
             return false;
     }
     return true;
@@ -115,8 +120,10 @@ static bool plan(size_t moves)
     struct dsa_planned p;
     struct dsa_refusal r;
     for (size_t i = 0; i < LISTS; i++) {
-        const struct dsa_settings s = {1, MOST_MOVES, PAGE, 10, 14, 3, lists[i].staging};
-        if (dsa_plan_list(&s, &s.batch, 0, lists[i].bytes, 64 * moves, portal, sizeof portal, staging, sizeof staging, &p, &r))
+        const struct list *l = &lists[i];
+        const struct dsa_settings s = {1, MOST_MOVES, PAGE, 10, 14, 3, l->staging};
+        if (dsa_plan_list(&s, &s.batch, 0, l->bytes, 64 * moves, portal, sizeof portal, staging, sizeof staging,
+                          &p, &r))
             return false;
     }
     return true;
@@ -158,8 +165,8 @@ int main(int argc, char **argv)
                 found = compare(flight, few);
                 compared = best_of(compared, start, few * moves);
             }
-            printf("%-9s %2zu moves, %2zu in flight: track %6.1f ns an operation, plan %6.1f, compare all %8.1f, %zu conflicts\n",
-                   kinds[kind], moves, flight, tracked, planned, compared, found);
+            printf("%-9s %2zu moves, %2zu in flight: track %6.1f ns an operation, plan %6.1f, compare all %8.1f, %zu "
+                   "conflicts\n", kinds[kind], moves, flight, tracked, planned, compared, found);
         }
     return EXIT_SUCCESS;
 }

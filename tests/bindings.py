@@ -1,8 +1,9 @@
 """Builds callers in C of the proved archive, before it is packed, and looks at what they print: golden output, each
 allocation refused in turn, random lists beside the program. It uses valgrind and sanitizers where they are, and says so
 where they aren't; without a C compiler it is skipped. CC names the compiler, LISTS how many random lists (250), FILLED
-how many are prepared and filled (1,000), TRACKED how many sequences of a tracker's calls are made (2,000).
-tests/package.py has the callers of the package. The words are names of parts."""
+how many are prepared and filled (1,000), TRACKED how many sequences of a tracker's calls are made (2,000), FLIGHTS how
+many cases of many submissions in flight are run (300). tests/package.py has the callers of the package. The words are
+names of parts."""
 
 import ast
 import os
@@ -22,6 +23,7 @@ import make
 ARCHIVE = ROOT / "crates/dsa_c/out/libdsa_c.a"
 WARN = ["-Wall", "-Wextra", "-Werror"]
 SANITIZE = ["-fsanitize=address,undefined", "-fno-sanitize-recover=all"]
+SANITIZE_THREADS = ["-fsanitize=thread"]
 
 
 def tried(what, command, printed=None, **how):
@@ -64,11 +66,11 @@ def examples():
     compiled("bindings/c/submit.c")
 
 
-def sanitizers():
+def sanitizers(flags=SANITIZE):
     """Whether the compiler has them, and what it builds with them runs."""
     Path(WORK, "empty.c").write_text("int main(void) { return 0; }\n")
     how = {"stdout": subprocess.DEVNULL, "stderr": subprocess.DEVNULL}
-    built = subprocess.run([compiler(), *SANITIZE, f"{WORK}/empty.c", "-o", f"{WORK}/empty"], **how)
+    built = subprocess.run([compiler(), *flags, f"{WORK}/empty.c", "-o", f"{WORK}/empty"], **how)
     return built.returncode == 0 and subprocess.run([f"{WORK}/empty"], **how).returncode == 0
 
 
@@ -137,6 +139,21 @@ def tracked():
     tried("the build of a shared object", [compiler(), *flags, *parts, *whole, "-o", library])
     how = {**os.environ, "DSA_PLANNER_LIBRARY": library}
     tried("a tracker beside the model", [sys.executable, "-B", "tests/tracker_model.py", count, "20261126"], env=how)
+
+
+def flights():
+    """Lists that several threads do as a tracker lets them leave what they leave in order; a dropped wait is seen."""
+    source, count = "tests/bindings/flights.c", os.environ.get("FLIGHTS", "300")
+    plain = compiled(source, "-pthread")
+    tried("flights", [plain, count, "50", "20261126"])
+    if shutil.which("valgrind"):
+        watch = ["valgrind", "-q", "--error-exitcode=9", "--fair-sched=yes"]
+        tried("flights under valgrind", [*watch, plain, "3", "0", "7"])
+    for flags in (SANITIZE, SANITIZE_THREADS):
+        if sanitizers(flags):
+            tried(f"flights with {flags[0]}", [compiled(source, "-pthread", *flags), "20", "3", "9"])
+        else:
+            print(f"there is no {flags[0]}")
 
 
 def in_flight():
@@ -215,7 +232,9 @@ def main(words):
         sys.exit(0)
     make.need_proved("libdsa_c.a")
     with tempfile.TemporaryDirectory() as WORK:
-        for part in named([header, examples, calls, texts, prepared, tracked, in_flight, recorder, random_lists, speed], words):
+        parts = [header, examples, calls, texts, prepared, tracked, flights, in_flight, recorder]
+        parts += [random_lists, speed]
+        for part in named(parts, words):
             part()
 
 

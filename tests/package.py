@@ -103,7 +103,7 @@ def causes():
     python = {int(number): name for number, name in python}
     expect(header == rust == python, f"the causes differ: {header.items() ^ rust.items() ^ python.items()}")
     formats = Path("docs/FORMATS.md").read_text()
-    page = re.findall(r"^\| (\d+) \| ([A-Z]\w+)", formats, re.M) + re.findall(r"(\d+) \(([A-Z]\w+)\)", formats)
+    page = re.findall(r"^\| (\d+) \| ([A-Z]\w+)", formats, re.M) + re.findall(r"\b(\d+) \(([A-Z]\w+)\)", formats)
     page = {int(number): name for number, name in page}
     other = {number for number in header if number < 90 and page.get(number) != header[number]}
     expect(not other, f"docs/FORMATS.md names other causes: {other}")

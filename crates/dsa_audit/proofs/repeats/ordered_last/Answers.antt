@@ -1,4 +1,4 @@
-use Rattle.std.proofs.Common.{◌≡◌, ◌<◌, ℕ, None, subst, sym, arith}
+use Rattle.std.proofs.Common.{None, subst, arith}
 use Rattle.std.proofs.lemmas.Option.{slice_get-get_or}
 use Rattle.dsa_audit.specs.Repeats.{RepeatsLast}
 use Rattle.dsa_audit.proofs.Repeated.{last_of_repeat, last_of_other}

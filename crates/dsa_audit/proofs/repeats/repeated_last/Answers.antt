@@ -1,5 +1,5 @@
-use Rattle.std.proofs.Common.{◌≡◌, ℕ, true, false, Some, subst, sym, ◌∙◌, arith}
-use Rattle.dsa_audit.specs.Repeats.{IsRepeated, IsLastKnown}
+use Rattle.std.proofs.Common.{◌≡◌, true, false, subst, sym, ◌∙◌}
+use Rattle.dsa_audit.specs.Repeats.{IsLastKnown}
 use Rattle.dsa_audit.proofs.Repeated.{unlike_last, none_last}
 use Rattle.dsa_audit.proofs.repeats.repeated_last.Goals as goal
 

@@ -1,4 +1,4 @@
-use Rattle.std.proofs.Common.{◌≡◌, ◌<◌, true, false, refl, sym, ◌∙◌, below_more, arith}
+use Rattle.std.proofs.Common.{◌≡◌, true, false, refl, sym, ◌∙◌, below_more, arith}
 use Rattle.dsa_descriptor.specs.Spans.{span}
 use Rattle.dsa_ranges.proofs.SpanLists.{MeetsAt, some_at, no_meetings}
 use Rattle.dsa_audit.proofs.repeats.some_meet.Goals as goal

@@ -1,4 +1,4 @@
-use Rattle.std.proofs.Common.{◌≡◌, true, false, refl, sym}
+use Rattle.std.proofs.Common.{◌≡◌, true, false, refl}
 use Rattle.dsa_recording.specs.Flaws.OverwritesBatch.{meets_record, data_meet_list, record_meets_list}
 use Rattle.dsa_recording.proofs.Flawed.{overwrites_none, overwrites_by_record}
 use Rattle.dsa_recording.proofs.flaws.overwrites_batch.Goals as goal

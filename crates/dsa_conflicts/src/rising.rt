@@ -5,10 +5,7 @@ ghost use Rattle.dsa_descriptor.specs.Descriptors.{fields};
 ghost use Rattle.dsa_conflicts.specs.Spread.{NoneConflict};
 
 use crate::spread::data_at;
-use dsa_descriptor::Descriptor;
-
-/// The length of a completion record.
-const RECORD_LEN: u64 = 32;
+use dsa_descriptor::{Descriptor, RECORD_LEN};
 
 /// Whether the data of the pieces rises, and so do their records, on one side of all data: true only where no two pieces
 /// conflict. A piece's data lies behind that of all earlier pieces, or its two ranges go on in two areas: the lower one

@@ -5,7 +5,7 @@ use Rattle.std.specs.List.{flat_map, zip}
 use Rattle.dsa_descriptor.specs.declared.span.Span.{Span}
 use Rattle.dsa_descriptor.specs.Fields.{Fields}
 use Rattle.dsa_descriptor.specs.Lists.{list_spelling, HaveOneOwner}
-use Rattle.dsa_descriptor.specs.Spans.{span, InSpan}
+use Rattle.dsa_descriptor.specs.Spans.{InSpan}
 use Rattle.dsa_descriptor.specs.Spelling.{spelling}
 use Rattle.dsa_descriptor.specs.Pieces.{most_pieces}
 use Rattle.dsa_ranges.specs.Ranges.{Touches}
@@ -13,6 +13,7 @@ use Rattle.dsa_emission.specs.declared.place.Place.{Place}
 use Rattle.dsa_settings.specs.Plan.{Group, Plan, piece_count, start_of}
 use Rattle.dsa_settings.specs.Shapes.{HasGroupShapes}
 use Rattle.dsa_settings.specs.Settings.{Limits}
+use Rattle.dsa_settings.specs.Staging.{staging_area}
 
 -- a group of more than one piece is submitted as a batch
 abbrev pub is_batch : Group → Bool
@@ -90,10 +91,9 @@ abbrev pub staging_bytes : Plan → List Fields → List ℕ
 staging_bytes plan pieces =
     joined (λ number. staged (place_of plan number) (slice_index_or plan number []) pieces) (length plan) ++ replicate (32 * batch_count plan) 0
 
--- the bytes of the staging area that pieces may need, whatever their groups are: each has 64 for its descriptor and
--- 32 for a record (this project's choice)
+-- the staging area of these pieces
 abbrev pub staging_span : Limits → List Fields → Span
-staging_span s pieces = span s.staging (96 * length pieces)
+staging_span s pieces = staging_area s.staging (length pieces)
 
 -- what a plan and its pieces need to be emitted: shapes of groups, one owner, no piece longer than it may be, and none
 -- that reads or writes the staging area

@@ -6,7 +6,7 @@ use Rattle.dsa_descriptor.specs.Faults.{AreZero, IsFirstFault}
 use Rattle.dsa_descriptor.specs.Fields.{Fields}
 use Rattle.dsa_descriptor.specs.Lists.{entries}
 use Rattle.dsa_descriptor.specs.Places.{u32_at, pasid_at, privileged_at}
-use Rattle.dsa_descriptor.specs.Spans.{span, InSpan}
+use Rattle.dsa_descriptor.specs.Spans.{InSpan}
 use Rattle.dsa_descriptor.specs.Spelling.{spelling}
 use Rattle.dsa_descriptor.specs.Pieces.{most_pieces}
 use Rattle.dsa_ranges.specs.Ranges.{Touches}
@@ -18,6 +18,7 @@ use Rattle.dsa_emission.specs.declared.emission_fault.EmissionFault.{EmissionFau
 use Rattle.dsa_emission.specs.declared.emission_fault.EmissionFault.TheVariants.{PortalLength, StagingLength, BatchFields, EntryFence, Entry, RecordBytes, Memory}
 use Rattle.dsa_settings.specs.Plan.{Group, Plan}
 use Rattle.dsa_settings.specs.Settings.{Limits}
+use Rattle.dsa_settings.specs.Staging.{staging_area}
 use Rattle.dsa_emission.specs.Emission.{batch_spelling, portal_bytes, staging_bytes, CanBeEmitted}
 
 -- ---- what entries say
@@ -68,12 +69,12 @@ piece_bytes es staged number k = bytes_at staged (place_before es number) (slice
 abbrev pub owner_at : List ℕ → List ℕ
 owner_at bytes = slice_index bytes 0 ∷ slice_index bytes 1 ∷ slice_index bytes 2 ∷ slice_index bytes 3 ∷ []
 
--- what each piece has to meet: the owner of the first, the greatest size, and the staging area of 96 bytes for each
+-- what each piece has to meet: the owner of the first, the greatest size, and the staging area of all
 abbrev pub demands_of : Limits → List (List ℕ) → List (List ℕ) → Demands
 demands_of s es staged =
     record {
       owner = owner_at (piece_bytes es staged 0 0);
-      area = span s.staging (96 * (place_at_end es).start);
+      area = staging_area s.staging (place_at_end es).start;
       greatest = s.greatest_transfer;
     }
 

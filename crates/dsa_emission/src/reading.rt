@@ -18,7 +18,7 @@ use crate::portal::{
 };
 use dsa_descriptor::{Descriptor, Span};
 use dsa_ranges::{meets_some, touched};
-use dsa_settings::{Group, Plan, Settings};
+use dsa_settings::{Group, Plan, STAGED_LEN, Settings};
 use std::alloc::Global;
 
 /// Whether the descriptor has the fence.
@@ -192,7 +192,7 @@ pub fn read_emission(
         owner,
         area: Span {
             first: settings.staging(),
-            len: 96 * end.start as u64,
+            len: STAGED_LEN * end.start as u64,
         },
         greatest: settings.greatest_transfer(),
     };

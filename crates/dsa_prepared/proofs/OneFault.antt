@@ -3,7 +3,7 @@ use Rattle.std.proofs.Common.{◌≡◌, ℕ, inl, inr, List, length, refl, sym,
 use Rattle.std.proofs.lemmas.Bool.{cases_order}
 use Rattle.dsa_prepared.specs.declared.fault.FillFault.{FillFault}
 use Rattle.dsa_prepared.specs.declared.fault.FillFault.TheVariants.{Bases, Room, RegionWrap, Misaligned, DualcastBits, RegionsMeet, StagingMeets, Staging}
-use Rattle.dsa_splitter.specs.Rules.{staging_area}
+use Rattle.dsa_settings.specs.Staging.{staging_area}
 use Rattle.dsa_prepared.specs.Templates.{Template}
 use Rattle.dsa_prepared.specs.Filling.{IsFirstNot, FitsAt, IsAlignedBase, IsTiedAt, IsApartFromEarlier, IsClearAt, AreApartAt, HasBuffers, CanFill, IsFirstFillFault, tie_at}
 

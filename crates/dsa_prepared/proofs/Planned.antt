@@ -16,7 +16,8 @@ use Rattle.dsa_plan.specs.Emission.{portal_bytes, staging_bytes}
 use Rattle.dsa_descriptor.specs.Lists.{list_spelling}
 use Rattle.dsa_splitter.specs.Operations.{op_runs_down}
 use Rattle.dsa_splitter.specs.Pieces.{piece_at, piece_count, pieces, all_pieces}
-use Rattle.dsa_splitter.specs.Rules.{AllMaySplit, MaySplit, piece_total, staging_area}
+use Rattle.dsa_settings.specs.Staging.{staging_area}
+use Rattle.dsa_splitter.specs.Rules.{AllMaySplit, MaySplit, piece_total}
 use Rattle.dsa_splitter.proofs.PieceListed.{piece_listed}
 use Rattle.dsa_splitter.proofs.PiecesWhole.{pieces_up, pieces_down}
 use Rattle.dsa_splitter.proofs.Walks.{length_all}

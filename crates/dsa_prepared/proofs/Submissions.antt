@@ -16,7 +16,8 @@ use Rattle.dsa_ranges.specs.Ranges.{ConflictAt, read_spans, written_spans, Touch
 use Rattle.dsa_plan.specs.Settings.{Limits, tariff_of}
 use Rattle.dsa_splitter.specs.Operations.{IsSplittable, ExpectedFits}
 use Rattle.dsa_splitter.specs.Pieces.{all_pieces, piece_count, row_span}
-use Rattle.dsa_splitter.specs.Rules.{MaySplit, IsSplit, IsClear, piece_total, staging_area}
+use Rattle.dsa_settings.specs.Staging.{staging_area}
+use Rattle.dsa_splitter.specs.Rules.{MaySplit, IsSplit, IsClear, piece_total}
 use Rattle.dsa_search.specs.Chosen.{IsChosen}
 use Rattle.dsa_prepared.specs.Relocated.{relocated_op, relocated_fields, relocated_span, IsOneToOne, KeepsOffsets}
 use Rattle.dsa_prepared.specs.Regions.{Region, base_span, new_span, relocated, HasAddress, AreDisjoint, LiesInOne, LieInOne, AllLieInOne, LiesWhole}

@@ -6,7 +6,7 @@ use Rattle.dsa_descriptor.specs.Descriptors.{fields}
 use Rattle.dsa_descriptor.specs.Lists.{list_spelling}
 use Rattle.dsa_descriptor.specs.Spans.{span, Apart, IsAddressable}
 use Rattle.dsa_plan.specs.Settings.{Limits}
-use Rattle.dsa_splitter.specs.Rules.{staging_area}
+use Rattle.dsa_settings.specs.Staging.{staging_area}
 use Rattle.dsa_calls.specs.Planned.{Submission, Plans}
 use Rattle.dsa_prepared.specs.Relocated.{relocated_fields}
 use Rattle.dsa_prepared.specs.Regions.{relocated}

@@ -7,7 +7,8 @@ use Rattle.dsa_descriptor.specs.Fields.{Fields}
 use Rattle.dsa_descriptor.specs.Spans.{ApartFrom, IsAddressable}
 use Rattle.dsa_plan.specs.Settings.{Limits}
 use Rattle.dsa_plan.specs.Emission.{portal_bytes, staging_bytes}
-use Rattle.dsa_splitter.specs.Rules.{staging_area, piece_total}
+use Rattle.dsa_settings.specs.Staging.{staging_area}
+use Rattle.dsa_splitter.specs.Rules.{piece_total}
 use Rattle.dsa_calls.specs.Planned.{Submission, IsSubmissionOf}
 use Rattle.dsa_prepared.specs.Relocated.{relocated_fields}
 use Rattle.dsa_prepared.specs.Regions.{Region, base_span, new_span, relocated, AreDisjoint, LiesWhole}

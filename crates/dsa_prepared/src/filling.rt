@@ -4,7 +4,7 @@ ghost use Rattle.std.specs.Prelude.{◌≡◌, ◌⊎◌, ℕ, ◌+◌, ◌*◌,
 ghost use Rattle.dsa_descriptor.specs.declared.descriptor.Descriptor.{Descriptor};
 ghost use Rattle.dsa_descriptor.specs.Spans.{Apart};
 ghost use Rattle.dsa_plan.specs.Settings.{Limits};
-ghost use Rattle.dsa_splitter.specs.Rules.{staging_area};
+ghost use Rattle.dsa_settings.specs.Staging.{staging_area};
 ghost use Rattle.dsa_prepared.specs.declared.fault.FillFault.{FillFault};
 ghost use Rattle.dsa_prepared.specs.Rows.{ArePrepared, entry_in, region_in, template_in, tie_in, unit_in};
 ghost use Rattle.dsa_prepared.specs.Sound.{ArePut, AreUnits, HasValues, IsUnit};
@@ -17,9 +17,7 @@ use crate::reading::{header_word, portal_rows, region_rows, staging_rows, tie_ro
 use crate::row::Row;
 use crate::tie::Tie;
 use dsa_descriptor::Span;
-
-/// How many bytes the staging area has for each piece.
-const STAGED_LEN: u64 = 96;
+use dsa_settings::STAGED_LEN;
 
 /// The region of that number at its new base.
 #[inline(always)]

@@ -11,10 +11,7 @@ ghost use Rattle.dsa_prepared.specs.Preparing.{AreRegions, IsFirstOutside, IsReg
 
 use crate::fault::PrepareFault;
 use crate::word::Word;
-use dsa_descriptor::{Descriptor, Span};
-
-/// The length of a completion record.
-const RECORD_LEN: u64 = 32;
+use dsa_descriptor::{Descriptor, RECORD_LEN, Span};
 
 /// How many regions end at the address or before it. Of all regions, only the next can have the address.
 fn ended_at(regions: &[Span], address: u64) -> usize

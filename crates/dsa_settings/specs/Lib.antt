@@ -1,5 +1,6 @@
 pub mod Plan
 pub mod Settings
+pub mod Staging
 pub mod Kept
 pub mod Legal
 pub mod Shapes

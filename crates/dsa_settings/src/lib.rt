@@ -9,6 +9,7 @@ mod numbers;
 mod plan;
 mod same;
 mod settings;
+mod staging;
 mod sweep;
 
 pub use conflicts::Conflicts;
@@ -18,3 +19,4 @@ pub use numbers::epoch_numbers;
 pub use plan::{Group, Plan};
 pub use same::{copy_plan, same_plan};
 pub use settings::{Settings, SettingsFault};
+pub use staging::STAGED_LEN;

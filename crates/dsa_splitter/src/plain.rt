@@ -7,12 +7,8 @@ ghost use Rattle.dsa_splitter.specs.Rules.{AreWhole, IsClear, IsSplit};
 
 use crate::operations::data_at;
 use crate::rules::is_one_piece;
-use crate::splitting::STAGED_LEN;
-use dsa_descriptor::{Descriptor, MOST_PIECES, Span};
-use dsa_settings::Settings;
-
-/// The length of a completion record.
-const RECORD_LEN: u64 = 32;
+use dsa_descriptor::{Descriptor, MOST_PIECES, RECORD_LEN, Span};
+use dsa_settings::{STAGED_LEN, Settings};
 
 /// Whether the area is known to have none of the addresses from `low` to below `high`.
 fn is_outside(area: Span, low: u64, high: u64) -> bool

@@ -1,12 +1,9 @@
 //! What is said of operations whose completion records are in the row of another's.
 
 use crate::origins::count_of;
-use dsa_descriptor::{Descriptor, Span};
-use dsa_plan::Settings;
+use dsa_descriptor::{Descriptor, RECORD_LEN, Span};
+use dsa_plan::{STAGED_LEN, Settings};
 use std::alloc::{AllocError, Global};
-
-/// The bytes of a completion record; its address is a multiple of them.
-const RECORD: u64 = 32;
 
 /// The most operations that are named.
 const MOST_NAMED: usize = 20;
@@ -31,7 +28,7 @@ impl Row {
     fn span(self) -> Span {
         Span {
             first: self.first,
-            len: self.records.saturating_mul(RECORD),
+            len: self.records.saturating_mul(RECORD_LEN),
         }
     }
 }
@@ -93,7 +90,7 @@ fn taken_by(
     }
     taken.push(Span {
         first: settings.staging(),
-        len: pieces.saturating_mul(96),
+        len: pieces.saturating_mul(STAGED_LEN),
     })?;
     taken.sort_unstable_by_key(|span| span.first);
     Ok(taken)
@@ -107,7 +104,7 @@ fn free_from(taken: &[Span], from: u128, len: u64) -> Option<u64> {
             break;
         }
         if first < span.end() {
-            let past = u128::from(RECORD - 1);
+            let past = u128::from(RECORD_LEN - 1);
             first = span.end().saturating_add(past) & !past;
         }
     }

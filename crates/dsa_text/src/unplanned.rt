@@ -7,8 +7,8 @@ use crate::answer::Answer;
 use crate::origins::count_of;
 use crate::words::line_of_operation;
 use dsa_calls::PlanFault;
-use dsa_descriptor::{Descriptor, MOST_PIECES};
-use dsa_plan::Settings;
+use dsa_descriptor::{Descriptor, MOST_PIECES, RECORD_LEN};
+use dsa_plan::{STAGED_LEN, Settings};
 use dsa_ranges::{Span, meets};
 use dsa_splitter::SplitFault;
 use std::alloc::{AllocError, Global};
@@ -127,7 +127,7 @@ fn operation_meeting(d: &Descriptor, count: usize, area: Span) -> Option<Meeting
     if let Some(meeting) = data_meeting(d, area) {
         return Some(meeting);
     }
-    shared(area, &[row(d.record_at, 32, count)], "completion record")
+    shared(area, &[row(d.record_at, RECORD_LEN, count)], "completion record")
 }
 
 /// Writes where the operation meets the staging area.
@@ -138,7 +138,7 @@ fn push_staging(
     d: &Descriptor,
 ) -> Result<(), AllocError> {
     let option = given.source.staging();
-    let area = row(given.settings.staging(), 96, piece_total(given));
+    let area = row(given.settings.staging(), STAGED_LEN, piece_total(given));
     if let Some(Meeting { what, address }) = operation_meeting(
         d,
         count_of(d, given.settings),
@@ -161,7 +161,7 @@ fn push_row(
     d: &Descriptor,
 ) -> Result<(), AllocError> {
     let (count, option) = (count_of(d, given.settings), given.source.transfer());
-    let records = row(d.record_at, 32, count);
+    let records = row(d.record_at, RECORD_LEN, count);
     let (first, last) = (records.first, last_of(records));
     text.push_str(&format!(in alloc; "the records of its {count} pieces, 0x{first:x} to ")?)?;
     text.push_str(&format!(in alloc; "0x{last:x}, meet its own ")?)?;

@@ -429,7 +429,7 @@ uint32_t dsa_track_list(uint64_t *words, size_t words_len,
 
 /*
  * The same of a submission that reads and writes these spans, whoever owns them. DSA_NOT_A_TRACKER, 120, 121 and
- * 124. It allocates 16 bytes for each span, and so does dsa_track_ask.
+ * 124. It allocates nothing.
  */
 uint32_t dsa_track_spans(uint64_t *words, size_t words_len,
                          const struct dsa_span *reads, size_t reads_len,
@@ -440,7 +440,7 @@ uint32_t dsa_track_spans(uint64_t *words, size_t words_len,
 
 /*
  * The outstanding submissions that conflict with accesses to these spans: with none, the host may do them at once.
- * Returns 0, DSA_NOT_A_TRACKER or DSA_MEMORY.
+ * Returns 0 or DSA_NOT_A_TRACKER.
  */
 uint32_t dsa_track_ask(const uint64_t *words, size_t words_len,
                        const struct dsa_span *reads, size_t reads_len,
@@ -471,8 +471,8 @@ uint32_t dsa_track_withdraw(uint64_t *words, size_t words_len, uint32_t slot, ui
  * which is a power of two, at most 16. A size of 0 wants a block too. rattle_realloc gives a block of size bytes that
  * begins as the old one did, and takes the old one back; where it fails, the old one stays as it is. The three are
  * called on the thread of the call, which has given every block back when it returns. dsa_count_pieces, dsa_fill,
- * dsa_refusal_text, dsa_track_begin, dsa_track_waits, dsa_track_complete, dsa_track_withdraw and dsa_planner_version
- * call none of them.
+ * dsa_refusal_text, dsa_track_begin, dsa_track_spans, dsa_track_ask, dsa_track_waits, dsa_track_complete,
+ * dsa_track_withdraw and dsa_planner_version call none of them.
  */
 struct rattle_block {
     uint64_t ok;

@@ -143,7 +143,7 @@ impl Tracker {
     /// The same of a submission that reads and writes these spans, whoever owns them.
     ///
     /// # Errors
-    /// The first of [`Cause::NoSlot`](crate::Cause::NoSlot), `TooManySpans` and `SpanWrap`; `Memory`.
+    /// The first of [`Cause::NoSlot`](crate::Cause::NoSlot), `TooManySpans` and `SpanWrap`.
     pub fn submit_spans(
         &mut self,
         reads: &[Span],
@@ -174,7 +174,7 @@ impl Tracker {
     /// once.
     ///
     /// # Errors
-    /// `Memory`.
+    /// None: it takes no memory, and the words are a tracker's.
     pub fn ask(&self, reads: &[Span], writes: &[Span]) -> Result<Slots, Refusal> {
         let (mut waits, mut refusal) = (0, raw::Refusal::default());
         // SAFETY: each pointer and length are those of one slice or vector, and no output overlaps another argument.

@@ -3,7 +3,6 @@ use Rattle.std.specs.Prelude.{◌≡◌, ◌⊎◌, ℕ, ◌+◌, ◌*◌, ◌<�
 use Rattle.dsa_descriptor.specs.declared.descriptor.Descriptor.{Descriptor}
 use Rattle.dsa_descriptor.specs.declared.span.Span.{Span}
 use Rattle.dsa_descriptor.specs.Causes.{index_list}
-use Rattle.dsa_descriptor.specs.Spans.{span}
 use Rattle.dsa_calls.specs.declared.fault.PlanFault.TheVariants.{Memory}
 use Rattle.dsa_prepared.specs.declared.fault.PrepareFault.{PrepareFault}
 use Rattle.dsa_prepared.specs.declared.fault.PrepareFault.TheVariants.{Plan, RegionWrap, RegionOrder, Outside}
@@ -15,14 +14,9 @@ use Rattle.dsa_prepared.specs.Preparing.{IsCostedOf, IsFirstPrepareFault}
 use Rattle.dsa_prepared.specs.Rows.{ArePrepared, rows_of, template_in}
 use Rattle.dsa_prepared.specs.Templates.{Template, filled_portal, filled_staging}
 use Rattle.dsa_c.specs.declared.preparing.RawInfo.{RawInfo}
-use Rattle.dsa_c.specs.declared.preparing.RawRegion.{RawRegion}
 use Rattle.dsa_c.specs.declared.settings.RawSettings.{RawSettings}
 use Rattle.dsa_c.specs.declared.refusal.RawRefusal.{RawRefusal}
 use Rattle.dsa_c.specs.Raw.{limits_of, AreSettings, RefusesSettings, written, refusal_of}
-
--- the addresses of a region
-abbrev pub span_of : RawRegion → Span
-span_of region = span region.first region.len
 
 -- a refusal of this number that names these places
 abbrev pub refusal_at : ℕ → ℕ → ℕ → RawRefusal

@@ -87,11 +87,10 @@ Awaits words slot set = IsShapedIn words × IsHeld (table_in words).slots slot �
 
 -- ---- why a call refuses
 
--- an allocation failed, or the tracker refuses the spans
+-- the tracker refuses the spans
 abbrev pub RefusesSpans : List ℕ → List Span → List Span → RawRefusal → Type 0
 RefusesSpans words reads writes r =
-    (r ≡ refusal_of Memory)
-    ⊎ ((fault : WordsFault) × RefusesIn words fault (λ f. IsRefused (table_in words) f (IsSpanFault (room_in words) reads writes f)) × (r ≡ track_refusal_of fault))
+    (fault : WordsFault) × RefusesIn words fault (λ f. IsRefused (table_in words) f (IsSpanFault (room_in words) reads writes f)) × (r ≡ track_refusal_of fault)
 
 -- an allocation failed, the bytes are no list, with the first fault of it, or the tracker refuses the pieces
 abbrev pub RefusesList : List ℕ → List ℕ → Span → RawRefusal → Type 0
@@ -102,9 +101,9 @@ RefusesList words list staging r =
     × RefusesIn words fault (λ f. IsRefused (table_in words) f (IsListFault (room_in words) (owner_with (owner_in words) (map fields pieces)) (map fields pieces) staging f))
     × (r ≡ track_refusal_of fault))
 
--- an allocation failed, or the words have not the form
+-- the words have not the form
 abbrev pub RefusesAsk : List ℕ → RawRefusal → Type 0
-RefusesAsk words r = (r ≡ refusal_of Memory) ⊎ ((r ≡ track_refusal_of NotATracker) × (¬ IsShapedIn words))
+RefusesAsk words r = (r ≡ track_refusal_of NotATracker) × (¬ IsShapedIn words)
 
 -- the tracker refuses to complete the slot's submission
 abbrev pub RefusesComplete : List ℕ → ℕ → RawRefusal → Type 0

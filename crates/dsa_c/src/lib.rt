@@ -26,7 +26,7 @@ pub use filling::dsa_fill;
 pub use judging::dsa_judge;
 pub use laws::{marks_spell_plans, plans_spell_marks};
 pub use planning::{RawPlanned, dsa_plan_list};
-pub use preparing::{RawInfo, RawRegion, dsa_prepare};
+pub use preparing::{RawInfo, dsa_prepare};
 pub use refusal::RawRefusal;
 pub use settings::RawSettings;
 pub use texts::dsa_refusal_text;

@@ -1,32 +1,21 @@
 //! Preparing a list into an array of the caller.
 
-ghost use Rattle.std.specs.Prelude.{◌≡◌, ◌≢◌, ℕ, ◌<◌, ◌≤◌, List, length, map, IfOk, MatchResult};
+ghost use Rattle.std.specs.Prelude.{◌≡◌, ◌≢◌, ℕ, ◌<◌, ◌≤◌, List, length, MatchResult};
 ghost use Rattle.dsa_prepared.specs.Rows.{rows_of};
 ghost use Rattle.dsa_c.specs.declared.settings.RawSettings.{RawSettings};
 ghost use Rattle.dsa_c.specs.Raw.{AreSettings, limits_of};
-ghost use Rattle.dsa_c.specs.Preparing.{IsPreparedFor, IsPreparedInto, RefusesPrepare, info_of, no_room_for_rows, prepare_refusal_of, prepared_room, span_of};
+ghost use Rattle.dsa_c.specs.Preparing.{IsPreparedFor, IsPreparedInto, RefusesPrepare, info_of, no_room_for_rows, prepare_refusal_of, prepared_room};
 
 use crate::buffer::put;
 use crate::refusal::{RawRefusal, refusal, refusal_at};
 use crate::settings::{RawSettings, settings_of, settings_refusal};
-use dsa_calls::PlanFault;
 use dsa_descriptor::Span;
 use dsa_plan::Settings;
 use dsa_prepared::{Costed, PrepareFault, Row, prepare_costed};
-use std::alloc::{AllocError, Global};
+use std::alloc::Global;
 
 /// The number of the refusal of an array that is too small for the rows.
 pub const NO_ROOM_FOR_ROWS: u32 = 92;
-
-/// `struct dsa_region`, a buffer with which a list was made; and `struct dsa_span`, what a submission accesses.
-#[repr(C)]
-#[derive(Clone, Copy)]
-pub struct RawRegion {
-    /// Its first address.
-    pub first: u64,
-    /// Its length in bytes.
-    pub len: u64,
-}
 
 /// `struct dsa_prepared_info`: what was prepared, and what filling writes.
 #[repr(C)]
@@ -42,20 +31,6 @@ pub struct RawInfo {
     pub portal_len: u64,
     /// The bytes that filling writes to the staging area.
     pub staging_len: u64,
-}
-
-/// The regions' addresses.
-pub(crate) fn spans_of(alloc: Global, regions: &[RawRegion]) -> Result<Vec<Span>, AllocError>
-    ensures { IfOk result (λ spans. spans.items ≡ map span_of regions.now) }
-{
-    let mut spans = Vec::with_capacity(alloc, regions.len())?;
-    for region in regions {
-        spans.push(Span {
-            first: region.first,
-            len: region.len,
-        })?;
-    }
-    Ok(spans)
 }
 
 /// The refusal of this cause.
@@ -89,20 +64,17 @@ fn prepare_under(
     alloc: Global,
     settings: &Settings,
     list: &[u8],
-    regions: &[RawRegion],
+    regions: &[Span],
     room: usize,
 ) -> Result<Costed, RawRefusal>
     ensures { (raw : RawSettings) (table : List ℕ) → settings.now ≡ limits_of raw table →
         AreSettings raw table → MatchResult result
-        (λ x. IsPreparedFor raw table list.now (map span_of regions.now) x.prepared x.cost
+        (λ x. IsPreparedFor raw table list.now regions.now x.prepared x.cost
         × (length (rows_of x.prepared) ≤ room))
         (λ r. (0 < r.number)
-        × RefusesPrepare raw table list.now (map span_of regions.now) room r) }
+        × RefusesPrepare raw table list.now regions.now room r) }
 {
-    let Ok(spans) = spans_of(alloc, regions) else {
-        return Err(refusal(PlanFault::Memory));
-    };
-    match prepare_costed(alloc, list, settings, &spans) {
+    match prepare_costed(alloc, list, settings, regions) {
         Ok(costed) => {
             let rows = costed.prepared.as_rows().len();
             if rows <= room {
@@ -121,14 +93,14 @@ fn prepare_for(
     settings: &RawSettings,
     table: &[u64],
     list: &[u8],
-    regions: &[RawRegion],
+    regions: &[Span],
     room: usize,
 ) -> Result<Costed, RawRefusal>
     ensures { MatchResult result
-        (λ x. IsPreparedFor settings.now table.now list.now (map span_of regions.now)
+        (λ x. IsPreparedFor settings.now table.now list.now regions.now
         x.prepared x.cost × (length (rows_of x.prepared) ≤ room))
         (λ r. (0 < r.number) × RefusesPrepare settings.now table.now list.now
-        (map span_of regions.now) room r) }
+        regions.now room r) }
 {
     match &settings_of(settings, table) {
         Ok(checked) => prepare_under(alloc, checked, list, regions, room),
@@ -145,21 +117,21 @@ pub extern "C" fn dsa_prepare(
     settings: &RawSettings,
     table: &[u64],
     list: &[u8],
-    regions: &[RawRegion],
+    regions: &[Span],
     rows: &mut [Row],
     info: &mut RawInfo,
     refusal: &mut RawRefusal,
 ) -> u32
     // What is written are the rows of the prepared list, at the front of the array, and its rest is left.
     ensures prepared { result ≡ 0 → IsPreparedInto settings.now table.now list.now
-        (map span_of regions.now) rows.old rows.new info.new }
+        regions.now rows.old rows.new info.new }
     // So many rows are enough.
     ensures room { result ≡ 0 →
         info.new.rows ≤ prepared_room (length regions.now) info.new.pieces }
     // Otherwise the array is left alone, and the refusal has its cause.
     ensures unchanged { result ≢ 0 → (rows.new ≡ rows.old) × (info.new ≡ info.old) }
     ensures refused { result ≢ 0 → (result ≡ refusal.new.number)
-        × RefusesPrepare settings.now table.now list.now (map span_of regions.now)
+        × RefusesPrepare settings.now table.now list.now regions.now
         (length rows.old) refusal.new }
     ensures quiet { result ≡ 0 → refusal.new ≡ refusal.old }
 {

@@ -1,65 +1,37 @@
 //! What a tracker in the caller's words answers of its submissions, and taking them off.
 
-ghost use Rattle.std.specs.Prelude.{◌≡◌, ◌≢◌, ◌<◌, MatchResult, map};
-ghost use Rattle.dsa_c.specs.Preparing.{span_of};
+ghost use Rattle.std.specs.Prelude.{◌≡◌, ◌≢◌};
 ghost use Rattle.dsa_c.specs.Tracking.{Asks, Awaits, Completes, RefusesAsk, RefusesComplete, RefusesSlot, Withdraws, retired_of, slots_of};
 
-use crate::preparing::{RawRegion, spans_of};
-use crate::refusal::{RawRefusal, refusal};
+use crate::refusal::RawRefusal;
 use crate::tracking::track_refusal;
-use dsa_calls::PlanFault;
-use dsa_tracker::{Slots, words};
-use std::alloc::Global;
-
-/// The outstanding submissions in conflict with accesses to these spans.
-fn conflicts_of(
-    alloc: Global,
-    words: &[u64],
-    reads: &[RawRegion],
-    writes: &[RawRegion],
-) -> Result<Slots, RawRefusal>
-    ensures { let read = map span_of reads.now in let written = map span_of writes.now in
-        MatchResult result
-        (λ set. Asks words.now read written set)
-        (λ r. (0 < r.number) × RefusesAsk words.now r) }
-{
-    let Ok(read) = spans_of(alloc, reads) else {
-        return Err(refusal(PlanFault::Memory));
-    };
-    let Ok(written) = spans_of(alloc, writes) else {
-        return Err(refusal(PlanFault::Memory));
-    };
-    match words::ask(words, &read, &written) {
-        Ok(found) => Ok(found),
-        Err(fault) => Err(track_refusal(fault)),
-    }
-}
+use dsa_descriptor::Span;
+use dsa_tracker::words;
 
 /// Writes the slots of the outstanding submissions that conflict with accesses to these spans to `waits`, a bit for
-/// each: with none the accesses may be done at once, by the host too. It answers 0 then, and else the number of the
-/// refusal, and has written `refusal` alone.
+/// each: with none the accesses may be done at once, by the host too. It takes no memory. It answers 0 then, and else
+/// the number of the refusal, and has written `refusal` alone.
 #[unsafe(no_mangle)]
 pub extern "C" fn dsa_track_ask(
-    alloc: Global,
     words: &[u64],
-    reads: &[RawRegion],
-    writes: &[RawRegion],
+    reads: &[Span],
+    writes: &[Span],
     waits: &mut u64,
     refusal: &mut RawRefusal,
 ) -> u32
-    ensures asked { result ≡ 0 → Asks words.now (map span_of reads.now)
-        (map span_of writes.now) (slots_of waits.new) }
+    ensures asked { result ≡ 0 → Asks words.now reads.now writes.now (slots_of waits.new) }
     ensures refused { result ≢ 0 → (result ≡ refusal.new.number)
         × RefusesAsk words.now refusal.new }
     ensures unchanged { result ≢ 0 → waits.new ≡ waits.old }
     ensures quiet { result ≡ 0 → refusal.new ≡ refusal.old }
 {
-    match conflicts_of(alloc, words, reads, writes) {
+    match words::ask(words, reads, writes) {
         Ok(found) => {
             *waits = found.0;
             0
         }
-        Err(cause) => {
+        Err(fault) => {
+            let cause = track_refusal(fault);
             *refusal = cause;
             cause.number
         }

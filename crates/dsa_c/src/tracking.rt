@@ -4,10 +4,8 @@ ghost use Rattle.std.specs.Prelude.{◌≡◌, ◌≢◌, ◌<◌, None, MatchRe
 ghost use Rattle.dsa_descriptor.specs.Spans.{span};
 ghost use Rattle.dsa_tracker.specs.declared.fault.WordsFault.TheVariants.{NotATracker};
 ghost use Rattle.dsa_tracker.specs.Words.{IsTracker, table_in};
-ghost use Rattle.dsa_c.specs.Preparing.{span_of};
 ghost use Rattle.dsa_c.specs.Tracking.{CanBegin, RefusesList, RefusesSpans, TakesList, TakesSpans, slots_of, submitted_of, track_refusal_of};
 
-use crate::preparing::{RawRegion, spans_of};
 use crate::refusal::{RawRefusal, first_two, refusal, refusal_at};
 use dsa_calls::PlanFault;
 use dsa_descriptor::{Span, read_list};
@@ -54,32 +52,6 @@ pub extern "C" fn dsa_track_begin(
     }
 }
 
-/// Hands a submission of these spans to the tracker.
-fn take_spans(
-    alloc: Global,
-    words: &mut [u64],
-    reads: &[RawRegion],
-    writes: &[RawRegion],
-    also: Slots,
-) -> Result<Submitted, RawRefusal>
-    ensures { let read = map span_of reads.now in let written = map span_of writes.now in
-        MatchResult result
-        (λ s. TakesSpans words.old read written also s words.new)
-        (λ r. (0 < r.number) × RefusesSpans words.old read written r
-        × (words.new ≡ words.old)) }
-{
-    let Ok(read) = spans_of(alloc, reads) else {
-        return Err(refusal(PlanFault::Memory));
-    };
-    let Ok(written) = spans_of(alloc, writes) else {
-        return Err(refusal(PlanFault::Memory));
-    };
-    match words::submit_spans(words, &read, &written, also) {
-        Ok(submitted) => Ok(submitted),
-        Err(fault) => Err(track_refusal(fault)),
-    }
-}
-
 /// Hands a submission of the pieces that the bytes spell to the tracker.
 fn take_list(
     alloc: Global,
@@ -104,34 +76,34 @@ fn take_list(
 }
 
 /// Takes a submission that reads and writes these spans: writes its slot to `slot`, and the slots of those that it
-/// waits for to `waits`, a bit for each. It answers 0 then, and else the number of the refusal, and has written
-/// `refusal` alone.
+/// waits for to `waits`, a bit for each. It takes no memory. It answers 0 then, and else the number of the refusal, and
+/// has written `refusal` alone.
 #[unsafe(no_mangle)]
 pub extern "C" fn dsa_track_spans(
-    alloc: Global,
     words: &mut [u64],
-    reads: &[RawRegion],
-    writes: &[RawRegion],
+    reads: &[Span],
+    writes: &[Span],
     also: u64,
     slot: &mut u32,
     waits: &mut u64,
     refusal: &mut RawRefusal,
 ) -> u32
-    ensures taken { result ≡ 0 → TakesSpans words.old (map span_of reads.now)
-        (map span_of writes.now) (slots_of also) (submitted_of slot.new waits.new) words.new }
+    ensures taken { result ≡ 0 → TakesSpans words.old reads.now writes.now
+        (slots_of also) (submitted_of slot.new waits.new) words.new }
     ensures refused { result ≢ 0 → (result ≡ refusal.new.number)
-        × RefusesSpans words.old (map span_of reads.now) (map span_of writes.now) refusal.new }
+        × RefusesSpans words.old reads.now writes.now refusal.new }
     ensures unchanged { result ≢ 0 →
         (words.new ≡ words.old) × (slot.new ≡ slot.old) × (waits.new ≡ waits.old) }
     ensures quiet { result ≡ 0 → refusal.new ≡ refusal.old }
 {
-    match take_spans(alloc, words, reads, writes, Slots(also)) {
+    match words::submit_spans(words, reads, writes, Slots(also)) {
         Ok(submitted) => {
             *slot = submitted.slot;
             *waits = submitted.waits.0;
             0
         }
-        Err(cause) => {
+        Err(fault) => {
+            let cause = track_refusal(fault);
             *refusal = cause;
             cause.number
         }

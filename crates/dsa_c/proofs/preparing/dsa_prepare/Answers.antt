@@ -1,6 +1,4 @@
-use Rattle.std.proofs.Common.{map, arith}
-use Rattle.std.proofs.lemmas.List.{length-map}
-use Rattle.dsa_c.specs.Preparing.{span_of}
+use Rattle.std.proofs.Common.{arith}
 use Rattle.dsa_c.specs.Raw.{limits_of}
 use Rattle.dsa_c.proofs.RowRooms.{few_rows}
 use Rattle.dsa_c.proofs.preparing.dsa_prepare.Goals as goal
@@ -9,5 +7,5 @@ pub returns-in-Ok-clause-room : goal.returns-in-Ok-clause-room
 returns-in-Ok-clause-room c = λ is.
     let given = c.in-Ok.ensures.0 in
     let settings = limits_of c.args.settings.now c.args.table.now in
-    let few = few_rows c.args.list.now settings (map span_of c.args.regions.now) given.operations c.in-Ok.costed.prepared c.in-Ok.costed.cost given.prepared in
-    rw c.info_of.ensures (omega (arith, few, length-map c.args.regions.now span_of))
+    let few = few_rows c.args.list.now settings c.args.regions.now given.operations c.in-Ok.costed.prepared c.in-Ok.costed.cost given.prepared in
+    rw c.info_of.ensures (omega (arith, few))

@@ -1,21 +1,18 @@
-use Rattle.std.proofs.Common.{◌≡◌, ◌<◌, ℕ, List, rules, inr, length, map, ap, subst, ◌∙◌, arith}
-use Rattle.dsa_descriptor.specs.declared.span.Span.{Span}
+use Rattle.std.proofs.Common.{◌≡◌, ◌<◌, ℕ, rules, inr, length, ap, subst, ◌∙◌, arith}
 use Rattle.dsa_plan.specs.Settings.{Limits}
 use Rattle.dsa_prepared.specs.Preparing.{IsCostedOf}
 use Rattle.dsa_prepared.specs.Rows.{rows_of}
 use Rattle.dsa_prepared.specs.Templates.{Template}
 use Rattle.dsa_c.specs.Raw.{limits_of}
-use Rattle.dsa_c.specs.Preparing.{IsPreparedFor, refusal_at, span_of}
+use Rattle.dsa_c.specs.Preparing.{IsPreparedFor, refusal_at}
 use Rattle.dsa_c.proofs.preparing.prepare_under.Goals as goal
 
 pub returns-then-rows-room : goal.returns-then-rows-room
 returns-then-rows-room c = λ raw table is are.
     let t : Template = c.in-Ok-prepare_costed.costed.prepared in
     let cost : ℕ = c.in-Ok-prepare_costed.costed.cost in
-    let spans : c.deref.result.now ≡ map span_of c.args.regions.now = c.deref.ensures.value ∙ c.in-Ok.ensures in
     let found = c.in-Ok-prepare_costed.ensures.prepared in
-    let under = subst (λ (l : Limits). IsCostedOf c.args.list.now l c.deref.result.now found.0 t cost) is found.1 in
-    let costed = subst (λ (rs : List Span). IsCostedOf c.args.list.now (limits_of raw table) rs found.0 t cost) spans under in
+    let costed = subst (λ (l : Limits). IsCostedOf c.args.list.now l c.args.regions.now found.0 t cost) is found.1 in
     let long = ap length c.as_rows-rows.ensures.value in
     (record { settings = are; operations = found.0; prepared = costed }, omega (arith, c.if-rows-room.true, long))
 
@@ -23,11 +20,9 @@ pub returns-in-Ok-prepare_costed : goal.returns-in-Ok-prepare_costed
 returns-in-Ok-prepare_costed c = λ raw table is are.
     let t : Template = c.in-Ok-prepare_costed.costed.prepared in
     let cost : ℕ = c.in-Ok-prepare_costed.costed.cost in
-    let spans : c.deref.result.now ≡ map span_of c.args.regions.now = c.deref.ensures.value ∙ c.in-Ok.ensures in
     let found = c.in-Ok-prepare_costed.ensures.prepared in
-    let under = subst (λ (l : Limits). IsCostedOf c.args.list.now l c.deref.result.now found.0 t cost) is found.1 in
-    let costed = subst (λ (rs : List Span). IsCostedOf c.args.list.now (limits_of raw table) rs found.0 t cost) spans under in
-    let for : IsPreparedFor raw table c.args.list.now (map span_of c.args.regions.now) t cost = record { settings = are; operations = found.0; prepared = costed } in
+    let costed = subst (λ (l : Limits). IsCostedOf c.args.list.now l c.args.regions.now found.0 t cost) is found.1 in
+    let for : IsPreparedFor raw table c.args.list.now c.args.regions.now t cost = record { settings = are; operations = found.0; prepared = costed } in
     let long : length c.as_rows-rows.result.now ≡ length (rows_of t) = ap length c.as_rows-rows.ensures.value in
     let short : c.args.room < length (rows_of t) = omega (arith, c.if-rows-room.false, long) in
     (search rules, inr (inr (inr (t, cost, for, short, c.refusal_at.ensures ∙ ap (λ (n : ℕ). refusal_at 92 n 0) long))))

@@ -20,12 +20,13 @@ from pathlib import Path
 import common
 from common import ROOT, expect, named, run_test, side_by_side, skip
 from trace_cases import REFUSED, SYSFS, made_anew, rewriting
-from trace_forms import NARROW, OTHERS, WIDE, forms
+from trace_forms import OTHERS, PLACE, instructions, wrong_forms
 from trace_model import MOVE, Recorded
 
 SEEDS = int(os.environ.get("SEEDS", "100"))
 STRICT = ["-std=c11", "-D_GNU_SOURCE", "-Wall", "-Wextra", "-Werror"]
 CLIENTS = ("ordered", "threads", "odd", "operations", "ends", "registers", "rewritten")
+QUEUES = (("wq0.0", "dedicated"), ("wq0.1", "shared"))
 BY = ([], ["--signals"])  # rewritten sites after the first submissions, and signals alone
 
 
@@ -583,9 +584,6 @@ def killed():
 
 # ---- the decoder, beside the assembler
 
-PLACE = 0x7F0012345000
-KINDS = {"movdir64b": 1, "enqcmd": 2}
-
 
 def assembled(lines):
     """The bytes of instructions, each at a multiple of 16, and the length of each."""
@@ -612,25 +610,9 @@ def decoder():
     if not shutil.which("as") or not shutil.which("objcopy"):
         skip("the decoder beside the assembler, which is not there")
         return
-    lines, wanted = [], []
-    for (name, kind), (number, form) in itertools.product(KINDS.items(), enumerate(forms())):
-        text, address, is_narrow, segment = form
-        register = number % 16
-        lines.append(f"{name} {text}, %{(NARROW if is_narrow else WIDE)[register]}")
-        wanted.append((kind, register, address, segment, int(is_narrow)))
-    for name, kind in KINDS.items():
-        lines.append(f"{name} 0x1234(%rip), %r9")
-        wanted.append((kind, 9, None, 0, 0))
+    lines, wanted = instructions()
     lengths, got = decoded(lines)
-    faults = []
-    for place, (line, (kind, register, address, segment, is_narrow), length,
-                found) in enumerate(zip(lines, wanted, lengths, got)):
-        if address is None:
-            address = PLACE + 16 * place + length + 0x1234
-        shown = f"{address:#x}" if address else "0"
-        right = f"{kind} {length} {register} {shown} {segment} {is_narrow}"
-        if found.rsplit(" ", 1)[0] != right:
-            faults.append(f"{line}: {found}, not {right}")
+    faults = wrong_forms(lines, wanted, lengths, got)
     fault = f"{len(got)} of {len(lines)} forms decoded, {len(faults)} wrong: {faults[:3]}"
     expect(len(got) == len(lines) > 10000 and not faults, fault)
     lengths, got = decoded(OTHERS)
@@ -686,18 +668,42 @@ def prices():
         expect(re.fullmatch(right, end.stdout), f"the options of {queue} are {end.stdout}")
 
 
+def example(name, *words, source=""):
+    """Whether an example in C is built with the proved library, as this client; it is skipped without the library."""
+    archive, source = ROOT / "crates/dsa_c/out/libdsa_c.a", f"bindings/c/{source or name}.c"
+    if not archive.exists():
+        skip(f"{source}: crates/dsa_c is not built")
+        return False
+    flags = [*STRICT, "-O2", "-pthread", *words, "-I", "bindings/c"]
+    told(f"the build of {name}", ran("gcc", *flags, source, "bindings/c/memory.c", archive, "-o", client(name)), 0)
+    return True
+
+
 def submit():
     """The example bindings/c/submit.c plans with the proved library, and submits to the device."""
-    archive = ROOT / "crates/dsa_c/out/libdsa_c.a"
-    if not archive.exists():
-        skip("bindings/c/submit.c: crates/dsa_c is not built")
+    for (queue, kind), seed in itertools.product(QUEUES if example("submit") else (), range(1, 21)):
+        end = traced("--seed", seed, "--", client("submit"), f"/dev/dsa/{queue}", kind)
+        told(f"submit to {queue}", end, 0, "copied")
+
+
+def in_flight():
+    """The example bindings/c/in_flight.c: each seed leaves what the requests leave in order, and no wait is missing; if
+    the tracker is told nothing, some seeds don't, and each audit finds a missing wait."""
+    if not example("in_flight") or not example("without_waits", "-DWITHOUT_WAITS", source="in_flight"):
         return
-    words = ["-O2", "-I", "bindings/c", "bindings/c/submit.c", "bindings/c/memory.c", archive, "-o", client("submit")]
-    told("the build of submit.c", ran("gcc", *STRICT, *words), 0)
-    for queue, kind in (("wq0.0", "dedicated"), ("wq0.1", "shared")):
-        for seed in range(1, 21):
-            told(f"submit to {queue}", traced("--seed", seed, "--", client("submit"), f"/dev/dsa/{queue}", kind), 0,
-                 "copied")
+    told("in_flight without a queue", ran(client("in_flight"), "/dev/null", "shared"), 1, "/dev/null")
+    text, wrong = ROOT / "crates/dsa_text/out/dsa_text", 0
+    known = os.environ | {"DSA_TEXT": text if text.exists() else "/bin/true"}
+    for (queue, kind), seed in itertools.product(QUEUES, range(1, 21)):
+        words = [f"/dev/dsa/{queue}", kind, 200]
+        end = traced("--audit", "--seed", seed, "--", client("in_flight"), *words, env=known)
+        told(f"requests in flight to {queue}", end, 0, ": 0 differ")
+        done, failed, left_out = map(int, re.findall(r"(\d+) (?:done|failed|left out)", end.stdout) or (0, 0, 0))
+        expect(done + failed + left_out == 200 and 1 <= failed <= 3, f"seed {seed}: {end.stdout[-200:]}")
+        end = traced("--audit", "--seed", seed, "--", client("without_waits"), *words, env=known)
+        wrong += ": 0 differ" not in end.stdout
+        expect("missing wait" in end.stdout, f"seed {seed}: no missing wait is found: {end.stdout[-500:]}")
+    expect(wrong > 10, f"without waits {wrong} of 40 runs leave something else")
 
 
 def sanitized():
@@ -772,7 +778,7 @@ def large():
 
 PARTS = [built, decoder, ordered, orders, repeated, seeds, operations, queues, refused, died, other_cpus, rewritten]
 PARTS += [recordings, killed_at_any_time, full_disk, waits, waits_of_any, audited, statuses]
-PARTS += [options, files, killed, prices, submit, sanitized, undefined, cost, large]
+PARTS += [options, files, killed, prices, submit, in_flight, sanitized, undefined, cost, large]
 
 
 def main(words):

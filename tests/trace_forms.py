@@ -3,6 +3,9 @@
 import itertools
 
 WIDE = "rax rcx rdx rbx rsp rbp rsi rdi r8 r9 r10 r11 r12 r13 r14 r15".split()
+KINDS = {"movdir64b": 1, "enqcmd": 2}
+# Where the first instruction is, and each next one 16 bytes further.
+PLACE = 0x7F0012345000
 NARROW = "eax ecx edx ebx esp ebp esi edi r8d r9d r10d r11d r12d r13d r14d r15d".split()
 
 
@@ -32,6 +35,35 @@ def forms():
     for segment, number in (("fs", 1), ("gs", 2)):
         yield f"%{segment}:0x40", 0x40, False, number
         yield f"%{segment}:8(%r13,%r14,2)", (8 + value(13, False) + 2 * value(14, False)) % 2**64, False, number
+
+
+def instructions():
+    """Both instructions with each form of address, and what the decoder says of each: kind, register, address (None: it
+    goes by the place of the instruction), segment, and whether its address has 32 bits."""
+    lines, wanted = [], []
+    for (name, kind), (number, form) in itertools.product(KINDS.items(), enumerate(forms())):
+        text, address, is_narrow, segment = form
+        register = number % 16
+        lines.append(f"{name} {text}, %{(NARROW if is_narrow else WIDE)[register]}")
+        wanted.append((kind, register, address, segment, int(is_narrow)))
+    for name, kind in KINDS.items():
+        lines.append(f"{name} 0x1234(%rip), %r9")
+        wanted.append((kind, 9, None, 0, 0))
+    return lines, wanted
+
+
+def wrong_forms(lines, wanted, lengths, got):
+    """What the decoder says of instructions that is not what is wanted."""
+    faults = []
+    for place, (line, (kind, register, address, segment, is_narrow), length,
+                found) in enumerate(zip(lines, wanted, lengths, got)):
+        if address is None:
+            address = PLACE + 16 * place + length + 0x1234
+        shown = f"{address:#x}" if address else "0"
+        right = f"{kind} {length} {register} {shown} {segment} {is_narrow}"
+        if found.rsplit(" ", 1)[0] != right:
+            faults.append(f"{line}: {found}, not {right}")
+    return faults
 
 
 # Other instructions, as tests/trace/decode.c prints them.

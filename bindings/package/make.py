@@ -235,7 +235,7 @@ def manuals(to, numbers):
 
 def examples(to):
     """Examples of the calls, of jobs, of operations as text and of recordings, and rows for tests of a caller's own, with three readers."""
-    for name in ("two_moves.c", "own_memory.c", "submit.c"):
+    for name in ("two_moves.c", "own_memory.c", "submit.c", "in_flight.c"):
         shutil.copy(ROOT / "bindings/c" / name, to)
     for path in [*(ROOT / "examples").glob("*.job"), ROOT / "examples/trace/copy_twice.c"]:
         shutil.copy(path, to)

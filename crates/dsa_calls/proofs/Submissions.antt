@@ -158,11 +158,11 @@ pub planned_is_least_and_shown : PlannedIsLeastAndShown
 planned_is_least_and_shown bytes s p (inl (fault, other, first, is)) = cc
 planned_is_least_and_shown bytes s p (inr (ds, list, sub)) = submission_shown s (map fields ds) p list.owner sub
 
--- the found plan of these pieces can be emitted
-pub can_emit_found : (s : Limits) (pieces ds es : List Descriptor) (plan : Plan) → CanBePlanned s (map fields pieces) → ds ≡ pieces → es ≡ pieces
-    → IsLeast (ConflictAt (map fields ds)) s.greatest_batch (tariff_of s) (length ds) plan → CanBeEmitted s plan (map fields es)
-can_emit_found s pieces ds es plan can same same' least =
-    let here : IsLegal (ConflictAt (map fields pieces)) s.greatest_batch (length pieces) plan =
-    subst (λ (xs : List Descriptor). IsLegal (ConflictAt (map fields xs)) s.greatest_batch (length xs) plan) same least.legal in
-    let legal = subst (λ (n : ℕ). IsLegal (ConflictAt (map fields pieces)) s.greatest_batch n plan) (sym (length-map pieces fields)) here in
-    subst (λ (xs : List Descriptor). CanBeEmitted s plan (map fields xs)) (sym same') (can_emit (ConflictAt (map fields pieces)) s (map fields pieces) plan can legal)
+-- the found plan of these pieces can be emitted, whichever conflict
+pub can_emit_found : (C : ℕ → ℕ → Type 0) (s : Limits) (pieces ds es : List Descriptor) (plan : Plan) → CanBePlanned s (map fields pieces) → ds ≡ pieces → es ≡ pieces
+    → IsLeast C s.greatest_batch (tariff_of s) (length ds) plan → CanBeEmitted s plan (map fields es)
+can_emit_found C s pieces ds es plan can same same' least =
+    let here : IsLegal C s.greatest_batch (length pieces) plan =
+    subst (λ (xs : List Descriptor). IsLegal C s.greatest_batch (length xs) plan) same least.legal in
+    let legal = subst (λ (n : ℕ). IsLegal C s.greatest_batch n plan) (sym (length-map pieces fields)) here in
+    subst (λ (xs : List Descriptor). CanBeEmitted s plan (map fields xs)) (sym same') (can_emit C s (map fields pieces) plan can legal)

@@ -28,18 +28,22 @@ pub record IsFirstOver (greatest : ℕ) (pieces : List Fields) (i : ℕ) : Type 
   pub over : greatest < long.size
   pub before : FitBefore greatest pieces i
 
--- the outcome of judging these pieces under the plan: its cost where it is legal for them, and else the first cause,
--- in the order of the number of pieces, their sizes and the faults of the plan (this project's choice)
-abbrev pub JudgesPieces : List Fields → Plan → Limits → Result ℕ PlanFault → Type 0
-JudgesPieces pieces plan settings (Ok cost) =
+-- the outcome of judging these pieces under the plan, where `C` says which conflict: its cost where it is legal for them,
+-- and else the first cause, in the order of the number of pieces, their sizes and the faults of the plan (this project's
+-- choice)
+abbrev pub JudgesPiecesBy : (ℕ → ℕ → Type 0) → List Fields → Plan → Limits → Result ℕ PlanFault → Type 0
+JudgesPiecesBy C pieces plan settings (Ok cost) =
     (length pieces ≤ most_pieces) × FitTransfer settings.greatest_transfer pieces
-    × IsLegal (ConflictAt pieces) settings.greatest_batch (length pieces) plan
+    × IsLegal C settings.greatest_batch (length pieces) plan
     × (cost ≡ plan_cost (tariff_of settings) plan)
-JudgesPieces pieces plan settings (Err cause) =
+JudgesPiecesBy C pieces plan settings (Err cause) =
     ((cause ≡ Split TooManyPieces) × (most_pieces < length pieces))
     ⊎ ((i : ℕ) × (cause ≡ OverTransfer i) × (length pieces ≤ most_pieces) × IsFirstOver settings.greatest_transfer pieces i)
     ⊎ ((fault : LegalFault) × (cause ≡ Legal fault) × (length pieces ≤ most_pieces) × FitTransfer settings.greatest_transfer pieces
-    × IsFirstLegalFault (ConflictAt pieces) settings.greatest_batch (length pieces) plan fault)
+    × IsFirstLegalFault C settings.greatest_batch (length pieces) plan fault)
+
+abbrev pub JudgesPieces : List Fields → Plan → Limits → Result ℕ PlanFault → Type 0
+JudgesPieces pieces plan settings outcome = JudgesPiecesBy (ConflictAt pieces) pieces plan settings outcome
 
 -- the outcome of judging these bytes: the first fault of the bytes as a list, or what judging the descriptors that they
 -- spell says

@@ -90,15 +90,18 @@ abbrev pub SplitsList : Limits → List ℕ → Result (List Descriptor) PlanFau
 SplitsList s bytes (Ok pieces) = ArePiecesOf s bytes pieces
 SplitsList s bytes (Err fault) = Plans bytes s (Err fault)
 
--- the submission of these pieces
-pub record IsSubmissionOfPieces (s : Limits) (p : Submission) : Type 0 where
+-- the submission of these pieces, of which `C` says which conflict
+pub record IsSubmissionOfPiecesBy (C : ℕ → ℕ → Type 0) (s : Limits) (p : Submission) : Type 0 where
   pub chosen :
-      IsChosen (ConflictAt (map fields p.pieces)) s.greatest_batch (tariff_of s) (length p.pieces)
+      IsChosen C s.greatest_batch (tariff_of s) (length p.pieces)
       p.certificate.prices p.certificate.pairs p.plan
   pub version_is : p.certificate.version ≡ version_of s
   pub cost_is : p.cost ≡ plan_cost (tariff_of s) p.plan
   pub portal_is : p.portal ≡ portal_bytes s p.plan (map fields p.pieces)
   pub staging_is : p.staging ≡ staging_bytes p.plan (map fields p.pieces)
+
+abbrev pub IsSubmissionOfPieces : Limits → Submission → Type 0
+IsSubmissionOfPieces s p = IsSubmissionOfPiecesBy (ConflictAt (map fields p.pieces)) s p
 
 -- the chosen plan of these pieces, with some prices and pairs
 abbrev pub IsPlanOf : Limits → List Descriptor → Plan → Type 0

@@ -6,16 +6,17 @@ ghost use Rattle.dsa_descriptor.specs.Descriptors.{fields};
 ghost use Rattle.dsa_descriptor.specs.Pieces.{most_pieces};
 ghost use Rattle.dsa_ranges.specs.Ranges.{ConflictAt};
 ghost use Rattle.dsa_plan.specs.EmissionFaults.{IsEmission};
+ghost use Rattle.dsa_plan.specs.Barriers.{WithBarriers};
 ghost use Rattle.dsa_plan.specs.Legal.{IsLeast};
 ghost use Rattle.dsa_plan.specs.Plan.{Plan};
 ghost use Rattle.dsa_plan.specs.Settings.{tariff_of};
 ghost use Rattle.dsa_plan.specs.Certificate.{contents};
 ghost use Rattle.dsa_calls.specs.declared.fault.PlanFault.{PlanFault};
 ghost use Rattle.dsa_calls.specs.Lists.{OrMemory, IsOrMemory};
-ghost use Rattle.dsa_calls.specs.Checked.{Checks, ChecksPlan};
+ghost use Rattle.dsa_calls.specs.Checked.{Checks, ChecksPlan, ChecksPlanBy};
 
 use crate::fault::PlanFault;
-use dsa_checker::check;
+use dsa_checker::check_with;
 use dsa_descriptor::Descriptor;
 use dsa_plan::{Certificate, Plan, Settings, read_emission};
 use std::alloc::Global;
@@ -25,7 +26,7 @@ use std::alloc::Global;
 ///
 /// # Errors
 /// The first fault of the bytes as an emission, as [`read_emission`] reports it; else the first fault of the plan or the
-/// certificate, as [`check`] reports it; [`PlanFault::Memory`] where an allocation fails.
+/// certificate, as [`check_with`] reports it; [`PlanFault::Memory`] where an allocation fails.
 pub fn check_bytes(
     alloc: Global,
     portal: &[u8],
@@ -54,7 +55,7 @@ pub fn check_bytes(
 /// that the pieces have one owner, fit the greatest transfer, and keep clear of the staging area.
 ///
 /// # Errors
-/// The first fault of the plan or the certificate, as [`check`] reports it.
+/// The first fault of the plan or the certificate, as [`check_with`] reports it.
 pub fn check_plan(
     pieces: &[Descriptor],
     settings: &Settings,
@@ -65,7 +66,26 @@ pub fn check_plan(
     ensures { ChecksPlan settings.now
         (map fields pieces.now) plan.now (contents certificate.now) result }
 {
-    match check(pieces, settings, plan, certificate) {
+    check_plan_with(pieces, &[], settings, plan, certificate)
+}
+
+/// The cost of the plan of these pieces and their barriers, where it is legal and keeps the barriers, and the certificate
+/// shows that no such plan costs less. The mark of a piece says whether it begins after a barrier.
+///
+/// # Errors
+/// The first fault of the plan or the certificate, as [`check_with`] reports it.
+pub fn check_plan_with(
+    pieces: &[Descriptor],
+    barriers: &[bool],
+    settings: &Settings,
+    plan: &Plan,
+    certificate: &Certificate,
+) -> Result<u64, PlanFault>
+    requires { length pieces.now ≤ most_pieces }
+    ensures { ChecksPlanBy (WithBarriers (ConflictAt (map fields pieces.now)) barriers.now)
+        settings.now (length pieces.now) plan.now (contents certificate.now) result }
+{
+    match check_with(pieces, barriers, settings, plan, certificate) {
         Ok(cost) => Ok(cost),
         Err(fault) => Err(PlanFault::Check(fault)),
     }

@@ -3,12 +3,14 @@
 ghost use Rattle.std.specs.Prelude.{ℕ, Result, map};
 ghost use Rattle.dsa_calls.specs.declared.fault.PlanFault.{PlanFault};
 ghost use Rattle.dsa_descriptor.specs.Descriptors.{fields};
-ghost use Rattle.dsa_calls.specs.Judge.{Judges, JudgesPieces, FindsOver};
+ghost use Rattle.dsa_ranges.specs.Ranges.{ConflictAt};
+ghost use Rattle.dsa_plan.specs.Barriers.{WithBarriers};
+ghost use Rattle.dsa_calls.specs.Judge.{Judges, JudgesPieces, JudgesPiecesBy, FindsOver};
 ghost use Rattle.dsa_calls.specs.Lists.{OrMemory, IsOrMemory};
 
 use crate::fault::PlanFault;
 use dsa_descriptor::{Descriptor, MOST_PIECES, read_list};
-use dsa_plan::{Plan, Settings, cost, is_legal};
+use dsa_plan::{Plan, Settings, cost, is_legal_with};
 use dsa_splitter::SplitFault;
 use std::alloc::Global;
 
@@ -39,13 +41,27 @@ pub fn judge_pieces(
 ) -> Result<u64, PlanFault>
     ensures { JudgesPieces (map fields pieces.now) plan.now settings.now result }
 {
+    judge_pieces_with(pieces, &[], plan, settings)
+}
+
+/// The cost of the plan for the pieces and their barriers, or the first cause to refuse it, as [`judge_pieces`] judges
+/// pieces without barriers. The mark of a piece says whether it begins after a barrier.
+pub fn judge_pieces_with(
+    pieces: &[Descriptor],
+    barriers: &[bool],
+    plan: &Plan,
+    settings: &Settings,
+) -> Result<u64, PlanFault>
+    ensures { JudgesPiecesBy (WithBarriers (ConflictAt (map fields pieces.now)) barriers.now)
+        (map fields pieces.now) plan.now settings.now result }
+{
     if pieces.len() > MOST_PIECES {
         return Err(PlanFault::Split(SplitFault::TooManyPieces));
     }
     if let Some(index) = first_over(pieces, settings.greatest_transfer()) {
         return Err(PlanFault::OverTransfer(index));
     }
-    is_legal(plan, pieces, settings)?;
+    is_legal_with(plan, pieces, barriers, settings)?;
     Ok(cost(plan, settings))
 }
 

@@ -11,10 +11,10 @@ mod planning;
 mod replaying;
 mod running;
 
-pub use checking::{check_bytes, check_plan};
+pub use checking::{check_bytes, check_plan, check_plan_with};
 pub use dsa_descriptor::MOST_PIECES;
 pub use fault::{InnerFault, PlanFault};
-pub use judging::{judge_bytes, judge_pieces};
+pub use judging::{judge_bytes, judge_pieces, judge_pieces_with};
 pub use laws::{
     one_checked, one_judged, one_planned, one_replayed, one_run, planned_is_least_and_shown,
     planned_runs_leave_whole, replays_follow_plans, runs_follow_plans,

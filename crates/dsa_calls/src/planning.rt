@@ -5,19 +5,20 @@ ghost use Rattle.dsa_descriptor.specs.declared.descriptor.Descriptor.{Descriptor
 ghost use Rattle.dsa_descriptor.specs.Descriptors.{fields};
 ghost use Rattle.dsa_descriptor.specs.Lists.{HaveOneOwner};
 ghost use Rattle.dsa_ranges.specs.Ranges.{ConflictAt};
+ghost use Rattle.dsa_plan.specs.Barriers.{WithBarriers};
 ghost use Rattle.dsa_plan.specs.Legal.{IsLeast};
 ghost use Rattle.dsa_plan.specs.Certificate.{IsGood};
 ghost use Rattle.dsa_plan.specs.Settings.{tariff_of};
 ghost use Rattle.dsa_plan.specs.Certificate.{contents};
 ghost use Rattle.dsa_calls.specs.declared.fault.PlanFault.{PlanFault};
 ghost use Rattle.dsa_calls.specs.Lists.{OrMemory, IsOrMemory};
-ghost use Rattle.dsa_calls.specs.Planned.{CanBePlanned, IsSubmissionOfPieces, Plans, PlansOperations, SplitsList, Submission, submission_of};
+ghost use Rattle.dsa_calls.specs.Planned.{CanBePlanned, IsSubmissionOfPiecesBy, Plans, PlansOperations, SplitsList, Submission, submission_of};
 ghost use Rattle.dsa_calls.specs.Checked.{Checks};
 
 use crate::fault::PlanFault;
 use dsa_descriptor::{Descriptor, read_list};
 use dsa_plan::{Certificate, Emission, Plan, Settings, cost, emit};
-use dsa_search::{Found, search};
+use dsa_search::{Found, search_with};
 use dsa_splitter::{into_pieces, pieces};
 use std::alloc::{AllocError, Global};
 
@@ -50,21 +51,24 @@ pub(crate) fn pieces_of(
     Ok(pieces)
 }
 
-/// The plan of the pieces, with its certificate, its cost and its emission.
+/// The plan of the pieces and their barriers, with its certificate, its cost and its emission.
 fn plan_pieces(
     alloc: Global,
     pieces: Vec<Descriptor>,
+    barriers: &[bool],
     settings: &Settings,
 ) -> Result<Planned, AllocError>
     requires { CanBePlanned settings.now (map fields pieces.items) }
     ensures same { IfOk result (λ p. p.pieces.items ≡ pieces.items) }
-    ensures planned { IfOk result (λ p. IsSubmissionOfPieces settings.now (submission_of p)) }
+    ensures planned { IfOk result (λ p. IsSubmissionOfPiecesBy
+        (WithBarriers (ConflictAt (map fields p.pieces.items)) barriers.now)
+        settings.now (submission_of p)) }
 {
     let Found {
         plan,
         prices,
         pairs,
-    } = search(alloc, &pieces, settings)?;
+    } = search_with(alloc, &pieces, barriers, settings)?;
     let emission = emit(alloc, &plan, &pieces, settings)?;
     let cost = cost(&plan, settings);
     let certificate = Certificate {
@@ -96,7 +100,7 @@ pub fn plan_operations(
         (PlansOperations settings.now (map fields operations.now)) result }
 {
     let pieces = pieces(alloc, operations, settings)?;
-    let submission = plan_pieces(alloc, pieces, settings)?;
+    let submission = plan_pieces(alloc, pieces, &[], settings)?;
     Ok(submission)
 }
 
@@ -125,6 +129,6 @@ pub fn plan_list(alloc: Global, list: &[u8], settings: &Settings) -> Result<Plan
         p.emission.staging.items settings.now (contents p.certificate) (Ok p.cost)) }
 {
     let pieces = pieces_of(alloc, list, settings)?;
-    let planned = plan_pieces(alloc, pieces, settings)?;
+    let planned = plan_pieces(alloc, pieces, &[], settings)?;
     Ok(planned)
 }

@@ -68,7 +68,7 @@ first_member [] lt = absurd (omega arith)
 first_member (x ∷ xs) lt = refl
 
 -- the cuts of a group stand from the group's start on
-cut_at : (plan : Plan) (number : ℕ) (group : Group) (k : ℕ) → slice_get plan number ≡ Some group → k < length group →
+pub cut_at : (plan : Plan) (number : ℕ) (group : Group) (k : ℕ) → slice_get plan number ≡ Some group → k < length group →
     slice_get (cuts plan) (start_of plan number + k) ≡ slice_get (cuts_of_group group) k
 cut_at [] number group k h lt = absurd (none_read number group h)
 cut_at (g ∷ gs) zero group k h lt =
@@ -116,7 +116,7 @@ is_in (g ∷ gs) j lt =
         }
 
 -- a cut stands behind piece i, up to piece j
-abbrev CutBetween : Plan → ℕ → ℕ → Type 0
+abbrev pub CutBetween : Plan → ℕ → ℕ → Type 0
 CutBetween plan i j = (k : ℕ) × (i < k) × (k ≤ j) × (slice_get (cuts plan) k ≡ Some true)
 
 -- a cut between two pieces puts them in two epochs
@@ -124,7 +124,7 @@ cut_parts : (plan : Plan) (i j : ℕ) → CutBetween plan i j → epoch_of plan 
 cut_parts plan i j (k, above, below, cut) = trues_cut (i + 1) (j + 1) k (cuts plan) (omega arith) (omega arith) cut
 
 -- under a legal plan a cut stands between two conflicting pieces
-conflict_cut : (C : ℕ → ℕ → Type 0) (greatest_batch n : ℕ) (plan : Plan) (i j : ℕ) → IsLegal C greatest_batch n plan → i < j → j < n → C i j → CutBetween plan i j
+pub conflict_cut : (C : ℕ → ℕ → Type 0) (greatest_batch n : ℕ) (plan : Plan) (i j : ℕ) → IsLegal C greatest_batch n plan → i < j → j < n → C i j → CutBetween plan i j
 conflict_cut C greatest_batch n plan i j legal lt j_in conflict = by (is_in plan j (omega (arith, legal.covers)))
   where
     by : IsIn plan j → CutBetween plan i j

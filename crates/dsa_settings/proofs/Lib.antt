@@ -2,6 +2,8 @@ pub mod Plans
 pub mod Equal
 pub mod Numbering
 pub mod Epochs
+pub mod Barriers
 pub mod Judged
+pub mod Unkept
 pub mod Pieces
 pub mod Swept

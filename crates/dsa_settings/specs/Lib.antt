@@ -5,6 +5,7 @@ pub mod Kept
 pub mod Legal
 pub mod Shapes
 pub mod Epochs
+pub mod Barriers
 pub mod LegalFaults
 pub mod Sweeps
 pub mod Causes

@@ -5,12 +5,14 @@ ghost use Rattle.dsa_descriptor.specs.Descriptors.{fields};
 ghost use Rattle.dsa_descriptor.specs.Pieces.{most_pieces};
 ghost use Rattle.dsa_ranges.specs.Ranges.{ConflictAt};
 ghost use Rattle.dsa_settings.specs.declared.legal.LegalFault.{LegalFault};
+ghost use Rattle.dsa_settings.specs.Barriers.{WithBarriers};
 ghost use Rattle.dsa_settings.specs.Legal.{IsLegal, HasGroupSize, BeginsUnfenced};
 ghost use Rattle.dsa_settings.specs.Shapes.{HasGroupShapes};
 ghost use Rattle.dsa_settings.specs.LegalFaults.{IsShapeFault, HasNoUnfenced, IsLastUnfenced, IsFencedWithin, IsFirstUnfencedWithin, IsFencedThroughout, IsFirstUnfenced, IsFirstLegalFault};
 ghost use Rattle.dsa_settings.specs.Causes.{legal_number, legal_name, legal_indices};
 ghost use Rattle.dsa_settings.specs.Plan.{piece_count};
 
+use crate::keeping::first_unkept;
 use crate::plan::{Group, Plan};
 use crate::settings::Settings;
 use crate::sweep::{Access, ROOM, is_seen_fenced};
@@ -30,7 +32,8 @@ pub enum LegalFault {
     GroupSize(usize),
     /// The first piece of the group is fenced.
     FirstFence(usize),
-    /// The two pieces conflict and are in one group, and no piece after the first and up to the second is fenced.
+    /// The two pieces conflict, or a barrier is between them, and they are in one group, and no piece after the first and
+    /// up to the second is fenced.
     Unfenced(usize, usize),
 }
 
@@ -217,6 +220,29 @@ fn first_unfenced(groups: &[Group], pieces: &[Descriptor]) -> Option<(usize, usi
     None
 }
 
+/// The first pair of pieces of one group with no fence between that conflict, or have a barrier between.
+fn first_unfenced_with(
+    groups: &[Group],
+    pieces: &[Descriptor],
+    barriers: &[bool],
+) -> Option<(usize, usize)>
+    requires all { piece_count groups.now ≡ length pieces.now }
+    requires few { length pieces.now ≤ most_pieces }
+    ensures { MatchOption result
+        (IsFencedThroughout (WithBarriers (ConflictAt (map fields pieces.now)) barriers.now) groups.now)
+        (λ p. IsFirstUnfenced (WithBarriers (ConflictAt (map fields pieces.now)) barriers.now)
+        groups.now p.0 p.1) }
+{
+    let found = first_unfenced(groups, pieces);
+    let Some(piece) = first_unkept(groups, barriers) else {
+        return found;
+    };
+    match found {
+        Some((first, second)) if second < piece => Some((first, second)),
+        _ => Some((piece - 1, piece)),
+    }
+}
+
 /// Whether the plan is legal for the pieces: its groups have as many pieces as there are, each from 1 to
 /// `greatest_batch`, the first of each unfenced, and of each two pieces of a group that conflict the second, or one
 /// between, is fenced. Else its first fault: `Count`; then for the least group `GroupSize` before `FirstFence`; then
@@ -232,6 +258,28 @@ pub fn is_legal(plan: &Plan, pieces: &[Descriptor], settings: &Settings) -> Resu
     ensures shapes { IfOk result (λ _. (piece_count plan.now ≡ length pieces.now) ×
         HasGroupShapes settings.now.greatest_batch plan.now) }
 {
+    is_legal_with(plan, pieces, &[], settings)
+}
+
+/// Whether the plan is legal for the pieces, as [`is_legal`] says, and keeps their barriers: each piece whose mark is set
+/// is fenced, or its group begins with it. Else its first fault; a barrier that is not kept is `Unfenced`, with the pieces
+/// just before and just after it.
+pub fn is_legal_with(
+    plan: &Plan,
+    pieces: &[Descriptor],
+    barriers: &[bool],
+    settings: &Settings,
+) -> Result<(), LegalFault>
+    requires { length pieces.now ≤ most_pieces }
+    ensures legal { IsOk result ↔
+        IsLegal (WithBarriers (ConflictAt (map fields pieces.now)) barriers.now)
+        settings.now.greatest_batch (length pieces.now) plan.now }
+    ensures fault { (f : LegalFault) → (result ≡ Err f) ↔
+        IsFirstLegalFault (WithBarriers (ConflictAt (map fields pieces.now)) barriers.now)
+        settings.now.greatest_batch (length pieces.now) plan.now f }
+    ensures shapes { IfOk result (λ _. (piece_count plan.now ≡ length pieces.now) ×
+        HasGroupShapes settings.now.greatest_batch plan.now) }
+{
     let groups = plan.groups();
     if !has_piece_count(groups, pieces.len()) {
         return Err(LegalFault::Count);
@@ -239,7 +287,7 @@ pub fn is_legal(plan: &Plan, pieces: &[Descriptor], settings: &Settings) -> Resu
     if let Some(fault) = shape_fault(groups, settings) {
         return Err(fault);
     }
-    if let Some((i, j)) = first_unfenced(groups, pieces) {
+    if let Some((i, j)) = first_unfenced_with(groups, pieces, barriers) {
         return Err(LegalFault::Unfenced(i, j));
     }
     Ok(())

@@ -3,6 +3,7 @@
 #![tactic(auto)]
 
 mod conflicts;
+mod keeping;
 mod laws;
 mod legal;
 mod numbers;
@@ -13,8 +14,9 @@ mod staging;
 mod sweep;
 
 pub use conflicts::Conflicts;
-pub use laws::legal_epochs_part;
-pub use legal::{LegalFault, is_legal};
+pub use keeping::is_barrier;
+pub use laws::{barriers_are_kept, legal_epochs_part};
+pub use legal::{LegalFault, is_legal, is_legal_with};
 pub use numbers::epoch_numbers;
 pub use plan::{Group, Plan};
 pub use same::{copy_plan, same_plan};

@@ -2,6 +2,7 @@ use Rattle.std.proofs.Common.{List, Ok, Err, sym, subst}
 use Rattle.std.proofs.lemmas.Result.{err_from_is_err_and}
 use Rattle.dsa_descriptor.specs.declared.descriptor.Descriptor.{Descriptor}
 use Rattle.dsa_calls.specs.declared.fault.PlanFault.{PlanFault}
+use Rattle.dsa_plan.specs.Barriers.{WithBarriers}
 use Rattle.dsa_calls.specs.Lists.{OrMemory}
 use Rattle.dsa_calls.specs.Planned.{Plans, ArePiecesOf, submission_of}
 use Rattle.dsa_calls.proofs.Over.{only_outcome}
@@ -15,6 +16,7 @@ returns-in_err-pieces-clause-only c =
     rw p.1 (only_outcome submission_of (Plans c.args.list.now c.args.settings.now) (one_planned c.args.list.now c.args.settings.now) (Err p.0) told)
 
 plans : (c : goal.In_ok-planned) → Plans c.args.list.now c.args.settings.now (Ok (submission_of c.in_ok-planned.planned))
+unfolding WithBarriers
 plans c =
     let pieces = subst (λ (ds : List Descriptor). ArePiecesOf c.args.settings.now c.args.list.now ds) (sym c.in_ok-planned.ensures.same) c.in_ok-pieces.ensures.split in
     whole_submission c.args.list.now c.args.settings.now (submission_of c.in_ok-planned.planned) pieces c.in_ok-planned.ensures.planned
@@ -30,3 +32,6 @@ returns-clause-certificate_checks c = (planned_is_least_and_shown c.args.list.no
 
 pub returns-clause-certificate_good : goal.returns-clause-certificate_good
 returns-clause-certificate_good c = (planned_is_least_and_shown c.args.list.now c.args.settings.now (submission_of c.in_ok-planned.planned) (plans c)).good
+
+pub returns-clause-answer : goal.returns-clause-answer
+returns-clause-answer c = plans c

@@ -18,6 +18,7 @@ from common import ROOT, block_after, compiler, expect, named, program, run_test
 sys.path.insert(0, str(ROOT / "bindings/package"))
 import make
 
+DESCRIPTORS = (ROOT / "tests/package/descriptors.txt").read_text().splitlines(True)
 STRICT = ["-Wall", "-Wextra", "-pedantic", "-Werror", "-O2"]
 MEMORY = {"malloc", "realloc", "free"}
 COPYING = {"memcpy", "memmove", "memset"}
@@ -321,6 +322,9 @@ def c():
         if not has(cc):
             continue
         words = ["-x", "c" if language == "c11" else "c++", f"-std={language}", *STRICT, "-Wconversion"]
+        source = [*words, ROOT / "tests/package/descriptors.c", *linking("dsa_planner")]
+        tried(f"descriptors.c by {cc}", cc, *source, "-o", f"descriptors_{cc}")
+        tried(f"descriptors in {language} by {cc}", f"./descriptors_{cc}", printed="".join(DESCRIPTORS[:-1]))
         source = [*words, EXAMPLES / "rows.c", "-x", "none"]
         for package in ("dsa_planner", "dsa_planner_static"):
             output = f"rows_{cc}_{package}"
@@ -451,6 +455,8 @@ def python():
         return
     module = f"{PREFIX}/share/dsa-planner/python"
     tried("rows in Python", "python3", "-B", EXAMPLES / "rows.py", ROWS, printed=WANTED, PYTHONPATH=module)
+    script = ROOT / "tests/package/descriptors.py"
+    tried("descriptors in Python", "python3", "-B", script, printed="".join(DESCRIPTORS), PYTHONPATH=module)
     Path(FOLDER, "readme.py").write_text(block_after("docs/USING.md", "### From Python", "python"))
     tried("the Python lines of docs/USING.md", "python3", "-B", "readme.py", printed="cost 10\n", PYTHONPATH=module)
     printed = "2 batches as planned, then 109\n"

@@ -23,6 +23,7 @@
 #include <sys/mman.h>
 #include <unistd.h>
 
+#include "dsa_descriptors.h"
 #include "dsa_planner.h"
 
 enum { PAGE = 4096, PAGES = 8, PLACES = 64, THREADS = 4, BAD = 60, MOVES = 2, REGIONS = 4 };
@@ -72,16 +73,6 @@ struct store {
 
 static uint64_t address(const void *memory) { return (uint64_t)(uintptr_t)memory; }
 
-static void put_move(uint8_t *d, const void *record, const void *src, const void *dst)
-{
-    const uint64_t addresses[3] = {address(record), address(src), address(dst)};
-    const uint32_t head = 0x0300000c, size = PAGE; /* a move that writes its record */
-    memset(d, 0, 64);
-    memcpy(d + 4, &head, 4);
-    memcpy(d + 8, addresses, 24);
-    memcpy(d + 32, &size, 4);
-}
-
 static uint64_t sum(const uint8_t *page)
 {
     uint64_t hash = 14695981039346656037u; /* FNV-1a */
@@ -109,8 +100,8 @@ static int prepare(struct store *s)
                                                 {address(p->records), sizeof p->records}};
     struct dsa_refusal refusal;
     uint8_t list[64 * MOVES];
-    put_move(list, p->records, m->pages[0], p->undo);
-    put_move(list + 64, p->records + 32, p->data, m->pages[0]);
+    dsa_put_move(list, address(m->pages[0]), address(p->undo), PAGE, address(p->records));
+    dsa_put_move(list + 64, address(p->data), address(m->pages[0]), PAGE, address(p->records + 32));
     if (dsa_prepare(&settings, &settings.batch, 0, list, sizeof list, regions, REGIONS, s->rows,
                     DSA_PREPARED_ROOM(REGIONS, MOVES), &s->info, &refusal))
         return refused("prepare", &refusal);

@@ -25,18 +25,15 @@
 #include <sys/mman.h>
 #include <unistd.h>
 
+#include "dsa_descriptors.h"
 #include "dsa_planner.h"
 
 enum { BYTES = 1 << 16 };
 
 static void put_move(uint8_t *d, const void *src, void *dst, uint32_t size, void *record)
 {
-    uint32_t flags = 0x0300000e; /* move; block on fault, record address valid, request record */
-    uint64_t fields[3] = {(uintptr_t)record, (uintptr_t)src, (uintptr_t)dst};
-    memset(d, 0, 64);
-    memcpy(d + 4, &flags, 4);
-    memcpy(d + 8, fields, 24);
-    memcpy(d + 32, &size, 4);
+    dsa_put_move(d, (uintptr_t)src, (uintptr_t)dst, size, (uintptr_t)record);
+    dsa_set_flags(d, DSA_BLOCK_ON_FAULT);
 }
 
 __attribute__((target("movdir64b"))) static void submit_dedicated(void *portal, const void *entry)

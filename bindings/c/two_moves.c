@@ -5,24 +5,8 @@
 #include <stdlib.h>
 #include <string.h>
 
+#include "dsa_descriptors.h"
 #include "dsa_planner.h"
-
-static void put_le(uint8_t *at, uint64_t value, int bytes)
-{
-    for (int i = 0; i < bytes; i++)
-        at[i] = (uint8_t)(value >> (8 * i));
-}
-
-/* A move that writes a completion record: operation 0x03, flags 0x00000c. */
-static void put_move(uint8_t *d, uint64_t src, uint64_t dst, uint32_t size, uint64_t record)
-{
-    memset(d, 0, 64);
-    put_le(d + 4, 0x0300000c, 4);
-    put_le(d + 8, record, 8);
-    put_le(d + 16, src, 8);
-    put_le(d + 24, dst, 8);
-    put_le(d + 32, size, 4);
-}
 
 static void print_bytes(const char *name, const uint8_t *bytes, size_t len)
 {
@@ -81,8 +65,8 @@ int main(void)
         .lone = 10, .batch = 14, .fence = 3, .staging = 0x10000,
     };
     uint8_t list[128];
-    put_move(list, 0x1000, 0x2000, 64, 0x8000);
-    put_move(list + 64, 0x2000, 0x4000, 64, 0x8020);
+    dsa_put_move(list, 0x1000, 0x2000, 64, 0x8000);
+    dsa_put_move(list + 64, 0x2000, 0x4000, 64, 0x8020);
 
     uint64_t n = dsa_count_pieces(&s, &s.batch, 0, list, sizeof list);
     if (n == 0 || n > DSA_MOST_PIECES)

@@ -195,7 +195,8 @@ def tree(root, places, records):
         copied = Path(shutil.copy(PROVED[name], root / "bin" / name))
         if hashlib.sha256(copied.read_bytes()).hexdigest() != records[name][1]:
             sys.exit(f"make.py: {name} changed while it was packaged")
-    shutil.copy(HEADER, root / "include")
+    for header in (HEADER, HEADER.parent / "dsa_descriptors.h"):
+        shutil.copy(header, root / "include")
     libraries(library)
     device(root)
     build_files(library, places)

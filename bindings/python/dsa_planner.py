@@ -1,9 +1,9 @@
 """Plans lists of descriptors of Intel's Data Streaming Accelerator: bytes in, bytes or an exception out.
 
-    from dsa_planner import Refusal, Settings, plan_list
+    from dsa_planner import Settings, move, plan_list
 
     settings = Settings(greatest_batch=4, greatest_transfer=4096, lone=10, batch=14, fence=3, staging=0x10000)
-    print(plan_list(settings, bytes_of_descriptors).cost)
+    print(plan_list(settings, move(0x1000, 0x2000, 64, 0x8000) + move(0x3000, 0x4000, 64, 0x8020)).cost)
 
 The calls are those of the C library (dsa_planner.h says what each promises, and docs/FORMATS.md explains the bytes);
 a call that refuses raises `Refusal`. Calls may run on several threads at once, and other threads of Python run meanwhile.
@@ -21,8 +21,10 @@ from pathlib import Path
 from typing import Dict, FrozenSet, Iterable, List, NamedTuple, Optional, Sequence, Tuple, Union
 
 __all__ = [
-    "BEGINS", "CAUSES", "FENCED", "MOST_PIECES", "Certificate", "Planned", "Prepared", "Refusal", "Retired", "Settings",
-    "Submitted", "Summary", "Tracker", "check", "count_pieces", "judge", "library_version", "plan_list", "plan_list_certified", "prepare",
+    "BEGINS", "BLOCK_ON_FAULT", "CAUSES", "FENCED", "MOST_PIECES", "Certificate", "Group", "Planned", "Prepared",
+    "Refusal", "Retired", "Settings", "Submitted", "Summary", "Tracker", "apply_delta", "check", "compare",
+    "compare_pattern", "count_pieces", "dualcast", "fill", "groups", "judge", "library_version", "move", "plan_list",
+    "plan_list_certified", "prepare",
 ]
 
 MOST_PIECES = 65_536
@@ -31,6 +33,8 @@ BEGINS = 1
 """The mark of a piece that begins a group: a batch, or a descriptor by itself."""
 FENCED = 2
 """The mark of a piece that carries the fence; it is added to `BEGINS`."""
+BLOCK_ON_FAULT = 0x0002
+"""The flag that has the device wait for pages that are absent, if its queue allows that."""
 
 Bytes = Union[bytes, bytearray, memoryview]
 Pair = Optional[Tuple[int, int]]
@@ -364,6 +368,86 @@ class Refusal(Exception):
         causes = {**CAUSES, 83: ("Settings", SETTINGS.get(self.first, CAUSES[83][1]))}
         whole = ": ".join("{} {}: {}".format(number, *causes.get(number, unknown)) for number in numbers)
         return f"refused {whole}".format(self.first, self.second)
+
+
+# ---- descriptors, and plans
+
+
+def _descriptor(code: int, size: int, record: int, first: int, second: int, own: bytes, flags: int,
+                owner: int) -> bytes:
+    """The 64 bytes of a descriptor with a completion record, which is requested."""
+    word = code << 24 | 0x0C | _whole("flags", flags, 1 << 24)
+    fields = [("record", record), ("an address or a pattern", first), ("an address or a pattern", second)]
+    numbers = [_whole(name, value).to_bytes(8, "little") for name, value in fields]
+    head = owner.to_bytes(4, "little") + word.to_bytes(4, "little") + b"".join(numbers)
+    return (head + _whole("size", size, 1 << 32).to_bytes(4, "little") + bytes(4) + own).ljust(64, b"\0")
+
+
+def _owner(pasid: int, privileged: bool) -> int:
+    return _whole("pasid", pasid, 1 << 20) | (1 << 31 if privileged else 0)
+
+
+def _expecting(expected: Optional[int]) -> Tuple[int, bytes]:
+    """The flag check result and the expected result, if one is expected."""
+    return (0, b"") if expected is None else (0x0080, bytes([_whole("expected", expected, 2)]))
+
+
+def move(source: int, target: int, size: int, record: int, *, flags: int = 0, pasid: int = 0,
+         privileged: bool = False) -> bytes:
+    """The descriptor of a move of `size` bytes, with its completion record at `record`. A list is several of them in a
+    row. `flags` are further ones, as `BLOCK_ON_FAULT`; `pasid` stays 0 if the queue supplies it."""
+    return _descriptor(0x03, size, record, source, target, b"", flags, _owner(pasid, privileged))
+
+
+def fill(target: int, size: int, pattern: int, record: int, *, flags: int = 0, pasid: int = 0,
+         privileged: bool = False) -> bytes:
+    """That of a fill with the 8 bytes of `pattern`, the lowest first."""
+    return _descriptor(0x04, size, record, pattern, target, b"", flags, _owner(pasid, privileged))
+
+
+def compare(first: int, second: int, size: int, record: int, *, expected: Optional[int] = None, flags: int = 0,
+            pasid: int = 0, privileged: bool = False) -> bytes:
+    """That of a compare of two ranges. With `expected`, 0 for equal and 1 for different, it fails (status 2) if the
+    result is the other."""
+    check_result, own = _expecting(expected)
+    return _descriptor(0x05, size, record, first, second, own, flags | check_result, _owner(pasid, privileged))
+
+
+def compare_pattern(source: int, size: int, pattern: int, record: int, *, expected: Optional[int] = None,
+                    flags: int = 0, pasid: int = 0, privileged: bool = False) -> bytes:
+    """That of a compare of a range with the 8 bytes of `pattern`, over and over; `expected` as of `compare`."""
+    check_result, own = _expecting(expected)
+    return _descriptor(0x06, size, record, source, pattern, own, flags | check_result, _owner(pasid, privileged))
+
+
+def apply_delta(delta: int, delta_size: int, target: int, size: int, record: int, *, flags: int = 0, pasid: int = 0,
+                privileged: bool = False) -> bytes:
+    """That of an apply delta: the record of `delta_size` bytes at `delta` is applied to `size` bytes at `target`."""
+    own = _whole("delta_size", delta_size, 1 << 32).to_bytes(4, "little")
+    return _descriptor(0x08, size, record, delta, target, own, flags, _owner(pasid, privileged))
+
+
+def dualcast(source: int, first: int, second: int, size: int, record: int, *, flags: int = 0, pasid: int = 0,
+             privileged: bool = False) -> bytes:
+    """That of a dualcast: a move to `first` and to `second`, whose low 12 bits are equal."""
+    own = _whole("second", second).to_bytes(8, "little")
+    return _descriptor(0x09, size, record, source, first, own, flags, _owner(pasid, privileged))
+
+
+class Group(NamedTuple):
+    """What one entry of the portal submits: a batch, or a descriptor by itself."""
+
+    pieces: range
+    """The indices of its pieces."""
+    fenced: List[int]
+    """Those of its pieces that begin after a fence."""
+
+
+def groups(marks: Bytes) -> List[Group]:
+    """The groups of a plan, by the marks of its pieces. The first piece begins a group, whatever its mark."""
+    begins = [k for k, mark in enumerate(marks) if k == 0 or mark & BEGINS]
+    ranges = [range(first, end) for first, end in zip(begins, [*begins[1:], len(marks)])]
+    return [Group(pieces, [k for k in pieces if marks[k] & FENCED]) for pieces in ranges]
 
 
 # ---- the calls

@@ -36,6 +36,7 @@ extern crate alloc;
 extern crate std;
 
 mod cause;
+mod descriptor;
 mod memory;
 mod prepared;
 mod raw;
@@ -46,6 +47,7 @@ use alloc::vec::Vec;
 use core::fmt;
 
 pub use cause::Cause;
+pub use descriptor::{groups_of, list_of, Descriptor, Group, BLOCK_ON_FAULT};
 pub use prepared::{prepare, Prepared, Region, Row};
 pub use tracker::{Retired, Slots, Span, Submitted, Tracker};
 
@@ -222,6 +224,14 @@ pub struct Planned {
     pub marks: Vec<u8>,
     /// The certificate of the plan.
     pub certificate: Certificate,
+}
+
+impl Planned {
+    /// The groups of the plan, in their order.
+    #[must_use]
+    pub fn groups(&self) -> Vec<Group> {
+        groups_of(&self.marks)
+    }
 }
 
 const NONE: raw::Pair = raw::Pair {
@@ -471,6 +481,7 @@ const _: fn() = || {
     fn is_send_and_sync<T: Send + Sync>() {}
     is_send_and_sync::<(BatchPrice, Settings, Cause, Refusal)>();
     is_send_and_sync::<(Summary, Certificate, Planned)>();
+    is_send_and_sync::<(Descriptor, Group)>();
     is_send_and_sync::<(Prepared, Region, Row)>();
     is_send_and_sync::<(Tracker, Span, Slots, Submitted, Retired)>();
 };

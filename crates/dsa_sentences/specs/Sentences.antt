@@ -110,6 +110,8 @@ of_trackers n =
     if n == 124 then codes "span # goes past 2^64" else
     if n == 125 then codes "piece # has another PASID or privilege than the first piece that came" else
     if n == 126 then codes "the words do not have the form of a tracker, or are too few for one of these measures" else
+    if n == 127 then codes "the groups of the plan do not have as many pieces as there are" else
+    if n == 128 then codes "the plan has # groups, more than slots are free or have a place in the array" else
     []
 
 -- of settings, by the number of the one that is outside its limits; by another number what is right of each

@@ -166,6 +166,8 @@ fn of_trackers(number: u64) -> &'static str
         125 => "piece # has another PASID or privilege than the first piece that came",
         126 =>
             "the words do not have the form of a tracker, or are too few for one of these measures",
+        127 => "the groups of the plan do not have as many pieces as there are",
+        128 => "the plan has # groups, more than slots are free or have a place in the array",
         _ => "",
     }
 }

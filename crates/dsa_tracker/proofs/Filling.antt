@@ -1,5 +1,6 @@
 -- A slot whose stores are filled, in the vectors of a tracker.
-use Rattle.std.proofs.Common.{◌≡◌, ℕ, ◌+◌, ◌*◌, ◌<◌, List, Option, Some, length, slice_set, sym, ap, ◌∙◌, subst, arith}
+use Rattle.std.proofs.Common.{◌≡◌, ℕ, ◌+◌, ◌*◌, ◌<◌, List, Option, Some, None, length, slice_set, sym, ap, ◌∙◌, subst, arith}
+use Rattle.std.specs.Prelude.{MatchOption}
 use Rattle.dsa_descriptor.specs.declared.span.Span.{Span}
 use Rattle.dsa_tracker.specs.declared.board.Board.{Board}
 use Rattle.dsa_tracker.specs.declared.owner.Owner.{Owner}
@@ -8,13 +9,14 @@ use Rattle.dsa_tracker.specs.declared.tracker.Retired.{Retired}
 use Rattle.dsa_tracker.specs.declared.tracker.Tracker.TheInside.{Inside}
 use Rattle.dsa_tracker.specs.Calls.{Releases, Retires, SameAddresses, Submits}
 use Rattle.dsa_tracker.specs.Finding.{reads_store, writes_store}
+use Rattle.dsa_tracker.specs.Groups.{free_count}
 use Rattle.dsa_tracker.specs.Inside.{IsSound, table}
 use Rattle.dsa_tracker.specs.Keeping.{AreOtherStores}
 use Rattle.dsa_tracker.specs.Kept.{kept, store_at}
 use Rattle.dsa_tracker.specs.Sets.{Has}
 use Rattle.dsa_tracker.specs.State.{IsState, all_shown, kept_at, waits_of}
-use Rattle.dsa_tracker.specs.Table.{HasToWait, IsExactly, IsReady, Table, WaitsFor}
-use Rattle.dsa_tracker.proofs.Tables.{filled_state, retires, submits}
+use Rattle.dsa_tracker.specs.Table.{HasToWait, IsExactly, IsFirstFree, IsFull, IsReady, Table, WaitsFor}
+use Rattle.dsa_tracker.proofs.Tables.{filled_state, first_free, from_first, full, retires, submits}
 
 module _ (x : Inside) (t : Table) (view_is : table x ≡ t) (sound : IsSound x) where
   pub slots_are : all_shown x.shape.width x.board x.waits.items x.stores.items ≡ t.slots
@@ -25,6 +27,12 @@ module _ (x : Inside) (t : Table) (view_is : table x ≡ t) (sound : IsSound x) 
 
   pub owner_is : x.owner ≡ t.owner
   owner_is = ap (λ (s : Table). s.owner) view_is
+
+  pub free_is : (n slots : ℕ) → slots ≡ length x.waits.items → ((width : ℕ) (waits stores : List ℕ) → length waits ≡ slots → n ≡ free_count (all_shown width x.board waits stores)) → n ≡ free_count t.slots
+  free_is n slots len counted = counted x.shape.width x.waits.items x.stores.items (sym len) ∙ ap free_count slots_are
+
+  pub slot_facts : (slot : ℕ) → IsFirstFree t.slots slot → (slot < length x.waits.items) × (Has x.board.outstanding slot → ⊥) × ((k : ℕ) → k < slot → Has x.board.outstanding k)
+  slot_facts slot h = from_first x.board x.waits.items x.stores.items x.rows.items x.shape sound.state.shaped t slots_are slot h
 
   module _ (slot : ℕ) (free : Has x.board.outstanding slot → ⊥) (d1 s1 d2 s2 d : List ℕ) (d1_is : d1 ≡ x.stores.items) (d2_is : d2 ≡ s1) (d_is : d ≡ s2) (len1 : length s1 ≡ length d1) (len2 : length s2 ≡ length d2)
       (one : AreOtherStores x.shape.width (2 * slot) d1 s1) (two : AreOtherStores x.shape.width (2 * slot + 1) d2 s2) where
@@ -75,3 +83,11 @@ module _ (x : Inside) (t : Table) (view_is : table x ≡ t) (sound : IsSound x) 
             subst (λ ws. Releases (all_shown x.shape.width x.board ws x.stores.items) slot (all_shown x.shape.width new w' x.stores.items) × IsExactly retired.waited (WaitsFor (all_shown x.shape.width x.board ws x.stores.items) slot) × IsExactly retired.ready (λ s. WaitsFor (all_shown x.shape.width x.board ws x.stores.items) slot s × IsReady (all_shown x.shape.width new w' x.stores.items) s)) w_is
             (subst (λ ss. Releases (all_shown x.shape.width x.board w ss) slot (all_shown x.shape.width new w' ss) × IsExactly retired.waited (WaitsFor (all_shown x.shape.width x.board w ss) slot) × IsExactly retired.ready (λ s. WaitsFor (all_shown x.shape.width x.board w ss) slot s × IsReady (all_shown x.shape.width new w' ss) s)) d_is
             (released, waited, ready))
+
+-- the first free slot, by the board
+pub first_slots :
+    (x : Inside) (t : Table) → table x ≡ t → IsSound x → (slots : ℕ) → slots ≡ length x.waits.items → (found : Option ℕ) →
+    MatchOption found ((s : ℕ) → s < slots → s < 64 → Has x.board.outstanding s) (λ s. (s < slots) × (s < 64) × (Has x.board.outstanding s → ⊥) × ((k : ℕ) → k < s → Has x.board.outstanding k)) →
+    MatchOption found (IsFull t.slots) (IsFirstFree t.slots)
+first_slots x t view_is sound slots len None all = full x.board x.waits.items x.stores.items x.rows.items x.shape sound.state.shaped t (slots_are x t view_is sound) (λ s lt low. all s (omega (arith, lt, len)) low)
+first_slots x t view_is sound slots len (Some s) h = first_free x.board x.waits.items x.stores.items x.rows.items x.shape sound.state.shaped t (slots_are x t view_is sound) s (let lt = h.0 in omega (arith, lt, len)) h.2 h.3

@@ -18,3 +18,6 @@ pub mod Lists
 pub mod Parted
 pub mod Rewritten
 pub mod Whole
+pub mod Counting
+pub mod Grouped
+pub mod Named

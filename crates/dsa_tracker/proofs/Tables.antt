@@ -10,7 +10,7 @@ use Rattle.dsa_tracker.specs.declared.owner.Owner.{Owner}
 use Rattle.dsa_tracker.specs.declared.slots.Slots.{Slots}
 use Rattle.dsa_tracker.specs.declared.tracker.Retired.{Retired}
 use Rattle.dsa_tracker.specs.declared.fault.TrackFault.{TrackFault}
-use Rattle.dsa_tracker.specs.declared.fault.TrackFault.TheVariants.{NoSlot, TooManySpans, NotOutstanding, Held, Wrap, OtherOwner}
+use Rattle.dsa_tracker.specs.declared.fault.TrackFault.TheVariants.{NoSlot, TooManySpans, NotOutstanding, Held, Wrap, OtherOwner, OtherPlan, FewSlots}
 use Rattle.dsa_tracker.specs.Calls.{IsListFault, IsRefused, IsSpanFault, Releases, Retires, SameAddresses, Submits}
 use Rattle.dsa_tracker.specs.Finding.{Covers, reads_store, writes_store}
 use Rattle.dsa_tracker.specs.Keeping.{AreOtherStores}
@@ -19,7 +19,7 @@ use Rattle.dsa_tracker.specs.Sets.{Has, IsEmpty}
 use Rattle.dsa_tracker.specs.State.{IsShaped, IsState, all_shown, kept_at, waits_of}
 use Rattle.dsa_tracker.specs.Table.{ConflictsWith, HasToWait, IsExactly, IsFirstFree, IsFull, IsHeld, IsReady, Outstanding, Table, WaitsFor}
 use Rattle.dsa_tracker.proofs.Bits.{zero_has_none}
-use Rattle.dsa_tracker.proofs.Showing.{count, free_is, held_is, is_held, one_at, same_all}
+use Rattle.dsa_tracker.proofs.Showing.{count, free_is, held_is, is_free, is_held, one_at, same_all}
 
 -- an access conflicts by its addresses
 pub one_way : (o : Outstanding) (reads writes reads' writes' : List Span) → ((a : ℕ) → InSome reads a → InSome reads' a) → ((a : ℕ) → InSome writes a → InSome writes' a) → SpansConflict o.reads o.writes reads writes → SpansConflict o.reads o.writes reads' writes'
@@ -44,6 +44,12 @@ module _ (board : Board) (waits stores rows : List ℕ) (shape : Shape) (shaped 
   first_free slot inside free before =
       subst (λ xs. IsFirstFree xs slot) slots_are
       (free_is shape.width board waits stores shaped.within slot inside free, λ k lt. (kept_at shape.width waits stores k, held_is shape.width board waits stores shaped.within k (before k lt)))
+
+  pub from_first : (slot : ℕ) → IsFirstFree t.slots slot → (slot < length waits) × (Has board.outstanding slot → ⊥) × ((k : ℕ) → k < slot → Has board.outstanding k)
+  from_first slot h =
+      let was = subst (λ (xs : List (Option Outstanding)). IsFirstFree xs slot) (sym slots_are) h in
+      let free = is_free shape.width board waits stores shaped.within slot was.0 in
+      (free.0, free.1, λ k lt. let other = was.1 k lt in (is_held shape.width board waits stores shaped.within k other.0 other.1).0)
 
   pub held : (slot : ℕ) → Has board.outstanding slot → IsHeld t.slots slot
   held slot h = subst (λ xs. IsHeld xs slot) slots_are (kept_at shape.width waits stores slot, held_is shape.width board waits stores shaped.within slot h)
@@ -150,6 +156,8 @@ refused_spans t s reads writes (NotOutstanding slot) first h = absurd h
 refused_spans t s reads writes (Held slot) first h = absurd h
 refused_spans t s reads writes (Wrap span) first h = ((s, first), h)
 refused_spans t s reads writes (OtherOwner piece) first h = absurd h
+refused_spans t s reads writes OtherPlan first h = absurd h
+refused_spans t s reads writes (FewSlots groups) first h = absurd h
 
 pub refused_list : (t : Table) (s : ℕ) (owner : Option Owner) (pieces : List Fields) (staging : Span) (f : TrackFault) → IsFirstFree t.slots s → IsListFault t.room owner pieces staging f → IsRefused t f (IsListFault t.room owner pieces staging f)
 refused_list t s owner pieces staging NoSlot first h = absurd h
@@ -158,3 +166,5 @@ refused_list t s owner pieces staging (NotOutstanding slot) first h = absurd h
 refused_list t s owner pieces staging (Held slot) first h = absurd h
 refused_list t s owner pieces staging (Wrap span) first h = ((s, first), h)
 refused_list t s owner pieces staging (OtherOwner piece) first h = ((s, first), h)
+refused_list t s owner pieces staging OtherPlan first h = absurd h
+refused_list t s owner pieces staging (FewSlots groups) first h = absurd h

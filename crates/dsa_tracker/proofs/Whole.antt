@@ -9,6 +9,7 @@ use Rattle.dsa_tracker.specs.declared.slots.Slots.{Slots}
 use Rattle.dsa_tracker.specs.declared.tracker.Retired.{Retired}
 use Rattle.dsa_tracker.specs.Calls.{Releases, Retires, SameAddresses, Submits}
 use Rattle.dsa_tracker.specs.Finding.{reads_store, writes_store}
+use Rattle.dsa_tracker.specs.Groups.{free_count}
 use Rattle.dsa_tracker.specs.Head.{IsHeadOf, head_words, with_board}
 use Rattle.dsa_tracker.specs.Kept.{kept}
 use Rattle.dsa_tracker.specs.Sets.{Has, IsEmpty}
@@ -50,6 +51,9 @@ module _ (words : List ℕ) (h : Head) (shaped : IsShapedIn words) (head : IsHea
 
   slots_are : all_shown h.shape.width h.board (waits_in words) (stores_in words) ≡ shown_in words
   slots_are = sym (shown_is words h (waits_in words) (stores_in words) (rows_in words) its_parts)
+
+  pub free_in : (n : ℕ) → ((width : ℕ) (waits stores : List ℕ) → length waits ≡ h.slots → n ≡ free_count (all_shown width h.board waits stores)) → n ≡ free_count (shown_in words)
+  free_in n counted = counted h.shape.width (waits_in words) (stores_in words) waits_len ∙ ap free_count slots_are
 
   pub full_in : ((s : ℕ) → s < h.slots → s < 64 → Has h.board.outstanding s) → IsFull (shown_in words)
   full_in all = full h.board (waits_in words) (stores_in words) (rows_in words) h.shape its_shape (table_in words) slots_are (λ s lt low. all s (omega (arith, lt, waits_len)) low)

@@ -4,7 +4,7 @@ use Rattle.dsa_descriptor.specs.declared.span.Span.{Span}
 use Rattle.dsa_descriptor.specs.Fields.{Fields}
 use Rattle.dsa_descriptor.specs.Spans.{InSome, IsAddressable}
 use Rattle.dsa_tracker.specs.declared.fault.TrackFault.{TrackFault}
-use Rattle.dsa_tracker.specs.declared.fault.TrackFault.TheVariants.{NoSlot, TooManySpans, NotOutstanding, Held, Wrap, OtherOwner}
+use Rattle.dsa_tracker.specs.declared.fault.TrackFault.TheVariants.{NoSlot, TooManySpans, NotOutstanding, Held, Wrap, OtherOwner, OtherPlan, FewSlots}
 use Rattle.dsa_tracker.specs.declared.owner.Owner.{Owner}
 use Rattle.dsa_tracker.specs.declared.tracker.Retired.{Retired}
 use Rattle.dsa_tracker.specs.declared.tracker.Submitted.{Submitted}
@@ -52,6 +52,8 @@ IsSpanFault room reads writes (NotOutstanding slot) = ⊥
 IsSpanFault room reads writes (Held slot) = ⊥
 IsSpanFault room reads writes (Wrap span) = (length reads ≤ room) × (length writes ≤ room) × IsFirstPast (reads ++ writes) span
 IsSpanFault room reads writes (OtherOwner piece) = ⊥
+IsSpanFault room reads writes OtherPlan = ⊥
+IsSpanFault room reads writes (FewSlots count) = ⊥
 
 -- how many spans a list of so many pieces may read or write, its staging area among them: three for each piece (its
 -- completion record and two destinations)
@@ -71,6 +73,8 @@ IsListFault room owner pieces staging (Held slot) = ⊥
 IsListFault room owner pieces staging (Wrap span) = (span ≡ 0) × (most_spans (length pieces) ≤ room) × (¬ IsAddressable staging)
 IsListFault room owner pieces staging (OtherOwner piece) =
     (most_spans (length pieces) ≤ room) × IsAddressable staging × IsFirstOther owner pieces piece
+IsListFault room owner pieces staging OtherPlan = ⊥
+IsListFault room owner pieces staging (FewSlots count) = ⊥
 
 -- the two have the same addresses
 abbrev pub SameAddresses : List Span → List Span → Type 0
@@ -116,6 +120,8 @@ IsRefused t (NotOutstanding slot) against = ⊥
 IsRefused t (Held slot) against = ⊥
 IsRefused t (Wrap span) against = ((s : ℕ) × IsFirstFree t.slots s) × against
 IsRefused t (OtherOwner piece) against = ((s : ℕ) × IsFirstFree t.slots s) × against
+IsRefused t OtherPlan against = ⊥
+IsRefused t (FewSlots count) against = ⊥
 
 -- why a submission cannot be completed
 abbrev pub IsCompleteFault : Table → ℕ → TrackFault → Type 0
@@ -125,6 +131,8 @@ IsCompleteFault t slot (NotOutstanding other) = (other ≡ slot) × (¬ IsHeld t
 IsCompleteFault t slot (Held other) = (other ≡ slot) × IsHeld t.slots slot × (¬ IsReady t.slots slot)
 IsCompleteFault t slot (Wrap span) = ⊥
 IsCompleteFault t slot (OtherOwner piece) = ⊥
+IsCompleteFault t slot OtherPlan = ⊥
+IsCompleteFault t slot (FewSlots count) = ⊥
 
 -- why it cannot be withdrawn
 abbrev pub IsWithdrawFault : Table → ℕ → TrackFault → Type 0
@@ -134,3 +142,5 @@ IsWithdrawFault t slot (NotOutstanding other) = (other ≡ slot) × (¬ IsHeld t
 IsWithdrawFault t slot (Held other) = ⊥
 IsWithdrawFault t slot (Wrap span) = ⊥
 IsWithdrawFault t slot (OtherOwner piece) = ⊥
+IsWithdrawFault t slot OtherPlan = ⊥
+IsWithdrawFault t slot (FewSlots count) = ⊥

@@ -5,7 +5,7 @@ use Rattle.dsa_descriptor.specs.declared.indices.Indices.TheVariants.{Empty, One
 use Rattle.dsa_tracker.specs.declared.fault.TrackFault.{TrackFault}
 use Rattle.dsa_tracker.specs.declared.fault.WordsFault.{WordsFault}
 use Rattle.dsa_tracker.specs.declared.fault.WordsFault.TheVariants.{NotATracker, Track}
-use Rattle.dsa_tracker.specs.declared.fault.TrackFault.TheVariants.{NoSlot, TooManySpans, NotOutstanding, Held, Wrap, OtherOwner}
+use Rattle.dsa_tracker.specs.declared.fault.TrackFault.TheVariants.{NoSlot, TooManySpans, NotOutstanding, Held, Wrap, OtherOwner, OtherPlan, FewSlots}
 
 -- the number, the name and the indices
 abbrev pub track_number : TrackFault → ℕ
@@ -15,6 +15,8 @@ track_number (NotOutstanding slot) = 122
 track_number (Held slot) = 123
 track_number (Wrap span) = 124
 track_number (OtherOwner piece) = 125
+track_number OtherPlan = 127
+track_number (FewSlots count) = 128
 
 -- its name
 abbrev pub track_name : TrackFault → List ℕ
@@ -24,6 +26,8 @@ track_name (NotOutstanding slot) = codes "NotOutstanding"
 track_name (Held slot) = codes "Held"
 track_name (Wrap span) = codes "Wrap"
 track_name (OtherOwner piece) = codes "OtherOwner"
+track_name OtherPlan = codes "OtherPlan"
+track_name (FewSlots count) = codes "FewSlots"
 
 -- the number that it names, if it names one
 abbrev pub track_indices : TrackFault → Indices
@@ -33,6 +37,8 @@ track_indices (NotOutstanding slot) = One slot
 track_indices (Held slot) = One slot
 track_indices (Wrap span) = One span
 track_indices (OtherOwner piece) = One piece
+track_indices OtherPlan = Empty
+track_indices (FewSlots count) = One count
 
 -- the number of a refusal of words
 abbrev pub words_number : WordsFault → ℕ

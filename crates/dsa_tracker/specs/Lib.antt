@@ -2,6 +2,8 @@ pub mod Sets
 pub mod Causes
 pub mod Table
 pub mod Calls
+pub mod Groups
+pub mod Before
 pub mod Rows
 pub mod Kept
 pub mod Keeping

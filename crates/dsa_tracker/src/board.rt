@@ -1,8 +1,9 @@
 //! Slots that are taken and given back.
 
-ghost use Rattle.std.specs.Prelude.{◌≡◌, ◌≢◌, ℕ, ◌+◌, ◌*◌, ◌<◌, ◌≤◌, ◌↔◌, ◌⊎◌, IsTrue, MatchOption, Some, length, slice_set};
+ghost use Rattle.std.specs.Prelude.{◌≡◌, ◌≢◌, ℕ, ◌+◌, ◌*◌, ◌<◌, ◌≤◌, ◌↔◌, ◌⊎◌, IsTrue, List, MatchOption, Some, length, slice_set};
 ghost use Rattle.dsa_tracker.specs.Calls.{Releases};
 ghost use Rattle.dsa_tracker.specs.Finding.{reads_store, writes_store};
+ghost use Rattle.dsa_tracker.specs.Groups.{free_count};
 ghost use Rattle.dsa_tracker.specs.Kept.{kept};
 ghost use Rattle.dsa_tracker.specs.Sets.{Has, IsEmpty};
 ghost use Rattle.dsa_tracker.specs.State.{IsShaped, IsState, all_shown, kept_at, waits_of};
@@ -83,6 +84,21 @@ pub(crate) fn first_free(outstanding: Slots, slots: usize) -> Option<u32>
         return None;
     }
     Some(slot)
+}
+
+/// How many of so many slots are free.
+pub(crate) fn free_slots(board: Board, slots: usize) -> usize
+    requires { slots ≤ 64 }
+    ensures { (width : ℕ) (waits stores : List ℕ) → length waits ≡ slots →
+        result ≡ free_count (all_shown width board waits stores) }
+{
+    let mut free = 0;
+    for slot in 0..slots {
+        if !board.outstanding.contains(slot as u32) {
+            free += 1;
+        }
+    }
+    free
 }
 
 /// What the submission of the slot waits for, if it is outstanding.

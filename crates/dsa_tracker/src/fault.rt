@@ -20,6 +20,10 @@ pub enum TrackFault {
     Wrap(usize),
     /// The piece of this index has another PASID or privilege.
     OtherOwner(usize),
+    /// The groups of the plan do not have just these pieces.
+    OtherPlan,
+    /// The plan has this many groups, more than slots are free, or have a place in the answer.
+    FewSlots(usize),
 }
 
 /// A refusal of a call over an array of words. After one nothing has changed.
@@ -65,6 +69,8 @@ impl TrackFault {
             TrackFault::Held(_) => 123,
             TrackFault::Wrap(_) => 124,
             TrackFault::OtherOwner(_) => 125,
+            TrackFault::OtherPlan => 127,
+            TrackFault::FewSlots(_) => 128,
         }
     }
 
@@ -80,6 +86,8 @@ impl TrackFault {
             TrackFault::Held(_) => "Held",
             TrackFault::Wrap(_) => "Wrap",
             TrackFault::OtherOwner(_) => "OtherOwner",
+            TrackFault::OtherPlan => "OtherPlan",
+            TrackFault::FewSlots(_) => "FewSlots",
         }
     }
 
@@ -88,10 +96,11 @@ impl TrackFault {
         ensures { result ≡ track_indices self }
     {
         match self {
-            TrackFault::NoSlot => Indices::Empty,
+            TrackFault::NoSlot | TrackFault::OtherPlan => Indices::Empty,
             TrackFault::TooManySpans(index)
             | TrackFault::Wrap(index)
-            | TrackFault::OtherOwner(index) => Indices::One(index as u64),
+            | TrackFault::OtherOwner(index)
+            | TrackFault::FewSlots(index) => Indices::One(index as u64),
             TrackFault::NotOutstanding(slot) | TrackFault::Held(slot) => Indices::One(u64::from(
                 slot,
             )),

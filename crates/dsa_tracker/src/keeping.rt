@@ -1,6 +1,6 @@
 //! What a submission reads and writes, put into the stores of its slot.
 
-ghost use Rattle.std.specs.Prelude.{◌≡◌, ◌≢◌, ℕ, ◌+◌, ◌*◌, ◌<◌, ◌≤◌, ◌⊎◌, ◌↔◌, ◌∷◌, flat_map, length, map, slice_index};
+ghost use Rattle.std.specs.Prelude.{◌≡◌, ◌≢◌, ℕ, ◌+◌, ◌*◌, ◌<◌, ◌≤◌, ◌⊎◌, ◌↔◌, ◌++◌, ◌∷◌, flat_map, length, map, slice_index};
 ghost use Rattle.dsa_descriptor.specs.Descriptors.{fields};
 ghost use Rattle.dsa_descriptor.specs.Spans.{InSome, InSpan, IsAddressable};
 ghost use Rattle.dsa_ranges.specs.Ranges.{read_spans, written_spans};
@@ -72,23 +72,23 @@ fn append_records(store: &mut [u64], pieces: &[Descriptor])
 
 /// Keeps just what these pieces read.
 fn replace_by_reads(store: &mut [u64], pieces: &[Descriptor])
-    requires { 2 * (3 * length pieces.now + 1) < length store.old }
+    requires { 2 * (3 * length pieces.now) < length store.old }
     ensures { SameAddresses (kept store.new) (flat_map read_spans (map fields pieces.now)) }
 {
     clear(store);
     append_reads(store, pieces);
 }
 
-/// Keeps just what these pieces write, and their staging area: the records after all destinations,
+/// Keeps just what these pieces write, and their staging bytes: the records after all destinations,
 /// since records that follow each other are put together.
-fn replace_by_writes(store: &mut [u64], pieces: &[Descriptor], staging: Span)
-    requires room { 2 * (3 * length pieces.now + 1) < length store.old }
-    requires addressable { IsAddressable staging }
+fn replace_by_writes(store: &mut [u64], pieces: &[Descriptor], staged: &[Span])
+    requires room { 2 * (3 * length pieces.now + length staged.now) < length store.old }
+    requires addressable { AreAddressable staged.now }
     ensures { SameAddresses (kept store.new)
-        (staging ∷ flat_map written_spans (map fields pieces.now)) }
+        (staged.now ++ flat_map written_spans (map fields pieces.now)) }
 {
     clear(store);
-    push(store, staging);
+    append(store, staged);
     append_targets(store, pieces);
     append_records(store, pieces);
 }
@@ -96,7 +96,7 @@ fn replace_by_writes(store: &mut [u64], pieces: &[Descriptor], staging: Span)
 /// Keeps just what these pieces read in the store of this place.
 pub(crate) fn keep_reads(stores: &mut [u64], width: usize, place: usize, pieces: &[Descriptor])
     requires within { (place + 1) * width ≤ length stores.old }
-    requires room { 2 * (3 * length pieces.now + 1) < width }
+    requires room { 2 * (3 * length pieces.now) < width }
     ensures here { SameAddresses (kept (store_at width stores.new place))
         (flat_map read_spans (map fields pieces.now)) }
     ensures others { AreOtherStores width place stores.old stores.new }
@@ -104,24 +104,24 @@ pub(crate) fn keep_reads(stores: &mut [u64], width: usize, place: usize, pieces:
     replace_by_reads(&mut stores[place * width..(place + 1) * width], pieces);
 }
 
-/// Keeps just what these pieces write, and their staging area, in the store of this place.
+/// Keeps just what these pieces write, and their staging bytes, in the store of this place.
 pub(crate) fn keep_writes(
     stores: &mut [u64],
     width: usize,
     place: usize,
     pieces: &[Descriptor],
-    staging: Span,
+    staged: &[Span],
 )
     requires within { (place + 1) * width ≤ length stores.old }
-    requires room { 2 * (3 * length pieces.now + 1) < width }
-    requires addressable { IsAddressable staging }
+    requires room { 2 * (3 * length pieces.now + length staged.now) < width }
+    requires addressable { AreAddressable staged.now }
     ensures here { SameAddresses (kept (store_at width stores.new place))
-        (staging ∷ flat_map written_spans (map fields pieces.now)) }
+        (staged.now ++ flat_map written_spans (map fields pieces.now)) }
     ensures others { AreOtherStores width place stores.old stores.new }
 {
     replace_by_writes(
         &mut stores[place * width..(place + 1) * width],
         pieces,
-        staging,
+        staged,
     );
 }

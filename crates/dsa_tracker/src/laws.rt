@@ -4,6 +4,7 @@ ghost use Rattle.dsa_core.specs.DescriptorMachine.{descriptor_machine};
 ghost use Rattle.dsa_flight.specs.Hosted.{hosted_machine};
 ghost use Rattle.dsa_flight.specs.Spans.{any_read_spans, any_written_spans};
 ghost use Rattle.dsa_ranges.specs.Ranges.{read_spans, written_spans};
+ghost use Rattle.dsa_tracker.specs.Groups.{GroupsStageWhatEntriesName};
 ghost use Rattle.dsa_tracker.specs.Honest.{TrackerEndsInTurn};
 
 /// A caller that rings only what its tracker calls ready, completes only what is ready and has
@@ -12,4 +13,10 @@ ghost use Rattle.dsa_tracker.specs.Honest.{TrackerEndsInTurn};
 pub fn tracker_ends_in_turn()
     ensures descriptors { TrackerEndsInTurn descriptor_machine read_spans written_spans }
     ensures hosted { TrackerEndsInTurn hosted_machine any_read_spans any_written_spans }
+{}
+
+/// A group's part of the staging area is just what its portal entry names: the descriptors that the
+/// device reads, and the completion record that it writes.
+pub fn groups_stage_what_entries_name()
+    ensures { GroupsStageWhatEntriesName }
 {}

@@ -1,10 +1,9 @@
 //! The parts of a tracker in an array of words, handed to what works on a tracker's words.
 
-ghost use Rattle.std.specs.Prelude.{◌≡◌, ℕ, ◌+◌, ◌*◌, ◌<◌, ◌≤◌, ◌∷◌, MatchOption, Some, flat_map, length, map, slice_set};
+ghost use Rattle.std.specs.Prelude.{◌≡◌, ℕ, ◌+◌, ◌*◌, ◌<◌, ◌≤◌, ◌++◌, MatchOption, Some, flat_map, length, map, slice_set};
 ghost use Rattle.dsa_descriptor.specs.Descriptors.{fields};
-ghost use Rattle.dsa_descriptor.specs.Spans.{IsAddressable};
 ghost use Rattle.dsa_ranges.specs.Ranges.{read_spans, written_spans};
-ghost use Rattle.dsa_tracker.specs.Calls.{CanKeep, Releases, SameAddresses};
+ghost use Rattle.dsa_tracker.specs.Calls.{AreAddressable, CanKeep, Releases, SameAddresses};
 ghost use Rattle.dsa_tracker.specs.Finding.{reads_store, writes_store};
 ghost use Rattle.dsa_tracker.specs.Head.{IsHeadOf, with_board};
 ghost use Rattle.dsa_tracker.specs.Kept.{kept};
@@ -53,21 +52,21 @@ pub(crate) fn keep_spans_in(
     keep_spans(stores, width, 2 * slot as usize + 1, writes);
 }
 
-/// Keeps just what these pieces read, and what they write and their staging area, in the stores of
+/// Keeps just what these pieces read, and what they write and their staging bytes, in the stores of
 /// the free slot.
 pub(crate) fn keep_list_in(
     words: &mut [u64],
     head: Head,
     slot: u32,
     pieces: &[Descriptor],
-    staging: Span,
+    staged: &[Span],
 )
     requires shaped { IsShapedIn words.old }
     requires head { IsHeadOf words.old head }
     requires within { slot < head.slots }
     requires free { ¬ Has head.board.outstanding slot }
-    requires room { 3 * length pieces.now + 1 ≤ head.room }
-    requires addressable { IsAddressable staging }
+    requires room { 3 * length pieces.now + length staged.now ≤ head.room }
+    requires addressable { AreAddressable staged.now }
     ensures shaped { IsShapedIn words.new }
     ensures head { IsHeadOf words.new head }
     ensures shown { shown_in words.new ≡ shown_in words.old }
@@ -77,14 +76,14 @@ pub(crate) fn keep_list_in(
         (flat_map read_spans (map fields pieces.now)) }
     ensures writes { SameAddresses
         (kept (writes_store head.shape.width (stores_in words.new) slot))
-        (staging ∷ flat_map written_spans (map fields pieces.now)) }
+        (staged.now ++ flat_map written_spans (map fields pieces.now)) }
 {
     let width = head.shape.width;
     let (_, body) = words.split_at_mut(HEAD_LEN);
     let (_, body) = body.split_at_mut(head.slots);
     let (stores, _) = body.split_at_mut(2 * head.slots * width);
     keep_reads(stores, width, 2 * slot as usize, pieces);
-    keep_writes(stores, width, 2 * slot as usize + 1, pieces, staging);
+    keep_writes(stores, width, 2 * slot as usize + 1, pieces, staged);
 }
 
 /// Takes the free slot for what its stores keep, answers what that waits for, and writes the head

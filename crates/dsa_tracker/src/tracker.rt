@@ -1,21 +1,25 @@
 //! The tracker.
 
-ghost use Rattle.std.specs.Prelude.{◌≡◌, ◌↔◌, ◌≤◌, None, IfOk, IsTrue, MatchResult, map, replicate};
+ghost use Rattle.std.specs.Prelude.{◌≡◌, ◌↔◌, ℕ, ◌+◌, ◌*◌, ◌<◌, ◌≤◌, ◌++◌, None, IfOk, IsTrue, MatchOption, MatchResult, length, map, min, replicate, slice_get};
 ghost use Rattle.dsa_descriptor.specs.Descriptors.{fields};
-ghost use Rattle.dsa_flight.specs.Spans.{all_reads, staged_writes};
-ghost use Rattle.dsa_tracker.specs.Calls.{CanKeep, CanKeepList, IsCompleteFault, IsListFault, IsRefused, IsSpanFault, IsWithdrawFault, Retires, Submits, owner_with};
-ghost use Rattle.dsa_tracker.specs.Table.{ConflictsWith, IsExactly, IsHeld, IsReady, WaitsFor};
+ghost use Rattle.dsa_emission.specs.Emission.{batched_count};
+ghost use Rattle.dsa_flight.specs.Spans.{all_reads, all_writes, staged_writes};
+ghost use Rattle.dsa_tracker.specs.Calls.{AreAddressable, CanKeep, CanKeepList, IsCompleteFault, IsListFault, IsRefused, IsSpanFault, IsWithdrawFault, Retires, Submits, owner_with};
+ghost use Rattle.dsa_tracker.specs.Groups.{CanTakeGroups, IsGroupsFault, SubmitsInTurn, free_count, group_reads, group_writes};
+ghost use Rattle.dsa_tracker.specs.Table.{ConflictsWith, IsExactly, IsFirstFree, IsFull, IsHeld, IsReady, WaitsFor};
 
 use crate::asking::slots_in_the_way;
-use crate::board::{Board, first_free, release, take, waits_at};
+use crate::board::{Board, first_free, free_slots, release, take, waits_at};
 use crate::fault::TrackFault;
 use crate::finding::Others;
 use crate::grid::{Grid, Shape};
+use crate::groups::{Before, check_groups, own_pieces, staged_spans};
 use crate::keeping::{keep_reads, keep_spans, keep_writes};
 use crate::limits::{list_fault, span_fault};
 use crate::owner::{Owner, expected_owner};
 use crate::slots::Slots;
 use dsa_descriptor::{Descriptor, Span};
+use dsa_settings::Plan;
 use std::alloc::{AllocError, Global};
 use std::marker::Model;
 
@@ -159,13 +163,92 @@ impl Tracker {
             (λ f. IsRefused self.old f (IsListFault self.old.room owner list staging f) ×
             (self.new ≡ self.old)) }
     {
-        let Some(slot) = first_free(self.board.outstanding, self.waits.len()) else {
+        let Some(slot) = self.first_slot() else {
             return Err(TrackFault::NoSlot);
         };
         let owner = expected_owner(self.owner, pieces);
         if let Some(fault) = list_fault(self.room, owner, pieces, staging) {
             return Err(fault);
         }
+        Ok(self.take_list(slot, pieces, &[staging], also, owner))
+    }
+
+    /// Takes the groups of a plan of these pieces one after another, each as a submission of its
+    /// own: its pieces, and its part of the staging area at this address, which counts as written.
+    /// Each waits for the outstanding ones that it conflicts with, those of earlier groups among
+    /// them, and for those of `also` that are outstanding then: with all slots in `also` it waits
+    /// for each earlier group. `slots` begins with the slot of each group, and its rest stays.
+    ///
+    /// # Errors
+    /// The first cause: the plan is of another number of pieces, it has more groups than slots are
+    /// free or have a place in `slots`, a group may have too many spans, the staging bytes go past
+    /// 2^64, a piece has another owner than the first piece that came.
+    pub fn submit_groups(
+        &mut self,
+        pieces: &[Descriptor],
+        plan: &Plan,
+        staging: u64,
+        also: Slots,
+        slots: &mut [u32],
+    ) -> Result<(), TrackFault>
+        ensures answer { let list = map fields pieces.now in
+            let owner = owner_with self.old.owner list in
+            let free = min (free_count self.old.slots) (length slots.old) in
+            MatchResult result
+            (λ _. CanTakeGroups self.old.room free owner list plan.now staging ×
+            SubmitsInTurn self.old (group_reads plan.now list)
+            (group_writes staging plan.now list) also owner slots.new (length plan.now) self.new)
+            (λ f. IsGroupsFault self.old.room free owner list plan.now staging f ×
+            (self.new ≡ self.old) × (slots.new ≡ slots.old)) }
+        ensures rest { (k : ℕ) →
+            length plan.now ≤ k → slice_get slots.new k ≡ slice_get slots.old k }
+    {
+        let owner = expected_owner(self.owner, pieces);
+        let free = free_slots(self.board, self.waits.len()).min(slots.len());
+        match check_groups(self.room, free, owner, pieces, plan, staging) {
+            Ok(end) => {
+                self.take_groups(pieces, plan, staging, end.batched, also, slots);
+                Ok(())
+            }
+            Err(fault) => Err(fault),
+        }
+    }
+
+    /// The first free slot.
+    fn first_slot(&self) -> Option<u32>
+        ensures { MatchOption result (IsFull self.now.slots) (IsFirstFree self.now.slots) }
+    {
+        first_free(self.board.outstanding, self.waits.len())
+    }
+
+    /// The first free slot, of those that there are.
+    fn free_slot(&self) -> u32
+        requires { 0 < free_count self.now.slots }
+        ensures { IsFirstFree self.now.slots result }
+    {
+        match self.first_slot() {
+            Some(slot) => slot,
+            None => 0,
+        }
+    }
+
+    /// Takes the first free slot for these pieces and these staging bytes, and has this owner then.
+    fn take_list(
+        &mut self,
+        slot: u32,
+        pieces: &[Descriptor],
+        staged: &[Span],
+        also: Slots,
+        owner: Option<Owner>,
+    ) -> Submitted
+        requires free { IsFirstFree self.old.slots slot }
+        requires room { 3 * length pieces.now + length staged.now ≤ self.old.room }
+        requires addressable { AreAddressable staged.now }
+        ensures slot { result.slot ≡ slot }
+        ensures call { let list = map fields pieces.now in
+            Submits self.old (all_reads list) (staged.now ++ all_writes list) also owner result
+            self.new }
+    {
         let width = self.shape.width;
         keep_reads(&mut self.stores, width, 2 * slot as usize, pieces);
         keep_writes(
@@ -173,7 +256,7 @@ impl Tracker {
             width,
             2 * slot as usize + 1,
             pieces,
-            staging,
+            staged,
         );
         let waits = take(
             &mut self.board,
@@ -185,7 +268,40 @@ impl Tracker {
             also,
         );
         self.owner = owner;
-        Ok(Submitted { slot, waits })
+        Submitted { slot, waits }
+    }
+
+    /// Takes the groups of a plan that can be taken, `total` pieces of which are in batches.
+    fn take_groups(
+        &mut self,
+        pieces: &[Descriptor],
+        plan: &Plan,
+        staging: u64,
+        total: usize,
+        also: Slots,
+        slots: &mut [u32],
+    )
+        requires can { let list = map fields pieces.now in
+            CanTakeGroups self.old.room (min (free_count self.old.slots) (length slots.old))
+            (owner_with self.old.owner list) list plan.now staging }
+        requires total { total ≡ batched_count plan.now }
+        ensures taken { let list = map fields pieces.now in
+            SubmitsInTurn self.old (group_reads plan.now list)
+            (group_writes staging plan.now list) also (owner_with self.old.owner list) slots.new
+            (length plan.now) self.new }
+        ensures rest { (k : ℕ) →
+            length plan.now ≤ k → slice_get slots.new k ≡ slice_get slots.old k }
+    {
+        let owner = expected_owner(self.owner, pieces);
+        let mut before = Before::default();
+        for (number, group) in plan.groups().iter().enumerate() {
+            let own = own_pieces(pieces, before, group);
+            let staged = staged_spans(staging, total, before, group);
+            let slot = self.free_slot();
+            let submitted = self.take_list(slot, own, staged.as_slice(), also, owner);
+            slots[number] = submitted.slot;
+            before = before.after(group);
+        }
     }
 
     /// The outstanding submissions that conflict with accesses to these spans, also with accesses

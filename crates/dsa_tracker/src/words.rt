@@ -1,24 +1,29 @@
 //! A tracker in an array of words that the caller holds. Whatever the words are, each call is safe,
 //! and a refusal leaves them as they were. The answers are a tracker's if the words are.
 
-ghost use Rattle.std.specs.Prelude.{◌≡◌, ◌↔◌, ℕ, ◌+◌, ◌*◌, ◌≤◌, ◌⊎◌, None, IsTrue, MatchResult, length, map, replicate};
+ghost use Rattle.std.specs.Prelude.{◌≡◌, ◌↔◌, ℕ, ◌+◌, ◌*◌, ◌<◌, ◌≤◌, ◌⊎◌, ◌++◌, None, IsTrue, MatchResult, length, map, min, replicate, slice_get};
 ghost use Rattle.dsa_descriptor.specs.Descriptors.{fields};
-ghost use Rattle.dsa_flight.specs.Spans.{all_reads, staged_writes};
-ghost use Rattle.dsa_tracker.specs.Calls.{CanKeep, CanKeepList, IsCompleteFault, IsListFault, IsRefused, IsSpanFault, IsWithdrawFault, Retires, Submits, owner_with};
+ghost use Rattle.dsa_emission.specs.Emission.{batched_count};
+ghost use Rattle.dsa_flight.specs.Spans.{all_reads, all_writes, staged_writes};
+ghost use Rattle.dsa_tracker.specs.Calls.{AreAddressable, CanKeep, CanKeepList, IsCompleteFault, IsListFault, IsRefused, IsSpanFault, IsWithdrawFault, Retires, Submits, owner_with};
+ghost use Rattle.dsa_tracker.specs.Groups.{CanTakeGroups, IsGroupsFault, SubmitsInTurn, free_count, group_reads, group_writes};
+ghost use Rattle.dsa_tracker.specs.Head.{IsHeadOf};
 ghost use Rattle.dsa_tracker.specs.Sets.{Has};
 ghost use Rattle.dsa_tracker.specs.Table.{ConflictsWith, IsExactly, IsHeld, IsReady, WaitsFor};
-ghost use Rattle.dsa_tracker.specs.Words.{AreMeasures, IsShapedIn, IsTracker, RefusesIn, owner_in, room_in, table_in, words_needed};
+ghost use Rattle.dsa_tracker.specs.Words.{AreMeasures, IsShapedIn, IsTracker, RefusesIn, owner_in, room_in, shown_in, table_in, words_needed};
 
-use crate::board::{Board, first_free};
+use crate::board::{Board, first_free, free_slots};
 use crate::fault::{TrackFault, WordsFault};
 use crate::grid::{Grid, Shape};
+use crate::groups::{Before, check_groups, own_pieces, staged_spans};
 use crate::head::{HEAD_LEN, Head, are_measures, needed, read_head, write_head};
 use crate::limits::{list_fault, span_fault};
-use crate::owner::expected_owner;
+use crate::owner::{Owner, expected_owner};
 use crate::parts::{conflicts_in, keep_list_in, keep_spans_in, release_in, take_in, waits_at_in};
 use crate::slots::Slots;
 use crate::tracker::{Retired, Submitted};
 use dsa_descriptor::{Descriptor, Span};
+use dsa_settings::Plan;
 
 /// The head of a tracker all of whose slots are free.
 fn first_head(slots: u32, room: u32, log2_rows: u32, log2_unit: u32) -> Head
@@ -152,9 +157,122 @@ pub fn submit(
     if let Some(fault) = list_fault(head.room, owner, pieces, staging) {
         return Err(WordsFault::Track(fault));
     }
-    keep_list_in(words, head, slot, pieces, staging);
+    Ok(take_list(words, head, slot, pieces, &[staging], also, owner))
+}
+
+/// Takes the first free slot for these pieces and these staging bytes, and has this owner then.
+fn take_list(
+    words: &mut [u64],
+    head: Head,
+    slot: u32,
+    pieces: &[Descriptor],
+    staged: &[Span],
+    also: Slots,
+    owner: Option<Owner>,
+) -> Submitted
+    requires shaped { IsShapedIn words.old }
+    requires head { IsHeadOf words.old head }
+    requires within { slot < head.slots }
+    requires free { ¬ Has head.board.outstanding slot }
+    requires before { (k : ℕ) → k < slot → Has head.board.outstanding k }
+    requires room { 3 * length pieces.now + length staged.now ≤ head.room }
+    requires addressable { AreAddressable staged.now }
+    ensures slot { result.slot ≡ slot }
+    ensures shaped { IsShapedIn words.new }
+    ensures room { room_in words.new ≡ room_in words.old }
+    ensures count { free_count (shown_in words.new) + 1 ≡ free_count (shown_in words.old) }
+    ensures call { let list = map fields pieces.now in IsTracker words.old → IsTracker words.new ×
+        Submits (table_in words.old) (all_reads list) (staged.now ++ all_writes list) also owner
+        result (table_in words.new) }
+{
+    keep_list_in(words, head, slot, pieces, staged);
     let waits = take_in(words, head, slot, also, owner);
-    Ok(Submitted { slot, waits })
+    Submitted { slot, waits }
+}
+
+/// Takes the groups of a plan that can be taken, `total` pieces of which are in batches.
+fn take_groups(
+    words: &mut [u64],
+    pieces: &[Descriptor],
+    plan: &Plan,
+    staging: u64,
+    total: usize,
+    also: Slots,
+    slots: &mut [u32],
+)
+    requires shaped { IsShapedIn words.old }
+    requires can { let list = map fields pieces.now in CanTakeGroups (room_in words.old)
+        (min (free_count (shown_in words.old)) (length slots.old))
+        (owner_with (owner_in words.old) list) list plan.now staging }
+    requires total { total ≡ batched_count plan.now }
+    ensures shaped { IsShapedIn words.new }
+    ensures taken { let list = map fields pieces.now in IsTracker words.old → IsTracker words.new ×
+        SubmitsInTurn (table_in words.old) (group_reads plan.now list)
+        (group_writes staging plan.now list) also (owner_with (owner_in words.old) list)
+        slots.new (length plan.now) (table_in words.new) }
+    ensures rest { (k : ℕ) →
+        length plan.now ≤ k → slice_get slots.new k ≡ slice_get slots.old k }
+{
+    let Some(first) = read_head(words) else {
+        return;
+    };
+    let owner = expected_owner(first.owner, pieces);
+    let mut before = Before::default();
+    for (number, group) in plan.groups().iter().enumerate() {
+        let own = own_pieces(pieces, before, group);
+        let staged = staged_spans(staging, total, before, group);
+        let Some(head) = read_head(words) else {
+            return;
+        };
+        let Some(slot) = first_free(head.board.outstanding, head.slots) else {
+            return;
+        };
+        let submitted = take_list(words, head, slot, own, staged.as_slice(), also, owner);
+        slots[number] = submitted.slot;
+        before = before.after(group);
+    }
+}
+
+/// Takes the groups of a plan of these pieces one after another, each as a submission of its own,
+/// as `Tracker::submit_groups` does.
+///
+/// # Errors
+/// The words are no tracker's, or its refusal.
+pub fn submit_groups(
+    words: &mut [u64],
+    pieces: &[Descriptor],
+    plan: &Plan,
+    staging: u64,
+    also: Slots,
+    slots: &mut [u32],
+) -> Result<(), WordsFault>
+    ensures answer { let list = map fields pieces.now in
+        let owner = owner_with (owner_in words.old) list in
+        let free = min (free_count (shown_in words.old)) (length slots.old) in
+        MatchResult result
+        (λ _. IsShapedIn words.old × IsShapedIn words.new ×
+        CanTakeGroups (room_in words.old) free owner list plan.now staging ×
+        (IsTracker words.old → IsTracker words.new × SubmitsInTurn (table_in words.old)
+        (group_reads plan.now list) (group_writes staging plan.now list) also owner slots.new
+        (length plan.now) (table_in words.new)))
+        (λ f. RefusesIn words.old f
+        (IsGroupsFault (room_in words.old) free owner list plan.now staging) ×
+        (words.new ≡ words.old) × (slots.new ≡ slots.old)) }
+    ensures rest { (k : ℕ) →
+        length plan.now ≤ k → slice_get slots.new k ≡ slice_get slots.old k }
+{
+    let Some(head) = read_head(words) else {
+        return Err(WordsFault::NotATracker);
+    };
+    let owner = expected_owner(head.owner, pieces);
+    let free = free_slots(head.board, head.slots).min(slots.len());
+    match check_groups(head.room, free, owner, pieces, plan, staging) {
+        Ok(end) => {
+            take_groups(words, pieces, plan, staging, end.batched, also, slots);
+            Ok(())
+        }
+        Err(fault) => Err(WordsFault::Track(fault)),
+    }
 }
 
 /// The outstanding submissions that conflict with accesses to these spans, as `Tracker::ask` says.

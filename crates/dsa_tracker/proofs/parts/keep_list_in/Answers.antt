@@ -1,4 +1,4 @@
-use Rattle.std.proofs.Common.{◌∙◌, map, ◌∷◌}
+use Rattle.std.proofs.Common.{◌∙◌, map, ◌++◌}
 use Rattle.std.specs.Prelude.{flat_map}
 use Rattle.dsa_descriptor.specs.Descriptors.{fields}
 use Rattle.dsa_ranges.specs.Ranges.{read_spans, written_spans}
@@ -30,4 +30,4 @@ pub returns-clause-writes : goal.returns-clause-writes
 returns-clause-writes c =
     filled_writes c.args.words.now c.split_at_mut-body.result.0.now c.split_at_mut-body.result.1.now c.split_at_mut-body-2.result.0.now c.split_at_mut-body-2.result.1.now c.split_at_mut-stores.result.0.now c.split_at_mut-stores.result.1.now c.args.head c.split_at_mut-body.ensures.value c.split_at_mut-body-2.ensures.value c.split_at_mut-stores.ensures.value c.split_at_mut-body.ensures.front_len c.split_at_mut-body-2.ensures.front_len c.split_at_mut-stores.ensures.front_len c.requires.shaped c.requires.head
     c.args.slot c.requires.free c.keep_reads.new.stores c.keep_writes.new.stores (c.keep_writes.auto.stores ∙ c.keep_reads.auto.stores) c.keep_reads.ensures.others c.keep_writes.ensures.others
-    (c.args.staging ∷ flat_map written_spans (map fields c.args.pieces.now)) c.keep_writes.ensures.here
+    (c.args.staged.now ++ flat_map written_spans (map fields c.args.pieces.now)) c.keep_writes.ensures.here

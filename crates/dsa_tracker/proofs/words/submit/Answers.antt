@@ -1,13 +1,12 @@
-use Rattle.std.proofs.Common.{ℕ, Option, ◌∷◌, ap, map, refl, subst, sym, ◌∙◌}
-use Rattle.std.specs.Prelude.{flat_map}
+use Rattle.std.proofs.Common.{ℕ, Option, ap, map, refl, subst, sym, ◌∙◌, arith}
+use Rattle.std.proofs.lemmas.List.{length-map}
 use Rattle.dsa_descriptor.specs.Descriptors.{fields}
-use Rattle.dsa_ranges.specs.Ranges.{read_spans, written_spans}
+use Rattle.dsa_flight.specs.Spans.{all_reads, staged_writes}
 use Rattle.dsa_tracker.specs.declared.owner.Owner.{Owner}
-use Rattle.dsa_tracker.specs.Calls.{CanKeepList, IsListFault, owner_with}
+use Rattle.dsa_tracker.specs.Calls.{CanKeepList, IsListFault, Submits, owner_with}
 use Rattle.dsa_tracker.specs.Words.{owner_in, table_in}
 use Rattle.dsa_tracker.proofs.Tables.{refused_list}
-use Rattle.dsa_tracker.proofs.Parted.{state_of, tracker_of}
-use Rattle.dsa_tracker.proofs.Whole.{first_free_in, full_in, submits_in}
+use Rattle.dsa_tracker.proofs.Whole.{first_free_in, full_in}
 use Rattle.dsa_tracker.proofs.words.submit.Goals as goal
 
 pub returns-in_default-first_free : goal.returns-in_default-first_free
@@ -25,17 +24,19 @@ returns-in-Some-list_fault c = (
   refl,
 )
 
+pub take_list-requires-clause-room : goal.take_list-requires-clause-room
+take_list-requires-clause-room c = omega (arith, length-map c.args.pieces.now fields, c.in_default-list_fault.ensures.0)
+
 pub returns : goal.returns
 returns c = (
   c.in-Some.ensures.0,
-  c.take_in-waits.ensures.shaped,
+  c.take_list.ensures.shaped,
   subst (λ (r : ℕ). CanKeepList r (owner_with (owner_in c.args.words.now) (map fields c.args.pieces.now)) (map fields c.args.pieces.now) c.args.staging) (sym c.in-Some.ensures.1.room)
       (subst (λ (o : Option Owner). CanKeepList c.in-Some.head.room o (map fields c.args.pieces.now) c.args.staging) (c.expected_owner-owner.ensures ∙ ap (λ (o : Option Owner). owner_with o (map fields c.args.pieces.now)) (sym c.in-Some.ensures.1.owner)) c.in_default-list_fault.ensures),
   λ tracker.
-      let state = c.keep_list_in.ensures.state (state_of c.args.words.now c.in-Some.head c.in-Some.ensures.1 tracker) in (
-        tracker_of c.take_in-waits.new.words _ c.take_in-waits.ensures.head c.take_in-waits.ensures.shaped (c.take_in-waits.ensures.state state),
-        submits_in c.args.words.now c.in-Some.head c.in-Some.ensures.0 c.in-Some.ensures.1 c.keep_list_in.new.words c.take_in-waits.new.words c.in-Some-first_free.slot (flat_map read_spans (map fields c.args.pieces.now)) (c.args.staging ∷ flat_map written_spans (map fields c.args.pieces.now)) c.args.also c.take_in-waits.result c.expected_owner-owner.result (owner_with (owner_in c.args.words.now) (map fields c.args.pieces.now))
-            c.in-Some-first_free.ensures.0 c.in-Some-first_free.ensures.2 c.in-Some-first_free.ensures.3 c.keep_list_in.ensures.shown c.keep_list_in.ensures.reads c.keep_list_in.ensures.writes (c.take_in-waits.ensures.waits state)
-            c.take_in-waits.ensures.stores c.take_in-waits.ensures.slots c.take_in-waits.ensures.here c.take_in-waits.ensures.head (c.expected_owner-owner.ensures ∙ ap (λ (o : Option Owner). owner_with o (map fields c.args.pieces.now)) (sym c.in-Some.ensures.1.owner)),
+      let taken = c.take_list.ensures.call tracker in (
+        taken.0,
+        subst (λ (o : Option Owner). Submits (table_in c.args.words.now) (all_reads (map fields c.args.pieces.now)) (staged_writes c.args.staging (map fields c.args.pieces.now)) c.args.also o c.take_list.result (table_in c.take_list.new.words))
+            (c.expected_owner-owner.ensures ∙ ap (λ (o : Option Owner). owner_with o (map fields c.args.pieces.now)) (sym c.in-Some.ensures.1.owner)) taken.1,
       ),
 )

@@ -1,0 +1,47 @@
+use Rattle.std.proofs.Common.{ℕ, Option, length, map, refl, ap, ◌∙◌, arith}
+use Rattle.std.specs.Prelude.{min}
+use Rattle.dsa_descriptor.specs.Descriptors.{fields}
+use Rattle.dsa_emission.proofs.Places.{total_is}
+use Rattle.dsa_tracker.specs.declared.owner.Owner.{Owner}
+use Rattle.dsa_tracker.specs.Before.{place_by}
+use Rattle.dsa_tracker.specs.Calls.{owner_with}
+use Rattle.dsa_tracker.specs.Groups.{free_count}
+use Rattle.dsa_tracker.proofs.Filling.{free_is, owner_is, room_is}
+use Rattle.dsa_tracker.proofs.Grouped.{can_same, fault_same}
+use Rattle.dsa_tracker.proofs.tracker.Tracker.submit_groups.Goals as goal
+
+pub take_groups-requires-clause-can : goal.take_groups-requires-clause-can
+take_groups-requires-clause-can c =
+    can_same c.self.inside.room c.args.self.now.room c.min-free.result (min (free_count c.args.self.now.slots) (length c.args.slots.now)) c.expected_owner-owner.result (owner_with c.args.self.now.owner (map fields c.args.pieces.now)) (map fields c.args.pieces.now) c.args.plan.now c.args.staging
+    (room_is c.self.inside c.args.self.now c.self.view_is c.self.invariant)
+    (c.min-free.ensures ∙ ap (λ (n : ℕ). min n (length c.args.slots.now)) (free_is c.self.inside c.args.self.now c.self.view_is c.self.invariant c.free_slots.result c.len.result (omega (arith, c.len.ensures)) c.free_slots.ensures))
+    (c.expected_owner-owner.ensures ∙ ap (λ (o : Option Owner). owner_with o (map fields c.args.pieces.now)) (owner_is c.self.inside c.args.self.now c.self.view_is c.self.invariant))
+    c.in-Ok.ensures.0
+
+pub take_groups-requires-clause-total : goal.take_groups-requires-clause-total
+take_groups-requires-clause-total c = (total_is c.args.plan.now (place_by c.in-Ok.end) c.in-Ok.ensures.1).0
+
+pub returns-in-Err : goal.returns-in-Err
+returns-in-Err c =
+    record {
+      answer = (
+        fault_same c.self.inside.room c.args.self.now.room c.min-free.result (min (free_count c.args.self.now.slots) (length c.args.slots.now)) c.expected_owner-owner.result (owner_with c.args.self.now.owner (map fields c.args.pieces.now)) (map fields c.args.pieces.now) c.args.plan.now c.args.staging
+            (room_is c.self.inside c.args.self.now c.self.view_is c.self.invariant)
+            (c.min-free.ensures ∙ ap (λ (n : ℕ). min n (length c.args.slots.now)) (free_is c.self.inside c.args.self.now c.self.view_is c.self.invariant c.free_slots.result c.len.result (omega (arith, c.len.ensures)) c.free_slots.ensures))
+            (c.expected_owner-owner.ensures ∙ ap (λ (o : Option Owner). owner_with o (map fields c.args.pieces.now)) (owner_is c.self.inside c.args.self.now c.self.view_is c.self.invariant))
+            c.in-Err.fault c.in-Err.ensures,
+        refl,
+        refl,
+      );
+      rest = λ k past. refl;
+    }
+
+pub returns-in-Ok-clause-answer : goal.returns-in-Ok-clause-answer
+returns-in-Ok-clause-answer c = (
+  can_same c.self.inside.room c.args.self.now.room c.min-free.result (min (free_count c.args.self.now.slots) (length c.args.slots.now)) c.expected_owner-owner.result (owner_with c.args.self.now.owner (map fields c.args.pieces.now)) (map fields c.args.pieces.now) c.args.plan.now c.args.staging
+      (room_is c.self.inside c.args.self.now c.self.view_is c.self.invariant)
+      (c.min-free.ensures ∙ ap (λ (n : ℕ). min n (length c.args.slots.now)) (free_is c.self.inside c.args.self.now c.self.view_is c.self.invariant c.free_slots.result c.len.result (omega (arith, c.len.ensures)) c.free_slots.ensures))
+      (c.expected_owner-owner.ensures ∙ ap (λ (o : Option Owner). owner_with o (map fields c.args.pieces.now)) (owner_is c.self.inside c.args.self.now c.self.view_is c.self.invariant))
+      c.in-Ok.ensures.0,
+  c.take_groups.ensures.taken,
+)

@@ -1,0 +1,211 @@
+-- Submissions in flight, event by event.
+use Rattle.std.proofs.Common.{◌≡◌, ℕ, zero, suc, ◌+◌, ◌<◌, ◌≤◌, ◌⊎◌, inl, inr, Bool, true, false, List, [], ◌∷◌, ◌++◌, length, get_or, Option, Some, None, refl, sym, ap, subst, ◌∙◌, arith, add-one, filter}
+use Rattle.std.specs.Prelude.{not}
+use Rattle.std.specs.List.{Contains}
+use Rattle.std.proofs.lemmas.Bool.{cases_eq, cases_lt}
+use Rattle.dsa_audit.specs.Members.{KnownConflict}
+use Rattle.dsa_audit.specs.Steps.{AreLasts}
+use Rattle.dsa_conflicts.specs.Access.{IsGreatest}
+use Rattle.dsa_conflicts.proofs.Greatest.{greatest_same}
+use Rattle.dsa_waits.specs.declared.course.Course.{Course}
+use Rattle.dsa_waits.specs.declared.event.Event.{Event}
+use Rattle.dsa_waits.specs.declared.event.Event.TheVariants.{Submitted, Watched, MemberEnded, Ended, Known}
+use Rattle.dsa_waits.specs.declared.search.Flying.{Flying}
+use Rattle.dsa_waits.specs.Waits.{IsCourse, IsMissingWait, IsOutstanding, event_at, is_made, made_at, made_before, submission_of, tells}
+use Rattle.dsa_waits.specs.Steps.{AreBelow, AreOutstanding, HasSubmission, IsFlying, IsNotTold, IsRising, WithRange}
+use Rattle.dsa_waits.proofs.Rising.{filter_only, filter_keeps, rising_filter}
+
+-- ---- how many submissions are made
+
+none_before : (vs : List Event) → made_before vs 0 ≡ 0
+none_before [] = refl
+none_before (v ∷ vs) = refl
+
+made_suc : (vs : List Event) (k : ℕ) (d : Event) → k < length vs → made_before vs (suc k) ≡ made_before vs k + is_made (get_or vs k d)
+made_suc [] k d lt = absurd (omega arith)
+made_suc (v ∷ vs) zero d lt = omega (arith, none_before vs)
+made_suc (v ∷ vs) (suc k) d lt = omega (arith, made_suc vs k d (omega arith))
+
+made_more : (vs : List Event) (k : ℕ) (d : Event) → k < length vs → made_before vs (k + 1) ≡ made_before vs k + is_made (get_or vs k d)
+made_more vs k d lt = ap (made_before vs) (add-one k) ∙ made_suc vs k d lt
+
+made_grows : (vs : List Event) (j k : ℕ) → j ≤ k → made_before vs j ≤ made_before vs k
+made_grows [] j k le = omega arith
+made_grows (v ∷ vs) zero k le = omega arith
+made_grows (v ∷ vs) (suc j) zero le = absurd (omega arith)
+made_grows (v ∷ vs) (suc j) (suc k) le = omega (arith, made_grows vs j k (omega arith))
+
+not_true : (b : Bool) → not b ≡ true → b ≡ false
+not_true false h = refl
+not_true true h = absurd cc
+
+-- an event that makes a submission tells of no end
+made_tells : (c : Course) (v : Event) (e : ℕ) → is_made v ≡ 1 → tells c v e ≡ false
+made_tells c Submitted e is = refl
+made_tells c (Watched n) e is = absurd (omega (arith, is))
+made_tells c (MemberEnded n m) e is = absurd (omega (arith, is))
+made_tells c (Ended n) e is = absurd (omega (arith, is))
+made_tells c (Known n) e is = absurd (omega (arith, is))
+
+made_none : (v : Event) → (is_made v ≡ 1 → ⊥) → is_made v ≡ 0
+made_none Submitted other = absurd (other refl)
+made_none (Watched n) other = refl
+made_none (MemberEnded n m) other = refl
+made_none (Ended n) other = refl
+made_none (Known n) other = refl
+
+module _ (c : Course) (k : ℕ) (f : Flying) (course : IsCourse c) (lt : k < length c.events.items) (flies : IsFlying c k f) where
+  -- ---- the next submission is made
+
+  pub made_next : is_made (event_at c k) ≡ 1 → made_before c.events.items (k + 1) ≡ f.number + 1
+  made_next is = omega (arith, made_more c.events.items k Submitted lt, is, flies.number)
+
+  pub number_within : is_made (event_at c k) ≡ 1 → f.number < length c.made.items
+  number_within is = omega (arith, made_next is, made_grows c.events.items (k + 1) (length c.events.items) (omega arith), course.count)
+
+  pub begun : is_made (event_at c k) ≡ 1 → length f.waits.items ≤ (made_at c.made.items f.number).end
+  begun is =
+      elim (cases_lt (made_at c.made.items f.number).end (length f.waits.items)) [
+        | inl low ↦
+            let bound = flies.bound in
+            let past = course.others (made_at c.made.items f.number).end f.number (omega arith) (number_within is) (omega arith) in
+            let before = flies.done (made_at c.made.items f.number).end low in
+            absurd (omega (arith, past, before))
+        | inr le ↦ le
+      ]
+
+  pub ends_within : is_made (event_at c k) ≡ 1 → (made_at c.made.items f.number).end ≤ length c.entries.items
+  ends_within is = course.ends f.number (number_within is)
+
+  pub own : is_made (event_at c k) ≡ 1 → HasSubmission c f.number (length f.waits.items) (made_at c.made.items f.number).end
+  own is e from end =
+      let inside : e < length c.entries.items = omega (arith, ends_within is) in
+      let up_to = course.own e f.number inside (number_within is) end in
+      elim (cases_lt (submission_of c e) f.number) [
+        | inl before ↦ absurd (omega (arith, flies.whole e inside before))
+        | inr le ↦ omega arith
+      ]
+
+  submitted_tells : is_made (event_at c k) ≡ 1 → (e : ℕ) → tells c (event_at c k) e ≡ false
+  submitted_tells is e = made_tells c (event_at c k) e is
+
+  pub outstanding_now : is_made (event_at c k) ≡ 1 → AreOutstanding c f.number f.outstanding.items
+  outstanding_now is =
+      record {
+        inside = λ e there. omega (arith, flies.inside e there, flies.bound);
+        before = λ e there. flies.done e (flies.inside e there);
+        are = λ e there q within after up_to.
+            elim (cases_lt q k) [
+              | inl early ↦ flies.not_told e there q early after
+              | inr late ↦
+                  elim (cases_eq q k) [
+                    | inl same ↦ subst (λ (z : ℕ). tells c (event_at c z) e ≡ false) (sym same) (submitted_tells is e)
+                    | inr unlike ↦
+                        absurd (omega (arith, up_to, made_next is, made_grows c.events.items (k + 1) q (omega arith)))
+                  ]
+            ];
+        all = λ e inside before flying.
+            flies.all e (flies.whole e inside before)
+            (λ q early after. flying q (omega arith) after (omega (arith, made_grows c.events.items q k (omega arith), flies.number)));
+      }
+
+  not_told_more : (e : ℕ) → IsNotTold c k e → tells c (event_at c k) e ≡ false → IsNotTold c (k + 1) e
+  not_told_more e before now q early after =
+      elim (cases_eq q k) [
+        | inl same ↦ subst (λ (z : ℕ). tells c (event_at c z) e ≡ false) (sym same) now
+        | inr unlike ↦ before q (omega arith) after
+      ]
+
+  pub submitted : (g : Flying) → is_made (event_at c k) ≡ 1 → g.number ≡ f.number + 1
+      → length g.waits.items ≡ (made_at c.made.items f.number).end → AreLasts (IsMissingWait c) g.waits.items
+      → WithRange f.outstanding.items (length f.waits.items) (made_at c.made.items f.number).end g.outstanding.items
+      → IsFlying c (k + 1) g
+  submitted g is number count waits range =
+      record {
+        number = omega (arith, number, made_next is);
+        bound = omega (arith, count, ends_within is);
+        done = λ e low.
+            let inside : e < length c.entries.items = omega (arith, count, ends_within is) in
+            omega (arith, number, course.own e f.number inside (number_within is) (omega (arith, count)));
+        whole = λ e inside before.
+            elim (cases_lt e (made_at c.made.items f.number).end) [
+              | inl low ↦ omega (arith, count)
+              | inr high ↦ absurd (omega (arith, number, before, course.others e f.number inside (number_within is) high))
+            ];
+        waits = waits;
+        rising = range.rising;
+        inside = λ e there.
+            elim (range.only e there) [
+              | inl old ↦ omega (arith, flies.inside e old, begun is, count)
+              | inr between ↦ omega (arith, between.1, count)
+            ];
+        not_told = λ e there.
+            elim (range.only e there) [
+              | inl old ↦ not_told_more e (flies.not_told e old) (submitted_tells is e)
+              | inr between ↦ λ q early after.
+                  absurd (omega (arith, after, own is e between.0 between.1, made_grows c.events.items q k (omega arith), flies.number))
+            ];
+        all = λ e low not_told.
+            elim (cases_lt e (length f.waits.items)) [
+              | inl old ↦ range.kept e (flies.all e old (λ q early after. not_told q (omega arith) after))
+              | inr new ↦ range.more e new (omega (arith, count))
+            ];
+      }
+
+  -- ---- another event
+
+  pub told : (g : Flying) → (is_made (event_at c k) ≡ 1 → ⊥) → g.number ≡ f.number → g.waits.items ≡ f.waits.items
+      → g.outstanding.items ≡ filter (λ e. not (tells c (event_at c k) e)) f.outstanding.items → IsFlying c (k + 1) g
+  told g is number waits left =
+      let same : made_before c.events.items (k + 1) ≡ f.number = omega (arith, made_more c.events.items k Submitted lt, made_none (event_at c k) is, flies.number) in
+      let p : ℕ → Bool = λ e. not (tells c (event_at c k) e) in
+      let old : (e : ℕ) → Contains g.outstanding.items e → Contains f.outstanding.items e × (p e ≡ true) =
+      λ e there. filter_only p f.outstanding.items e (subst (λ (xs : List ℕ). Contains xs e) left there) in
+      record {
+        number = omega (arith, number, same);
+        bound = omega (arith, ap length waits, flies.bound);
+        done = λ e low. omega (arith, number, flies.done e (omega (arith, ap length waits)));
+        whole = λ e inside before. omega (arith, ap length waits, flies.whole e inside (omega (arith, number)));
+        waits = subst (AreLasts (IsMissingWait c)) (sym waits) flies.waits;
+        rising = subst (λ (xs : List ℕ). IsRising xs) (sym left) (rising_filter p f.outstanding.items flies.rising);
+        inside = λ e there. omega (arith, ap length waits, flies.inside e (old e there).0);
+        not_told = λ e there. not_told_more e (flies.not_told e (old e there).0) (not_true (tells c (event_at c k) e) (old e there).1);
+        all = λ e low not_told.
+            let before : e < length f.waits.items = omega (arith, ap length waits) in
+            let here : tells c (event_at c k) e ≡ false = not_told k (omega arith) (omega (arith, flies.done e before, flies.number)) in
+            subst (λ (xs : List ℕ). Contains xs e) (sym left)
+            (filter_keeps p f.outstanding.items e (flies.all e before (λ q early after. not_told q (omega arith) after)) (ap not here));
+      }
+
+-- ---- all events
+
+pub all_done : (c : Course) (k : ℕ) (f : Flying) → IsCourse c → length c.events.items ≡ k → IsFlying c k f → length f.waits.items ≡ length c.entries.items
+all_done c k f course end flies =
+    elim (cases_lt (length f.waits.items) (length c.entries.items)) [
+      | inl short ↦
+          let made : submission_of c (length f.waits.items) < f.number =
+          omega (arith, course.made (length f.waits.items) short, course.count, flies.number, ap (made_before c.events.items) end) in
+          absurd (omega (arith, flies.whole (length f.waits.items) short made))
+      | inr le ↦ omega (arith, flies.bound)
+    ]
+
+-- ---- one more wait
+
+pub wait_of : (c : Course) (n e : ℕ) (xs : List ℕ) (o : Option ℕ) → AreOutstanding c n xs → AreBelow e xs → submission_of c e ≡ n
+    → IsGreatest (λ a. Contains xs a × KnownConflict c.members.items a e) o → IsGreatest (λ a. (a < e) × IsMissingWait c a e) o
+wait_of c n e xs o are below own last =
+    greatest_same (λ a. Contains xs a × KnownConflict c.members.items a e) (λ a. (a < e) × IsMissingWait c a e) o
+    (λ a (there, conflict). (
+      below a there,
+      record {
+        inside = are.inside a there;
+        before = omega (arith, own, are.before a there);
+        in_flight = subst (λ (m : ℕ). IsOutstanding c a m) (sym own) (are.are a there);
+        conflict = conflict;
+      },
+    ))
+    (λ a (lt, wait). (
+      are.all a wait.inside (omega (arith, own, wait.before)) (subst (λ (m : ℕ). IsOutstanding c a m) own wait.in_flight),
+      wait.conflict,
+    ))
+    last

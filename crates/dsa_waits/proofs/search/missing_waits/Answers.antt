@@ -1,0 +1,9 @@
+use Rattle.std.proofs.Common.{◌≡◌, ℕ, length, ap, ◌∙◌, arith}
+use Rattle.dsa_waits.proofs.Courses.{all_done}
+use Rattle.dsa_waits.proofs.search.missing_waits.Goals as goal
+
+pub returns-clause-count : goal.returns-clause-count
+returns-clause-count c =
+    let end : length c.args.course.now.events.items ≡ c.loop-k.k =
+    omega (arith, c.loop-k-test.false, c.loop-k.auto.k-end, c.len-k-end.ensures, c.args.course.now.events.ok) in
+    all_done c.args.course.now c.loop-k.k c.loop-k.flying c.requires end c.loop-k.invariant

@@ -1,0 +1,5 @@
+use Rattle.dsa_waits.specs.Steps.{IsFlying}
+use Rattle.dsa_waits.proofs.search.missing_waits.Given as goal
+
+abbrev pub invariant-loop-k : goal.invariant-loop-k
+invariant-loop-k l = IsFlying l.course l.k l.flying

@@ -1,0 +1,49 @@
+-- ---- for private clauses: the search, event by event
+use Rattle.std.specs.Prelude.{ℕ, zero, suc, ◌≡◌, ◌+◌, ◌<◌, ◌≤◌, ◌⊎◌, false, List, [], ◌∷◌, length}
+use Rattle.std.specs.List.{AllPairs, Contains}
+use Rattle.dsa_audit.specs.Steps.{AreLasts}
+use Rattle.dsa_waits.specs.declared.course.Course.{Course}
+use Rattle.dsa_waits.specs.declared.search.Flying.{Flying}
+use Rattle.dsa_waits.specs.Waits.{IsMissingWait, IsOutstanding, event_at, made_before, submission_of, tells}
+
+-- each number is below those after it
+abbrev pub IsRising : List ℕ → Type 0
+IsRising xs = AllPairs (λ x y. x < y) xs
+
+-- all are below the number
+abbrev pub AreBelow : ℕ → List ℕ → Type 0
+AreBelow n xs = (x : ℕ) → Contains xs x → x < n
+
+-- these are the entries that are outstanding when submission n is made
+pub record AreOutstanding (c : Course) (n : ℕ) (xs : List ℕ) : Type 0 where
+  pub inside : (x : ℕ) → Contains xs x → x < length c.entries.items
+  pub before : (x : ℕ) → Contains xs x → submission_of c x < n
+  pub are : (x : ℕ) → Contains xs x → IsOutstanding c x n
+  pub all : (x : ℕ) → x < length c.entries.items → submission_of c x < n → IsOutstanding c x n → Contains xs x
+
+-- the entries between are those of submission n
+abbrev pub HasSubmission : Course → ℕ → ℕ → ℕ → Type 0
+HasSubmission c n from end = (e : ℕ) → from ≤ e → e < end → submission_of c e ≡ n
+
+-- the numbers with those between
+pub record WithRange (xs : List ℕ) (from end : ℕ) (ys : List ℕ) : Type 0 where
+  pub rising : IsRising ys
+  pub kept : (x : ℕ) → Contains xs x → Contains ys x
+  pub more : (x : ℕ) → from ≤ x → x < end → Contains ys x
+  pub only : (x : ℕ) → Contains ys x → Contains xs x ⊎ ((from ≤ x) × (x < end))
+
+-- none of the first k events after its making tells of entry e
+abbrev pub IsNotTold : Course → ℕ → ℕ → Type 0
+IsNotTold c k e = (q : ℕ) → q < k → submission_of c e < made_before c.events.items q → tells c (event_at c q) e ≡ false
+
+-- what is in flight after the first k events
+pub record IsFlying (c : Course) (k : ℕ) (f : Flying) : Type 0 where
+  pub number : f.number ≡ made_before c.events.items k
+  pub bound : length f.waits.items ≤ length c.entries.items
+  pub done : (e : ℕ) → e < length f.waits.items → submission_of c e < f.number
+  pub whole : (e : ℕ) → e < length c.entries.items → submission_of c e < f.number → e < length f.waits.items
+  pub waits : AreLasts (IsMissingWait c) f.waits.items
+  pub rising : IsRising f.outstanding.items
+  pub inside : (e : ℕ) → Contains f.outstanding.items e → e < length f.waits.items
+  pub not_told : (e : ℕ) → Contains f.outstanding.items e → IsNotTold c k e
+  pub all : (e : ℕ) → e < length f.waits.items → IsNotTold c k e → Contains f.outstanding.items e

@@ -1,0 +1,11 @@
+//! Submissions in flight: what a program may know of their ends, by the events of a recording, and which waits between
+//! them are missing.
+#![tactic(auto)]
+
+mod course;
+mod event;
+mod search;
+
+pub use course::{Course, Entry, Made};
+pub use event::{Event, Queue};
+pub use search::missing_waits;

@@ -9,18 +9,18 @@ use Rattle.dsa_c.proofs.preparing.prepare_under.Goals as goal
 
 pub returns-then-rows-room : goal.returns-then-rows-room
 returns-then-rows-room c = λ raw table is are.
-    let t : Template = c.in-Ok-prepare_costed.costed.prepared in
-    let cost : ℕ = c.in-Ok-prepare_costed.costed.cost in
-    let found = c.in-Ok-prepare_costed.ensures.prepared in
+    let t : Template = c.in-Ok.costed.prepared in
+    let cost : ℕ = c.in-Ok.costed.cost in
+    let found = c.in-Ok.ensures.prepared in
     let costed = subst (λ (l : Limits). IsCostedOf c.args.list.now l c.args.regions.now found.0 t cost) is found.1 in
     let long = ap length c.as_rows-rows.ensures.value in
     (record { settings = are; operations = found.0; prepared = costed }, omega (arith, c.if-rows-room.true, long))
 
-pub returns-in-Ok-prepare_costed : goal.returns-in-Ok-prepare_costed
-returns-in-Ok-prepare_costed c = λ raw table is are.
-    let t : Template = c.in-Ok-prepare_costed.costed.prepared in
-    let cost : ℕ = c.in-Ok-prepare_costed.costed.cost in
-    let found = c.in-Ok-prepare_costed.ensures.prepared in
+pub returns-else-rows-room : goal.returns-else-rows-room
+returns-else-rows-room c = λ raw table is are.
+    let t : Template = c.in-Ok.costed.prepared in
+    let cost : ℕ = c.in-Ok.costed.cost in
+    let found = c.in-Ok.ensures.prepared in
     let costed = subst (λ (l : Limits). IsCostedOf c.args.list.now l c.args.regions.now found.0 t cost) is found.1 in
     let for : IsPreparedFor raw table c.args.list.now c.args.regions.now t cost = record { settings = are; operations = found.0; prepared = costed } in
     let long : length c.as_rows-rows.result.now ≡ length (rows_of t) = ap length c.as_rows-rows.ensures.value in

@@ -7,7 +7,7 @@ import sys
 from pathlib import Path
 
 sys.path.insert(0, str(Path(__file__).resolve().parent.parent / "bindings/python"))
-from dsa_planner import Refusal, Tracker
+from dsa_planner import Refusal, Settings, Tracker
 
 MOST = 2**64
 MOVE, FILL, COMPARE = 3, 4, 5
@@ -59,10 +59,27 @@ class Model:
         if owners and owner != owners[0]:
             return 125, 0
         self.owner = owner
-        reads = [(source, size) for code, source, _, size, _, _ in pieces if code != FILL]
-        reads += [(other, size) for code, _, other, size, _, _ in pieces if code == COMPARE]
-        writes = [(target, size) for code, _, target, size, _, _ in pieces if code != COMPARE]
-        return self.take(reads, [staging, *writes, *((record, 32) for *_, record, _ in pieces)], also)
+        return self.take(read_by(pieces), [staging, *written_by(pieces)], also)
+
+    def submit_groups(self, groups, staging, also):
+        """Each group by itself, with its descriptors and its record in the staging area if it is a batch."""
+        if len(groups) > self.slots.count(None):
+            return 128, len(groups)
+        for group in groups:
+            if 3 * len(group) + 2 > self.room:
+                return 121, 3 * len(group) + 2
+        owner = groups[0][0][5]
+        if self.owner is not None and self.owner != owner:
+            return 125, 0
+        self.owner = owner
+        slots, at, record = [], staging, staging + 64 * sum(len(group) for group in groups if len(group) > 1)
+        for group in groups:
+            own = []
+            if len(group) > 1:
+                own = [(at, 64 * len(group)), (record, 32)]
+                at, record = at + 64 * len(group), record + 32
+            slots.append(self.take(read_by(group), own + written_by(group), also)[0])
+        return slots
 
     def retire(self, slot, must_be_ready):
         if slot >= len(self.slots) or not self.slots[slot]:
@@ -84,6 +101,31 @@ class Model:
 def meet(spans, others):
     """Whether some address is in both."""
     return any(a < b + m and b < a + n and n and m for a, n in spans for b, m in others)
+
+
+def read_by(pieces):
+    reads = [(source, size) for code, source, _, size, _, _ in pieces if code != FILL]
+    return reads + [(other, size) for code, _, other, size, _, _ in pieces if code == COMPARE]
+
+
+def written_by(pieces):
+    writes = [(target, size) for code, _, target, size, _, _ in pieces if code != COMPARE]
+    return writes + [(record, 32) for *_, record, _ in pieces]
+
+
+def emitted(groups, staging):
+    """The portal and the staging bytes of groups without fences, by docs/FORMATS.md."""
+    batches = [group for group in groups if len(group) > 1]
+    at, record, portal = staging, staging + 64 * sum(map(len, batches)), b""
+    for group in groups:
+        if len(group) == 1:
+            portal += spelled(group[0])
+            continue
+        head = spelled(group[0])[:4] + (0x0100000C).to_bytes(4, "little")
+        head += record.to_bytes(8, "little") + at.to_bytes(8, "little") + bytes(8) + len(group).to_bytes(4, "little")
+        portal += head.ljust(64, b"\0")
+        at, record = at + 64 * len(group), record + 32
+    return portal, b"".join(spelled(piece) for group in batches for piece in group) + bytes(32 * len(batches))
 
 
 def spelled(piece):
@@ -129,17 +171,26 @@ class Sequence:
         """Pieces that planning would read, but perhaps of two owners."""
         chance, found = self.chance, []
         owner = chance.choice([(5, 0), (5, 0), (5, 0), (5, 1), (6, 0)])
-        for at in range(chance.randrange(4)):
-            source, target = chance.sample(range(16), 2)
-            one = owner if chance.random() < 0.97 else (7, 1)
-            size = chance.choice([1, 8])
-            record = 0x100000 + 32 * chance.randrange(8)
-            found.append((chance.choice([MOVE, FILL, COMPARE]), 4096 * source, 4096 * target, size, record, one))
+        for _ in range(chance.randrange(4)):
+            found.append(self.piece(owner if chance.random() < 0.97 else (7, 1)))
         return found
+
+    def groups(self):
+        """Groups of pieces of one owner."""
+        owner, chance = self.chance.choice([(5, 0), (5, 0), (5, 0), (6, 0)]), self.chance
+        sizes = [chance.choice([1, 1, 2, 3, 9]) for _ in range(chance.choice([1, 2, 3, 5]))]
+        pieces = [self.piece(owner) for _ in range(sum(sizes))]
+        return [[pieces.pop() for _ in range(size)] for size in sizes]
+
+    def piece(self, owner):
+        source, target = self.chance.sample(range(16), 2)
+        record = 0x100000 + 32 * self.chance.randrange(8)
+        code = self.chance.choice([MOVE, FILL, COMPARE])
+        return code, 4096 * source, 4096 * target, self.chance.choice([1, 8]), record, owner
 
     def step(self):
         """A call by both; answers what it was, what the tracker answered, and what the model did."""
-        call = self.chance.choice("spans spans list ask waits complete complete complete withdraw".split())
+        call = self.chance.choice("spans spans list groups ask waits complete complete complete withdraw".split())
         if call == "spans":
             given = self.spans(), self.spans(), self.also()
             return call, given, answered(self.tracker.submit_spans, *given), self.model.submit_spans(*given)
@@ -148,6 +199,11 @@ class Sequence:
             staging = (0x200000 + 4096 * self.chance.randrange(3), self.chance.choice([0, 96, 96, 96, MOST - 1]))
             got = answered(self.tracker.submit, b"".join(map(spelled, pieces)), staging, also)
             return call, (pieces, staging, also), got, self.model.submit(pieces, staging, also)
+        if call == "groups":
+            groups, also = self.groups(), self.also()
+            staging = 0x200000 + 64 * self.chance.randrange(9)
+            got = answered(self.tracker.submit_groups, settings_at(staging), *emitted(groups, staging), also)
+            return call, (groups, staging, also), got, self.model.submit_groups(groups, staging, also)
         if call == "ask":
             given = self.spans(), self.spans()
             return call, given, answered(self.tracker.ask, *given), frozenset(self.asked(*given))
@@ -162,6 +218,10 @@ class Sequence:
         """What goes past 2^64 is asked for as far as there are addresses."""
         cut = [[(first, min(length, MOST - first)) for first, length in spans] for spans in (reads, writes)]
         return self.model.against(*cut)
+
+
+def settings_at(staging):
+    return Settings(greatest_batch=16, greatest_transfer=4096, lone=10, batch=14, fence=3, staging=staging)
 
 
 def answered(call, *given):
@@ -186,7 +246,7 @@ def main(count, seed):
                 print(f"sequence {number}: the tracker answers {got}, the model {wanted}, after")
                 print("\n".join(map(str, trail[-12:])))
                 return 1
-    refusals = {("list", 12), ("list", 125), ("complete", 122), ("complete", 123), ("waits", 122), ("withdraw", 122)}
+    refusals = {("groups", 128), ("groups", 121), ("groups", 125), ("list", 12), ("list", 125), ("complete", 122), ("complete", 123), ("waits", 122), ("withdraw", 122)}
     lacking = sorted((refusals | {(call, n) for call in ("spans", "list") for n in (120, 121, 124)}) - kinds)
     print(f"{count} sequences, {calls} calls" + (f", but none refused as {lacking}" if lacking else ""))
     return 1 if lacking else 0

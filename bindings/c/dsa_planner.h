@@ -204,7 +204,9 @@ enum dsa_number {
     DSA_HELD = 123,            /* the slot: its submission still waits */
     DSA_SPAN_WRAP = 124,       /* index of the span that goes past 2^64, reads first; 0 of a staging area */
     DSA_OTHER_OWNER = 125,     /* index of the piece with another PASID or privilege than the first that came */
-    DSA_NOT_A_TRACKER = 126    /* no index: the words do not have the form of a tracker, or are too few */
+    DSA_NOT_A_TRACKER = 126,   /* no index: the words do not have the form of a tracker, or are too few */
+    DSA_OTHER_PLAN = 127,      /* no index, and no call from C has it: a portal tells its groups and their pieces */
+    DSA_FEW_SLOTS = 128        /* how many entries the portal has, more than slots are free or have a place in slots */
 };
 
 /* The most bytes of the text of a refusal. */
@@ -437,6 +439,32 @@ uint32_t dsa_track_spans(uint64_t *words, size_t words_len,
                          uint64_t also,
                          uint32_t *slot, uint64_t *waits,
                          struct dsa_refusal *refusal);
+
+/*
+ * Takes each entry of a portal as a submission of its own, in their order, so that groups of one plan which do not
+ * conflict need not wait for each other. portal and staging are the bytes that dsa_plan_list or dsa_fill wrote with
+ * these settings; with a filled list settings->staging is the staging address that dsa_fill had. The submission of an
+ * entry has its pieces, and what the entry names of the staging area, its descriptors and its record, counts as
+ * written. It waits for the outstanding submissions that conflict with it, those of earlier entries among them, and
+ * for those of `also` that are outstanding by then. A group of n pieces takes DSA_TRACKER_SPANS(n) + 1 spans.
+ *
+ * A group that fails stops itself alone. With all slots in `also`, UINT64_MAX, each entry waits for all that are
+ * outstanding, so for each earlier entry: then a caller that withdraws what waited for a failed group keeps the plan's
+ * own stop point.
+ *
+ * Returns 0: slots begins with the slot of each entry, portal_len / 64 of them, and its rest is unchanged; what each
+ * waits for says dsa_track_waits. Returns another number: refusal has it, and nothing else was written, nor is any
+ * entry taken. The settings come first, 83, then the bytes, 44 to 49, then DSA_NOT_A_TRACKER, DSA_FEW_SLOTS, 121, 124
+ * and 125. It allocates as much as dsa_check does without a certificate.
+ */
+uint32_t dsa_track_groups(uint64_t *words, size_t words_len,
+                          const struct dsa_settings *settings,
+                          const uint64_t *table, size_t table_len,
+                          const uint8_t *portal, size_t portal_len,
+                          const uint8_t *staging, size_t staging_len,
+                          uint64_t also,
+                          uint32_t *slots, size_t slots_capacity,
+                          struct dsa_refusal *refusal);
 
 /*
  * The outstanding submissions that conflict with accesses to these spans: with none, the host may do them at once.

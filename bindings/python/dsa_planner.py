@@ -157,6 +157,7 @@ def _declare(library: ctypes.CDLL) -> None:
         "dsa_track_begin": (number, [*words, number, number, number, number, refusal]),
         "dsa_track_list": (number, [*words, byte, size, *[ctypes.c_uint64] * 3, slot, word, refusal]),
         "dsa_track_spans": (number, [*words, *spans, ctypes.c_uint64, slot, word, refusal]),
+        "dsa_track_groups": (number, [*words, *listed, byte, size, ctypes.c_uint64, slot, size, refusal]),
         "dsa_track_ask": (number, [*words, *spans, word, refusal]),
         "dsa_track_waits": (number, [*words, number, word, refusal]),
         "dsa_track_complete": (number, [*words, number, word, word, refusal]),
@@ -324,6 +325,8 @@ CAUSES: Dict[int, Tuple[str, str]] = {
     124: ("SpanWrap", "span {0} goes past 2^64"),
     125: ("OtherOwner", "piece {0} has another PASID or privilege than the first piece that came"),
     126: ("NotATracker", "the words do not have the form of a tracker, or are too few for one of these measures"),
+    127: ("OtherPlan", "the groups of the plan do not have as many pieces as there are"),
+    128: ("FewSlots", "the plan has {0} groups, more than slots are free or have a place in the array"),
 }
 """The name and the sentence of each cause, by its number; {0} and {1} stand for the places that a refusal names."""
 
@@ -671,6 +674,23 @@ class Tracker:
         given = *_spans("reads", reads), *_spans("writes", writes), _word(also)
         _answered(_library.dsa_track_spans(*self._words, *given, slot, waits, refusal), refusal)
         return Submitted(slot.value, _slots(waits.value))
+
+    def submit_groups(
+        self, settings: Settings, portal: Bytes, staging: Bytes, also: Iterable[int] = ()
+    ) -> List[int]:
+        """Takes each entry of a portal as a submission of its own, in their order, and answers their slots: groups of
+        one plan that do not conflict need not wait for each other. The bytes are those that planning or filling
+        answered, under these settings. An entry's submission has its pieces and, as written, what the entry names of
+        the staging area. It waits for the outstanding ones that conflict with it, those of earlier entries among
+        them, and for those of `also` that are outstanding by then: `range(64)` keeps the plan's own stop point. A
+        group of n pieces takes 3 * n + 2 spans."""
+        raw, table, entries = settings._raw()
+        to_portal, to_staging, refusal = _given("portal", portal), _given("staging", staging), _Refusal()
+        count = to_portal[1] // 64
+        slots = (ctypes.c_uint32 * max(1, count))()
+        given = raw, table, entries, *to_portal, *to_staging, _word(also)
+        _answered(_library.dsa_track_groups(*self._words, *given, slots, count, refusal), refusal)
+        return list(slots)[:count]
 
     def ask(self, reads: Spans, writes: Spans) -> FrozenSet[int]:
         """The outstanding submissions in conflict with accesses to these spans: with none, the host may do them at

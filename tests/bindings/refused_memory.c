@@ -37,7 +37,7 @@ struct rattle_block rattle_realloc(void *at, size_t old_size, size_t size, size_
     return block;
 }
 
-enum { N = 24, ROWS = 1 + 2 + 3 * N, CALLS = 6, WORDS = 1024 };
+enum { N = 24, ROWS = 1 + 2 + 3 * N, CALLS = 7, WORDS = 4096 };
 static const struct dsa_settings settings = {1, 5, 4096, 10, 14, 3, UINT64_C(1) << 40};
 static uint8_t list[64 * N], marks_in[N], portal_in[64 * N], staging_in[80 * N];
 static uint64_t prices_in[N + 1];
@@ -55,19 +55,19 @@ static struct outputs {
     struct dsa_planned planned;
     struct dsa_prepared_row rows[ROWS];
     struct dsa_prepared_info info;
-    uint32_t slot;
+    uint32_t slot, slots[N];
     uint64_t waits;
 } outputs, before;
 
 static const struct dsa_span spans[] = {{0x1000, 64}, {0x2000, 64}};
 
-/* A list for a tracker, whose words a refusal leaves as they were. Spans take no memory. */
-static uint32_t track(struct dsa_refusal *r)
+/* A list, or a plan's groups, for a tracker, whose words a refusal leaves as they were. Spans take no memory. */
+static uint32_t track(int which, struct dsa_refusal *r)
 {
     static uint64_t words[WORDS], old[WORDS];
     struct outputs *o = &outputs;
     uint32_t code;
-    if (dsa_track_begin(words, WORDS, 2, DSA_TRACKER_SPANS(N), 4, 12, r) != DSA_OK)
+    if (dsa_track_begin(words, WORDS, 8, DSA_TRACKER_SPANS(N) + 1, 4, 12, r) != DSA_OK)
         return DSA_NOT_A_TRACKER;
     const uint64_t before_spans = asked;
     if (dsa_track_ask(words, WORDS, spans, 2, spans, 1, &o->waits, r) != DSA_OK
@@ -76,7 +76,11 @@ static uint32_t track(struct dsa_refusal *r)
         return DSA_NOT_A_TRACKER;
     memcpy(old, words, sizeof old);
     memset(&outputs, 0xa5, sizeof outputs);
-    code = dsa_track_list(words, WORDS, list, sizeof list, 0, 0, 0, &o->slot, &o->waits, r);
+    if (which == 5)
+        code = dsa_track_list(words, WORDS, list, sizeof list, 0, 0, 0, &o->slot, &o->waits, r);
+    else
+        code = dsa_track_groups(words, WORDS, &settings, &settings.batch, 0, portal_in, planned_in.portal_len, staging_in,
+                                planned_in.staging_len, 0, o->slots, N, r);
     return code == DSA_MEMORY && memcmp(words, old, sizeof old) != 0 ? DSA_NOT_A_TRACKER : code;
 }
 
@@ -99,7 +103,7 @@ static uint32_t call(int which, struct dsa_refusal *r)
     case 4:
         return dsa_prepare(&settings, &settings.batch, 0, list, sizeof list, regions, 2, o->rows, ROWS, &o->info, r);
     default:
-        return track(r);
+        return track(which, r);
     }
 }
 

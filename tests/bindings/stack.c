@@ -8,7 +8,7 @@
 
 #include <dsa_planner.h>
 
-enum { MOST = DSA_MOST_PIECES, STACK = 1 << 20, CALLS = 9 };
+enum { MOST = DSA_MOST_PIECES, STACK = 1 << 20, CALLS = 10 };
 
 static const struct dsa_settings settings = {1, 1024, 4096, 10, 14, 3, UINT64_C(1) << 40};
 static uint8_t list[64 * MOST], portal[64 * MOST], staging[80 * MOST], marks[MOST];
@@ -22,6 +22,7 @@ static const uint64_t bases[2] = {UINT64_C(0x100000000), UINT64_C(0x300000000)};
 static struct dsa_prepared_row rows[1 + 2 + 3 * MOST];
 static struct dsa_prepared_info prepared;
 static uint64_t words[DSA_TRACKER_WORDS(1, DSA_TRACKER_SPANS(MOST), 13)], waited, ready;
+static uint32_t slots[64];
 static uint32_t slot;
 
 /* Moves of 64 bytes, of which each third reads what the one before writes. */
@@ -74,8 +75,15 @@ static void *call(void *which)
             code = dsa_track_list(words, sizeof words / sizeof *words, list, len, s->staging, 96 * n, 0, &slot, &waited,
                                   &refusal);
         break;
-    default:
+    case 8:
         code = dsa_track_complete(words, sizeof words / sizeof *words, slot, &waited, &ready, &refusal);
+        break;
+    default: /* large groups, and many, are refused once they are read */
+        code = dsa_track_begin(words, sizeof words / sizeof *words, 64, 1024, 13, 12, &refusal);
+        if (code == DSA_OK)
+            code = dsa_track_groups(words, sizeof words / sizeof *words, s, &s->batch, 0, portal, planned.portal_len, staging,
+                                    planned.staging_len, 0, slots, 64, &refusal);
+        code = code == DSA_FEW_SLOTS || code == DSA_TOO_MANY_SPANS ? DSA_OK : code;
     }
     return code == DSA_OK ? NULL : which;
 }
@@ -109,7 +117,7 @@ static size_t touched_by(void *(*run)(void *), int which)
 int main(int argc, char **argv)
 {
     static const char *const names[CALLS] = {"count_pieces", "plan_list", "plan_list_certified", "check", "judge",
-                                             "prepare", "fill", "track_list", "track_complete"};
+                                             "prepare", "fill", "track_list", "track_complete", "track_groups"};
     static const uint64_t lengths[] = {2, 63, 65, 3000, MOST};
     size_t greatest[CALLS] = {0}, limits[2] = {0, 0};
     if (argc != 3)

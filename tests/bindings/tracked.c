@@ -99,9 +99,36 @@ static uint8_t *some_list(size_t *len) {
     return list;
 }
 
+/* What submits a list, or other bytes. */
+struct submission {
+    uint8_t *portal, *staging;
+    size_t portal_len, staging_len;
+};
+
+static const struct dsa_settings settings = {1, 4, 4096, 10, 14, 3, UINT64_C(1) << 30};
+
+static struct submission some_submission(const uint8_t *list, size_t len) {
+    size_t n = len / 64 + 1;
+    uint8_t *portal = block(DSA_PORTAL_ROOM(n)), *staging = block(DSA_STAGING_ROOM(n));
+    struct dsa_planned planned = {0, 0, len, 0};
+    struct dsa_refusal refusal;
+    memcpy(portal, list, len < DSA_PORTAL_ROOM(n) ? len : DSA_PORTAL_ROOM(n));
+    dsa_plan_list(&settings, &settings.batch, 0, list, len, portal, DSA_PORTAL_ROOM(n), staging, DSA_STAGING_ROOM(n),
+                  &planned, &refusal);
+    struct submission s = {block(planned.portal_len), block(planned.staging_len), planned.portal_len,
+                           planned.staging_len};
+    memcpy(s.portal, portal, s.portal_len);
+    memcpy(s.staging, staging, s.staging_len);
+    if (s.portal_len > 0 && below(8) == 0)
+        s.portal[below(s.portal_len)] = (uint8_t)chance();
+    free(portal);
+    free(staging);
+    return s;
+}
+
 /* What a call may write beside the words. */
 struct outputs {
-    uint32_t slot;
+    uint32_t slot, slots[3];
     uint64_t waits, waited, ready;
     struct dsa_refusal refusal;
 };
@@ -111,6 +138,7 @@ static uint32_t call(unsigned which, struct array *a, struct outputs *o) {
     struct dsa_span *reads = some_spans(&reads_len), *writes = some_spans(&writes_len);
     uint8_t *list = some_list(&list_len);
     uint32_t slot = below(16) ? (uint32_t)below(65) : (uint32_t)chance(), code = 0;
+    struct submission s = some_submission(list, list_len);
     switch (which) {
     case 0: code = dsa_track_spans(a->words, a->len, reads, reads_len, writes, writes_len, number(), &o->slot,
                                    &o->waits, &o->refusal); break;
@@ -118,12 +146,16 @@ static uint32_t call(unsigned which, struct array *a, struct outputs *o) {
                                   &o->refusal); break;
     case 2: code = dsa_track_ask(a->words, a->len, reads, reads_len, writes, writes_len, &o->waits, &o->refusal); break;
     case 3: code = dsa_track_waits(a->words, a->len, slot, &o->waits, &o->refusal); break;
-    case 4: code = dsa_track_complete(a->words, a->len, slot, &o->waited, &o->ready, &o->refusal); break;
+    case 4: code = dsa_track_groups(a->words, a->len, &settings, &settings.batch, 0, s.portal, s.portal_len, s.staging,
+                                    s.staging_len, number(), o->slots, below(4), &o->refusal); break;
+    case 5: code = dsa_track_complete(a->words, a->len, slot, &o->waited, &o->ready, &o->refusal); break;
     default: code = dsa_track_withdraw(a->words, a->len, slot, &o->waited, &o->ready, &o->refusal); break;
     }
     free(reads);
     free(writes);
     free(list);
+    free(s.portal);
+    free(s.staging);
     return code;
 }
 
@@ -134,10 +166,10 @@ static int has_form(const struct array *a) {
     return dsa_track_waits(a->words, a->len, 0, &waits, &refusal) != DSA_NOT_A_TRACKER;
 }
 
-static unsigned counts[6][2];
+static unsigned counts[7][2];
 
 static int is_right(struct array *a) {
-    unsigned which = (unsigned)below(6);
+    unsigned which = (unsigned)below(7);
     struct outputs o;
     memset(&o, 0xa5, sizeof o);
     struct outputs old = o;
@@ -148,9 +180,9 @@ static int is_right(struct array *a) {
     if (code == 0)
         return form && has_form(a) && !memcmp(&o.refusal, &old.refusal, sizeof o.refusal);
     if (memcmp(a->words, a->before, a->len * sizeof *a->words) || o.slot != old.slot || o.waits != old.waits ||
-        o.waited != old.waited || o.ready != old.ready)
+        o.waited != old.waited || o.ready != old.ready || memcmp(o.slots, old.slots, sizeof o.slots))
         return 0;
-    int is_of_list = which == 1 && code < 20;
+    int is_of_list = (which == 1 && code < 20) || (which == 4 && code >= 44 && code < 50);
     return o.refusal.number == code && (is_of_list || (code == DSA_NOT_A_TRACKER) == !form);
 }
 
@@ -167,7 +199,7 @@ int main(int argc, char **argv) {
         free(a.words);
         free(a.before);
     }
-    for (unsigned which = 0; which < 6; which++)
+    for (unsigned which = 0; which < 7; which++)
         if (count >= 1000 && (counts[which][0] < 20 || counts[which][1] < 20)) {
             printf("call %u was refused %u times and answered %u times\n", which, counts[which][0], counts[which][1]);
             return 1;

@@ -184,6 +184,10 @@ causes! {
     OtherOwner = 125: "piece {0} has another PASID or privilege than the first piece that came",
     /// The words do not have the form of a tracker, or are too few for one of these measures.
     NotATracker = 126: "the words do not have the form of a tracker, or are too few for one of these measures",
+    /// The groups of the plan do not have as many pieces as there are.
+    OtherPlan = 127: "the groups of the plan do not have as many pieces as there are",
+    /// The plan has `first` groups, more than slots are free or have a place in the array.
+    FewSlots = 128: "the plan has {0} groups, more than slots are free or have a place in the array",
 }
 
 impl fmt::Display for Cause {

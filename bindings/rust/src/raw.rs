@@ -176,6 +176,22 @@ extern "C" {
         refusal: &mut Refusal,
     ) -> u32;
 
+    pub fn dsa_track_groups(
+        words: *mut u64,
+        words_len: usize,
+        settings: &Settings,
+        table: *const u64,
+        table_len: usize,
+        portal: *const u8,
+        portal_len: usize,
+        staging: *const u8,
+        staging_len: usize,
+        also: u64,
+        slots: *mut u32,
+        slots_capacity: usize,
+        refusal: &mut Refusal,
+    ) -> u32;
+
     pub fn dsa_track_ask(
         words: *const u64,
         words_len: usize,

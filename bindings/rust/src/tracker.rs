@@ -3,7 +3,7 @@
 use alloc::vec;
 use alloc::vec::Vec;
 
-use crate::{answer, raw, Refusal};
+use crate::{answer, raw, Refusal, Settings};
 
 /// Addresses that a submission reads or writes.
 #[repr(C)]
@@ -168,6 +168,46 @@ impl Tracker {
         };
         let waits = Slots(waits);
         answer(code, Submitted { slot, waits }, refusal)
+    }
+
+    /// Takes each entry of a portal as a submission of its own, in their order, and answers their slots: groups of
+    /// one plan that do not conflict need not wait for each other. The bytes are those that planning or filling
+    /// answered, under these settings. An entry's submission has its pieces and, as written, what the entry names of
+    /// the staging area. It waits for the outstanding ones that conflict with it, those of earlier entries among
+    /// them, and for those of `also` that are outstanding by then: all slots in `also` keep the plan's own stop
+    /// point. A group of n pieces takes 3 n + 2 spans.
+    ///
+    /// # Errors
+    /// [`Cause::Settings`](crate::Cause::Settings); what [`check`](crate::check) refuses of the bytes; then the first
+    /// of `FewSlots`, `TooManySpans`, `SpanWrap` and `OtherOwner`.
+    pub fn submit_groups(
+        &mut self,
+        settings: &Settings,
+        portal: &[u8],
+        staging: &[u8],
+        also: Slots,
+    ) -> Result<Vec<u32>, Refusal> {
+        let (raw, table) = settings.raw();
+        let (mut slots, mut refusal) = (vec![0; portal.len() / 64], raw::Refusal::default());
+        // SAFETY: each pointer and length are those of one slice or vector, and no output overlaps another argument.
+        let code = unsafe {
+            raw::dsa_track_groups(
+                self.words.as_mut_ptr(),
+                self.words.len(),
+                &raw,
+                table.as_ptr(),
+                table.len(),
+                portal.as_ptr(),
+                portal.len(),
+                staging.as_ptr(),
+                staging.len(),
+                also.0,
+                slots.as_mut_ptr(),
+                slots.len(),
+                &mut refusal,
+            )
+        };
+        answer(code, slots, refusal)
     }
 
     /// The outstanding submissions that conflict with accesses to these spans: with none, the host may do them at

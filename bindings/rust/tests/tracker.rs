@@ -1,6 +1,8 @@
 //! Trackers: waits that were worked by hand, and each refusal.
 
-use dsa_planner::{Cause, Refusal, Retired, Slots, Span, Submitted, Tracker};
+use dsa_planner::{
+    plan_list, BatchPrice, Cause, Refusal, Retired, Settings, Slots, Span, Submitted, Tracker,
+};
 
 const fn span(first: u64, len: u64) -> Span {
     Span { first, len }
@@ -90,6 +92,41 @@ fn takes_descriptors_of_one_owner() {
         tracker.submit(&two, staging, Slots::EMPTY),
         Err(refused(Cause::TooManySpans, 7))
     );
+}
+
+#[test]
+fn takes_the_entries_of_a_portal() {
+    let settings = Settings {
+        greatest_batch: 2,
+        greatest_transfer: 4096,
+        lone: 10,
+        batch: BatchPrice::Flat(14),
+        fence: 3,
+        staging: 0x10000,
+    };
+    let fills = [0x1000, 0x2000, 0x3000, 0x4000, 0x5000, 0x1000];
+    let records = 0x8000..;
+    let list: Vec<u8> = fills
+        .iter()
+        .zip(records.step_by(32))
+        .flat_map(|(&target, record)| fill_bytes(target, record, 5))
+        .collect();
+    let planned = plan_list(&settings, &list).unwrap();
+    let mut tracker = Tracker::new(5, 8, 8, 12).unwrap();
+    let taken = tracker.submit_groups(&settings, &planned.portal, &planned.staging, Slots::EMPTY);
+    assert_eq!(taken, Ok(vec![0, 1, 2]));
+    let waits = [0, 1, 2].map(|slot| tracker.waits(slot).unwrap());
+    assert_eq!(waits, [Slots(0), Slots(0), Slots(0b001)]);
+    let again = tracker.submit_groups(&settings, &planned.portal, &planned.staging, Slots::EMPTY);
+    assert_eq!(again, Err(refused(Cause::FewSlots, 3)));
+    let cut = tracker.submit_groups(&settings, &planned.portal[1..], &planned.staging, Slots(0));
+    assert_eq!(cut, Err(refused(Cause::PortalLength, 0)));
+    let mut in_order = Tracker::new(3, 8, 8, 12).unwrap();
+    let all = Slots(u64::MAX);
+    let taken = in_order.submit_groups(&settings, &planned.portal, &planned.staging, all);
+    assert_eq!(taken, Ok(vec![0, 1, 2]));
+    let waits = [0, 1, 2].map(|slot| in_order.waits(slot).unwrap());
+    assert_eq!(waits, [Slots(0), Slots(0b001), Slots(0b011)]);
 }
 
 #[test]

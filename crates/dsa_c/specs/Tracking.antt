@@ -1,5 +1,5 @@
 -- What the calls of a tracker in an array of words promise.
-use Rattle.std.specs.Prelude.{◌≡◌, ◌≢◌, ◌⊎◌, ℕ, ◌≤◌, List, map, slice_index_or}
+use Rattle.std.specs.Prelude.{◌≡◌, ◌≢◌, ◌⊎◌, ℕ, ◌≤◌, List, length, map, min, slice_get, slice_index_or}
 use Rattle.dsa_descriptor.specs.declared.descriptor.Descriptor.{Descriptor}
 use Rattle.dsa_descriptor.specs.declared.fault.ListFault.{ListFault}
 use Rattle.dsa_descriptor.specs.declared.fault.ListFault.TheVariants.{Memory as ListMemory}
@@ -9,7 +9,11 @@ use Rattle.dsa_descriptor.specs.Descriptors.{fields}
 use Rattle.dsa_descriptor.specs.Fields.{Fields}
 use Rattle.dsa_descriptor.specs.Lists.{IsFirstListFault}
 use Rattle.dsa_flight.specs.Spans.{all_reads, staged_writes}
-use Rattle.dsa_calls.specs.declared.fault.PlanFault.TheVariants.{List as InList, Memory}
+use Rattle.dsa_plan.specs.EmissionFaults.{IsEmission, IsFirstEmissionFault}
+use Rattle.dsa_plan.specs.Plan.{Plan}
+use Rattle.dsa_emission.specs.declared.emission_fault.EmissionFault.{EmissionFault}
+use Rattle.dsa_emission.specs.declared.emission_fault.EmissionFault.TheVariants.{Memory as EmissionMemory}
+use Rattle.dsa_calls.specs.declared.fault.PlanFault.TheVariants.{Emission as InEmission, List as InList, Memory}
 use Rattle.dsa_calls.specs.Lists.{IsListOf}
 use Rattle.dsa_tracker.specs.declared.fault.WordsFault.{WordsFault}
 use Rattle.dsa_tracker.specs.declared.fault.WordsFault.TheVariants.{NotATracker}
@@ -18,11 +22,13 @@ use Rattle.dsa_tracker.specs.declared.tracker.Retired.{Retired}
 use Rattle.dsa_tracker.specs.declared.tracker.Submitted.{Submitted}
 use Rattle.dsa_tracker.specs.Calls.{CanKeep, CanKeepList, IsCompleteFault, IsListFault, IsRefused, IsSpanFault, IsWithdrawFault, Retires, Submits, owner_with}
 use Rattle.dsa_tracker.specs.Causes.{words_indices, words_number}
+use Rattle.dsa_tracker.specs.Groups.{CanTakeGroups, IsGroupsFault, SubmitsInTurn, free_count, group_reads, group_writes}
 use Rattle.dsa_tracker.specs.Table.{ConflictsWith, IsExactly, IsHeld, IsReady, WaitsFor}
-use Rattle.dsa_tracker.specs.Words.{AreMeasures, IsShapedIn, IsTracker, RefusesIn, owner_in, room_in, table_in, words_needed}
+use Rattle.dsa_tracker.specs.Words.{AreMeasures, IsShapedIn, IsTracker, RefusesIn, owner_in, room_in, shown_in, table_in, words_needed}
 use Rattle.dsa_c.specs.declared.refusal.RawRefusal.{RawRefusal}
+use Rattle.dsa_c.specs.declared.settings.RawSettings.{RawSettings}
 use Rattle.dsa_c.specs.Preparing.{refusal_at}
-use Rattle.dsa_c.specs.Raw.{refusal_of}
+use Rattle.dsa_c.specs.Raw.{AreSettings, RefusesSettings, limits_of, refusal_of}
 
 -- the slots that the bits of a word are
 abbrev pub slots_of : ℕ → Slots
@@ -65,6 +71,23 @@ abbrev pub TakesList : List ℕ → List ℕ → Span → Slots → Submitted �
 TakesList words list staging also submitted new =
     (pieces : List Descriptor) × IsListOf list pieces × TakesPieces words (map fields pieces) staging also submitted new
 
+-- the groups of a plan of these pieces are taken one after another, and each gets the slot at its number; the other places
+-- of the array stay
+abbrev pub TakesPlan : List ℕ → List Fields → Plan → ℕ → Slots → List ℕ → List ℕ → List ℕ → Type 0
+TakesPlan words pieces plan staging also places slots new =
+    IsShapedIn words × IsShapedIn new
+    × CanTakeGroups (room_in words) (min (free_count (shown_in words)) (length places)) (owner_with (owner_in words) pieces) pieces plan staging
+    × (IsTracker words →
+    IsTracker new
+    × SubmitsInTurn (table_in words) (group_reads plan pieces) (group_writes staging plan pieces) also (owner_with (owner_in words) pieces) slots (length plan) (table_in new))
+    × ((k : ℕ) → length plan ≤ k → slice_get slots k ≡ slice_get places k)
+
+-- those of the plan that these bytes submit
+abbrev pub TakesGroups : RawSettings → List ℕ → List ℕ → List ℕ → List ℕ → Slots → List ℕ → List ℕ → List ℕ → Type 0
+TakesGroups s table words portal staging also places slots new =
+    (plan : Plan) × (list : List Descriptor) × AreSettings s table × IsEmission (limits_of s table) portal staging plan list
+    × TakesPlan words (map fields list) plan s.staging also places slots new
+
 -- the submission of a slot is taken off, which was ready
 abbrev pub Completes : List ℕ → ℕ → Retired → List ℕ → Type 0
 Completes words slot retired new =
@@ -100,6 +123,22 @@ RefusesList words list staging r =
     ⊎ ((pieces : List Descriptor) × (fault : WordsFault) × IsListOf list pieces
     × RefusesIn words fault (λ f. IsRefused (table_in words) f (IsListFault (room_in words) (owner_with (owner_in words) (map fields pieces)) (map fields pieces) staging f))
     × (r ≡ track_refusal_of fault))
+
+-- the tracker refuses the groups of a plan of these pieces
+abbrev pub RefusesPlan : List ℕ → List Fields → Plan → ℕ → ℕ → WordsFault → Type 0
+RefusesPlan words pieces plan staging places fault =
+    RefusesIn words fault (IsGroupsFault (room_in words) (min (free_count (shown_in words)) places) (owner_with (owner_in words) pieces) pieces plan staging)
+
+-- the numbers are no settings, an allocation failed, the bytes are no emission, with the first fault of it, or the tracker
+-- refuses the groups that they submit
+abbrev pub RefusesGroups : RawSettings → List ℕ → List ℕ → List ℕ → List ℕ → ℕ → RawRefusal → Type 0
+RefusesGroups s table words portal staging places r =
+    RefusesSettings s table r
+    ⊎ ((r ≡ refusal_of Memory) × AreSettings s table)
+    ⊎ ((fault : EmissionFault) × (fault ≢ EmissionMemory) × AreSettings s table × IsFirstEmissionFault (limits_of s table) portal staging fault
+    × (r ≡ refusal_of (InEmission fault)))
+    ⊎ ((plan : Plan) × (list : List Descriptor) × (fault : WordsFault) × AreSettings s table × IsEmission (limits_of s table) portal staging plan list
+    × RefusesPlan words (map fields list) plan s.staging places fault × (r ≡ track_refusal_of fault))
 
 -- the words have not the form
 abbrev pub RefusesAsk : List ℕ → RawRefusal → Type 0

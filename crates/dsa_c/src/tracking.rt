@@ -4,11 +4,13 @@ ghost use Rattle.std.specs.Prelude.{◌≡◌, ◌≢◌, ◌<◌, None, MatchRe
 ghost use Rattle.dsa_descriptor.specs.Spans.{span};
 ghost use Rattle.dsa_tracker.specs.declared.fault.WordsFault.TheVariants.{NotATracker};
 ghost use Rattle.dsa_tracker.specs.Words.{IsTracker, table_in};
-ghost use Rattle.dsa_c.specs.Tracking.{CanBegin, RefusesList, RefusesSpans, TakesList, TakesSpans, slots_of, submitted_of, track_refusal_of};
+ghost use Rattle.dsa_c.specs.Tracking.{CanBegin, RefusesGroups, RefusesList, RefusesSpans, TakesGroups, TakesList, TakesSpans, slots_of, submitted_of, track_refusal_of};
 
 use crate::refusal::{RawRefusal, first_two, refusal, refusal_at};
+use crate::settings::{RawSettings, settings_of, settings_refusal};
 use dsa_calls::PlanFault;
 use dsa_descriptor::{Span, read_list};
+use dsa_plan::read_emission;
 use dsa_tracker::{Slots, Submitted, WordsFault, words};
 use std::alloc::Global;
 
@@ -143,6 +145,79 @@ pub extern "C" fn dsa_track_list(
             *waits = submitted.waits.0;
             0
         }
+        Err(cause) => {
+            *refusal = cause;
+            cause.number
+        }
+    }
+}
+
+/// Hands the groups that these bytes submit to the tracker, one after another.
+fn take_groups(
+    alloc: Global,
+    words: &mut [u64],
+    settings: &RawSettings,
+    table: &[u64],
+    portal: &[u8],
+    staging: &[u8],
+    also: Slots,
+    slots: &mut [u32],
+) -> Result<(), RawRefusal>
+    ensures { let s = settings.now in let t = table.now in
+        let places = slots.old in
+        MatchResult result
+        (λ _. TakesGroups s t words.old portal.now staging.now also places slots.new words.new)
+        (λ r. (0 < r.number)
+        × RefusesGroups s t words.old portal.now staging.now (length places) r
+        × (words.new ≡ words.old) × (slots.new ≡ slots.old)) }
+{
+    let Ok(limits) = settings_of(settings, table) else {
+        return Err(settings_refusal(settings));
+    };
+    let (plan, pieces) = match read_emission(alloc, portal, staging, &limits) {
+        Ok(read) => read,
+        Err(fault) => return Err(refusal(PlanFault::from(fault))),
+    };
+    match words::submit_groups(words, &pieces, &plan, settings.staging, also, slots) {
+        Ok(()) => Ok(()),
+        Err(fault) => Err(track_refusal(fault)),
+    }
+}
+
+/// Takes each entry of a portal as a submission of its own, in their order: its pieces, and what it names of the
+/// staging area, which counts as written. Writes the slot of each entry to the front of `slots`, whose rest stays. It
+/// answers 0 then, and else the number of the refusal, and has written `refusal` alone.
+#[unsafe(no_mangle)]
+pub extern "C" fn dsa_track_groups(
+    alloc: Global,
+    words: &mut [u64],
+    settings: &RawSettings,
+    table: &[u64],
+    portal: &[u8],
+    staging: &[u8],
+    also: u64,
+    slots: &mut [u32],
+    refusal: &mut RawRefusal,
+) -> u32
+    ensures taken { result ≡ 0 → TakesGroups settings.now table.now words.old portal.now
+        staging.now (slots_of also) slots.old slots.new words.new }
+    ensures refused { result ≢ 0 → (result ≡ refusal.new.number)
+        × RefusesGroups settings.now table.now words.old portal.now staging.now
+        (length slots.old) refusal.new }
+    ensures unchanged { result ≢ 0 → (words.new ≡ words.old) × (slots.new ≡ slots.old) }
+    ensures quiet { result ≡ 0 → refusal.new ≡ refusal.old }
+{
+    match take_groups(
+        alloc,
+        words,
+        settings,
+        table,
+        portal,
+        staging,
+        Slots(also),
+        slots,
+    ) {
+        Ok(()) => 0,
         Err(cause) => {
             *refusal = cause;
             cause.number

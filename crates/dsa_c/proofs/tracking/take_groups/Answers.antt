@@ -1,0 +1,45 @@
+use Rattle.std.proofs.Common.{inr, List, length, map, refl, subst}
+use Rattle.dsa_descriptor.specs.declared.descriptor.Descriptor.{Descriptor}
+use Rattle.dsa_descriptor.specs.Descriptors.{fields}
+use Rattle.dsa_plan.specs.EmissionFaults.{IsEmission}
+use Rattle.dsa_plan.specs.Settings.{Limits}
+use Rattle.dsa_c.specs.Tracking.{RefusesPlan, TakesPlan}
+use Rattle.dsa_c.proofs.Emissions.{refuses_emission}
+use Rattle.dsa_c.proofs.tracking.take_groups.Goals as goal
+
+pub returns-in-Err : goal.returns-in-Err
+returns-in-Err c = (
+  c.refusal.ensures.some,
+  refuses_emission c.args.settings.now c.args.table.now c.args.words.now c.args.portal.now c.args.staging.now _ c.in-Ok.limits c.in-Err.fault c.from.result c.refusal.result c.in-Ok.ensures.0 c.in-Ok.ensures.1 c.in-Err.ensures.fault c.from.ensures c.refusal.ensures.value,
+  refl,
+  refl,
+)
+
+pub returns-in-Ok-submit_groups : goal.returns-in-Ok-submit_groups
+returns-in-Ok-submit_groups c =
+    let answer = c.in-Ok-submit_groups.ensures.answer in (
+      c.in-Ok-read_emission.read.0,
+      c.in-Ok-read_emission.read.1.items,
+      c.in-Ok.ensures.1,
+      subst (λ (l : Limits). IsEmission l c.args.portal.now c.args.staging.now c.in-Ok-read_emission.read.0 c.in-Ok-read_emission.read.1.items) c.in-Ok.ensures.0 c.in-Ok-read_emission.ensures.found,
+      subst (λ (ds : List Descriptor). TakesPlan c.args.words.now (map fields ds) c.in-Ok-read_emission.read.0 c.args.settings.now.staging c.args.also c.args.slots.now c.submit_groups.new.slots c.submit_groups.new.words)
+          c.deref.ensures.value (answer.0, answer.1, answer.2, answer.3, c.in-Ok-submit_groups.ensures.rest),
+    )
+
+pub returns : goal.returns
+returns c =
+    let answer = c.in-Err-submit_groups.ensures.answer in (
+      c.track_refusal.ensures.some,
+      inr (inr (inr (
+        c.in-Ok-read_emission.read.0,
+        c.in-Ok-read_emission.read.1.items,
+        c.in-Err-submit_groups.fault,
+        c.in-Ok.ensures.1,
+        subst (λ (l : Limits). IsEmission l c.args.portal.now c.args.staging.now c.in-Ok-read_emission.read.0 c.in-Ok-read_emission.read.1.items) c.in-Ok.ensures.0 c.in-Ok-read_emission.ensures.found,
+        subst (λ (ds : List Descriptor). RefusesPlan c.args.words.now (map fields ds) c.in-Ok-read_emission.read.0 c.args.settings.now.staging (length c.args.slots.now) c.in-Err-submit_groups.fault)
+            c.deref.ensures.value answer.0,
+        c.track_refusal.ensures.value,
+      ))),
+      answer.1,
+      answer.2,
+    )

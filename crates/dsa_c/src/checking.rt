@@ -10,19 +10,25 @@ use crate::settings::{RawSettings, settings_of, settings_refusal};
 use dsa_calls::{PlanFault, check_bytes};
 use std::alloc::Global;
 
-/// The cost of the bytes, where the certificate checks.
+/// A certificate in the arrays of the caller.
+#[derive(Clone, Copy)]
+struct RawCertificate<'a> {
+    version: u64,
+    prices: &'a [u64],
+    pairs: &'a [RawPair],
+}
+
+/// The cost of the bytes, if the certificate checks.
 fn check_for(
     alloc: Global,
     settings: &RawSettings,
     table: &[u64],
     portal: &[u8],
     staging: &[u8],
-    version: u64,
-    prices: &[u64],
-    pairs: &[RawPair],
+    given: &RawCertificate<'_>,
 ) -> Result<u64, RawRefusal>
     ensures { let s = settings.now in let t = table.now in
-        let c = contents_of version prices.now pairs.now in
+        let c = contents_of given.now.version given.now.prices.now given.now.pairs.now in
         MatchResult result
         (λ cost. IsCheckedCost s t portal.now staging.now c cost)
         (λ r. (0 < r.number) × RefusesCheck s t portal.now staging.now c r) }
@@ -30,7 +36,7 @@ fn check_for(
     let Ok(checked) = settings_of(settings, table) else {
         return Err(settings_refusal(settings));
     };
-    let Ok(certificate) = certificate_of(alloc, version, prices, pairs) else {
+    let Ok(certificate) = certificate_of(alloc, given.version, given.prices, given.pairs) else {
         return Err(refusal(PlanFault::Memory));
     };
     match check_bytes(alloc, portal, staging, &checked, &certificate) {
@@ -64,9 +70,12 @@ pub extern "C" fn dsa_check(
         (contents_of version prices.now pairs.now) refusal.new }
     ensures quiet { result ≡ 0 → refusal.new ≡ refusal.old }
 {
-    match check_for(
-        alloc, settings, table, portal, staging, version, prices, pairs,
-    ) {
+    let given = RawCertificate {
+        version,
+        prices,
+        pairs,
+    };
+    match check_for(alloc, settings, table, portal, staging, &given) {
         Ok(found) => {
             *cost = found;
             0

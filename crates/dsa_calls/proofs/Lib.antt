@@ -3,6 +3,8 @@ pub mod Over
 pub mod JudgedOnce
 pub mod CheckedOnce
 pub mod Submissions
+pub mod FencedLists
+pub mod FencedPlans
 pub mod Beginnings
 pub mod Refusals
 pub mod Histories

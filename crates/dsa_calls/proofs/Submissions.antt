@@ -27,7 +27,7 @@ use Rattle.dsa_calls.specs.declared.fault.PlanFault.{PlanFault}
 use Rattle.dsa_calls.specs.declared.fault.PlanFault.TheVariants.{Split, Memory}
 use Rattle.dsa_calls.specs.Fault.{split_cause}
 use Rattle.dsa_calls.specs.Lists.{IsListOf, OrMemory}
-use Rattle.dsa_calls.specs.Planned.{Submission, IsSubmissionOf, PlansOperations, Plans, CanBePlanned, ArePiecesOf, SplitsList, IsSubmissionOfPieces}
+use Rattle.dsa_calls.specs.Planned.{Submission, IsSubmissionOf, PlansOperations, Plans, CanBePlanned, ArePiecesOf, SplitsList, IsSubmissionOfPiecesBy, IsSubmissionOfPieces}
 use Rattle.dsa_calls.specs.Laws.{OnePlanned, IsLeastAndShown, PlannedIsLeastAndShown}
 use Rattle.dsa_calls.proofs.Over.{one_over_list}
 
@@ -89,15 +89,23 @@ same_submission : (p q : Submission) → p.pieces ≡ q.pieces → p.plan ≡ q.
 same_submission p q a b v c d e f g =
     λ i. record { pieces = a i; plan = b i; certificate = record { version = v i; prices = c i; pairs = d i }; cost = e i; portal = f i; staging = g i }
 
-one_submission : (s : Limits) (fs : List Fields) (p q : Submission) → IsSubmissionOf s fs p → IsSubmissionOf s fs q → p ≡ q
-one_submission s fs p q h k =
-    let pieces : p.pieces ≡ q.pieces = same_pieces p.pieces q.pieces (h.pieces_are ∙ sym k.pieces_are) in
-    let chosen = subst (λ (ds : List Descriptor). IsChosen (ConflictAt (map fields ds)) s.greatest_batch (tariff_of s) (length ds) q.certificate.prices q.certificate.pairs q.plan) (sym pieces) k.chosen in
-    let same = one_chosen (ConflictAt (map fields p.pieces)) s.greatest_batch (tariff_of s) (length p.pieces) p.certificate.prices q.certificate.prices p.certificate.pairs q.certificate.pairs p.plan q.plan h.chosen chosen in
+-- the same pieces have one submission, whichever of them conflict
+pub one_of_pieces : (C : List Fields → ℕ → ℕ → Type 0) (s : Limits) (p q : Submission) → map fields p.pieces ≡ map fields q.pieces → IsSubmissionOfPiecesBy (C (map fields p.pieces)) s p
+    → IsSubmissionOfPiecesBy (C (map fields q.pieces)) s q → p ≡ q
+one_of_pieces C s p q are h k =
+    let pieces : p.pieces ≡ q.pieces = same_pieces p.pieces q.pieces are in
+    let chosen = subst (λ (ds : List Descriptor). IsChosen (C (map fields ds)) s.greatest_batch (tariff_of s) (length ds) q.certificate.prices q.certificate.pairs q.plan) (sym pieces) k.chosen in
+    let same = one_chosen (C (map fields p.pieces)) s.greatest_batch (tariff_of s) (length p.pieces) p.certificate.prices q.certificate.prices p.certificate.pairs q.certificate.pairs p.plan q.plan h.chosen chosen in
     same_submission p q pieces same.2 (h.version_is ∙ sym k.version_is) same.0 same.1
     (h.cost_is ∙ ap (plan_cost (tariff_of s)) same.2 ∙ sym k.cost_is)
     (h.portal_is ∙ ap (λ (x : Plan). portal_bytes s x (map fields p.pieces)) same.2 ∙ ap (λ (x : List Descriptor). portal_bytes s q.plan (map fields x)) pieces ∙ sym k.portal_is)
     (h.staging_is ∙ ap (λ (x : Plan). staging_bytes x (map fields p.pieces)) same.2 ∙ ap (λ (x : List Descriptor). staging_bytes q.plan (map fields x)) pieces ∙ sym k.staging_is)
+
+of_pieces : (s : Limits) (fs : List Fields) (p : Submission) → IsSubmissionOf s fs p → IsSubmissionOfPieces s p
+of_pieces s fs p h = record { chosen = h.chosen; version_is = h.version_is; cost_is = h.cost_is; portal_is = h.portal_is; staging_is = h.staging_is }
+
+one_submission : (s : Limits) (fs : List Fields) (p q : Submission) → IsSubmissionOf s fs p → IsSubmissionOf s fs q → p ≡ q
+one_submission s fs p q h k = one_of_pieces (λ es. ConflictAt es) s p q (h.pieces_are ∙ sym k.pieces_are) (of_pieces s fs p h) (of_pieces s fs q k)
 
 pub one_operations : (s : Limits) (fs : List Fields) (o p : Result Submission PlanFault) → PlansOperations s fs o → PlansOperations s fs p → o ≡ p
 one_operations s fs (Ok p) (Ok q) h k = ap Ok (one_submission s fs p q h k)

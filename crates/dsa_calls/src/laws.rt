@@ -1,6 +1,7 @@
 //! What the outcomes of the calls promise of each other. Each function is a law: its body is empty, and its clause is
 //! what the proof shows.
 
+ghost use Rattle.dsa_calls.specs.Fenced.{OneFencedPlan, FencedPlanIsLeast};
 ghost use Rattle.dsa_calls.specs.Laws.{OneJudged, OnePlanned, OneChecked, OneReplayed, OneRun, PlannedIsLeastAndShown, PlannedRunsLeaveWhole, ReplaysFollowPlans, RunsFollowPlans};
 
 /// Bytes, a plan and settings have one outcome at most of judging them.
@@ -11,6 +12,17 @@ pub fn one_judged()
 /// Bytes and settings have one outcome at most of planning them.
 pub fn one_planned()
     ensures { OnePlanned }
+{}
+
+/// Bytes and settings have one outcome at most of planning them with fences as barriers.
+pub fn one_fenced_plan()
+    ensures { OneFencedPlan }
+{}
+
+/// Where planning with fences answers, the plan keeps each barrier, no legal plan that does costs less, and the
+/// certificate is good.
+pub fn fenced_plan_is_least()
+    ensures { FencedPlanIsLeast }
 {}
 
 /// Bytes, settings and a certificate have one outcome at most of checking them.

@@ -13,13 +13,14 @@ ghost use Rattle.dsa_plan.specs.Certificate.{contents};
 ghost use Rattle.dsa_calls.specs.declared.fault.PlanFault.{PlanFault};
 ghost use Rattle.dsa_calls.specs.Lists.{OrMemory, IsOrMemory};
 ghost use Rattle.dsa_calls.specs.Planned.{CanBePlanned, IsSubmissionOfPiecesBy, Plans, PlansOperations, SplitsList, Submission, submission_of};
+ghost use Rattle.dsa_calls.specs.Fenced.{PlansWith};
 ghost use Rattle.dsa_calls.specs.Checked.{Checks};
 
 use crate::fault::PlanFault;
 use dsa_descriptor::{Descriptor, read_list};
 use dsa_plan::{Certificate, Emission, Plan, Settings, cost, emit};
 use dsa_search::{Found, search_with};
-use dsa_splitter::{into_pieces, pieces};
+use dsa_splitter::{into_pieces, piece_barriers, pieces};
 use std::alloc::{AllocError, Global};
 
 /// A planned list.
@@ -102,6 +103,27 @@ pub fn plan_operations(
     let pieces = pieces(alloc, operations, settings)?;
     let submission = plan_pieces(alloc, pieces, &[], settings)?;
     Ok(submission)
+}
+
+/// Plans operations of one owner and their barriers, of which there is one before each operation whose mark is set; of an
+/// operation that is split it is before the first piece. The plan is of least cost among those that keep the barriers.
+///
+/// # Errors
+/// The same as of [`plan_operations`].
+pub fn plan_operations_with(
+    alloc: Global,
+    operations: &[Descriptor],
+    barriers: &[bool],
+    settings: &Settings,
+) -> Result<Planned, PlanFault>
+    requires { HaveOneOwner (map fields operations.now) }
+    ensures { OrMemory submission_of
+        (PlansWith barriers.now settings.now (map fields operations.now)) result }
+{
+    let split = pieces(alloc, operations, settings)?;
+    let marks = piece_barriers(alloc, operations, barriers, settings)?;
+    let planned = plan_pieces(alloc, split, &marks, settings)?;
+    Ok(planned)
 }
 
 /// Plans the operations that the bytes spell: splits them into pieces, finds the plan of least cost and its

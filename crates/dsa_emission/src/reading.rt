@@ -21,15 +21,15 @@ use dsa_ranges::{meets_some, touched};
 use dsa_settings::{Group, Plan, STAGED_LEN, Settings};
 use std::alloc::Global;
 
-/// Whether the descriptor has the fence.
-fn is_fenced(bytes: &[u8; 64]) -> bool
+/// Whether the entry has the flag 0x0001, fence.
+pub fn is_fenced(bytes: &[u8; 64]) -> bool
     ensures { result ≡ is_fenced bytes.now }
 {
     bytes[4] % 2 == 1
 }
 
-/// The bytes without the fence.
-fn unfenced(bytes: &[u8; 64]) -> [u8; 64]
+/// The entry without that flag.
+pub fn unfenced(bytes: &[u8; 64]) -> [u8; 64]
     ensures { result ≡ unfenced bytes.now }
 {
     let mut plain = *bytes;

@@ -41,7 +41,7 @@ pub fn piece_barriers(
         piece_barriers settings.now.greatest_transfer (map fields list.now) barriers.now) }
 {
     let greatest = settings.greatest_transfer();
-    let mut found = Vec::new(alloc);
+    let mut found = Vec::with_capacity(alloc, list.len())?;
     for index in 0..list.len() {
         push_marks(
             &mut found,

@@ -1,4 +1,4 @@
-use Rattle.std.proofs.Common.{ℕ, map, length, sym, subst}
+use Rattle.std.proofs.Common.{ℕ, map, sym, subst}
 use Rattle.std.proofs.lemmas.List.{length-map}
 use Rattle.dsa_descriptor.specs.Descriptors.{fields}
 use Rattle.dsa_ranges.specs.Ranges.{ConflictAt}

@@ -1,0 +1,67 @@
+-- Lists in which a fence is a barrier, and what planning says of their bytes.
+use Rattle.std.specs.Prelude.{◌≡◌, ℕ, ◌*◌, ◌/◌, Bool, List, ◌++◌, drop, length, map, flat_map, Result, Ok, Err}
+use Rattle.dsa_descriptor.specs.declared.descriptor.Descriptor.{Descriptor}
+use Rattle.dsa_descriptor.specs.Fields.{Fields}
+use Rattle.dsa_descriptor.specs.Descriptors.{fields}
+use Rattle.dsa_descriptor.specs.Lists.{entries}
+use Rattle.dsa_ranges.specs.Ranges.{ConflictAt}
+use Rattle.dsa_plan.specs.Barriers.{WithBarriers}
+use Rattle.dsa_plan.specs.EmissionFaults.{is_fenced, unfenced}
+use Rattle.dsa_plan.specs.Settings.{Limits, tariff_of}
+use Rattle.dsa_plan.specs.Legal.{IsLeast}
+use Rattle.dsa_plan.specs.Certificate.{IsGood}
+use Rattle.dsa_splitter.specs.Pieces.{all_pieces, piece_barriers}
+use Rattle.dsa_splitter.specs.Rules.{IsSplit}
+use Rattle.dsa_calls.specs.declared.fault.PlanFault.{PlanFault}
+use Rattle.dsa_calls.specs.Lists.{IsListOf, OverList}
+use Rattle.dsa_calls.specs.Planned.{Submission, IsSubmissionOfPiecesBy, PlansOperations}
+
+-- whether each entry of 64 bytes has the flag 0x0001, fence (specification 341204); in a list it is a barrier before the
+-- operation (this project's choice)
+abbrev pub fences_of : List ℕ → List Bool
+fences_of bytes = map is_fenced (entries bytes)
+
+-- the bytes with that flag cleared in each entry, and what follows the last entry
+abbrev pub unfenced_list : List ℕ → List ℕ
+unfenced_list bytes = flat_map unfenced (entries bytes) ++ drop (64 * (length bytes / 64)) bytes
+
+-- the pieces of these operations conflict, or a barrier of the operations is between them
+abbrev pub PiecesConflict : Limits → List Fields → List Bool → List Fields → ℕ → ℕ → Type 0
+PiecesConflict s operations barriers pieces a b = WithBarriers (ConflictAt pieces) (piece_barriers s.greatest_transfer operations barriers) a b
+
+-- The submission of these operations and their barriers: the pieces that they are split into, and the chosen plan of these
+-- with the barriers, its prices and pairs, the version of the settings, the plan's cost, and its emission.
+pub record IsSubmissionWith (barriers : List Bool) (s : Limits) (operations : List Fields) (p : Submission) : Type 0 where
+  pub split : IsSplit s.greatest_transfer s.staging operations
+  pub pieces_are : map fields p.pieces ≡ all_pieces operations s.greatest_transfer
+  pub of_pieces : IsSubmissionOfPiecesBy (PiecesConflict s operations barriers (map fields p.pieces)) s p
+
+-- the outcome of planning these operations and their barriers: their submission, or what planning without barriers refuses
+abbrev pub PlansWith : List Bool → Limits → List Fields → Result Submission PlanFault → Type 0
+PlansWith barriers s operations (Ok p) = IsSubmissionWith barriers s operations p
+PlansWith barriers s operations (Err fault) = PlansOperations s operations (Err fault)
+
+-- the outcome of planning these bytes: the first fault as a list of the bytes without their fences, or that of planning the
+-- operations that those spell, with the fences as barriers
+abbrev pub PlansFenced : List ℕ → Limits → Result Submission PlanFault → Type 0
+PlansFenced bytes s outcome = OverList (λ operations o. PlansWith (fences_of bytes) s operations o) (unfenced_list bytes) outcome
+
+-- the plan is legal with the barriers of the list, no such plan of the pieces costs less, and the certificate is good
+pub record IsFencedLeast (bytes : List ℕ) (s : Limits) (p : Submission) : Type 0 where
+  pub operations : List Descriptor
+  pub listed : IsListOf (unfenced_list bytes) operations
+  pub least :
+      IsLeast (PiecesConflict s (map fields operations) (fences_of bytes) (map fields p.pieces))
+      s.greatest_batch (tariff_of s) (length p.pieces) p.plan
+  pub good :
+      IsGood (PiecesConflict s (map fields operations) (fences_of bytes) (map fields p.pieces))
+      s.greatest_batch (tariff_of s) (length p.pieces) p.certificate.prices p.certificate.pairs p.cost
+
+-- bytes and settings have one outcome at most of planning with fences
+abbrev pub OneFencedPlan : Type 0
+OneFencedPlan = (bytes : List ℕ) (s : Limits) (outcome other : Result Submission PlanFault) →
+    PlansFenced bytes s outcome → PlansFenced bytes s other → outcome ≡ other
+
+-- if planning with fences answers, its plan is least
+abbrev pub FencedPlanIsLeast : Type 0
+FencedPlanIsLeast = (bytes : List ℕ) (s : Limits) (p : Submission) → PlansFenced bytes s (Ok p) → IsFencedLeast bytes s p

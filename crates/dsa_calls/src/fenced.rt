@@ -1,0 +1,75 @@
+//! Planning the operations of a list in which a fence is a barrier.
+
+ghost use Rattle.std.specs.Prelude.{◌≡◌, ◌⊎◌, IfOk, IfErr, Result};
+ghost use Rattle.dsa_descriptor.specs.Lists.{IsFirstListFault};
+ghost use Rattle.dsa_descriptor.specs.declared.fault.ListFault.TheVariants.{Memory as ListMemory};
+ghost use Rattle.dsa_calls.specs.declared.fault.PlanFault.{PlanFault};
+ghost use Rattle.dsa_calls.specs.Lists.{IsListOf, OrMemory, IsOrMemory};
+ghost use Rattle.dsa_calls.specs.Planned.{Submission, submission_of};
+ghost use Rattle.dsa_calls.specs.Fenced.{fences_of, unfenced_list, IsFencedLeast, PlansFenced};
+
+use crate::fault::PlanFault;
+use crate::planning::{Planned, plan_operations_with};
+use dsa_descriptor::{Descriptor, ListFault, agree_on_owner};
+use dsa_plan::{Settings, is_fenced, unfenced};
+use std::alloc::Global;
+
+/// What the bytes of a list with fences spell.
+#[derive(Debug, Drop)]
+struct FencedList {
+    /// The operations, without their fences.
+    operations: Vec<Descriptor>,
+    /// Whether each was fenced.
+    fences: Vec<bool>,
+}
+
+/// The operations that the bytes spell, fenced or not, and their fences.
+fn read_fenced(alloc: Global, bytes: &[u8]) -> Result<FencedList, ListFault>
+    ensures listed { IfOk result (λ list. IsListOf (unfenced_list bytes.now) list.operations.items) }
+    ensures fences { IfOk result (λ list. list.fences.items ≡ fences_of bytes.now) }
+    ensures fault { IfErr result (λ fault. (fault ≡ ListMemory) ⊎
+        IsFirstListFault (unfenced_list bytes.now) fault) }
+{
+    let (all, rest) = bytes.as_chunks::<64>();
+    if !rest.is_empty() {
+        return Err(ListFault::Length);
+    }
+    let mut operations = Vec::with_capacity(alloc, all.len())?;
+    let mut fences = Vec::with_capacity(alloc, all.len())?;
+    for (index, entry) in all.iter().enumerate() {
+        let operation = match Descriptor::read(&unfenced(entry)) {
+            Ok(operation) => operation,
+            Err(fault) => return Err(ListFault::Field(index, fault)),
+        };
+        if !agree_on_owner(&all[0], entry) {
+            return Err(ListFault::MixedPasid(index));
+        }
+        operations.push(operation)?;
+        fences.push(is_fenced(entry))?;
+    }
+    Ok(FencedList { operations, fences })
+}
+
+/// Plans the operations that the bytes spell, as [`plan_list`](crate::plan_list) does, where an operation may have the flag
+/// 0x0001, fence: it begins after a barrier, and so does the first piece of one that is split. The plan is of least cost
+/// among those that keep each barrier, and its fences are those that it needs. A fence on the first operation says nothing.
+///
+/// # Errors
+/// The first fault of the bytes without their fences as a list, as [`read_list`](dsa_descriptor::read_list) reports it;
+/// else the first fault of splitting the operations, as [`pieces`](dsa_splitter::pieces()) reports it;
+/// [`PlanFault::Memory`] at the first allocation that fails.
+pub fn plan_fenced_list(
+    alloc: Global,
+    list: &[u8],
+    settings: &Settings,
+) -> Result<Planned, PlanFault>
+    ensures answer { OrMemory submission_of (PlansFenced list.now settings.now) result }
+    // What it answers is the one outcome, but for an allocation failure.
+    ensures only { (outcome : Result Submission PlanFault) →
+        PlansFenced list.now settings.now outcome → IsOrMemory submission_of outcome result }
+    // The plan keeps the barriers, no legal plan that does costs less, and its certificate is good.
+    ensures least { IfOk result (λ p. IsFencedLeast list.now settings.now (submission_of p)) }
+{
+    let read = read_fenced(alloc, list)?;
+    plan_operations_with(alloc, &read.operations, &read.fences, settings)
+}

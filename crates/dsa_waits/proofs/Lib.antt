@@ -1,2 +1,5 @@
 pub mod Rising
 pub mod Courses
+pub mod Parts
+pub mod Placed
+pub mod Entered

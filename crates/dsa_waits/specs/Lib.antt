@@ -1,2 +1,5 @@
 pub mod Waits
 pub mod Steps
+pub mod Lines
+pub mod Recorded
+pub mod RecordedSteps

@@ -4,9 +4,9 @@
 #[derive(Clone, Copy, Debug, Default, PartialEq, Eq)]
 pub struct Queue {
     /// The number of its device.
-    pub device: u32,
+    pub device: u64,
     /// Its number there.
-    pub number: u32,
+    pub number: u64,
 }
 
 /// An event in the life of submissions, which are numbered from 0 in the order in which they were made.

@@ -4,8 +4,12 @@
 
 mod course;
 mod event;
+mod lines;
+mod recorded;
 mod search;
 
 pub use course::{Course, Entry, Made};
 pub use event::{Event, Queue};
+pub use lines::{Line, LinesFault, Submitting, read_lines};
+pub use recorded::course_of;
 pub use search::missing_waits;

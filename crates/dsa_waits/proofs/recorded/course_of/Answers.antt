@@ -1,0 +1,30 @@
+use Rattle.std.proofs.Common.{◌≡◌, ℕ, ◌<◌, List, Bool, length, refl, sym, ap, subst, ◌∙◌, arith}
+use Rattle.dsa_waits.specs.declared.course.Course.{Course}
+use Rattle.dsa_waits.specs.declared.event.Event.{Event}
+use Rattle.dsa_waits.specs.declared.event.Event.TheVariants.{Submitted}
+use Rattle.dsa_waits.specs.Recorded.{IsCourseOf}
+use Rattle.dsa_waits.specs.RecordedSteps.{AreMade, AreMarked, HasEntries}
+use Rattle.dsa_waits.proofs.Entered.{is_course, of_made}
+use Rattle.dsa_waits.proofs.recorded.course_of.Goals as goal
+
+pub returns-clause-course : goal.returns-clause-course
+returns-clause-course c =
+    is_course c.args.all.now c.args.submissions.now c.args.queues.now c.args.events.items
+    (record { entries = c.in_ok-entries.entries; members = c.in_ok-entries.members; made = c.in_ok-made.made; events = c.args.events }) c.requires.reads
+    (of_made c.args.all.now c.args.submissions.now c.args.queues.now c.in_ok-watched.watched.items
+    (record { entries = c.in_ok-entries.entries; members = c.in_ok-entries.members; made = c.in_ok-made.made; events = c.args.events })
+    c.in_ok-entries.ensures
+    (subst (λ (vs : List Event). AreMarked vs (length vs) (length c.args.submissions.now) c.in_ok-watched.watched.items) c.deref.ensures.value
+    c.in_ok-watched.ensures)
+    (subst (λ (w : List Bool). AreMade c.args.all.now c.args.submissions.now c.args.queues.now w (length c.args.submissions.now) c.in_ok-made.made.items)
+    c.deref-2.ensures.value c.in_ok-made.ensures)) c.requires.made (λ k lt. c.requires.fit k Submitted lt)
+
+pub returns-clause-recorded : goal.returns-clause-recorded
+returns-clause-recorded c =
+    of_made c.args.all.now c.args.submissions.now c.args.queues.now c.in_ok-watched.watched.items
+    (record { entries = c.in_ok-entries.entries; members = c.in_ok-entries.members; made = c.in_ok-made.made; events = c.args.events })
+    c.in_ok-entries.ensures
+    (subst (λ (vs : List Event). AreMarked vs (length vs) (length c.args.submissions.now) c.in_ok-watched.watched.items) c.deref.ensures.value
+    c.in_ok-watched.ensures)
+    (subst (λ (w : List Bool). AreMade c.args.all.now c.args.submissions.now c.args.queues.now w (length c.args.submissions.now) c.in_ok-made.made.items)
+    c.deref-2.ensures.value c.in_ok-made.ensures)

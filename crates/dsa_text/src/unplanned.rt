@@ -127,7 +127,11 @@ fn operation_meeting(d: &Descriptor, count: usize, area: Span) -> Option<Meeting
     if let Some(meeting) = data_meeting(d, area) {
         return Some(meeting);
     }
-    shared(area, &[row(d.record_at, RECORD_LEN, count)], "completion record")
+    shared(
+        area,
+        &[row(d.record_at, RECORD_LEN, count)],
+        "completion record",
+    )
 }
 
 /// Writes where the operation meets the staging area.

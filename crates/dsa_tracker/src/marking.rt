@@ -63,8 +63,8 @@ fn note_store(
     Noted { found, is_whole }
 }
 
-/// Takes the marks of all that the store keeps away.
-fn unmark_store(rows: &mut [u64], grid: Grid, store: &[u64], slot: u32)
+/// Takes the marks of all that the store keeps away, which the slot reads or writes.
+fn unmark_store(rows: &mut [u64], grid: Grid, store: &[u64], slot: u32, is_written: bool)
     requires some { 0 < length store.now }
     requires sized { length rows.old ≡ 2 * 2 ^ grid.log2_rows }
     requires few { slot < 64 }
@@ -73,7 +73,7 @@ fn unmark_store(rows: &mut [u64], grid: Grid, store: &[u64], slot: u32)
     for index in 0..count(store) {
         let first = store[2 * index + 1];
         let last = store[2 * index + 2];
-        unmark_units(rows, grid, first, last, slot);
+        unmark_units(rows, grid, first, last, slot, is_written);
     }
 }
 
@@ -122,6 +122,6 @@ pub(crate) fn unmark_slot(rows: &mut [u64], grid: Grid, slot: u32, reads: &[u64]
     requires few { slot < 64 }
     ensures { (k s : ℕ) → s < 64 → s ≢ slot → Holds rows.old k s → Holds rows.new k s }
 {
-    unmark_store(rows, grid, reads, slot);
-    unmark_store(rows, grid, writes, slot);
+    unmark_store(rows, grid, reads, slot, false);
+    unmark_store(rows, grid, writes, slot, true);
 }

@@ -121,12 +121,14 @@ pub(crate) fn note(rows: &mut [u64], grid: Grid, unit: u64, slot: u32, is_writte
     found
 }
 
-/// Takes the marks of the slot away, and of no other slot.
-pub(crate) fn unmark(rows: &mut [u64], grid: Grid, unit: u64, slot: u32)
+/// Takes the marks of the slot away, which reads or writes the unit, and of no other slot.
+pub(crate) fn unmark(rows: &mut [u64], grid: Grid, unit: u64, slot: u32, is_written: bool)
     requires sized { length rows.old ≡ 2 * 2 ^ grid.log2_rows }
     requires few { slot < 64 }
     ensures { (k s : ℕ) → s < 64 → s ≢ slot → Holds rows.old k s → Holds rows.new k s }
 {
     unmark_side(rows, grid, 0, unit, slot);
-    unmark_side(rows, grid, 1, unit, slot);
+    if is_written {
+        unmark_side(rows, grid, 1, unit, slot);
+    }
 }

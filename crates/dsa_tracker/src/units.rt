@@ -51,8 +51,15 @@ pub(crate) fn note_units(
     Some(found)
 }
 
-/// Takes the marks of these addresses away.
-pub(crate) fn unmark_units(rows: &mut [u64], grid: Grid, first: u64, last: u64, slot: u32)
+/// Takes the marks of these addresses away, which the slot reads or writes.
+pub(crate) fn unmark_units(
+    rows: &mut [u64],
+    grid: Grid,
+    first: u64,
+    last: u64,
+    slot: u32,
+    is_written: bool,
+)
     requires sized { length rows.old ≡ 2 * 2 ^ grid.log2_rows }
     requires few { slot < 64 }
     ensures { (k s : ℕ) → s < 64 → s ≢ slot → Holds rows.old k s → Holds rows.new k s }
@@ -61,7 +68,7 @@ pub(crate) fn unmark_units(rows: &mut [u64], grid: Grid, first: u64, last: u64, 
         return;
     };
     for unit in from..until {
-        unmark(rows, grid, unit, slot);
+        unmark(rows, grid, unit, slot, is_written);
     }
 }
 

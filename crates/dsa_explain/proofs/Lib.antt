@@ -8,3 +8,5 @@ pub mod CostSums
 pub mod FencedOnce
 pub mod Lines
 pub mod NoFloats
+pub mod Chains
+pub mod Waited

@@ -9,6 +9,7 @@ mod fences;
 mod laws;
 mod picture;
 mod reason;
+mod waits;
 mod words;
 
 pub use cells::{Cell, lay_out};
@@ -23,4 +24,5 @@ pub use laws::{
 };
 pub use picture::draw;
 pub use reason::Reason;
+pub use waits::{Waits, WaitsFault, group_waits, waits_text};
 pub use words::{Origin, explanation_text, kind_text};

@@ -36,7 +36,7 @@ pub fn kind_text(kind: HazardKind) -> &'static str
 }
 
 /// An s, but behind a single one.
-fn plural(count: u128) -> &'static str
+pub(crate) fn plural(count: u128) -> &'static str
     ensures { result.now ≡ plural count }
 {
     if count == 1 { "" } else { "s" }
@@ -282,7 +282,7 @@ pub fn cost_text(alloc: Global, costs: &Costs, pieces: usize) -> Result<String, 
 }
 
 /// Writes a line.
-fn push_line(text: &mut String, line: &str) -> Result<(), AllocError>
+pub(crate) fn push_line(text: &mut String, line: &str) -> Result<(), AllocError>
     ensures { OnOk result (string_bytes text.new ≡ string_bytes text.old ++
         (line.now ++ codes "\n")) }
 {

@@ -3,3 +3,4 @@ pub mod Steps
 pub mod Lines
 pub mod Recorded
 pub mod RecordedSteps
+pub mod Fitting

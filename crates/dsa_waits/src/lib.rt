@@ -4,12 +4,14 @@
 
 mod course;
 mod event;
+mod fitting;
 mod lines;
 mod recorded;
 mod search;
 
 pub use course::{Course, Entry, Made};
 pub use event::{Event, Queue};
+pub use fitting::{Misfit, WaitsFault, find_waits};
 pub use lines::{Line, LinesFault, Submitting, read_lines};
 pub use recorded::course_of;
 pub use search::missing_waits;

@@ -4,10 +4,10 @@ use Rattle.dsa_descriptor.specs.Places.{code_at}
 use Rattle.dsa_audit.specs.Steps.{AreLasts}
 use Rattle.dsa_recording.specs.declared.stream.Submission.{Submission}
 use Rattle.dsa_recording.specs.Submissions.{head_at}
-use Rattle.dsa_waits.specs.declared.course.Course.{Course}
 use Rattle.dsa_waits.specs.declared.event.Event.{Event}
 use Rattle.dsa_waits.specs.declared.event.Event.TheVariants as event
 use Rattle.dsa_waits.specs.declared.event.Queue.{Queue}
+use Rattle.dsa_waits.specs.declared.fitting.Found.{Found}
 use Rattle.dsa_waits.specs.declared.fitting.Misfit.{Misfit}
 use Rattle.dsa_waits.specs.declared.fitting.Misfit.TheVariants.{Number, Recording, Member}
 use Rattle.dsa_waits.specs.declared.fitting.WaitsFault.{WaitsFault}
@@ -111,15 +111,14 @@ IsUnfit es ss lines fault.Memory = Unit
 -- ---- the answer
 
 -- for each entry the last one for which a wait is missing, in the course of the recording with the events of the text
-pub record AreWaits (es : List (List ℕ)) (ss : List Submission) (text : List ℕ) (waits : List (Option ℕ)) : Type 0 where
+pub record AreWaits (es : List (List ℕ)) (ss : List Submission) (text : List ℕ) (found : Found) : Type 0 where
   pub lines : List Line
   pub spelled : Spells text lines
   pub queues : List Queue
   pub fitted : AreFitted es ss lines queues (map event_of lines)
-  pub course : Course
-  pub recorded : IsCourseOf es ss queues (map event_of lines) course
-  pub count : length waits ≡ length es
-  pub missing : AreLasts (IsMissingWait course) waits
+  pub recorded : IsCourseOf es ss queues (map event_of lines) found.course
+  pub count : length found.waits.items ≡ length es
+  pub missing : AreLasts (IsMissingWait found.course) found.waits.items
 
 -- the first line that is none of an event; else of lines that are what does not fit
 abbrev pub IsWaitsFault : List (List ℕ) → List Submission → List ℕ → WaitsFault → Type 0

@@ -4,3 +4,4 @@ pub mod Lines
 pub mod Recorded
 pub mod RecordedSteps
 pub mod Fitting
+pub mod Answered

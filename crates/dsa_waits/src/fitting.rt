@@ -7,6 +7,7 @@ ghost use Rattle.dsa_recording.specs.Submissions.{head_at};
 ghost use Rattle.dsa_waits.specs.declared.fitting.WaitsFault.TheVariants.{Memory};
 ghost use Rattle.dsa_waits.specs.Fitting.{AreFitted, AreWaits, IsUnfit, IsWaitsFault, event_of, members_of, misfit_of, misfit_made, misfit_member, misfit_number, queues_of};
 
+use crate::course::Course;
 use crate::event::{Event, Queue};
 use crate::lines::{Line, LinesFault, Submitting, read_lines};
 use crate::recorded::{course_of, head_at};
@@ -37,6 +38,15 @@ pub enum WaitsFault {
     Few(usize),
     /// An allocation failed.
     Memory,
+}
+
+/// What is found of a recording with events.
+#[derive(Debug, Drop)]
+pub struct Found {
+    /// The course of the recording.
+    pub course: Course,
+    /// For each of its entries the last one for which a wait is missing.
+    pub waits: Vec<Option<usize>>,
 }
 
 impl From<AllocError> for WaitsFault {
@@ -194,7 +204,7 @@ fn fit_lines(
     Ok((queues, events))
 }
 
-/// For each entry of a recording, with the text of its events, the last entry for which a wait is missing.
+/// The course of a recording, with the text of its events, and for each entry the last one for which a wait is missing.
 ///
 /// # Errors
 /// The first line that is none of an event; else the first that does not fit the recording; else too few submissions; or
@@ -204,9 +214,9 @@ pub fn find_waits(
     all: &[[u8; 64]],
     submissions: &[Submission],
     text: &[u8],
-) -> Result<Vec<Option<usize>>, WaitsFault>
+) -> Result<Found, WaitsFault>
     requires { ReadsUpTo all.now 0 submissions.now (length all.now) }
-    ensures ok { IfOk result (λ waits. AreWaits all.now submissions.now text.now waits.items) }
+    ensures ok { IfOk result (AreWaits all.now submissions.now text.now) }
     ensures err { IfErr result (IsWaitsFault all.now submissions.now text.now) }
 {
     let lines = match read_lines(alloc, text) {
@@ -220,5 +230,5 @@ pub fn find_waits(
     };
     let course = course_of(alloc, all, submissions, &queues, events)?;
     let waits = missing_waits(alloc, &course)?;
-    Ok(waits)
+    Ok(Found { course, waits })
 }

@@ -29,7 +29,6 @@ returns-clause-ok c =
       spelled = c.in-Ok.ensures.ok;
       queues = c.in-Ok-fit_lines.fitted.0.items;
       fitted = record { fit = f.fit; queues_are = f.queues_are; events_are = refl };
-      course = c.in_ok-course.course;
       recorded = recorded;
       count = c.in_ok-waits.ensures.count ∙ recorded.entries;
       missing = c.in_ok-waits.ensures.waits;

@@ -17,7 +17,7 @@ use Rattle.dsa_waits.proofs.Rising.{filter_only, filter_keeps, rising_filter}
 
 -- ---- how many submissions are made
 
-none_before : (vs : List Event) → made_before vs 0 ≡ 0
+pub none_before : (vs : List Event) → made_before vs 0 ≡ 0
 none_before [] = refl
 none_before (v ∷ vs) = refl
 
@@ -26,10 +26,10 @@ made_suc [] k d lt = absurd (omega arith)
 made_suc (v ∷ vs) zero d lt = omega (arith, none_before vs)
 made_suc (v ∷ vs) (suc k) d lt = omega (arith, made_suc vs k d (omega arith))
 
-made_more : (vs : List Event) (k : ℕ) (d : Event) → k < length vs → made_before vs (k + 1) ≡ made_before vs k + is_made (get_or vs k d)
+pub made_more : (vs : List Event) (k : ℕ) (d : Event) → k < length vs → made_before vs (k + 1) ≡ made_before vs k + is_made (get_or vs k d)
 made_more vs k d lt = ap (made_before vs) (add-one k) ∙ made_suc vs k d lt
 
-made_grows : (vs : List Event) (j k : ℕ) → j ≤ k → made_before vs j ≤ made_before vs k
+pub made_grows : (vs : List Event) (j k : ℕ) → j ≤ k → made_before vs j ≤ made_before vs k
 made_grows [] j k le = omega arith
 made_grows (v ∷ vs) zero k le = omega arith
 made_grows (v ∷ vs) (suc j) zero le = absurd (omega arith)

@@ -3,3 +3,4 @@ pub mod Courses
 pub mod Parts
 pub mod Placed
 pub mod Entered
+pub mod Fits

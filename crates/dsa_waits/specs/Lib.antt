@@ -3,3 +3,5 @@ pub mod Steps
 pub mod Lines
 pub mod Recorded
 pub mod RecordedSteps
+pub mod Fitting
+pub mod Answered

@@ -2,14 +2,19 @@
 //! them are missing.
 #![tactic(auto)]
 
+mod answer;
 mod course;
 mod event;
+mod fitting;
 mod lines;
 mod recorded;
 mod search;
+mod words;
 
+pub use answer::answer_waits;
 pub use course::{Course, Entry, Made};
 pub use event::{Event, Queue};
+pub use fitting::{Found, Misfit, WaitsFault, find_waits};
 pub use lines::{Line, LinesFault, Submitting, read_lines};
 pub use recorded::course_of;
 pub use search::missing_waits;

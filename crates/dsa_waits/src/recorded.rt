@@ -40,7 +40,7 @@ fn is_fenced(entry: &[u8; 64]) -> bool
 }
 
 /// The entry of a submission's descriptor.
-fn head_at(submission: Submission) -> usize
+pub(crate) fn head_at(submission: Submission) -> usize
     ensures { result ≡ head_at submission }
 {
     if submission.is_batch {

@@ -1,0 +1,122 @@
+//! The words of missing waits, and of events that do not fit.
+
+ghost use Rattle.std.specs.Prelude.{◌≢◌, IfOk};
+ghost use Rattle.dsa_waits.specs.declared.fitting.WaitsFault.TheVariants.{Memory};
+
+use crate::course::{Course, entry_at, made_at};
+use crate::event::Event;
+use crate::fitting::{Found, Misfit, WaitsFault};
+use dsa_audit::hazard_between;
+use dsa_ranges::{Hazard, HazardKind};
+use std::alloc::{AllocError, Global};
+
+/// An entry: its number, its submission and what it is there.
+fn place_text(alloc: Global, course: &Course, entry: usize) -> Result<String, AllocError> {
+    let submission = entry_at(course, entry).submission;
+    let made = made_at(&course.made, submission);
+    let after = entry.saturating_sub(made.first);
+    if made.end.saturating_sub(made.first) == 1 {
+        return format!(in alloc; "entry {entry} (submission {submission})");
+    }
+    if after == 0 {
+        return format!(in alloc; "entry {entry} (submission {submission}, its descriptor)");
+    }
+    let member = after - 1;
+    format!(in alloc; "entry {entry} (submission {submission}, member {member})")
+}
+
+/// What both do to an address, and where it is.
+fn hazard_text(alloc: Global, earlier: &str, hazard: Hazard) -> Result<String, AllocError> {
+    let address = hazard.address;
+    match hazard.kind {
+        HazardKind::ReadAfterWrite => format!(in alloc;
+            "read after write: reads what {earlier} writes, in flight, at 0x{address:x}"
+        ),
+        HazardKind::WriteAfterRead => format!(in alloc;
+            "write after read: writes what {earlier} reads, in flight, at 0x{address:x}"
+        ),
+        HazardKind::WriteAfterWrite => format!(in alloc;
+            "write after write: writes what {earlier} writes, in flight, at 0x{address:x}"
+        ),
+    }
+}
+
+/// The line of a missing wait.
+fn wait_text(
+    alloc: Global,
+    course: &Course,
+    earlier: usize,
+    later: usize,
+) -> Result<String, AllocError> {
+    if earlier >= later || later >= course.members.len() {
+        return Ok(String::new(alloc));
+    }
+    let Some(hazard) = hazard_between(&course.members, earlier, later) else {
+        return Ok(String::new(alloc));
+    };
+    let place = place_text(alloc, course, later)?;
+    let other = place_text(alloc, course, earlier)?;
+    let what = hazard_text(alloc, &other, hazard)?;
+    format!(in alloc; "{place}: error: missing wait, {what}\n")
+}
+
+/// Whether some event says that the program has looked at a record.
+fn some_known(events: &[Event]) -> bool {
+    for event in events {
+        if let Event::Known(_) = *event {
+            return true;
+        }
+    }
+    false
+}
+
+/// What a report without looks at records rests on.
+const ALL_KNOWN: &str =
+    "no event says when the program looked at a record (K): it is taken to know of an end at once\n";
+
+/// The lines of all missing waits, and how many there are.
+pub(crate) fn waits_text(alloc: Global, found: &Found) -> Result<String, AllocError> {
+    let mut text = String::new(alloc);
+    let mut missing: usize = 0;
+    for (later, wait) in found.waits.iter().enumerate() {
+        if let Some(earlier) = *wait {
+            text.push_str(&wait_text(alloc, &found.course, earlier, later)?)?;
+            missing = missing.saturating_add(1);
+        }
+    }
+    let submissions = found.course.made.len();
+    text.push_str(&format!(in alloc; "{missing} missing waits, {submissions} submissions\n")?)?;
+    if !some_known(&found.course.events) {
+        text.push_str(ALL_KNOWN)?;
+    }
+    Ok(text)
+}
+
+/// Why the line does not fit.
+fn misfit_text(why: Misfit) -> &'static str {
+    match why {
+        Misfit::Number => "the submission is not the next one, or not made yet",
+        Misfit::Recording => "the recording has another operation or count of members there",
+        Misfit::Member => "the submission has no such member",
+    }
+}
+
+/// Why there is no answer.
+pub(crate) fn fault_text(alloc: Global, fault: WaitsFault) -> Result<String, AllocError>
+    ensures { IfOk result (λ _. fault ≢ Memory) }
+{
+    match fault {
+        WaitsFault::Line(index) => {
+            let line = index as u128 + 1;
+            format!(in alloc; "line {line}: error: this is no event, or the line is cut off\n")
+        }
+        WaitsFault::Unfit(index, why) => {
+            let (line, reason) = (index as u128 + 1, misfit_text(why));
+            format!(in alloc; "line {line}: error: {reason}\n")
+        }
+        WaitsFault::Few(made) => format!(in alloc;
+            "error: the events have {made} submissions, and the recording has more\n"
+        ),
+        WaitsFault::Memory => Err(AllocError),
+    }
+}

@@ -75,12 +75,13 @@ pub fn plan_fenced_list(
     plan_operations_with(alloc, &read.operations, &read.fences, settings)
 }
 
-/// The cost of the plan for the pieces that the bytes spell, as [`judge_bytes`](crate::judge_bytes) judges them. A piece
-/// with the flag 0x0001, fence, begins after a barrier, which the plan has to keep. A fence on the first piece says nothing.
+/// The cost of the plan for the pieces that the bytes spell, as [`judge_bytes`](crate::judge_bytes) judges them. A
+/// piece with the flag 0x0001, fence, begins after a barrier, which the plan has to keep. A fence on the first piece
+/// says nothing.
 ///
 /// # Errors
-/// The first fault of the bytes without their fences as a list; else the first cause to refuse the plan for the pieces and
-/// their barriers, as [`judge_pieces_with`] reports it; [`PlanFault::Memory`] where an allocation fails.
+/// The first fault of the bytes without their fences as a list; else the first cause to refuse the plan for the pieces
+/// and their barriers, as [`judge_pieces_with`] reports it; [`PlanFault::Memory`] where an allocation fails.
 pub fn judge_fenced_list(
     alloc: Global,
     list: &[u8],

@@ -14,7 +14,7 @@ use Rattle.dsa_search.proofs.Choosing.{chosen_is_good, chosen_is_least}
 use Rattle.dsa_calls.specs.declared.fault.PlanFault.{PlanFault}
 use Rattle.dsa_calls.specs.declared.planning.Planned.{Planned}
 use Rattle.dsa_calls.specs.Fault.{list_cause}
-use Rattle.dsa_calls.specs.Lists.{IsListOf, OrMemory, IsOrMemory}
+use Rattle.dsa_calls.specs.Lists.{IsListOf, OverList, OrMemory, IsOrMemory}
 use Rattle.dsa_calls.specs.Planned.{Submission, submission_of}
 use Rattle.dsa_calls.specs.Fenced.{fences_of, unfenced_list, PiecesConflict, IsSubmissionWith, PlansWith, PlansFenced, IsFencedLeast, OneFencedPlan, FencedPlanIsLeast}
 use Rattle.dsa_calls.proofs.Over.{list_refused, one_over_list, only_outcome}
@@ -53,10 +53,15 @@ fenced_plan_is_least bytes s p (inr (ds, list, sub)) =
 
 -- ---- what the call answers
 
+-- the bytes without their fences were refused, whatever is asked of the operations
+pub refused_by : {X Y : Type 0} (shown : X → Y) (Says : List Fields → Result Y PlanFault → Type 0) (bytes : List ℕ) (cause : ListFault) (fault : PlanFault) → fault ≡ list_cause cause
+    → (cause ≡ ListMemory) ⊎ IsFirstListFault (unfenced_list bytes) cause → OrMemory shown (OverList Says (unfenced_list bytes)) (Err fault)
+refused_by shown Says bytes cause fault is (inl memory) = inl (is ∙ ap list_cause memory)
+refused_by shown Says bytes cause fault is (inr first) = list_refused shown Says (unfenced_list bytes) cause fault is first
+
 pub refused_list : (bytes : List ℕ) (s : Limits) (cause : ListFault) (fault : PlanFault) → fault ≡ list_cause cause → (cause ≡ ListMemory) ⊎ IsFirstListFault (unfenced_list bytes) cause
     → OrMemory submission_of (PlansFenced bytes s) (Err fault)
-refused_list bytes s cause fault is (inl memory) = inl (is ∙ ap list_cause memory)
-refused_list bytes s cause fault is (inr first) = list_refused submission_of (λ fs o. PlansWith (fences_of bytes) s fs o) (unfenced_list bytes) cause fault is first
+refused_list bytes s cause fault is h = refused_by submission_of (λ fs o. PlansWith (fences_of bytes) s fs o) bytes cause fault is h
 
 pub answer_of : (bytes : List ℕ) (s : Limits) (ds : List Descriptor) (barriers : List Bool) (r : Result Planned PlanFault) → IsListOf (unfenced_list bytes) ds → barriers ≡ fences_of bytes
     → OrMemory submission_of (PlansWith barriers s (map fields ds)) r → OrMemory submission_of (PlansFenced bytes s) r

@@ -11,7 +11,7 @@ use Rattle.dsa_settings.proofs.Judged.{legal_no_fault, one_fault}
 use Rattle.dsa_calls.specs.declared.fault.PlanFault.{PlanFault}
 use Rattle.dsa_calls.specs.declared.fault.PlanFault.TheVariants.{OverTransfer, Legal}
 use Rattle.dsa_calls.specs.Lists.{IsListOf, OrMemory}
-use Rattle.dsa_calls.specs.Judge.{FitTransfer, IsFirstOver, JudgesPieces, Judges}
+use Rattle.dsa_calls.specs.Judge.{FitTransfer, IsFirstOver, JudgesPieces, JudgesPiecesBy, Judges}
 use Rattle.dsa_calls.specs.Laws.{OneJudged}
 use Rattle.dsa_calls.proofs.Over.{one_over_list}
 
@@ -33,30 +33,33 @@ one_over greatest fs i j p q =
     ]
 
 -- pieces that are judged have no cause to refuse them
-judged_or_not : (fs : List Fields) (plan : Plan) (s : Limits) (cost : ℕ) (cause : PlanFault) → JudgesPieces fs plan s (Ok cost) → JudgesPieces fs plan s (Err cause) → ⊥
-judged_or_not fs plan s cost cause h (inl (is, many)) = let few = h.0 in omega arith
-judged_or_not fs plan s cost cause h (inr (inl (i, is, few, over))) = none_over s.greatest_transfer fs i h.1 over
-judged_or_not fs plan s cost cause h (inr (inr (fault, is, few, fit, first))) = legal_no_fault (ConflictAt fs) s.greatest_batch (length fs) plan fault h.2 first
+judged_or_not : (C : ℕ → ℕ → Type 0) (fs : List Fields) (plan : Plan) (s : Limits) (cost : ℕ) (cause : PlanFault) → JudgesPiecesBy C fs plan s (Ok cost) → JudgesPiecesBy C fs plan s (Err cause) → ⊥
+judged_or_not C fs plan s cost cause h (inl (is, many)) = let few = h.0 in omega arith
+judged_or_not C fs plan s cost cause h (inr (inl (i, is, few, over))) = none_over s.greatest_transfer fs i h.1 over
+judged_or_not C fs plan s cost cause h (inr (inr (fault, is, few, fit, first))) = legal_no_fault C s.greatest_batch (length fs) plan fault h.2 first
 
 -- and else one
-one_cause : (fs : List Fields) (plan : Plan) (s : Limits) (cause other : PlanFault) → JudgesPieces fs plan s (Err cause) → JudgesPieces fs plan s (Err other) → cause ≡ other
-one_cause fs plan s cause other (inl (is, many)) (inl (is', many')) = is ∙ sym is'
-one_cause fs plan s cause other (inl (is, many)) (inr (inl (i, is', few, over))) = absurd (omega arith)
-one_cause fs plan s cause other (inl (is, many)) (inr (inr (fault, is', few, fit, first))) = absurd (omega arith)
-one_cause fs plan s cause other (inr (inl (i, is, few, over))) (inl (is', many)) = absurd (omega arith)
-one_cause fs plan s cause other (inr (inl (i, is, few, over))) (inr (inl (j, is', few', over'))) = is ∙ ap OverTransfer (one_over s.greatest_transfer fs i j over over') ∙ sym is'
-one_cause fs plan s cause other (inr (inl (i, is, few, over))) (inr (inr (fault, is', few', fit, first))) = absurd (none_over s.greatest_transfer fs i fit over)
-one_cause fs plan s cause other (inr (inr (fault, is, few, fit, first))) (inl (is', many)) = absurd (omega arith)
-one_cause fs plan s cause other (inr (inr (fault, is, few, fit, first))) (inr (inl (j, is', few', over))) = absurd (none_over s.greatest_transfer fs j fit over)
-one_cause fs plan s cause other (inr (inr (fault, is, few, fit, first))) (inr (inr (fault', is', few', fit', first'))) =
-    is ∙ ap Legal (one_fault (ConflictAt fs) s.greatest_batch (length fs) plan fault fault' first first') ∙ sym is'
+one_cause : (C : ℕ → ℕ → Type 0) (fs : List Fields) (plan : Plan) (s : Limits) (cause other : PlanFault) → JudgesPiecesBy C fs plan s (Err cause) → JudgesPiecesBy C fs plan s (Err other) → cause ≡ other
+one_cause C fs plan s cause other (inl (is, many)) (inl (is', many')) = is ∙ sym is'
+one_cause C fs plan s cause other (inl (is, many)) (inr (inl (i, is', few, over))) = absurd (omega arith)
+one_cause C fs plan s cause other (inl (is, many)) (inr (inr (fault, is', few, fit, first))) = absurd (omega arith)
+one_cause C fs plan s cause other (inr (inl (i, is, few, over))) (inl (is', many)) = absurd (omega arith)
+one_cause C fs plan s cause other (inr (inl (i, is, few, over))) (inr (inl (j, is', few', over'))) = is ∙ ap OverTransfer (one_over s.greatest_transfer fs i j over over') ∙ sym is'
+one_cause C fs plan s cause other (inr (inl (i, is, few, over))) (inr (inr (fault, is', few', fit, first))) = absurd (none_over s.greatest_transfer fs i fit over)
+one_cause C fs plan s cause other (inr (inr (fault, is, few, fit, first))) (inl (is', many)) = absurd (omega arith)
+one_cause C fs plan s cause other (inr (inr (fault, is, few, fit, first))) (inr (inl (j, is', few', over))) = absurd (none_over s.greatest_transfer fs j fit over)
+one_cause C fs plan s cause other (inr (inr (fault, is, few, fit, first))) (inr (inr (fault', is', few', fit', first'))) =
+    is ∙ ap Legal (one_fault C s.greatest_batch (length fs) plan fault fault' first first') ∙ sym is'
 
--- pieces have one outcome
+-- pieces have one outcome, whichever conflict
+pub one_judged_by : (C : ℕ → ℕ → Type 0) (fs : List Fields) (plan : Plan) (s : Limits) (o p : Result ℕ PlanFault) → JudgesPiecesBy C fs plan s o → JudgesPiecesBy C fs plan s p → o ≡ p
+one_judged_by C fs plan s (Ok cost) (Ok cost') h k = ap Ok (h.3 ∙ sym k.3)
+one_judged_by C fs plan s (Ok cost) (Err cause) h k = absurd (judged_or_not C fs plan s cost cause h k)
+one_judged_by C fs plan s (Err cause) (Ok cost) h k = absurd (judged_or_not C fs plan s cost cause k h)
+one_judged_by C fs plan s (Err cause) (Err other) h k = ap Err (one_cause C fs plan s cause other h k)
+
 pub one_judged_pieces : (fs : List Fields) (plan : Plan) (s : Limits) (o p : Result ℕ PlanFault) → JudgesPieces fs plan s o → JudgesPieces fs plan s p → o ≡ p
-one_judged_pieces fs plan s (Ok cost) (Ok cost') h k = ap Ok (h.3 ∙ sym k.3)
-one_judged_pieces fs plan s (Ok cost) (Err cause) h k = absurd (judged_or_not fs plan s cost cause h k)
-one_judged_pieces fs plan s (Err cause) (Ok cost) h k = absurd (judged_or_not fs plan s cost cause k h)
-one_judged_pieces fs plan s (Err cause) (Err other) h k = ap Err (one_cause fs plan s cause other h k)
+one_judged_pieces fs plan s o p h k = one_judged_by (ConflictAt fs) fs plan s o p h k
 
 pub one_judged : OneJudged
 one_judged bytes plan s = one_over_list (λ fs o. JudgesPieces fs plan s o) (λ fs o p. one_judged_pieces fs plan s o p) bytes

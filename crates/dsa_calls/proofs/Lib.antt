@@ -5,6 +5,7 @@ pub mod CheckedOnce
 pub mod Submissions
 pub mod FencedLists
 pub mod FencedPlans
+pub mod FencedJudged
 pub mod Beginnings
 pub mod Refusals
 pub mod Histories

@@ -24,6 +24,7 @@ pub record IsShownLeastBy (C : ℕ → ℕ → Type 0) (s : Limits) (n : ℕ) (p
   pub good : IsGood C s.greatest_batch (tariff_of s) n c.prices c.pairs cost
   pub is_cost : cost ≡ plan_cost (tariff_of s) plan
 
+-- the same of pieces without barriers
 abbrev pub IsShownLeast : Limits → List Fields → Plan → Contents → ℕ → Type 0
 IsShownLeast s pieces plan c cost = IsShownLeastBy (ConflictAt pieces) s (length pieces) plan c cost
 
@@ -34,6 +35,7 @@ ChecksPlanBy C s n plan c (Err cause) =
     (fault : CheckFault) × (cause ≡ Check fault)
     × IsFirstCheckFault C s.greatest_batch (tariff_of s) (version_of s) n plan c fault
 
+-- the same of pieces without barriers
 abbrev pub ChecksPlan : Limits → List Fields → Plan → Contents → Result ℕ PlanFault → Type 0
 ChecksPlan s pieces plan c outcome = ChecksPlanBy (ConflictAt pieces) s (length pieces) plan c outcome
 

@@ -7,6 +7,7 @@ use Rattle.dsa_descriptor.specs.Lists.{entries}
 use Rattle.dsa_ranges.specs.Ranges.{ConflictAt}
 use Rattle.dsa_plan.specs.Barriers.{WithBarriers}
 use Rattle.dsa_plan.specs.EmissionFaults.{is_fenced, unfenced}
+use Rattle.dsa_plan.specs.Plan.{Plan}
 use Rattle.dsa_plan.specs.Settings.{Limits, tariff_of}
 use Rattle.dsa_plan.specs.Legal.{IsLeast}
 use Rattle.dsa_plan.specs.Certificate.{IsGood}
@@ -14,6 +15,7 @@ use Rattle.dsa_splitter.specs.Pieces.{all_pieces, piece_barriers}
 use Rattle.dsa_splitter.specs.Rules.{IsSplit}
 use Rattle.dsa_calls.specs.declared.fault.PlanFault.{PlanFault}
 use Rattle.dsa_calls.specs.Lists.{IsListOf, OverList}
+use Rattle.dsa_calls.specs.Judge.{JudgesPiecesBy}
 use Rattle.dsa_calls.specs.Planned.{Submission, IsSubmissionOfPiecesBy, PlansOperations}
 
 -- whether each entry of 64 bytes has the flag 0x0001, fence (specification 341204); in a list it is a barrier before the
@@ -56,6 +58,12 @@ pub record IsFencedLeast (bytes : List ℕ) (s : Limits) (p : Submission) : Type
   pub good :
       IsGood (PiecesConflict s (map fields operations) (fences_of bytes) (map fields p.pieces))
       s.greatest_batch (tariff_of s) (length p.pieces) p.certificate.prices p.certificate.pairs p.cost
+
+-- the outcome of judging a plan for these bytes: the first fault as a list of the bytes without their fences, or what
+-- judging the pieces that those spell says, with the fences as barriers
+abbrev pub JudgesFenced : List ℕ → Plan → Limits → Result ℕ PlanFault → Type 0
+JudgesFenced bytes plan s outcome =
+    OverList (λ pieces o. JudgesPiecesBy (WithBarriers (ConflictAt pieces) (fences_of bytes)) pieces plan s o) (unfenced_list bytes) outcome
 
 -- bytes and settings have one outcome at most of planning with fences
 abbrev pub OneFencedPlan : Type 0

@@ -42,6 +42,7 @@ JudgesPiecesBy C pieces plan settings (Err cause) =
     ⊎ ((fault : LegalFault) × (cause ≡ Legal fault) × (length pieces ≤ most_pieces) × FitTransfer settings.greatest_transfer pieces
     × IsFirstLegalFault C settings.greatest_batch (length pieces) plan fault)
 
+-- the same of pieces without barriers
 abbrev pub JudgesPieces : List Fields → Plan → Limits → Result ℕ PlanFault → Type 0
 JudgesPieces pieces plan settings outcome = JudgesPiecesBy (ConflictAt pieces) pieces plan settings outcome
 

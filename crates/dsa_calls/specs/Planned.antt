@@ -100,6 +100,7 @@ pub record IsSubmissionOfPiecesBy (C : ℕ → ℕ → Type 0) (s : Limits) (p :
   pub portal_is : p.portal ≡ portal_bytes s p.plan (map fields p.pieces)
   pub staging_is : p.staging ≡ staging_bytes p.plan (map fields p.pieces)
 
+-- the same of pieces without barriers
 abbrev pub IsSubmissionOfPieces : Limits → Submission → Type 0
 IsSubmissionOfPieces s p = IsSubmissionOfPiecesBy (ConflictAt (map fields p.pieces)) s p
 

@@ -69,8 +69,8 @@ pub fn check_plan(
     check_plan_with(pieces, &[], settings, plan, certificate)
 }
 
-/// The cost of the plan of these pieces and their barriers, where it is legal and keeps the barriers, and the certificate
-/// shows that no such plan costs less. The mark of a piece says whether it begins after a barrier.
+/// The cost of the plan of these pieces and their barriers, where it is legal and keeps the barriers, and the
+/// certificate shows that no such plan costs less. The mark of a piece says whether it begins after a barrier.
 ///
 /// # Errors
 /// The first fault of the plan or the certificate, as [`check_with`] reports it.

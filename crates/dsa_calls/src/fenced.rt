@@ -1,17 +1,18 @@
-//! Planning the operations of a list in which a fence is a barrier.
+//! Planning and judging lists in which a fence is a barrier.
 
-ghost use Rattle.std.specs.Prelude.{◌≡◌, ◌⊎◌, IfOk, IfErr, Result};
+ghost use Rattle.std.specs.Prelude.{◌≡◌, ◌⊎◌, ℕ, IfOk, IfErr, Result};
 ghost use Rattle.dsa_descriptor.specs.Lists.{IsFirstListFault};
 ghost use Rattle.dsa_descriptor.specs.declared.fault.ListFault.TheVariants.{Memory as ListMemory};
 ghost use Rattle.dsa_calls.specs.declared.fault.PlanFault.{PlanFault};
 ghost use Rattle.dsa_calls.specs.Lists.{IsListOf, OrMemory, IsOrMemory};
 ghost use Rattle.dsa_calls.specs.Planned.{Submission, submission_of};
-ghost use Rattle.dsa_calls.specs.Fenced.{fences_of, unfenced_list, IsFencedLeast, PlansFenced};
+ghost use Rattle.dsa_calls.specs.Fenced.{fences_of, unfenced_list, IsFencedLeast, JudgesFenced, PlansFenced};
 
 use crate::fault::PlanFault;
+use crate::judging::judge_pieces_with;
 use crate::planning::{Planned, plan_operations_with};
 use dsa_descriptor::{Descriptor, ListFault, agree_on_owner};
-use dsa_plan::{Settings, is_fenced, unfenced};
+use dsa_plan::{Plan, Settings, is_fenced, unfenced};
 use std::alloc::Global;
 
 /// What the bytes of a list with fences spell.
@@ -50,9 +51,9 @@ fn read_fenced(alloc: Global, bytes: &[u8]) -> Result<FencedList, ListFault>
     Ok(FencedList { operations, fences })
 }
 
-/// Plans the operations that the bytes spell, as [`plan_list`](crate::plan_list) does, where an operation may have the flag
-/// 0x0001, fence: it begins after a barrier, and so does the first piece of one that is split. The plan is of least cost
-/// among those that keep each barrier, and its fences are those that it needs. A fence on the first operation says nothing.
+/// Plans the operations that the bytes spell, as [`plan_list`](crate::plan_list) does. An operation with the flag
+/// 0x0001, fence, begins after a barrier; of one that is split the first piece does. The plan is of least cost among
+/// those that keep each barrier, and has the fences that it needs. A fence on the first operation says nothing.
 ///
 /// # Errors
 /// The first fault of the bytes without their fences as a list, as [`read_list`](dsa_descriptor::read_list) reports it;
@@ -72,4 +73,28 @@ pub fn plan_fenced_list(
 {
     let read = read_fenced(alloc, list)?;
     plan_operations_with(alloc, &read.operations, &read.fences, settings)
+}
+
+/// The cost of the plan for the pieces that the bytes spell, as [`judge_bytes`](crate::judge_bytes) judges them. A
+/// piece with the flag 0x0001, fence, begins after a barrier, which the plan has to keep. A fence on the first piece
+/// says nothing.
+///
+/// # Errors
+/// The first fault of the bytes without their fences as a list; else the first cause to refuse the plan for the pieces
+/// and their barriers, as [`judge_pieces_with`] reports it; [`PlanFault::Memory`] where an allocation fails.
+pub fn judge_fenced_list(
+    alloc: Global,
+    list: &[u8],
+    plan: &Plan,
+    settings: &Settings,
+) -> Result<u64, PlanFault>
+    ensures answer { OrMemory (λ cost. cost)
+        (JudgesFenced list.now plan.now settings.now) result }
+    // What it answers is the one outcome, but for an allocation failure.
+    ensures only { (outcome : Result ℕ PlanFault) →
+        JudgesFenced list.now plan.now settings.now outcome →
+        IsOrMemory (λ cost. cost) outcome result }
+{
+    let read = read_fenced(alloc, list)?;
+    judge_pieces_with(&read.operations, &read.fences, plan, settings)
 }

@@ -105,7 +105,7 @@ pub fn plan_operations(
     Ok(submission)
 }
 
-/// Plans operations of one owner and their barriers, of which there is one before each operation whose mark is set; of an
+/// Plans operations of one owner and their barriers: there is one before each operation whose mark is set; of an
 /// operation that is split it is before the first piece. The plan is of least cost among those that keep the barriers.
 ///
 /// # Errors

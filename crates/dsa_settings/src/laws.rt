@@ -13,8 +13,8 @@ pub fn legal_epochs_part<C: Conflicts>()
     ensures more { LegalWithMore C.conflict }
 {}
 
-/// The plans that are legal with barriers are the legal plans that keep each barrier, whichever pieces conflict; and each
-/// piece before a barrier is of an earlier epoch than each piece after it.
+/// The plans that are legal with barriers are the legal plans that keep each barrier, whichever pieces conflict; and
+/// each piece before a barrier is of an earlier epoch than each piece after it.
 pub fn barriers_are_kept<C: Conflicts>()
     ensures kept { LegalIsKept C.conflict }
     ensures part { BarriersPart C.conflict }

@@ -32,8 +32,8 @@ pub enum LegalFault {
     GroupSize(usize),
     /// The first piece of the group is fenced.
     FirstFence(usize),
-    /// The two pieces conflict, or a barrier is between them, and they are in one group, and no piece after the first and
-    /// up to the second is fenced.
+    /// The two pieces conflict, or a barrier is between them, and they are in one group, and no piece after the first
+    /// and up to the second is fenced.
     Unfenced(usize, usize),
 }
 
@@ -261,9 +261,9 @@ pub fn is_legal(plan: &Plan, pieces: &[Descriptor], settings: &Settings) -> Resu
     is_legal_with(plan, pieces, &[], settings)
 }
 
-/// Whether the plan is legal for the pieces, as [`is_legal`] says, and keeps their barriers: each piece whose mark is set
-/// is fenced, or its group begins with it. Else its first fault; a barrier that is not kept is `Unfenced`, with the pieces
-/// just before and just after it.
+/// Whether the plan is legal for the pieces, as [`is_legal`] says, and keeps their barriers: each piece whose mark is
+/// set is fenced, or its group begins with it. Else its first fault; a barrier that is not kept is `Unfenced`, with the
+/// pieces just before and just after it.
 pub fn is_legal_with(
     plan: &Plan,
     pieces: &[Descriptor],

@@ -29,8 +29,8 @@ fn push_marks(found: &mut Vec<bool>, mark: bool, count: u64) -> Result<(), Alloc
     Ok(())
 }
 
-/// The barriers of the pieces of the operations, from those of the operations: the barrier before an operation is before
-/// its first piece.
+/// The barriers of the pieces of the operations, from those of the operations: the barrier before an operation is
+/// before its first piece.
 pub fn piece_barriers(
     alloc: Global,
     list: &[Descriptor],

@@ -92,6 +92,12 @@ def calls():
         print("there are no sanitizers")
 
 
+def fenced():
+    """Lists in which a fence is a barrier, beside every plan of them (FENCED=10000)."""
+    count = os.environ.get("FENCED", "200")
+    tried("fenced", [compiled("tests/bindings/fenced.c"), count], f"{count} lists with barriers\n")
+
+
 def random_lists():
     """The answers of the library are those of the program, but for the names of refusals."""
     lists = Path(WORK, "lists")
@@ -233,7 +239,7 @@ def main(words):
         sys.exit(0)
     make.need_proved("libdsa_c.a")
     with tempfile.TemporaryDirectory() as WORK:
-        parts = [header, examples, calls, texts, prepared, tracked, flights, in_flight, recorder]
+        parts = [header, examples, calls, fenced, texts, prepared, tracked, flights, in_flight, recorder]
         parts += [random_lists, speed]
         for part in named(parts, words):
             part()

@@ -21,10 +21,10 @@ from pathlib import Path
 from typing import Dict, FrozenSet, Iterable, List, NamedTuple, Optional, Sequence, Tuple, Union
 
 __all__ = [
-    "BEGINS", "BLOCK_ON_FAULT", "CAUSES", "FENCED", "MOST_PIECES", "Certificate", "Group", "Planned", "Prepared",
+    "BARRIER", "BEGINS", "BLOCK_ON_FAULT", "CAUSES", "FENCED", "MOST_PIECES", "Certificate", "Group", "Planned", "Prepared",
     "Refusal", "Retired", "Settings", "Submitted", "Summary", "Tracker", "apply_delta", "check", "compare",
-    "compare_pattern", "count_pieces", "dualcast", "fill", "groups", "judge", "library_version", "move", "plan_list",
-    "plan_list_certified", "prepare",
+    "compare_pattern", "count_pieces", "dualcast", "fill", "groups", "judge", "library_version", "move", "plan_fenced_list",
+    "plan_list", "plan_list_certified", "prepare",
 ]
 
 MOST_PIECES = 65_536
@@ -33,6 +33,8 @@ BEGINS = 1
 """The mark of a piece that begins a group: a batch, or a descriptor by itself."""
 FENCED = 2
 """The mark of a piece that carries the fence; it is added to `BEGINS`."""
+BARRIER = 0x0001
+"""The flag of an operation that begins after a barrier, for `plan_fenced_list` alone."""
 BLOCK_ON_FAULT = 0x0002
 """The flag that has the device wait for pages that are absent, if its queue allows that."""
 
@@ -149,6 +151,7 @@ def _declare(library: ctypes.CDLL) -> None:
     calls = {
         "dsa_count_pieces": (ctypes.c_uint64, listed),
         "dsa_plan_list": (ctypes.c_uint32, [*listed, *rooms, planned, refusal]),
+        "dsa_plan_fenced_list": (ctypes.c_uint32, [*listed, *rooms, planned, refusal]),
         "dsa_plan_list_certified": (ctypes.c_uint32, [*listed, *rooms, *certificate, byte, size, planned, refusal]),
         "dsa_check": (ctypes.c_uint32, [*listed, byte, size, ctypes.c_uint64, *certificate, word, refusal]),
         "dsa_judge": (ctypes.c_uint32, [*listed, byte, size, word, refusal]),
@@ -485,21 +488,32 @@ def count_pieces(settings: Settings, operations: Bytes) -> int:
     return int(_library.dsa_count_pieces(raw, table, entries, listed, size))
 
 
-def plan_list(settings: Settings, operations: Bytes) -> Summary:
-    """Plans a list: 64 bytes for each operation, in their order. Raises `Refusal`.
-
-    If all operations succeed, the final memory is that of the list in order. Nothing is promised of what another thread, an
-    interrupt or the device's other queues see in between, nor that a later operation waits for an earlier one to succeed.
-    """
+def _summary(call, settings: Settings, operations: Bytes) -> Summary:
+    """What a call that plans a list into buffers answers."""
     raw, table, entries = settings._raw()
     listed, size = _given("operations", operations)
     pieces = min(int(_library.dsa_count_pieces(raw, table, entries, listed, size)), MOST_PIECES)
     portal, staging = _room(64 * pieces), _room(80 * pieces)
     planned, refusal = _Planned(), _Refusal()
     rooms = portal, 64 * pieces, staging, 80 * pieces
-    _answered(_library.dsa_plan_list(raw, table, entries, listed, size, *rooms, planned, refusal), refusal)
+    _answered(call(raw, table, entries, listed, size, *rooms, planned, refusal), refusal)
     to_portal, to_staging = bytes(portal)[: planned.portal_len], bytes(staging)[: planned.staging_len]
     return Summary(planned.cost, planned.pieces, to_portal, to_staging)
+
+
+def plan_list(settings: Settings, operations: Bytes) -> Summary:
+    """Plans a list: 64 bytes for each operation, in their order. Raises `Refusal`.
+
+    If all operations succeed, the final memory is that of the list in order. Nothing is promised of what another thread, an
+    interrupt or the device's other queues see in between, nor that a later operation waits for an earlier one to succeed.
+    """
+    return _summary(_library.dsa_plan_list, settings, operations)
+
+
+def plan_fenced_list(settings: Settings, operations: Bytes) -> Summary:
+    """The same, but an operation may have the flag `BARRIER`: the device starts nothing of it, nor of what comes after it,
+    before all operations before it have ended with status 1. No plan that keeps each barrier costs less."""
+    return _summary(_library.dsa_plan_fenced_list, settings, operations)
 
 
 def plan_list_certified(settings: Settings, operations: Bytes) -> Planned:

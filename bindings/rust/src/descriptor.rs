@@ -92,6 +92,12 @@ impl Descriptor {
         self
     }
 
+    /// The same after a barrier, for [`plan_fenced_into`](crate::plan_fenced_into) alone.
+    #[must_use]
+    pub fn after_barrier(self) -> Descriptor {
+        self.with_flags(0x0001)
+    }
+
     /// Of a compare, the same that fails (status 2) unless the ranges differ as is expected.
     #[must_use]
     pub fn expecting(mut self, is_different: bool) -> Descriptor {

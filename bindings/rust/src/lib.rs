@@ -315,6 +315,51 @@ pub fn plan_into(
     answer(code, summary, refusal)
 }
 
+/// The same, but an operation may have the flag 0x0001 ([`Descriptor::after_barrier`]): the device starts nothing of it, nor
+/// of what comes after it, before all operations before it have ended with status 1. No legal plan that keeps each barrier
+/// costs less.
+///
+/// # Errors
+/// The same, of the list without the flags.
+///
+/// ```
+/// # use dsa_planner::{list_of, plan_fenced_into, BatchPrice, Descriptor, Settings};
+/// # let (lone, batch, fence) = (10, BatchPrice::Flat(14), 3);
+/// # let settings = Settings { greatest_batch: 4, greatest_transfer: 4096, lone, batch, fence, staging: 0x10000 };
+/// let checked = Descriptor::compare(0x1000, 0x2000, 64, 0x8000).expecting(false);
+/// let publish = Descriptor::memory_move(0x3000, 0x4000, 64, 0x8020).after_barrier();
+/// let (mut portal, mut staging) = ([0; 128], [0; 160]);
+/// let summary = plan_fenced_into(&settings, &list_of(&[checked, publish]), &mut portal, &mut staging)?;
+/// assert_eq!(summary.cost, 17); // one batch, with a fence before the move
+/// # Ok::<(), dsa_planner::Refusal>(())
+/// ```
+pub fn plan_fenced_into(
+    settings: &Settings,
+    list: &[u8],
+    portal: &mut [u8],
+    staging: &mut [u8],
+) -> Result<Summary, Refusal> {
+    let (raw, table) = settings.raw();
+    let (mut summary, mut refusal) = (Summary::default(), raw::Refusal::default());
+    // SAFETY: each pointer and length are those of one slice, or of one struct, and no output overlaps another argument.
+    let code = unsafe {
+        raw::dsa_plan_fenced_list(
+            &raw,
+            table.as_ptr(),
+            table.len(),
+            list.as_ptr(),
+            list.len(),
+            portal.as_mut_ptr(),
+            portal.len(),
+            staging.as_mut_ptr(),
+            staging.len(),
+            &mut summary,
+            &mut refusal,
+        )
+    };
+    answer(code, summary, refusal)
+}
+
 /// Plans a list: 64 bytes for each operation, in their order.
 ///
 /// If all operations succeed, the final memory is that of the list in order. Nothing is promised of what another thread, an

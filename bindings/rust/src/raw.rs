@@ -63,6 +63,19 @@ extern "C" {
         planned: &mut Summary,
         refusal: &mut Refusal,
     ) -> u32;
+    pub fn dsa_plan_fenced_list(
+        settings: &Settings,
+        table: *const u64,
+        table_len: usize,
+        list: *const u8,
+        list_len: usize,
+        portal: *mut u8,
+        portal_capacity: usize,
+        staging: *mut u8,
+        staging_capacity: usize,
+        planned: &mut Summary,
+        refusal: &mut Refusal,
+    ) -> u32;
 
     pub fn dsa_plan_list_certified(
         settings: &Settings,

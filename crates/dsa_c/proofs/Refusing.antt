@@ -9,6 +9,7 @@ use Rattle.dsa_plan.specs.Certificate.{Contents}
 use Rattle.dsa_calls.specs.declared.fault.PlanFault.{PlanFault}
 use Rattle.dsa_calls.specs.declared.fault.PlanFault.TheVariants.{Memory}
 use Rattle.dsa_calls.specs.Planned.{Submission, Plans}
+use Rattle.dsa_calls.specs.Fenced.{IsFencedLeast, PlansFenced}
 use Rattle.dsa_calls.specs.Checked.{Checks}
 use Rattle.dsa_c.specs.declared.settings.RawSettings.{RawSettings}
 use Rattle.dsa_c.specs.declared.refusal.RawRefusal.{RawRefusal}
@@ -19,6 +20,7 @@ use Rattle.dsa_calls.specs.Judge.{Judges}
 use Rattle.dsa_c.specs.Checking.{RefusesCheck}
 use Rattle.dsa_c.specs.Judging.{RefusesJudge}
 use Rattle.dsa_c.specs.Planning.{IsPlannedFor, Refuses}
+use Rattle.dsa_c.specs.Fenced.{IsFencedFor, RefusesFenced}
 
 -- what planning answers under the settings that the numbers are
 pub planned_for : (s : RawSettings) (table list : List ℕ) (l : Limits) (p : Submission) → l ≡ limits_of s table → AreSettings s table → Plans list l (Ok p)
@@ -46,6 +48,29 @@ pub refuses_buffers : (s : RawSettings) (table list : List ℕ) (portal staging 
     → (portal < length p.portal) ⊎ (staging < length p.staging) → r ≡ no_room (length p.portal) (length p.staging) → Refuses s table list portal staging r
 refuses_buffers s table list portal staging p r planned (inl short) value = inr (inr (inr (p, planned, (λ fits. omega (arith, fits.0, short)), value)))
 refuses_buffers s table list portal staging p r planned (inr short) value = inr (inr (inr (p, planned, (λ fits. omega (arith, fits.1, short)), value)))
+
+-- the same of a list in which a fence is a barrier: what planning answers
+pub fenced_for : (s : RawSettings) (table list : List ℕ) (l : Limits) (p : Submission) → l ≡ limits_of s table → AreSettings s table
+    → PlansFenced list l (Ok p) → IsFencedLeast list l p → IsFencedFor s table list p
+fenced_for s table list l p is are planned least =
+    record {
+      settings = are;
+      planned = subst (λ (x : Limits). PlansFenced list x (Ok p)) is planned;
+      least = subst (λ (x : Limits). IsFencedLeast list x p) is least;
+    }
+
+-- planning refuses
+pub refuses_fenced_list : (s : RawSettings) (table list : List ℕ) (portal staging : ℕ) (l : Limits) (fault : PlanFault) (r : RawRefusal) → l ≡ limits_of s table → AreSettings s table
+    → (fault ≡ Memory) ⊎ PlansFenced list l (Err fault) → r ≡ refusal_of fault → RefusesFenced s table list portal staging r
+refuses_fenced_list s table list portal staging l fault r is are (inl memory) value = inr (inl (value ∙ ap refusal_of memory, are))
+refuses_fenced_list s table list portal staging l fault r is are (inr refused) value =
+    inr (inr (inl (fault, are, subst (λ (x : Limits). PlansFenced list x (Err fault)) is refused, value)))
+
+-- a buffer is too small
+pub refuses_fenced_buffers : (s : RawSettings) (table list : List ℕ) (portal staging : ℕ) (p : Submission) (r : RawRefusal) → IsFencedFor s table list p
+    → (portal < length p.portal) ⊎ (staging < length p.staging) → r ≡ no_room (length p.portal) (length p.staging) → RefusesFenced s table list portal staging r
+refuses_fenced_buffers s table list portal staging p r planned (inl short) value = inr (inr (inr (p, planned, (λ fits. omega (arith, fits.0, short)), value)))
+refuses_fenced_buffers s table list portal staging p r planned (inr short) value = inr (inr (inr (p, planned, (λ fits. omega (arith, fits.1, short)), value)))
 
 -- checking refuses
 pub refuses_check : (s : RawSettings) (table portal staging : List ℕ) (l : Limits) (c d : Contents) (fault : PlanFault) (r : RawRefusal) → l ≡ limits_of s table → AreSettings s table → d ≡ c

@@ -4,6 +4,7 @@ pub mod Certificates
 pub mod Marks
 pub mod Laws
 pub mod Planning
+pub mod Fenced
 pub mod Checking
 pub mod Judging
 pub mod Preparing

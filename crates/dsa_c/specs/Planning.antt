@@ -38,23 +38,33 @@ summary_of p = record { cost = p.cost; pieces = length p.pieces; portal_len = le
 abbrev pub FitsIn : Submission → ℕ → ℕ → Type 0
 FitsIn p portal staging = (length p.portal ≤ portal) × (length p.staging ≤ staging)
 
--- the emission of the planned list stands at the front of the two buffers, whose rest is left, and this is its summary
-pub record IsWritten (s : RawSettings) (table list portal new_portal staging new_staging : List ℕ) (summary : RawPlanned) : Type 0 where
+-- the emission of a submission that is answered is at the front of the two buffers, whose rest is left, and this is its summary
+pub record IsWrittenOf (Answers : Submission → Type 0) (portal new_portal staging new_staging : List ℕ) (summary : RawPlanned) : Type 0 where
   pub submission : Submission
-  pub planned : IsPlannedFor s table list submission
+  pub planned : Answers submission
   pub fits : FitsIn submission (length portal) (length staging)
   pub portal_is : new_portal ≡ written submission.portal portal
   pub staging_is : new_staging ≡ written submission.staging staging
   pub summary_is : summary ≡ summary_of submission
 
--- Why nothing is written: the numbers are no settings, of which one is named; an allocation failed; planning refuses the list; or the bytes of the
--- planned list don't fit, and this is what they need.
-abbrev pub Refuses : RawSettings → List ℕ → List ℕ → ℕ → ℕ → RawRefusal → Type 0
-Refuses s table list portal staging r =
+-- that of the planned list
+abbrev pub IsWritten : RawSettings → List ℕ → List ℕ → List ℕ → List ℕ → List ℕ → List ℕ → RawPlanned → Type 0
+IsWritten s table list portal new_portal staging new_staging summary =
+    IsWrittenOf (IsPlannedFor s table list) portal new_portal staging new_staging summary
+
+-- Why nothing is written: the numbers are no settings, of which one is named; an allocation failed; planning refuses the list,
+-- for this fault; or the bytes of what it answers don't fit, and this is what they need.
+abbrev pub RefusesOf : (PlanFault → Type 0) → (Submission → Type 0) → RawSettings → List ℕ → ℕ → ℕ → RawRefusal → Type 0
+RefusesOf Faults Answers s table portal staging r =
     RefusesSettings s table r
     ⊎ ((r ≡ refusal_of Memory) × AreSettings s table)
-    ⊎ ((fault : PlanFault) × AreSettings s table × Plans list (limits_of s table) (Err fault) × (r ≡ refusal_of fault))
-    ⊎ ((p : Submission) × IsPlannedFor s table list p × (¬ FitsIn p portal staging) × (r ≡ no_room (length p.portal) (length p.staging)))
+    ⊎ ((fault : PlanFault) × AreSettings s table × Faults fault × (r ≡ refusal_of fault))
+    ⊎ ((p : Submission) × Answers p × (¬ FitsIn p portal staging) × (r ≡ no_room (length p.portal) (length p.staging)))
+
+-- that of planning the list
+abbrev pub Refuses : RawSettings → List ℕ → List ℕ → ℕ → ℕ → RawRefusal → Type 0
+Refuses s table list portal staging r =
+    RefusesOf (λ fault. Plans list (limits_of s table) (Err fault)) (IsPlannedFor s table list) s table portal staging r
 
 -- the certificate and the marks of the pieces fit in arrays of these lengths: n + 1 prices, n pairs and n marks of n pieces
 abbrev pub CertificateFitsIn : Submission → ℕ → ℕ → ℕ → Type 0

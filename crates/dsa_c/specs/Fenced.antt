@@ -1,0 +1,26 @@
+-- What planning a list in which a fence is a barrier, into buffers, promises.
+use Rattle.std.specs.Prelude.{ℕ, List, Ok, Err}
+use Rattle.dsa_calls.specs.Fenced.{IsFencedLeast, PlansFenced}
+use Rattle.dsa_calls.specs.Planned.{Submission}
+use Rattle.dsa_c.specs.declared.settings.RawSettings.{RawSettings}
+use Rattle.dsa_c.specs.declared.planning.RawPlanned.{RawPlanned}
+use Rattle.dsa_c.specs.declared.refusal.RawRefusal.{RawRefusal}
+use Rattle.dsa_c.specs.Planning.{IsWrittenOf, RefusesOf}
+use Rattle.dsa_c.specs.Raw.{limits_of, AreSettings}
+
+-- this is what planning the bytes with their barriers answers: the plan is legal with them, no such plan costs less, and the
+-- certificate is good
+pub record IsFencedFor (s : RawSettings) (table list : List ℕ) (p : Submission) : Type 0 where
+  pub settings : AreSettings s table
+  pub planned : PlansFenced list (limits_of s table) (Ok p)
+  pub least : IsFencedLeast list (limits_of s table) p
+
+-- its emission is at the front of the two buffers
+abbrev pub IsFencedWritten : RawSettings → List ℕ → List ℕ → List ℕ → List ℕ → List ℕ → List ℕ → RawPlanned → Type 0
+IsFencedWritten s table list portal new_portal staging new_staging summary =
+    IsWrittenOf (IsFencedFor s table list) portal new_portal staging new_staging summary
+
+-- why nothing is written
+abbrev pub RefusesFenced : RawSettings → List ℕ → List ℕ → ℕ → ℕ → RawRefusal → Type 0
+RefusesFenced s table list portal staging r =
+    RefusesOf (λ fault. PlansFenced list (limits_of s table) (Err fault)) (IsFencedFor s table list) s table portal staging r

@@ -1,0 +1,104 @@
+//! Planning a list in which a fence is a barrier, into buffers of the caller.
+
+ghost use Rattle.std.specs.Prelude.{◌≡◌, ◌≢◌, ℕ, ◌<◌, List, length, MatchResult};
+ghost use Rattle.dsa_calls.specs.Planned.{submission_of};
+ghost use Rattle.dsa_c.specs.declared.settings.RawSettings.{RawSettings};
+ghost use Rattle.dsa_c.specs.Raw.{AreSettings, limits_of};
+ghost use Rattle.dsa_c.specs.Planning.{FitsIn};
+ghost use Rattle.dsa_c.specs.Fenced.{IsFencedFor, IsFencedWritten, RefusesFenced};
+
+use crate::buffer::put;
+use crate::planning::{RawPlanned, summary};
+use crate::refusal::{RawRefusal, no_room, refusal};
+use crate::settings::{RawSettings, settings_of, settings_refusal};
+use dsa_calls::{Planned, plan_fenced_list};
+use dsa_plan::Settings;
+use std::alloc::Global;
+
+/// The planned list under settings that are there, if it is planned and its bytes fit.
+fn plan_fenced_under(
+    alloc: Global,
+    settings: &Settings,
+    list: &[u8],
+    portal_room: usize,
+    staging_room: usize,
+) -> Result<Planned, RawRefusal>
+    ensures { (raw : RawSettings) (table : List ℕ) → settings.now ≡ limits_of raw table →
+        AreSettings raw table → MatchResult result
+        (λ p. IsFencedFor raw table list.now (submission_of p)
+        × FitsIn (submission_of p) portal_room staging_room)
+        (λ r. (0 < r.number)
+        × RefusesFenced raw table list.now portal_room staging_room r) }
+{
+    match plan_fenced_list(alloc, list, settings) {
+        Ok(planned) => {
+            let portal_len = planned.emission.portal.len();
+            let staging_len = planned.emission.staging.len();
+            if portal_len <= portal_room && staging_len <= staging_room {
+                Ok(planned)
+            } else {
+                Err(no_room(portal_len, staging_len))
+            }
+        }
+        Err(fault) => Err(refusal(fault)),
+    }
+}
+
+/// The planned list, if it is planned and its bytes fit.
+fn plan_fenced_for(
+    alloc: Global,
+    settings: &RawSettings,
+    table: &[u64],
+    list: &[u8],
+    portal_room: usize,
+    staging_room: usize,
+) -> Result<Planned, RawRefusal>
+    ensures { MatchResult result
+        (λ p. IsFencedFor settings.now table.now list.now (submission_of p)
+        × FitsIn (submission_of p) portal_room staging_room)
+        (λ r. (0 < r.number)
+        × RefusesFenced settings.now table.now list.now portal_room staging_room r) }
+{
+    match &settings_of(settings, table) {
+        Ok(checked) => plan_fenced_under(alloc, checked, list, portal_room, staging_room),
+        Err(_) => Err(settings_refusal(settings)),
+    }
+}
+
+/// The same as [`dsa_plan_list`](crate::dsa_plan_list), but an operation of the list may have the flag 0x0001, fence: it
+/// begins after a barrier, and of one that is split the first piece does. The plan keeps each barrier, and no legal plan
+/// that does costs less. It answers 0 then, and else the number of the refusal, and has written `refusal` alone.
+#[unsafe(no_mangle)]
+pub extern "C" fn dsa_plan_fenced_list(
+    alloc: Global,
+    settings: &RawSettings,
+    table: &[u64],
+    list: &[u8],
+    portal: &mut [u8],
+    staging: &mut [u8],
+    planned: &mut RawPlanned,
+    refusal: &mut RawRefusal,
+) -> u32
+    ensures planned { result ≡ 0 →
+        IsFencedWritten settings.now table.now list.now
+        portal.old portal.new staging.old staging.new planned.new }
+    ensures unchanged { result ≢ 0 →
+        (portal.new ≡ portal.old) × (staging.new ≡ staging.old) × (planned.new ≡ planned.old) }
+    ensures refused { result ≢ 0 → (result ≡ refusal.new.number)
+        × RefusesFenced settings.now table.now list.now
+        (length portal.old) (length staging.old) refusal.new }
+    ensures quiet { result ≡ 0 → refusal.new ≡ refusal.old }
+{
+    match plan_fenced_for(alloc, settings, table, list, portal.len(), staging.len()) {
+        Ok(answer) => {
+            put(portal, &answer.emission.portal);
+            put(staging, &answer.emission.staging);
+            *planned = summary(&answer);
+            0
+        }
+        Err(cause) => {
+            *refusal = cause;
+            cause.number
+        }
+    }
+}

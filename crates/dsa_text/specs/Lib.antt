@@ -9,3 +9,4 @@ pub mod Options
 pub mod Inputs
 pub mod Audited
 pub mod Laws
+pub mod Traced

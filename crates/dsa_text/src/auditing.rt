@@ -41,7 +41,11 @@ ended. --await and --resident say what the software is known to do, and free fen
   --resident        no member can end with a page fault
 Drop needless fences of one audit together, and never with those of an audit under other options.
 
-The status is 0 if nothing is an error, 1 if something is: a missing fence, a fence, record or batch that is wrong, or
+With --events it also reports missing waits: an entry that conflicts with one of an earlier submission of which the
+program could not know that it had ended. Each is an error.
+  dsa_text audit --events NAME.PID.events NAME.PID.dsa
+
+The status is 0 if nothing is an error, 1 if something is: a missing fence or wait, a fence, record or batch that is wrong, or
 what --deny names; and 2 if there is no recording, or it is too large to draw. Of a list it is 0 or 2.
 Prices are in one unit of your choice. Numbers are decimal, or hexadecimal behind 0x.
 Example: dsa_text audit --deny needless,unseen recording.bin";
@@ -72,6 +76,21 @@ fn staging<'a>(alloc: Global) -> Arg<'a> {
         .value_name("ADDRESS:FILE")
         .action(ArgAction::Append)
         .help("read a portal alone; members of batches are in this dump of memory")
+}
+
+/// The option of events.
+fn events<'a>(alloc: Global) -> Result<Arg<'a>, AllocError> {
+    Arg::new(alloc, "events")
+        .long("events")
+        .value_name("FILE")
+        .action(ArgAction::Set)
+        .help(
+            "report missing waits too, by the events that dsa_trace --out wrote beside the recording",
+        )
+        .conflicts_with("json")?
+        .conflicts_with("svg")?
+        .conflicts_with("list")?
+        .conflicts_with("staging")
 }
 
 /// The options of the prices.
@@ -113,6 +132,7 @@ pub(crate) fn audit_command<'a>(alloc: Global) -> Result<Command<'a>, AllocError
         awaited(alloc),
         resident,
         staging(alloc),
+        events(alloc)?,
     ]?;
     let prices = price_options(alloc)?;
     Command::new(alloc, "audit")

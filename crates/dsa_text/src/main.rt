@@ -22,6 +22,7 @@ mod origins;
 mod rows;
 mod settings;
 mod shown;
+mod traced;
 mod unplanned;
 mod words;
 
@@ -36,6 +37,7 @@ use crate::messages::message_of;
 use crate::numbers::number_of;
 use crate::options::{settings_words, word};
 use crate::settings::{Setting, settings_of};
+use crate::traced::audit_traced;
 use clap::error::ErrorKind;
 use clap::{Arg, ArgAction, ArgMatches, Command};
 use dsa_calls::PlanFault;
@@ -453,16 +455,38 @@ fn run_command(rt: &HostRuntime, matches: &ArgMatches<'_>) -> Result<ExitCode, A
     }
 }
 
+/// The file of events that the options name, and its text, or the status if it has none.
+fn events_in<'a>(
+    rt: &HostRuntime,
+    matches: &ArgMatches<'a>,
+) -> Result<Result<Option<(&'a str, Vec<u8>)>, ExitCode>, AllocError> {
+    let Some(file) = matches.get_str("events") else {
+        return Ok(Ok(None));
+    };
+    match input(rt, Some(file)) {
+        Ok(text) => Ok(Ok(Some((file, text)))),
+        Err(NoText::Refused(fault)) => Ok(Err(failed(rt, &message_of(rt.alloc(), fault)?))),
+        Err(NoText::Failed(what)) => Ok(Err(unread(rt, Some(file), what)?)),
+    }
+}
+
 /// Answers `audit`. Status 1 is that a fence is missing, so the report goes to standard output, and a refusal has status 2.
 fn audited(rt: &HostRuntime, matches: &ArgMatches<'_>) -> Result<ExitCode, AllocError> {
     let dumps = match dumps_in(rt, matches)? {
         Ok(dumps) => dumps,
         Err(code) => return Ok(code),
     };
+    let events = match events_in(rt, matches)? {
+        Ok(events) => events,
+        Err(code) => return Ok(code),
+    };
     let file = file_in(matches);
     match input(rt, file) {
         Ok(text) => {
-            let answer = audit_input(rt.alloc(), matches, &dumps, &text)?;
+            let answer = match events {
+                Some((name, events)) => audit_traced(rt.alloc(), matches, &text, name, &events)?,
+                None => audit_input(rt.alloc(), matches, &dumps, &text)?,
+            };
             if answer.status == 2 {
                 Ok(failed(rt, &answer.text))
             } else {

@@ -21,6 +21,7 @@ use Rattle.dsa_waits.specs.Waits.{IsMissingWait, made_before, no_queue}
 
 -- ---- one line
 
+-- read where there is none
 abbrev pub no_submission : Submission
 no_submission = record { first = 0; size = 0; is_batch = false }
 

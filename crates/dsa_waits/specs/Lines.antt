@@ -18,10 +18,11 @@ abbrev pub before : ℕ → List ℕ → ℕ
 before c [] = 0
 before c (x ∷ xs) = if x == c then 0 else suc (before c xs)
 
--- the bytes before that one, and those after it
+-- the bytes before that one
 abbrev pub first_part : ℕ → List ℕ → List ℕ
 first_part c text = take (before c text) text
 
+-- those after it
 abbrev pub behind : ℕ → List ℕ → List ℕ
 behind c text = drop (before c text + 1) text
 
@@ -33,6 +34,7 @@ queue_with (Some device) (Some number) = Some (record { device = device; number 
 queue_with (Some device) None = None
 queue_with None number = None
 
+-- the queue of these bytes
 abbrev pub queue_in : List ℕ → Option Queue
 queue_in numbers = queue_with (numeral 10 (first_part 46 numbers)) (numeral 10 (behind 46 numbers))
 
@@ -67,22 +69,25 @@ submitted_line text =
     else None
     ) else None
 
--- an event of these numbers; a status is read and has no use
+-- the end of a member of these numbers; a status is read and has no use
 abbrev pub member_with : Option ℕ → Option ℕ → Option ℕ → Option Line
 member_with (Some number) (Some member) (Some status) = Some (Happened (event.MemberEnded number member))
 member_with (Some number) (Some member) None = None
 member_with (Some number) None status = None
 member_with None member status = None
 
+-- that of a submission
 abbrev pub ended_with : Option ℕ → Option ℕ → Option Line
 ended_with (Some number) (Some status) = Some (Happened (event.Ended number))
 ended_with (Some number) None = None
 ended_with None status = None
 
+-- a record that is watched
 abbrev pub watched_with : Option ℕ → Option Line
 watched_with (Some number) = Some (Happened (event.Watched number))
 watched_with None = None
 
+-- one that the program has looked at
 abbrev pub known_with : Option ℕ → Option Line
 known_with (Some number) = Some (Happened (event.Known number))
 known_with None = None
@@ -96,10 +101,11 @@ member_line text =
 abbrev pub ended_line : List ℕ → Option Line
 ended_line text = ended_with (numeral 10 (first_part 32 text)) (numeral 10 (behind 32 text))
 
--- `W` and `K`: the submission
+-- `W`: the submission
 abbrev pub watched_line : List ℕ → Option Line
 watched_line text = watched_with (numeral 10 text)
 
+-- `K`: the submission
 abbrev pub known_line : List ℕ → Option Line
 known_line text = known_with (numeral 10 text)
 
@@ -139,6 +145,7 @@ pub record IsBadLine (text : List ℕ) (k : ℕ) : Type 0 where
   pub more : 0 < length left
   pub bad : (before 10 left ≡ length left) ⊎ (line_of (first_part 10 left) ≡ None)
 
+-- why a text is none of events; an allocation may fail whatever it is
 abbrev pub IsLinesFault : List ℕ → LinesFault → Type 0
 IsLinesFault text (fault.Line k) = IsBadLine text k
 IsLinesFault text fault.Memory = Unit

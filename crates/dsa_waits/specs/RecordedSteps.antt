@@ -16,6 +16,7 @@ use Rattle.dsa_waits.specs.declared.event.Queue.{Queue}
 use Rattle.dsa_waits.specs.Recorded.{IsAccess, IsEntry, bytes_of}
 use Rattle.dsa_waits.specs.Waits.{made_at, no_entry, no_queue}
 
+-- read where there is none
 abbrev pub no_submission : Submission
 no_submission = record { first = 0; size = 0; is_batch = false }
 

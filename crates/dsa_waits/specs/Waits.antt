@@ -15,12 +15,15 @@ use Rattle.dsa_waits.specs.declared.event.Queue.{Queue}
 
 -- ---- entries, submissions and events by their numbers
 
+-- read where there is none
 abbrev pub no_entry : Entry
 no_entry = record { submission = 0; epoch = 0; asks_record = false }
 
+-- the same of queues
 abbrev pub no_queue : Queue
 no_queue = record { device = 0; number = 0 }
 
+-- and of submissions
 abbrev pub none_made : Made
 none_made = record { first = 0; end = 0; queue = no_queue; is_drain = false; is_watched = false }
 

@@ -31,8 +31,8 @@ fn found_answer(alloc: Global, found: &Found) -> Result<AuditAnswer, AllocError>
     Ok(AuditAnswer { text, status: 1 })
 }
 
-/// The missing waits of a recording with the text of its events. The status is 0 if there are none, 1 if there are some,
-/// and 2 with the reason if the bytes are no recording, or the text has no events that fit it.
+/// The missing waits of a recording with the text of its events. The status is 0 if there are none, 1 if there are
+/// some, and 2 with the reason if the bytes are no recording, or the text has no events that fit it.
 pub fn answer_waits(alloc: Global, bytes: &[u8], text: &[u8]) -> Result<AuditAnswer, AllocError>
     ensures { IfOk result (AnswersWaits bytes.now text.now) }
 {

@@ -207,8 +207,8 @@ fn fit_lines(
 /// The course of a recording, with the text of its events, and for each entry the last one for which a wait is missing.
 ///
 /// # Errors
-/// The first line that is none of an event; else the first that does not fit the recording; else too few submissions; or
-/// [`WaitsFault::Memory`].
+/// The first line that is none of an event; else the first that does not fit the recording; else too few submissions;
+/// or [`WaitsFault::Memory`].
 pub fn find_waits(
     alloc: Global,
     all: &[[u8; 64]],

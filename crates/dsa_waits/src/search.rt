@@ -24,7 +24,7 @@ struct Flying {
     waits: Vec<Option<usize>>,
 }
 
-/// The last of the outstanding entries that conflicts with a later one; `last` is the last of all earlier ones that does.
+/// The last of the outstanding entries that conflicts with a later one; `last` is the last of all earlier ones.
 fn last_outstanding(
     members: &[Member],
     outstanding: &[usize],
@@ -169,8 +169,8 @@ impl Flying {
     }
 }
 
-/// For each entry of a course the last one for which a wait is missing: it conflicts, and is of an earlier submission that
-/// the program could not know to have ended.
+/// For each entry of a course the last one for which a wait is missing: it conflicts, and is of an earlier submission
+/// that the program could not know to have ended.
 pub fn missing_waits(alloc: Global, course: &Course) -> Result<Vec<Option<usize>>, AllocError>
     requires { IsCourse course.now }
     ensures count { IfOk result

@@ -1,0 +1,251 @@
+"""Runs `dsa_text audit --events` on random recordings with events, which a seed makes, and judges the missing waits by
+brute force, typed from docs/FORMATS.md: each entry is compared with each of those in flight. Examples by hand. Events
+that do not fit. The words are names of parts; a number is how many random recordings are judged."""
+
+import random
+import re
+import struct
+import subprocess
+import tempfile
+from pathlib import Path
+
+import common
+from common import named, program, run_test
+
+COUNT = 400
+TEXT = []
+NO_OP, BATCH, DRAIN, MOVE, FILL, COMPARE, CRC = 0x00, 0x01, 0x02, 0x03, 0x04, 0x05, 0x10
+VALID, REQUESTED, FENCE = 0x04, 0x08, 0x01
+KINDS = {("reads", "writes"): "read after write", ("writes", "writes"): "write after write"}
+KINDS |= {("writes", "reads"): "write after read"}
+LINE = re.compile(
+    r"entry (\d+) \((.*?)\): error: missing wait, (.*?): (\w+) what entry (\d+) \((.*?)\) (\w+), in flight, at 0x"
+)
+
+# ---- recordings
+
+
+def entry(code, flags=VALID | REQUESTED, record=0x8000, first=0, second=0, size=0):
+    """The 64 bytes of an entry."""
+    return struct.pack("<IIQQQI", 0, code << 24 | flags, record, first, second, size) + bytes(28)
+
+
+def spans(raw):
+    """What a member or a lone descriptor reads and writes, as pairs of first address and length."""
+    flags, code = struct.unpack_from("<I", raw, 4)[0] & 0xFFFFFF, raw[7]
+    record, first, second, size = struct.unpack_from("<QQQI", raw, 8)
+    if code not in (NO_OP, DRAIN) and size == 0:
+        return [], []
+    reads, writes = {
+        NO_OP: ([], []),
+        DRAIN: ([], []),
+        MOVE: ([(first, size)], [(second, size)]),
+        FILL: ([], [(second, size)]),
+        COMPARE: ([(first, size), (second, size)], []),
+        CRC: ([(first, size)], []),
+    }[code]
+    return reads, writes + ([(record, 32)] if flags & VALID else [])
+
+
+def head_spans(raw):
+    """What the descriptor of a batch reads and writes."""
+    flags = struct.unpack_from("<I", raw, 4)[0] & 0xFFFFFF
+    record, first, _, size = struct.unpack_from("<QQQI", raw, 8)
+    return ([(first, 64 * size)] if tells(raw) else []), ([(record, 32)] if flags & VALID else [])
+
+
+def tells(raw):
+    """Whether the entry asks for a record."""
+    return raw[4] & 0x0C == 0x0C
+
+
+def meet(one, other):
+    """Whether two lists of spans have an address in common."""
+    return any(max(a, c) < min(a + n, c + m) for a, n in one for c, m in other)
+
+
+def conflict(one, other):
+    """Whether one writes what the other reads or writes."""
+    return meet(one[1], other[0] + other[1]) or meet(other[1], one[0])
+
+
+class Made:
+    """A submission with the numbers of its entries."""
+
+    def __init__(self, number, first, entries, queue):
+        self.number, self.first, self.entries, self.queue = number, first, entries, queue
+        self.is_batch = entries[0][7] == BATCH
+        self.members = len(entries) - 1 if self.is_batch else 0
+        self.watched = False
+
+    def line(self):
+        """Its event, as `dsa_trace` writes it."""
+        head = self.entries[0]
+        return f"S {self.number} {self.queue} op {head[7]} members {self.members} tid 1 part 1 entry {self.first}"
+
+    def spans(self, k):
+        """What its entry of this index reads and writes."""
+        return head_spans(self.entries[0]) if self.is_batch and k == 0 else spans(self.entries[k])
+
+    def known_by(self, member):
+        """The entries of which the end of this member tells."""
+        if not tells(self.entries[member + 1]):
+            return set()
+        fences = [k for k in range(member + 1) if self.entries[k + 1][4] & FENCE]
+        before = range(fences[-1]) if fences else range(0)
+        return {self.first + 1 + k for k in before} | {self.first + 1 + member}
+
+
+def random_entry(draw):
+    """A member or a lone descriptor."""
+    code = draw.choice([NO_OP, MOVE, MOVE, MOVE, FILL, COMPARE, CRC])
+    flags = draw.choice([VALID | REQUESTED] * 4 + [VALID, 0]) | (FENCE if draw.random() < 0.2 else 0)
+    first, second = draw.randrange(0, 0x400), draw.randrange(0, 0x400)
+    record = 0x8000 + 32 * draw.randrange(40)
+    return entry(code, flags, record, first, second, draw.choice([0, 1, 8, 32, 64]))
+
+
+def random_submission(draw):
+    """The entries of a submission."""
+    kind = draw.random()
+    if kind < 0.1:
+        return [entry(DRAIN, draw.choice([VALID | REQUESTED, 0]), 0x9000)]
+    if kind < 0.5:
+        members = [random_entry(draw) for _ in range(draw.randrange(2, 6))]
+        flags = draw.choice([VALID | REQUESTED, VALID | REQUESTED, 0])
+        head = entry(BATCH, flags, 0xA000 + 32 * draw.randrange(8), draw.randrange(0, 0x800), 0, len(members))
+        return [head, *members]
+    return [random_entry(draw)]
+
+
+def random_course(draw):
+    """A recording, its events, and for each entry the last one for which a wait is missing."""
+    recording, lines, made, flying, waits = b"", [], [], {}, {}
+    open_events = []
+    for number in range(draw.randrange(1, 12)):
+        new = Made(number, len(recording) // 64, random_submission(draw), f"wq0.{draw.randrange(2)}")
+        recording += b"".join(new.entries)
+        lines.append(new.line())
+        for k in range(len(new.entries)):
+            against = [e for e, (s, i) in flying.items() if conflict(s.spans(i), new.spans(k))]
+            if against:
+                waits[new.first + k] = max(against)
+        made.append(new)
+        flying |= {new.first + k: (new, k) for k in range(len(new.entries))}
+        if draw.random() < 0.3:
+            new.watched = True
+            lines.append(f"W {number}")
+        open_events += [("c", new, m) for m in range(new.members)] + [("C", new, None)]
+        draw.shuffle(open_events)
+        for _ in range(draw.randrange(0, 5)):
+            if open_events:
+                happen(draw, open_events, lines, made, flying)
+    return recording, "".join(line + "\n" for line in lines), waits
+
+
+def happen(draw, open_events, lines, made, flying):
+    """An event comes."""
+    kind, of, member = open_events.pop()
+    status = draw.randrange(1, 30)
+    if kind == "c":
+        lines.append(f"c {of.number} {member} {status}")
+        for e in of.known_by(member):
+            flying.pop(e, None)
+        return
+    lines.append(f"{kind} {of.number} {status}" if kind == "C" else f"K {of.number}")
+    if kind == "C" and of.watched:
+        open_events.insert(0, ("K", of, None))
+    if kind == "K" or (tells(of.entries[0]) and not of.watched):
+        is_drain = of.entries[0][7] == DRAIN
+        gone = [s for s in made if s is of or (is_drain and s.number < of.number and s.queue == of.queue)]
+        for s in gone:
+            for k in range(len(s.entries)):
+                flying.pop(s.first + k, None)
+
+
+# ---- runs
+
+
+def audited(recording, events):
+    """The run of an audit with these events."""
+    with tempfile.TemporaryDirectory() as folder:
+        file = Path(folder) / "a.events"
+        file.write_text(events)
+        ran = subprocess.run([*TEXT, "audit", "--events", str(file)], input=recording, capture_output=True)
+    return ran.returncode, ran.stdout.decode(), ran.stderr.decode().replace(folder + "/", "")
+
+
+def judged(seed):
+    """One random recording."""
+    recording, events, waits = random_course(random.Random(seed))
+    status, out, err = audited(recording, events)
+    found = {}
+    for line in out.splitlines():
+        shown = LINE.match(line)
+        if shown:
+            found[int(shown[1])] = int(shown[5])
+            if KINDS.get((shown[4], shown[7])) != shown[3]:
+                common.expect(False, f"seed {seed}: {line}")
+    wanted = f"{len(waits)} missing waits, "
+    right = found == waits and wanted in out and (status == 1 or not waits) and status < 2
+    common.expect(right, f"seed {seed}: wanted {waits}, found {found}, status {status} {err}")
+
+
+def brute_force():
+    """Random recordings."""
+    for seed in range(COUNT):
+        judged(seed)
+
+
+def by_hand():
+    """Two moves, of which the second reads what the first writes."""
+    first = entry(MOVE, record=0x8000, first=0x1000, second=0x2000, size=64)
+    second = entry(MOVE, record=0x8020, first=0x2010, second=0x3000, size=8)
+    made = ["S 0 wq0.0 op 3 members 0 tid 7 part 1 entry 0\n", "S 1 wq0.0 op 3 members 0 tid 7 part 1 entry 1\n"]
+    wait = (
+        "entry 1 (submission 1): error: missing wait, read after write: reads what entry 0 (submission 0) writes,"
+        " in flight, at 0x2010\n1 missing waits, 2 submissions\n"
+    )
+    status, out, _ = audited(first + second, made[0] + made[1] + "C 0 1\nC 1 1\n")
+    common.expect(status == 1 and wait in out, f"no wait: status {status}, {out}")
+    status, out, _ = audited(first + second, made[0] + "C 0 1\n" + made[1] + "C 1 1\n")
+    common.expect(status == 0 and "\n0 missing waits, 2 submissions\n" in out, f"a wait: status {status}, {out}")
+    status, out, _ = audited(first + second, made[0] + "W 0\nC 0 1\n" + made[1] + "K 0\n")
+    common.expect(status == 1 and wait in out and "(K)" not in out, f"a lucky wait: status {status}, {out}")
+
+
+def refusals():
+    """Events that are none, or do not fit."""
+    move = entry(MOVE, first=0x1000, second=0x2000, size=64)
+    made = "S 0 wq0.0 op 3 members 0 tid 7 part 1 entry 0\n"
+    none, number = "this is no event, or the line is cut off", "the submission is not the next one, or not made yet"
+    other, member = "the recording has another operation or count of members there", "the submission has no such member"
+    for events, reason in (
+        (made + "C 0 1", f"line 2: error: {none}"),
+        (made + "C 0\n", f"line 2: error: {none}"),
+        (made + "X 0 1\n", f"line 2: error: {none}"),
+        (made.replace("wq0.0", "wq0"), f"line 1: error: {none}"),
+        (made.replace("op", "of"), f"line 1: error: {none}"),
+        ("C 0 1\n" + made, f"line 1: error: {number}"),
+        (made.replace("S 0", "S 1"), f"line 1: error: {number}"),
+        (made + made.replace("S 0", "S 1"), f"line 2: error: {number}"),
+        (made.replace("op 3", "op 4"), f"line 1: error: {other}"),
+        (made.replace("members 0", "members 2"), f"line 1: error: {other}"),
+        (made + "c 0 0 1\n", f"line 2: error: {member}"),
+        ("", "error: the events have 0 submissions, and the recording has more"),
+    ):
+        got = audited(move, events)
+        common.expect(got == (2, "", f"a.events: {reason}\n"), f"{events!r}: wanted {reason}, got {got}")
+
+
+def main(words):
+    global TEXT, COUNT
+    TEXT = [program("dsa_text")]
+    numbers = [int(word) for word in words if word.isdigit()]
+    COUNT = numbers[-1] if numbers else COUNT
+    for part in named([by_hand, refusals, brute_force], [it for it in words if not it.isdigit()]):
+        part()
+
+
+if __name__ == "__main__":
+    run_test(main)

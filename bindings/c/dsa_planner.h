@@ -260,11 +260,12 @@ uint32_t dsa_plan_list(const struct dsa_settings *settings,
                        struct dsa_refusal *refusal);
 
 /*
- * The same, but an operation of the list may have the flag 0x0001, fence: it begins after a barrier. The device starts no
- * piece of it, nor of any operation after it, before all pieces before the barrier have ended with status 1; if one of
- * them fails, nothing after the barrier is done, as long as the caller stops there, too. Of an operation that is split
- * the first piece is after the barrier, and the flag on the first operation says nothing. The plan keeps each barrier,
- * by a fence or a new group, and no legal plan that does costs less. Refusals are those of the list without the flags.
+ * The same, but an operation of the list may have the flag 0x0001, fence: it begins after a barrier. The device starts
+ * no piece of it, nor of any operation after it, before all pieces before the barrier have ended with status 1; if one
+ * of them fails, nothing after the barrier is done, as long as the caller stops there, too. Of an operation that is
+ * split the first piece is after the barrier, and the flag on the first operation says nothing. The plan keeps each
+ * barrier, by a fence or a new group, and no legal plan that does costs less. Refusals are those of the list without
+ * the flags.
  */
 uint32_t dsa_plan_fenced_list(const struct dsa_settings *settings,
                               const uint64_t *table, size_t table_len,
@@ -275,8 +276,8 @@ uint32_t dsa_plan_fenced_list(const struct dsa_settings *settings,
                               struct dsa_refusal *refusal);
 
 /*
- * The same as dsa_plan_list, and for n pieces it writes the plan's certificate, n + 1 prices and n pairs, and n marks (DSA_BEGINS,
- * DSA_FENCED), each to the front of its array. DSA_NO_ROOM_FOR_CERTIFICATE: one of the three arrays is too small, and
+ * The same as dsa_plan_list, and for n pieces it writes the plan's certificate, n + 1 prices and n pairs, and n marks
+ * (DSA_BEGINS, DSA_FENCED), each to the front of its array. DSA_NO_ROOM_FOR_CERTIFICATE: one of the three arrays is too small, and
  * refusal.first is n. The certificate's version is that of the settings.
  */
 uint32_t dsa_plan_list_certified(const struct dsa_settings *settings,

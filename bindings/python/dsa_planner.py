@@ -21,10 +21,10 @@ from pathlib import Path
 from typing import Dict, FrozenSet, Iterable, List, NamedTuple, Optional, Sequence, Tuple, Union
 
 __all__ = [
-    "BARRIER", "BEGINS", "BLOCK_ON_FAULT", "CAUSES", "FENCED", "MOST_PIECES", "Certificate", "Group", "Planned", "Prepared",
-    "Refusal", "Retired", "Settings", "Submitted", "Summary", "Tracker", "apply_delta", "check", "compare",
-    "compare_pattern", "count_pieces", "dualcast", "fill", "groups", "judge", "library_version", "move", "plan_fenced_list",
-    "plan_list", "plan_list_certified", "prepare",
+    "BARRIER", "BEGINS", "BLOCK_ON_FAULT", "CAUSES", "FENCED", "MOST_PIECES", "Certificate", "Group", "Planned",
+    "Prepared", "Refusal", "Retired", "Settings", "Submitted", "Summary", "Tracker", "apply_delta", "check", "compare",
+    "compare_pattern", "count_pieces", "dualcast", "fill", "groups", "judge", "library_version", "move",
+    "plan_fenced_list", "plan_list", "plan_list_certified", "prepare",
 ]
 
 MOST_PIECES = 65_536
@@ -511,8 +511,8 @@ def plan_list(settings: Settings, operations: Bytes) -> Summary:
 
 
 def plan_fenced_list(settings: Settings, operations: Bytes) -> Summary:
-    """The same, but an operation may have the flag `BARRIER`: the device starts nothing of it, nor of what comes after it,
-    before all operations before it have ended with status 1. No plan that keeps each barrier costs less."""
+    """The same, but an operation may have the flag `BARRIER`: the device starts nothing of it, nor of what comes after
+    it, before all operations before it have ended with status 1. No plan that keeps each barrier costs less."""
     return _summary(_library.dsa_plan_fenced_list, settings, operations)
 
 

@@ -2,8 +2,8 @@
  *
  * Random lists of up to seven moves over a few pages, with random barriers. Of all plans those that dsa_judge takes and
  * that begin a group or set a fence at each barrier are legal; the least cost of these is the answer, and what is
- * submitted keeps each barrier. Without barriers the bytes are those of dsa_plan_list, and what that refuses of the list
- * without fences is refused. */
+ * submitted keeps each barrier. Without barriers the bytes are those of dsa_plan_list, and what that refuses of the
+ * list without fences is refused. */
 #include <inttypes.h>
 #include <stdio.h>
 #include <stdlib.h>
@@ -127,7 +127,8 @@ static void try_list(const struct list *l)
                       plain_staging, sizeof plain_staging, &plain, &r))
         fail(l, "the list without barriers is refused", r.number, 0);
     if (!any && (plain.portal_len != planned.portal_len || plain.staging_len != planned.staging_len
-                 || memcmp(portal, plain_portal, plain.portal_len) || memcmp(staging, plain_staging, plain.staging_len)))
+                 || memcmp(portal, plain_portal, plain.portal_len)
+                 || memcmp(staging, plain_staging, plain.staging_len)))
         fail(l, "a list without barriers is planned otherwise", planned.cost, plain.cost);
 }
 
@@ -148,8 +149,8 @@ static void try_refusal(struct list *l)
                                                staging, sizeof staging, &planned, &one);
     if (code && (memcmp(portal, old, sizeof old) || planned.cost != 1))
         fail(l, "something is written", code, 0);
-    const uint32_t plain = dsa_plan_list(&l->settings, l->table, l->entries, l->plain, len, portal, sizeof portal, staging,
-                                         sizeof staging, &planned, &other);
+    const uint32_t plain = dsa_plan_list(&l->settings, l->table, l->entries, l->plain, len, portal, sizeof portal,
+                                         staging, sizeof staging, &planned, &other);
     if (code == DSA_NO_ROOM || plain == DSA_NO_ROOM) /* with barriers other bytes are needed */
         return;
     if (code != plain || memcmp(&one, &other, sizeof one))

@@ -79,8 +79,8 @@ static uint32_t track(int which, struct dsa_refusal *r)
     if (which == 5)
         code = dsa_track_list(words, WORDS, list, sizeof list, 0, 0, 0, &o->slot, &o->waits, r);
     else
-        code = dsa_track_groups(words, WORDS, &settings, &settings.batch, 0, portal_in, planned_in.portal_len, staging_in,
-                                planned_in.staging_len, 0, o->slots, N, r);
+        code = dsa_track_groups(words, WORDS, &settings, &settings.batch, 0, portal_in, planned_in.portal_len,
+                                staging_in, planned_in.staging_len, 0, o->slots, N, r);
     return code == DSA_MEMORY && memcmp(words, old, sizeof old) != 0 ? DSA_NOT_A_TRACKER : code;
 }
 

@@ -81,8 +81,8 @@ static void *call(void *which)
     default: /* large groups, and many, are refused once they are read */
         code = dsa_track_begin(words, sizeof words / sizeof *words, 64, 1024, 13, 12, &refusal);
         if (code == DSA_OK)
-            code = dsa_track_groups(words, sizeof words / sizeof *words, s, &s->batch, 0, portal, planned.portal_len, staging,
-                                    planned.staging_len, 0, slots, 64, &refusal);
+            code = dsa_track_groups(words, sizeof words / sizeof *words, s, &s->batch, 0, portal, planned.portal_len,
+                                    staging, planned.staging_len, 0, slots, 64, &refusal);
         code = code == DSA_FEW_SLOTS || code == DSA_TOO_MANY_SPANS ? DSA_OK : code;
     }
     return code == DSA_OK ? NULL : which;

@@ -65,9 +65,9 @@ fn plan_fenced_for(
     }
 }
 
-/// The same as [`dsa_plan_list`](crate::dsa_plan_list), but an operation of the list may have the flag 0x0001, fence: it
-/// begins after a barrier, and of one that is split the first piece does. The plan keeps each barrier, and no legal plan
-/// that does costs less. It answers 0 then, and else the number of the refusal, and has written `refusal` alone.
+/// The same as [`dsa_plan_list`](crate::dsa_plan_list), but an operation of the list may have the flag 0x0001, fence:
+/// it begins after a barrier, and of one that is split the first piece does. The plan keeps each barrier, and no legal
+/// plan that does costs less. It answers 0 then, and else the number of the refusal, and has written `refusal` alone.
 #[unsafe(no_mangle)]
 pub extern "C" fn dsa_plan_fenced_list(
     alloc: Global,

@@ -25,7 +25,7 @@ use Rattle.dsa_tracker.proofs.Counting.{one_less}
 pub ends : (plan : Plan) (place : Place) (n : ℕ) → place ≡ place_of plan n → length plan ≤ n → place.start ≡ piece_count plan
 ends plan place n e le = ap (λ (p : Place). p.start) e ∙ ap piece_count (take_all n plan le)
 
--- what stands before the end of the same groups
+-- what comes before the end of the same groups
 module _ (plan groups : Plan) (end : Place) (same : groups ≡ plan) (is : end ≡ place_of groups (length groups)) where
   pub end_is : end ≡ place_of plan (length plan)
   end_is = subst (λ (g : Plan). end ≡ place_of g (length g)) same is

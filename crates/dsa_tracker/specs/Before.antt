@@ -1,4 +1,4 @@
--- What stands before a group, as dsa_emission's place. Private clauses alone cite this.
+-- What comes before a group, as dsa_emission's place. Private clauses alone cite this.
 use Rattle.dsa_emission.specs.declared.place.Place.{Place}
 use Rattle.dsa_tracker.specs.declared.groups.Before.{Before}
 

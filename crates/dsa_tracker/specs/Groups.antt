@@ -67,7 +67,7 @@ GroupsStageWhatEntriesName =
 -- ---- the submissions
 
 -- one submission after another, as many as `count`: that of each number reads and writes what the functions say, and gets
--- the slot that stands at its number
+-- the slot at its number
 abbrev pub SubmitsInTurn : Table → (ℕ → List Span) → (ℕ → List Span) → Slots → Option Owner → List ℕ → ℕ → Table → Type 0
 SubmitsInTurn old reads writes also owner slots zero new = new ≡ old
 SubmitsInTurn old reads writes also owner slots (suc count) new =

@@ -14,7 +14,7 @@ use arrayvec::ArrayVec;
 use dsa_descriptor::{Descriptor, Span};
 use dsa_settings::{Group, Plan};
 
-/// What stands before a group of a plan.
+/// What comes before a group of a plan.
 #[derive(Clone, Copy, Default)]
 pub(crate) struct Before {
     /// The number of the first piece of the group.
@@ -26,7 +26,7 @@ pub(crate) struct Before {
 }
 
 impl Before {
-    /// What stands before the group after this one.
+    /// What comes before the group after this one.
     pub(crate) fn after(self, group: &Group) -> Before
         requires few { self.start + length group.now < 2 ^ 63 }
         requires batches { self.batches ≤ self.start }
@@ -46,7 +46,7 @@ impl Before {
     }
 }
 
-/// What stands before the end of the groups, if they have this many pieces.
+/// What comes before the end of the groups, if they have this many pieces.
 fn end_of(groups: &[Group], pieces: usize) -> Option<Before>
     requires { pieces < 2 ^ 60 }
     ensures { MatchOption result (piece_count groups.now ≢ pieces)
@@ -80,7 +80,7 @@ fn first_large(room: u32, groups: &[Group]) -> Option<usize>
     None
 }
 
-/// What stands before the end of the plan's groups, if they can be taken while so many slots are
+/// What comes before the end of the plan's groups, if they can be taken while so many slots are
 /// free.
 pub(crate) fn check_groups(
     room: u32,

@@ -3,7 +3,7 @@ use Rattle.dsa_emission.specs.Emission.{place_of}
 use Rattle.dsa_tracker.specs.Before.{place_by}
 use Rattle.dsa_tracker.proofs.groups.end_of.Given as goal
 
--- what stands before the next group
+-- what comes before the next group
 abbrev pub invariant-loop-group : goal.invariant-loop-group
 invariant-loop-group l =
     record {

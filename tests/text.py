@@ -392,7 +392,7 @@ def shared_records():
     wanted = [(k, 0, 1, 0x8000, 0x801F, 0x8000 + 32 * k) for k in range(1, 21)]
     more = "warning: 4 more operations have a record in the row of another\n"
     common.expect((found, rest) == (wanted, more), f"25 operations with one record: {found}, {rest!r}")
-    for form in ("--json", "--svg", "--all"):
+    for form in ("--json", "--svg", "--all", "--waits"):
         common.expect(warned(many, form) == (wanted, more), f"explain {form} has other warnings: {warned(many, form)}")
     common.expect(warned(many[:1] + [(0x1000, 0x2000, 64, 0x8020)]) == ([], ""), "records apart are warned of")
     draw = random.Random(52)
@@ -615,6 +615,48 @@ def members():
         refused("explain", wrong, f"`settings`: `{name}` is no {limits}", "83 Settings")
 
 
+def told_waits(sizes, operations):
+    """What groups of these sizes wait for, by the addresses that their moves read and write."""
+    groups, at = [], 0
+    for size in sizes:
+        own = operations[at : at + size]
+        reads = {src + k for src, _, n, _ in own for k in range(n)}
+        writes = {dst + k for _, dst, n, _ in own for k in range(n)} | {rec + k for *_, rec in own for k in range(32)}
+        groups.append((reads, writes))
+        at += size
+    lines, chains = [], []
+    for number, (reads, writes) in enumerate(groups):
+        waits = [k for k, (r, w) in enumerate(groups[:number]) if w & (reads | writes) or r & writes]
+        lines.append(f"group {number} waits for {' '.join(map(str, waits)) or 'none'}\n")
+        chains.append(1 + max((chains[k] for k in waits), default=0))
+    saved, s = len(groups) - max(chains), "" if len(groups) == 1 else "s"
+    last = f"{max(chains)} of {len(groups)} group{s}, {saved} round trip{'' if saved == 1 else 's'} saved\n"
+    return "".join(lines) + "longest chain of waits: " + last
+
+
+def waits():
+    """What the groups of random plans wait for; a plan with more groups than a tracker has slots is refused."""
+    draw = random.Random(54)
+
+    def explained(operations, *words):
+        text = "".join(f"move 0x{src:x} -> 0x{dst:x}, {n} bytes, record 0x{at:x}\n" for src, dst, n, at in operations)
+        ran = subprocess.run([TEXT, "explain", *words], input=text.encode(), capture_output=True)
+        return ran.returncode, ran.stdout.decode(), ran.stderr.decode()
+
+    for _ in range(100):
+        places = [0x10_0000 + 0x1000 * k for k in range(draw.choice([4, 20, 60]))]
+        moves = [(*draw.sample(places, 2), 64, 0x8000 + 32 * k) for k in range(draw.randrange(1, 60))]
+        greatest = ["--greatest-batch", str(draw.choice([2, 3, 8]))]
+        groups = re.findall(r"^group \d+: (?:batch of (\d+))?", explained(moves, *greatest)[1], re.M)
+        wanted = told_waits([int(size or 1) for size in groups], moves)
+        got = explained(moves, "--waits", *greatest)
+        common.expect(got[:2] == (0, wanted), f"explain --waits of {moves}: {got}, not {wanted!r}")
+    many = [(0x10_0000 + 64 * k, 0x20_0000 + 64 * k, 64, 0x8000 + 32 * k) for k in range(130)]
+    got = explained(many, "--waits", "--greatest-batch", "2")
+    refusal = "error: a tracker with 64 slots refuses the groups [128 FewSlots]\n"
+    common.expect(got == (1, "", refusal), f"explain --waits of 65 groups: {got}")
+
+
 def files():
     """The golden files of tests/text."""
     paths = sorted(Path("tests/text").glob("*.golden"))
@@ -625,7 +667,7 @@ def files():
 
 
 PARTS = [examples, lists, refusals, arguments, lines, grammar, texts, fences, missing, shared_records, sentences, large, split, picture]
-PARTS += [pictures, reasons_drawn, named_files, forms_of_bytes, members, files]
+PARTS += [pictures, reasons_drawn, named_files, forms_of_bytes, members, waits, files]
 
 
 def main(words):

@@ -1,5 +1,5 @@
 -- What explaining answers, by what the calls answer.
-use Rattle.std.proofs.Common.{◌≡◌, ◌⊎◌, ◌∙◌, inl, inr, ℕ, Bool, List, [], ap, map, Result, Option, Some, Err, IfOk, codes, string_bytes, sym, subst}
+use Rattle.std.proofs.Common.{◌≡◌, ◌⊎◌, ◌∙◌, inl, inr, ℕ, Bool, List, [], ap, map, Result, Option, Some, Err, IfOk, codes, string_bytes, sym, subst, None}
 use Rattle.std.proofs.lemmas.Result.{IfOk-weaker}
 use Rattle.dsa_descriptor.specs.declared.descriptor.Descriptor.{Descriptor}
 use Rattle.dsa_descriptor.specs.Descriptors.{fields}
@@ -15,10 +15,10 @@ use Rattle.dsa_calls.specs.Lists.{IsListOf, IsOrMemory, OrMemory}
 use Rattle.dsa_calls.specs.Planned.{Submission, IsSubmissionOf, PlansOperations}
 use Rattle.dsa_text.specs.declared.answer.Answer.{Answer}
 use Rattle.dsa_text.specs.Refusals.{IsRefusal, NamesCause, explain_cause}
-use Rattle.dsa_text.specs.Explained.{AnswersJudged, ExplainsList, TellsJudged, is_drawn, is_planned, is_refused_list, is_spelled, is_told, is_untold}
+use Rattle.dsa_text.specs.Explained.{AnswersJudged, ExplainsList, TellsJudged, is_drawn, is_planned, is_refused_list, is_spelled, is_told, is_untold, is_waiting}
 use Rattle.dsa_text.specs.Origins.{origins_from}
 use Rattle.dsa_text.specs.declared.form.Form.{Form}
-use Rattle.dsa_text.specs.Shown.{AnswersPlan, ShowsPlan, form_of, is_shown, is_too_large, is_unfit}
+use Rattle.dsa_text.specs.Shown.{AnswersPlan, ShowsPlan, form_of, is_shown, is_too_large, is_unfit, is_untracked}
 use Rattle.clap.specs.declared.parser.matches.ArgMatches.{ArgMatches}
 use Rattle.dsa_text.specs.Options.{IsFlag}
 use Rattle.dsa_text.specs.Inputs.{ExplainsAs, ExplainsInput, is_job}
@@ -61,6 +61,8 @@ plan_beside s plan ds origins least form a b status text (is_unfit fault explain
     is_unfit fault explains (refused_beside (explain_cause fault) a b status text r)
 plan_beside s plan ds origins least form a b status text (is_too_large drawn can many one words) =
     is_too_large drawn can many (status ∙ one) (ap string_bytes text ∙ words)
+plan_beside s plan ds origins least form a b status text (is_untracked fault waits can refused one words) =
+    is_untracked fault waits can refused (status ∙ one) (ap string_bytes text ∙ words)
 
 pub judged_beside : (s : Limits) (plan : Plan) (ds : List Descriptor) (cost : ℕ) (form : Form) (a b : Answer)
     → b.status ≡ a.status → b.text ≡ a.text → AnswersJudged s plan ds cost form a → AnswersJudged s plan ds cost form b
@@ -68,6 +70,8 @@ judged_beside s plan ds cost form a b status text (is_drawn least drawn is answe
     is_drawn least drawn is (plan_beside s plan ds [] least form a b status text answers)
 judged_beside s plan ds cost form a b status text (is_spelled least spelled is answers) =
     is_spelled least spelled is (plan_beside s plan ds [] least form a b status text answers)
+judged_beside s plan ds cost form a b status text (is_waiting waits answers) =
+    is_waiting waits (plan_beside s plan ds [] None form a b status text answers)
 judged_beside s plan ds cost form a b status text (is_told detail told z tells) =
     is_told detail told (status ∙ z) (subst (λ (t : List ℕ). TellsJudged s detail plan ds cost t) (sym (ap string_bytes text)) tells)
 judged_beside s plan ds cost form a b status text (is_untold detail told fault explains r) =
@@ -92,16 +96,18 @@ same_cause r told fault o p e is is' h =
 -- ---- an input
 
 -- explained as the input's kind, in the form that the flags ask for
-pub as_input : {E : Type 0} (r : Result Answer E) (m : ArgMatches) (text : List ℕ) (svg json all b : Bool) (form : Form) → is_job text ≡ b
-    → IsFlag m (codes "svg") svg → IsFlag m (codes "json") json → IsFlag m (codes "all") all → form ≡ form_of svg json all
+pub as_input : {E : Type 0} (r : Result Answer E) (m : ArgMatches) (text : List ℕ) (svg json waits all b : Bool) (form : Form) → is_job text ≡ b
+    → IsFlag m (codes "svg") svg → IsFlag m (codes "json") json → IsFlag m (codes "waits") waits → IsFlag m (codes "all") all → form ≡ form_of svg json waits all
     → IfOk r (ExplainsAs b m text form) → IfOk r (ExplainsInput m text)
-as_input r m text svg json all b form kind svg_is json_is all_is same h =
+as_input r m text svg json waits all b form kind svg_is json_is waits_is all_is same h =
     IfOk-weaker r _ _ (λ a x. record {
       svg = svg;
       json = json;
+      waits = waits;
       all = all;
       svg_is = svg_is;
       json_is = json_is;
+      waits_is = waits_is;
       all_is = all_is;
-      explains = subst (λ (k : Bool). ExplainsAs k m text (form_of svg json all) a) (sym kind) (subst (λ (f : Form). ExplainsAs b m text f a) same x);
+      explains = subst (λ (k : Bool). ExplainsAs k m text (form_of svg json waits all) a) (sym kind) (subst (λ (f : Form). ExplainsAs b m text f a) same x);
     }) h

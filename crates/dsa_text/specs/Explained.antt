@@ -21,7 +21,7 @@ use Rattle.dsa_explain.specs.declared.explanation.ExplainFault.{ExplainFault}
 use Rattle.dsa_explain.specs.Explained.{Explains}
 use Rattle.dsa_text.specs.declared.answer.Answer.{Answer}
 use Rattle.dsa_text.specs.declared.form.Form.{Form}
-use Rattle.dsa_text.specs.declared.form.Form.TheVariants.{Words, Picture, Json}
+use Rattle.dsa_text.specs.declared.form.Form.TheVariants.{Words, Picture, Json, Waits}
 use Rattle.dsa_text.specs.Refusals.{IsRefusal, RefusesText, explain_cause}
 use Rattle.dsa_text.specs.Origins.{origins_from}
 use Rattle.dsa_text.specs.Shown.{AnswersPlan, TellsPlan}
@@ -77,11 +77,12 @@ pub record TellsJudged (s : Limits) (detail : Detail) (plan : Plan) (pieces : Li
   pub is_least : IsLeastCost s (map fields pieces) least
   pub text_is : text ≡ words ++ least_words cost least
 
--- a judged plan as a picture, as JSON or in words, with the least cost; or refused for the cause that
+-- a judged plan as a picture, as JSON or in words, with the least cost, or by its waits; or refused for the cause that
 -- `explain` finds, which can only be an allocation failure
 pub data AnswersJudged (s : Limits) (plan : Plan) (pieces : List Descriptor) (cost : ℕ) (form : Form) (a : Answer) : Type 0 where
   is_drawn : (least : Option ℕ) → form ≡ Picture → IsLeastCost s (map fields pieces) least → AnswersPlan s plan pieces [] least form a → AnswersJudged s plan pieces cost form a
   is_spelled : (least : Option ℕ) → form ≡ Json → IsLeastCost s (map fields pieces) least → AnswersPlan s plan pieces [] least form a → AnswersJudged s plan pieces cost form a
+  is_waiting : form ≡ Waits → AnswersPlan s plan pieces [] None form a → AnswersJudged s plan pieces cost form a
   is_told : (detail : Detail) → form ≡ Words detail → a.status ≡ 0 → TellsJudged s detail plan pieces cost (string_bytes a.text) → AnswersJudged s plan pieces cost form a
   is_untold : (detail : Detail) → form ≡ Words detail → (fault : ExplainFault) → Explains s detail pieces plan (Err fault) → IsRefusal (explain_cause fault) a → AnswersJudged s plan pieces cost form a
 

@@ -42,8 +42,10 @@ ExplainsAs false m text form a = ExplainsOperations m text form a
 pub record ExplainsInput (m : ArgMatches) (text : List ℕ) (a : Answer) : Type 0 where
   pub svg : Bool
   pub json : Bool
+  pub waits : Bool
   pub all : Bool
   pub svg_is : IsFlag m (codes "svg") svg
   pub json_is : IsFlag m (codes "json") json
+  pub waits_is : IsFlag m (codes "waits") waits
   pub all_is : IsFlag m (codes "all") all
-  pub explains : ExplainsAs (is_job text) m text (form_of svg json all) a
+  pub explains : ExplainsAs (is_job text) m text (form_of svg json waits all) a

@@ -1,6 +1,7 @@
 -- What explaining a plan of pieces answers (this project's choice).
-use Rattle.std.specs.Prelude.{◌≡◌, ◌<◌, ◌≤◌, ℕ, Bool, List, ◌++◌, codes, decimal, length, string_bytes, Option, Err, if◌then◌else◌}
+use Rattle.std.specs.Prelude.{◌≡◌, ◌<◌, ◌≤◌, ℕ, Bool, List, ◌++◌, codes, decimal, length, map, string_bytes, Option, Err, if◌then◌else◌}
 use Rattle.dsa_descriptor.specs.declared.descriptor.Descriptor.{Descriptor}
+use Rattle.dsa_descriptor.specs.Descriptors.{fields}
 use Rattle.dsa_plan.specs.Plan.{Plan}
 use Rattle.dsa_plan.specs.Settings.{Limits}
 use Rattle.dsa_explain.specs.declared.fences.Detail.{Detail}
@@ -12,9 +13,14 @@ use Rattle.dsa_explain.specs.Explained.{CanBeExplained, Explains, IsExplanationO
 use Rattle.dsa_drawing.specs.Pictures.{IsPicture}
 use Rattle.dsa_explain.specs.Words.{explanation_words}
 use Rattle.dsa_explain.specs.Document.{explanation_line}
+use Rattle.dsa_explain.specs.declared.waits.WaitsFault.TheVariants.{Track}
+use Rattle.dsa_explain.specs.Waits.{AreWaits, RefusesWaits, waits_words}
+use Rattle.dsa_tracker.specs.declared.fault.TrackFault.{TrackFault}
+use Rattle.dsa_tracker.specs.declared.slots.Slots.{Slots}
+use Rattle.dsa_tracker.specs.Causes.{track_name, track_number}
 use Rattle.dsa_text.specs.declared.answer.Answer.{Answer}
 use Rattle.dsa_text.specs.declared.form.Form.{Form}
-use Rattle.dsa_text.specs.declared.form.Form.TheVariants.{Words, Picture, Json}
+use Rattle.dsa_text.specs.declared.form.Form.TheVariants.{Words, Picture, Json, Waits}
 use Rattle.dsa_text.specs.Refusals.{IsRefusal, explain_cause}
 
 -- ---- forms
@@ -24,11 +30,12 @@ abbrev pub detail_of : Form → Detail
 detail_of (Words detail) = detail
 detail_of Picture = First
 detail_of Json = Every
+detail_of Waits = First
 
--- the form that flags ask for: a picture, JSON, words with all conflicts; else words with the first ones
-abbrev pub form_of : Bool → Bool → Bool → Form
-form_of svg json all =
-    if svg then Picture else (if json then Json else (if all then Words Every else Words First))
+-- the form that flags ask for: a picture, JSON, what groups wait for, words with all conflicts; else words with the first ones
+abbrev pub form_of : Bool → Bool → Bool → Bool → Form
+form_of svg json waits all =
+    if svg then Picture else (if json then Json else (if waits then Waits else (if all then Words Every else Words First)))
 
 -- ---- what is shown
 
@@ -56,21 +63,37 @@ pub record DrawsPlan (s : Limits) (plan : Plan) (pieces : List Descriptor) (text
   pub few : length plan ≤ most_rows
   pub picture : IsPicture text
 
+-- the text says what each group waits for, and the plan can be explained
+pub record TellsWaits (s : Limits) (plan : Plan) (pieces : List Descriptor) (text : List ℕ) : Type 0 where
+  pub can : CanBeExplained s pieces plan
+  pub slots : List ℕ
+  pub sets : List Slots
+  pub are : AreWaits s.staging plan (map fields pieces) slots sets
+  pub words : text ≡ waits_words slots sets
+
 -- the plan in a form
 abbrev pub ShowsPlan : Form → Limits → Plan → List Descriptor → List Origin → Option ℕ → List ℕ → Type 0
 ShowsPlan (Words detail) s plan pieces origins least text = TellsPlan s detail plan pieces origins text
 ShowsPlan Picture s plan pieces origins least text = DrawsPlan s plan pieces text
 ShowsPlan Json s plan pieces origins least text = SpellsPlan s plan pieces origins least text
+ShowsPlan Waits s plan pieces origins least text = TellsWaits s plan pieces text
 
 -- the message where a plan has too many groups to draw
 abbrev pub too_many_groups : ℕ → List ℕ
 too_many_groups groups =
     codes "error: " ++ (decimal groups ++ codes " groups, a picture has 1024 at most [91 Picture]\n")
 
+-- the message where a tracker refuses the groups
+abbrev pub untracked : TrackFault → List ℕ
+untracked fault =
+    codes "error: a tracker with 64 slots refuses the groups" ++ (codes " [" ++ (decimal (track_number fault) ++ (codes " " ++ (track_name fault ++ codes "]\n"))))
+
 -- A plan that can be explained has status 0, and is shown. Refused is one that can't be, for the cause
--- that `explain` finds, and one with too many groups to draw.
+-- that `explain` finds, one with too many groups to draw, and one of which a tracker refuses the groups.
 pub data AnswersPlan (s : Limits) (plan : Plan) (pieces : List Descriptor) (origins : List Origin) (least : Option ℕ) (form : Form) (a : Answer) : Type 0 where
   is_shown : a.status ≡ 0 → ShowsPlan form s plan pieces origins least (string_bytes a.text) → AnswersPlan s plan pieces origins least form a
   is_unfit : (fault : ExplainFault) → Explains s (detail_of form) pieces plan (Err fault) → IsRefusal (explain_cause fault) a → AnswersPlan s plan pieces origins least form a
   is_too_large : form ≡ Picture → CanBeExplained s pieces plan → most_rows < length plan → a.status ≡ 1
       → string_bytes a.text ≡ too_many_groups (length plan) → AnswersPlan s plan pieces origins least form a
+  is_untracked : (fault : TrackFault) → form ≡ Waits → CanBeExplained s pieces plan → RefusesWaits s.staging plan (map fields pieces) (Track fault)
+      → a.status ≡ 1 → string_bytes a.text ≡ untracked fault → AnswersPlan s plan pieces origins least form a

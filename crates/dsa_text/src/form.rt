@@ -14,6 +14,8 @@ pub enum Form {
     Picture,
     /// As a line of JSON.
     Json,
+    /// By what its groups wait for.
+    Waits,
 }
 
 impl Form {
@@ -23,20 +25,22 @@ impl Form {
     {
         match self {
             Form::Words(detail) => detail,
-            Form::Picture => Detail::First,
+            Form::Picture | Form::Waits => Detail::First,
             Form::Json => Detail::All,
         }
     }
 }
 
-/// The form that the flags `--svg`, `--json` and `--all` ask for.
-pub(crate) fn form_of(svg: bool, json: bool, all: bool) -> Form
-    ensures { result ≡ form_of svg json all }
+/// The form that the flags `--svg`, `--json`, `--waits` and `--all` ask for.
+pub(crate) fn form_of(svg: bool, json: bool, waits: bool, all: bool) -> Form
+    ensures { result ≡ form_of svg json waits all }
 {
     if svg {
         Form::Picture
     } else if json {
         Form::Json
+    } else if waits {
+        Form::Waits
     } else if all {
         Form::Words(Detail::All)
     } else {

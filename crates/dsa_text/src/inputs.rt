@@ -89,8 +89,9 @@ pub(crate) fn explain(
 {
     let svg = matches.get_flag("svg");
     let json = matches.get_flag("json");
+    let waits = matches.get_flag("waits");
     let all = matches.get_flag("all");
-    let form = form_of(svg, json, all);
+    let form = form_of(svg, json, waits, all);
     if is_job(text) {
         explain_with_options(alloc, matches, text, form)
     } else {

@@ -7,7 +7,7 @@ ghost use Rattle.dsa_calls.specs.declared.fault.PlanFault.{PlanFault};
 ghost use Rattle.dsa_calls.specs.declared.fault.PlanFault.TheVariants.{Memory};
 ghost use Rattle.dsa_calls.specs.Judge.{Judges, JudgesPieces};
 ghost use Rattle.dsa_calls.specs.Lists.{IsListOf};
-ghost use Rattle.dsa_text.specs.declared.form.Form.TheVariants.{Json, Picture, Words};
+ghost use Rattle.dsa_text.specs.declared.form.Form.TheVariants.{Json, Picture, Words, Waits};
 ghost use Rattle.dsa_text.specs.Explained.{AnswersJudged, ExplainsJudged, IsLeastCost, least_words, more_words};
 ghost use Rattle.dsa_text.specs.Refusals.{IsRefusal};
 
@@ -122,6 +122,20 @@ fn judged_json(
     answer_plan(alloc, plan, pieces, none, settings, least, Form::Json)
 }
 
+/// A judged plan by what its groups wait for.
+fn judged_waits(
+    alloc: Global,
+    plan: &Plan,
+    pieces: &[Descriptor],
+    settings: &Settings,
+    cost: u64,
+) -> Result<Answer, AllocError>
+    ensures { IfOk result (AnswersJudged settings.now plan.now pieces.now cost Waits) }
+{
+    let none = [].as_slice();
+    answer_plan(alloc, plan, pieces, none, settings, None, Form::Waits)
+}
+
 /// The answer of a judged plan in a form.
 fn judged_in_form(
     alloc: Global,
@@ -138,6 +152,7 @@ fn judged_in_form(
         Form::Words(detail) => judged_words(alloc, plan, pieces, settings, cost, detail),
         Form::Picture => judged_picture(alloc, plan, pieces, settings, cost),
         Form::Json => judged_json(alloc, plan, pieces, settings, cost),
+        Form::Waits => judged_waits(alloc, plan, pieces, settings, cost),
     }
 }
 

@@ -217,6 +217,11 @@ fn explain_command<'a>(alloc: Global) -> Result<Command<'a>, AllocError> {
     let options = settings_options(alloc)?;
     let all = flag(alloc, "all", "name every conflict that a fence separates");
     let json = flag(alloc, "json", "write the explanation as JSON");
+    let waits = flag(
+        alloc,
+        "waits",
+        "tell which earlier groups each group waits for",
+    );
     Command::new(alloc, "explain")
         .about("Reads lines or a job to plan, judge or check, and tells what the plan does and why")
         .after_help(EXPLAINED)
@@ -224,6 +229,12 @@ fn explain_command<'a>(alloc: Global) -> Result<Command<'a>, AllocError> {
         .arg(flag(alloc, "svg", "draw the plan"))?
         .arg(json.conflicts_with("svg")?)?
         .arg(all.conflicts_with("svg")?.conflicts_with("json")?)?
+        .arg(
+            waits
+                .conflicts_with("svg")?
+                .conflicts_with("json")?
+                .conflicts_with("all")?,
+        )?
         .args(options)
 }
 

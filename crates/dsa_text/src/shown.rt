@@ -3,16 +3,18 @@
 ghost use Rattle.std.specs.Prelude.{◌≡◌, IfOk, MatchResult, Err, string_bytes};
 ghost use Rattle.dsa_explain.specs.Explained.{Explains};
 ghost use Rattle.dsa_explain.specs.declared.fences.Detail.TheVariants.{All as Every};
-ghost use Rattle.dsa_text.specs.declared.form.Form.TheVariants.{Json, Picture, Words};
-ghost use Rattle.dsa_text.specs.Shown.{AnswersPlan, SpellsPlan, TellsPlan, too_many_groups};
+ghost use Rattle.dsa_text.specs.declared.form.Form.TheVariants.{Json, Picture, Waits, Words};
+ghost use Rattle.dsa_text.specs.Shown.{AnswersPlan, SpellsPlan, TellsPlan, too_many_groups, untracked};
 
 use crate::answer::Answer;
 use crate::form::Form;
 use dsa_descriptor::Descriptor;
 use dsa_explain::{
-    Detail, ExplainFault, MOST_ROWS, Origin, draw, explain, explanation_line, explanation_text,
+    Detail, ExplainFault, MOST_ROWS, Origin, WaitsFault, draw, explain, explanation_line,
+    explanation_text, group_waits, waits_text,
 };
 use dsa_plan::{Plan, Settings};
+use dsa_tracker::TrackFault;
 use std::alloc::{AllocError, Global};
 
 /// What a plan of pieces does and why, in words.
@@ -126,6 +128,40 @@ fn answer_picture(
     Ok(Answer::done(picture))
 }
 
+/// The refusal of groups that a tracker refuses.
+fn untracked(alloc: Global, fault: TrackFault) -> Result<Answer, AllocError>
+    ensures status { IfOk result (λ a. a.status ≡ 1) }
+    ensures text { IfOk result (λ a. string_bytes a.text ≡ untracked fault) }
+{
+    let (number, name) = (fault.number(), fault.name());
+    let mut text = String::from_str(alloc, "error: a tracker with 64 slots refuses the groups")?;
+    let cause = format!(in alloc; " [{number} {name}]\n")?;
+    text.push_str(&cause)?;
+    Ok(Answer::refused(text))
+}
+
+/// The answer of a plan of pieces by what its groups wait for.
+fn answer_waits(
+    alloc: Global,
+    plan: &Plan,
+    pieces: &[Descriptor],
+    origins: &[Origin],
+    settings: &Settings,
+    least: Option<u64>,
+) -> Result<Answer, AllocError>
+    ensures { IfOk result
+        (AnswersPlan settings.now plan.now pieces.now origins.now least Waits) }
+{
+    if let Err(fault) = explain(alloc, plan, pieces, settings, Detail::First) {
+        return Answer::explain_fault(alloc, fault);
+    }
+    match group_waits(alloc, plan, pieces, settings.staging()) {
+        Ok(waits) => Ok(Answer::done(waits_text(alloc, &waits)?)),
+        Err(WaitsFault::Track(fault)) => untracked(alloc, fault),
+        Err(WaitsFault::Memory) => Answer::explain_fault(alloc, ExplainFault::Memory),
+    }
+}
+
 /// The answer of a plan of pieces in a form; `least` is what the least plan costs, where that is known.
 pub(crate) fn answer_plan(
     alloc: Global,
@@ -145,5 +181,6 @@ pub(crate) fn answer_plan(
         }
         Form::Picture => answer_picture(alloc, plan, pieces, origins, settings, least),
         Form::Json => answer_json(alloc, plan, pieces, origins, settings, least),
+        Form::Waits => answer_waits(alloc, plan, pieces, origins, settings, least),
     }
 }

@@ -6,18 +6,20 @@ pub returns-then-is_job : goal.returns-then-is_job
 returns-then-is_job c =
     let svg = c.get_flag-svg.ensures in
     let json = c.get_flag-json.ensures in
+    let waits = c.get_flag-waits.ensures in
     let all = c.get_flag-all.ensures in
-    as_input c.explain_with_options.result c.args.matches.now c.args.text.now c.get_flag-svg.result c.get_flag-json.result c.get_flag-all.result true _
+    as_input c.explain_with_options.result c.args.matches.now c.args.text.now c.get_flag-svg.result c.get_flag-json.result c.get_flag-waits.result c.get_flag-all.result true _
     (sym c.is_job.ensures ∙ c.if-is_job.true)
     (record { set = svg.value; clear = svg.other; absent = svg.none }) (record { set = json.value; clear = json.other; absent = json.none })
-    (record { set = all.value; clear = all.other; absent = all.none }) c.form_of-form.ensures c.explain_with_options.ensures
+    (record { set = waits.value; clear = waits.other; absent = waits.none }) (record { set = all.value; clear = all.other; absent = all.none }) c.form_of-form.ensures c.explain_with_options.ensures
 
 pub returns-else-is_job : goal.returns-else-is_job
 returns-else-is_job c =
     let svg = c.get_flag-svg.ensures in
     let json = c.get_flag-json.ensures in
+    let waits = c.get_flag-waits.ensures in
     let all = c.get_flag-all.ensures in
-    as_input c.explain_operations.result c.args.matches.now c.args.text.now c.get_flag-svg.result c.get_flag-json.result c.get_flag-all.result false _
+    as_input c.explain_operations.result c.args.matches.now c.args.text.now c.get_flag-svg.result c.get_flag-json.result c.get_flag-waits.result c.get_flag-all.result false _
     (sym c.is_job.ensures ∙ c.if-is_job.false)
     (record { set = svg.value; clear = svg.other; absent = svg.none }) (record { set = json.value; clear = json.other; absent = json.none })
-    (record { set = all.value; clear = all.other; absent = all.none }) c.form_of-form.ensures c.explain_operations.ensures
+    (record { set = waits.value; clear = waits.other; absent = waits.none }) (record { set = all.value; clear = all.other; absent = all.none }) c.form_of-form.ensures c.explain_operations.ensures

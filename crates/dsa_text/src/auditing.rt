@@ -45,8 +45,8 @@ With --events it also reports missing waits: an entry that conflicts with one of
 program could not know that it had ended. Each is an error.
   dsa_text audit --events NAME.PID.events NAME.PID.dsa
 
-The status is 0 if nothing is an error, 1 if something is: a missing fence or wait, a fence, record or batch that is wrong, or
-what --deny names; and 2 if there is no recording, or it is too large to draw. Of a list it is 0 or 2.
+The status is 0 if nothing is an error, 1 if something is: a missing fence or wait, a fence, record or batch that is
+wrong, or what --deny names; and 2 if there is no recording, or it is too large to draw. Of a list it is 0 or 2.
 Prices are in one unit of your choice. Numbers are decimal, or hexadecimal behind 0x.
 Example: dsa_text audit --deny needless,unseen recording.bin";
 

@@ -277,7 +277,7 @@ uint32_t dsa_plan_fenced_list(const struct dsa_settings *settings,
 
 /*
  * The same as dsa_plan_list, and for n pieces it writes the plan's certificate, n + 1 prices and n pairs, and n marks
- * (DSA_BEGINS, DSA_FENCED), each to the front of its array. DSA_NO_ROOM_FOR_CERTIFICATE: one of the three arrays is too small, and
+ * (DSA_BEGINS, DSA_FENCED), each to the front of its array. DSA_NO_ROOM_FOR_CERTIFICATE: one of these is too small, and
  * refusal.first is n. The certificate's version is that of the settings.
  */
 uint32_t dsa_plan_list_certified(const struct dsa_settings *settings,

@@ -315,9 +315,9 @@ pub fn plan_into(
     answer(code, summary, refusal)
 }
 
-/// The same, but an operation may have the flag 0x0001 ([`Descriptor::after_barrier`]): the device starts nothing of it,
-/// nor of what comes after it, before all operations before it have ended with status 1. No legal plan that keeps each
-/// barrier costs less.
+/// The same, but an operation may have the flag 0x0001 ([`Descriptor::after_barrier`]): the device starts nothing of
+/// it, nor of what comes after it, before all operations before it have ended with status 1. No legal plan that keeps
+/// each barrier costs less.
 ///
 /// # Errors
 /// The same, of the list without the flags.
@@ -341,7 +341,8 @@ pub fn plan_fenced_into(
 ) -> Result<Summary, Refusal> {
     let (raw, table) = settings.raw();
     let (mut summary, mut refusal) = (Summary::default(), raw::Refusal::default());
-    // SAFETY: each pointer and length are those of one slice, or of one struct, and no output overlaps another argument.
+    // SAFETY: each pointer and length are those of one slice, or of one struct, and no output overlaps another
+    // argument.
     let code = unsafe {
         raw::dsa_plan_fenced_list(
             &raw,

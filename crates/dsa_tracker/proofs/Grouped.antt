@@ -21,7 +21,7 @@ use Rattle.dsa_tracker.specs.Groups.{CanTakeGroups, IsGroupsFault, SubmitsInTurn
 use Rattle.dsa_tracker.specs.Table.{Table}
 use Rattle.dsa_tracker.proofs.Counting.{one_less}
 
--- all pieces stand before the end
+-- all pieces come before the end
 pub ends : (plan : Plan) (place : Place) (n : ℕ) → place ≡ place_of plan n → length plan ≤ n → place.start ≡ piece_count plan
 ends plan place n e le = ap (λ (p : Place). p.start) e ∙ ap piece_count (take_all n plan le)
 

@@ -19,7 +19,7 @@ use dsa_settings::{Group, Plan};
 pub(crate) struct Before {
     /// The number of the first piece of the group.
     pub start: usize,
-    /// How many batches stand before it.
+    /// How many batches come before it.
     pub batches: usize,
     /// How many pieces are in these batches.
     pub batched: usize,

@@ -5,8 +5,8 @@
 Random lists of all six operations, those of tests/campaign.py, are planned by the proved library and submitted by the code of
 bindings/c/submit.c, with three seeds each: memory, records and batch records are those of the `run` job of dsa, or of
 tests/model.py where dsa is not built. Then one fence is left out of each list that has some and whose order shows in memory:
-within 100 tries the device leaves something else, for nine of ten such lists at least. And lists whose check fails: after a
-barrier they publish nothing, under each seed."""
+within 100 tries the device leaves something else, for nine of ten such lists at least. And lists whose check fails:
+after a barrier they publish nothing, under each seed."""
 
 import itertools
 import json

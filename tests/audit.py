@@ -151,16 +151,6 @@ def accesses(it, owner):
     return known if isinstance(known, str) else tuple(set().union(*spans) for spans in known)
 
 
-def is_checksum(it):
-    return it[7] in (CRC, COPY_CRC)
-
-
-def operands_of(it):
-    """The bytes of data that an entry reads and those that it writes, among them the record of a checksum."""
-    reads, writes, record = parts_of(it)
-    return reads, writes | (record if is_checksum(it) else set())
-
-
 def parts_of(it):
     """The bytes of data that an entry reads, those that it writes, and those of its record, whatever else is wrong with it."""
     held = set(span(struct.unpack_from("<Q", it, 8)[0], 32)) if it[4] & 0x04 else set()
@@ -168,14 +158,9 @@ def parts_of(it):
     return set().union(*reads), set().union(*writes), held
 
 
-def unseeded(it):
-    """The entry, with a checksum's seed no longer in memory."""
-    return it[:6] + bytes([it[6] & 0xFE]) + it[7:] if is_checksum(it) else it
-
-
 def shares_record(one, other):
-    """The record of one meets the record or the data of the other, but for the seed of a checksum."""
-    (reads, writes, record), (reads2, writes2, record2) = parts_of(unseeded(one)), parts_of(unseeded(other))
+    """The record of one meets the record or the data of the other."""
+    (reads, writes, record), (reads2, writes2, record2) = parts_of(one), parts_of(other)
     return bool(record & (reads2 | writes2 | record2) or record2 & (reads | writes))
 
 
@@ -260,7 +245,7 @@ class Batch:
         self.fences = {k for k, it in enumerate(entries) if it[4] & 1}
         pairs = list(itertools.combinations(range(len(entries)), 2))
         is_seen = [not isinstance(it, str) for it in self.known]
-        self.operands = [operands_of(it) for it in entries]
+        self.operands = [parts_of(it)[:2] for it in entries]
         both = [p for p in pairs if all(is_seen[k] for k in p)]
         clash = {p for p in both if conflict(*(self.known[k] for k in p))}
         known = [p for p in both if conflict(*(self.operands[k] for k in p))]
@@ -1048,27 +1033,6 @@ def unseen():
     common.expect({it["severity"] for it in report["findings"]} == {"error"}, "what is denied is an error")
 
 
-def checksums():
-    """A chain of checksums, each with its seed in the record of the one before it, needs a fence alone; and what else
-    meets the record of a checksum."""
-    first = entry(CRC, 0x0C, 0x8000, first=0x1000, size=64)
-    chained = [entry(CRC, flags, 0x8020, first=0x1040, size=64, last=0x8010) for flags in (0x01000C, 0x01000D)]
-    missing = {"address": "0x8010", "earlier": 0, "hazard": "read after write", "kind": "missing", "records": [0]}
-    shared = {"earlier": 0, "kind": "shared record"}
-    over = missing | {"address": "0x8000", "hazard": "write after write", "records": [0, 1]}
-    for name, members, wanted in [
-        ("a chain without its fence", [first, chained[0]], [missing]),
-        ("a chain", [first, chained[1]], []),
-        ("a copy in a chain", [entry(COPY_CRC, 0x0C, 0x8000, 0x1000, 0x2000, 64), chained[1]], []),
-        ("two with one record", [first, entry(CRC, 0x0D, 0x8000, first=0x1040, size=64)], [shared]),
-        ("two with one record and no fence", [first, entry(CRC, 0x0C, 0x8000, first=0x1040, size=64)], [over, shared]),
-        ("a move with its record", [first, entry(MOVE, 0x0C, 0x8000, 0x1040, 0x2000, 64)], [shared]),
-        ("a move of its record", [first, entry(MOVE, 0x0D, 0x8020, 0x8010, 0x2000, 8)], [shared]),
-    ]:
-        found = [it["what"] for it in audited(batch(*members), "--resident --await batches")[0]["findings"]]
-        common.expect(found == wanted, f"{name}: {found}, and not {wanted}")
-
-
 def ends():
     """Recordings that end early: status 2, nothing on standard output, and where and why on standard error."""
     whole = batch(*[move(0x1000, 0x2000).bytes()] * 3)
@@ -1151,8 +1115,7 @@ def main(words):
     TEXT = program("dsa_text")
     numbers = [int(word) for word in words if word.isdigit()]
     COUNT = numbers[-1] if numbers else COUNT
-    parts = [brute_force, padded, pictures, sizes, too_large, planned, staged, lines, lists, unseen, checksums, ends]
-    parts += [forms, speed]
+    parts = [brute_force, padded, pictures, sizes, too_large, planned, staged, lines, lists, unseen, ends, forms, speed]
     for part in named(parts, [it for it in words if not it.isdigit()]):
         part()
 

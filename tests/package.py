@@ -322,7 +322,7 @@ def c():
         if not has(cc):
             continue
         words = ["-x", "c" if language == "c11" else "c++", f"-std={language}", *STRICT, "-Wconversion"]
-        source = [*words, ROOT / "tests/package/descriptors.c", *linking("dsa_planner")]
+        source = [*words, ROOT / "tests/package/descriptors.c", "-I", f"{PREFIX}/include"]
         tried(f"descriptors.c by {cc}", cc, *source, "-o", f"descriptors_{cc}")
         tried(f"descriptors in {language} by {cc}", f"./descriptors_{cc}", printed="".join(DESCRIPTORS[:-1]))
         source = [*words, EXAMPLES / "rows.c", "-x", "none"]

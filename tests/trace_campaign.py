@@ -5,11 +5,13 @@
 Random lists of all six operations, those of tests/campaign.py, are planned by the proved library and submitted by the code of
 bindings/c/submit.c, with three seeds each: memory, records and batch records are those of the `run` job of dsa, or of
 tests/model.py where dsa is not built. Then one fence is left out of each list that has some and whose order shows in memory:
-within 100 tries the device leaves something else, for nine of ten such lists at least."""
+within 100 tries the device leaves something else, for nine of ten such lists at least. And lists whose check fails:
+after a barrier they publish nothing, under each seed."""
 
 import itertools
 import json
 import random
+import re
 import shutil
 import subprocess
 import sys
@@ -128,11 +130,23 @@ def without_fence(folder, lists, names):
     expect(chosen and seen >= 0.9 * len(chosen), f"only {seen} of {len(chosen)} are seen; not {late[:20]}")
 
 
+def published(folder, count):
+    """If a check fails, nothing after a barrier is done; without the barrier many lists publish all the same."""
+    for seed in SEEDS:
+        for kind in ("barrier", "none"):
+            command = [f"{folder}/dsa_trace", "--order", "data", "--seed", str(seed), "--", f"{folder}/published", kind]
+            ran = subprocess.run([*command, str(count), str(seed)], capture_output=True, text=True, timeout=1200)
+            found = re.fullmatch(rf"(\d+) of {count} lists have published\n", ran.stdout)
+            right = found and (found[1] == "0" if kind == "barrier" else int(found[1]) > count // 4)
+            expect(right, f"{kind}, seed {seed}: status {ran.returncode}, {ran.stdout}")
+
+
 def build(folder):
-    """The device, and the client over the library."""
+    """The device, and the clients over the library."""
     commands = [["make", "-C", "trace", "CC=gcc", f"OUT={folder}"]]
-    sources = ["tests/trace/planned.c", "bindings/c/memory.c", ARCHIVE]
-    commands.append(["gcc", *STRICT, "-O2", "-I", "bindings/c", "-o", f"{folder}/planned", *sources])
+    for name in ("planned", "published"):
+        sources = [f"tests/trace/{name}.c", "bindings/c/memory.c", ARCHIVE]
+        commands.append(["gcc", *STRICT, "-O2", "-I", "bindings/c", "-o", f"{folder}/{name}", *sources])
     for command in commands:
         ran = subprocess.run(command, capture_output=True, text=True)
         if ran.returncode:
@@ -154,6 +168,7 @@ def main(words):
         lists = [Listed(name) for name in names]
         whole(folder, lists, names)
         without_fence(folder, lists, names)
+        published(folder, count)
 
 
 if __name__ == "__main__":

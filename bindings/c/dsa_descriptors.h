@@ -31,7 +31,7 @@ static inline void dsa_put_number(uint8_t *at, uint64_t value, int bytes)
 }
 
 /* An operation code; what is in bytes 16 to 23, 24 to 31 and 40 to 47 goes by it. */
-static inline void dsa_put_descriptor(uint8_t *at, uint8_t code, uint64_t first, uint64_t second, uint32_t size,
+static inline void dsa_put_descriptor(uint8_t *at, uint8_t code, uint64_t first, uint64_t second, uint64_t size,
                                       uint64_t own, uint64_t record)
 {
     memset(at, 0, 64);
@@ -40,42 +40,42 @@ static inline void dsa_put_descriptor(uint8_t *at, uint8_t code, uint64_t first,
     dsa_put_number(at + 8, record, 8);
     dsa_put_number(at + 16, first, 8);
     dsa_put_number(at + 24, second, 8);
-    dsa_put_number(at + 32, size, 4);
+    dsa_put_number(at + 32, size < UINT64_C(1) << 32 ? size : 0, 4); /* 0 is refused */
     dsa_put_number(at + 40, own, 8);
 }
 
-static inline void dsa_put_move(uint8_t *at, uint64_t source, uint64_t target, uint32_t size, uint64_t record)
+static inline void dsa_put_move(uint8_t *at, uint64_t source, uint64_t target, uint64_t size, uint64_t record)
 {
     dsa_put_descriptor(at, 0x03, source, target, size, 0, record);
 }
 
 /* The 8 bytes of the pattern, the lowest first, over and over. */
-static inline void dsa_put_fill(uint8_t *at, uint64_t target, uint32_t size, uint64_t pattern, uint64_t record)
+static inline void dsa_put_fill(uint8_t *at, uint64_t target, uint64_t size, uint64_t pattern, uint64_t record)
 {
     dsa_put_descriptor(at, 0x04, pattern, target, size, 0, record);
 }
 
 /* The result is 0 if the two ranges are equal, else 1. */
-static inline void dsa_put_compare(uint8_t *at, uint64_t first, uint64_t second, uint32_t size, uint64_t record)
+static inline void dsa_put_compare(uint8_t *at, uint64_t first, uint64_t second, uint64_t size, uint64_t record)
 {
     dsa_put_descriptor(at, 0x05, first, second, size, 0, record);
 }
 
-static inline void dsa_put_compare_pattern(uint8_t *at, uint64_t source, uint32_t size, uint64_t pattern,
+static inline void dsa_put_compare_pattern(uint8_t *at, uint64_t source, uint64_t size, uint64_t pattern,
                                            uint64_t record)
 {
     dsa_put_descriptor(at, 0x06, source, pattern, size, 0, record);
 }
 
 /* The delta of delta_size bytes at `delta` is applied to size bytes at target. */
-static inline void dsa_put_apply_delta(uint8_t *at, uint64_t delta, uint32_t delta_size, uint64_t target, uint32_t size,
+static inline void dsa_put_apply_delta(uint8_t *at, uint64_t delta, uint64_t delta_size, uint64_t target, uint64_t size,
                                        uint64_t record)
 {
     dsa_put_descriptor(at, 0x08, delta, target, size, delta_size, record);
 }
 
 /* A move to two places, whose low 12 bits are equal. */
-static inline void dsa_put_dualcast(uint8_t *at, uint64_t source, uint64_t first, uint64_t second, uint32_t size,
+static inline void dsa_put_dualcast(uint8_t *at, uint64_t source, uint64_t first, uint64_t second, uint64_t size,
                                     uint64_t record)
 {
     dsa_put_descriptor(at, 0x09, source, first, size, second, record);
@@ -98,7 +98,8 @@ static inline void dsa_expect(uint8_t *at, uint8_t result)
 /* The PASID, of 20 bits, and the privilege; with shared virtual memory both stay 0. */
 static inline void dsa_set_owner(uint8_t *at, uint32_t pasid, int is_privileged)
 {
-    dsa_put_number(at, (pasid & 0xfffff) | (is_privileged ? UINT32_C(1) << 31 : 0), 4);
+    const uint32_t within = pasid >> 20 ? UINT32_C(1) << 20 : pasid; /* else a reserved bit, which is refused */
+    dsa_put_number(at, within | (is_privileged ? UINT32_C(1) << 31 : 0), 4);
 }
 
 #ifdef __cplusplus

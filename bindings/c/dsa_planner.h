@@ -265,7 +265,7 @@ uint32_t dsa_plan_list(const struct dsa_settings *settings,
  * of them fails, nothing after the barrier is done, as long as the caller stops there, too. Of an operation that is
  * split the first piece is after the barrier, and the flag on the first operation says nothing. The plan keeps each
  * barrier, by a fence or a new group, and no legal plan that does costs less. Refusals are those of the list without
- * the flags.
+ * the flags, but for DSA_NO_ROOM: with barriers other bytes are needed.
  */
 uint32_t dsa_plan_fenced_list(const struct dsa_settings *settings,
                               const uint64_t *table, size_t table_len,
@@ -396,9 +396,10 @@ uint32_t dsa_fill(const struct dsa_prepared_row *rows, size_t rows_len,
  * tested by each call, so no words make one read or write out of its arrays. The answers are right if the array is
  * as dsa_track_begin and later calls left it.
  *
- * A caller owes besides: it rings a submission only when it is ready (its waits are 0), completes only what was
- * rung and has ended, and withdraws only what was not rung. It fills a list's staging area and clears its records
- * when it is ready, too. Then the submissions that it rings leave what they leave one after another, in the order
+ * A caller owes besides: it rings each submission once, and only when it is ready (its waits are 0; they stay 0 once it
+ * is rung), completes only what was rung and has ended, and withdraws only what was not rung. It fills a list's staging
+ * area and clears its records when it is ready, too, and reads its records and results before it completes it: another
+ * may be rung over them then. Then the submissions that it rings leave what they leave one after another, in the order
  * in which they were submitted.
  */
 struct dsa_span {
@@ -422,18 +423,18 @@ struct dsa_span {
  * and write at most `spans` spans. log2_rows, 1 to 32, and log2_unit, 1 to 63, change no answer: there are
  * 2^log2_rows rows of bits for a first look (13 does for most), and addresses are looked up in units of 2^log2_unit
  * bytes, best near the length of an operation. Returns 0, or DSA_NOT_A_TRACKER: a measure is outside its limits, or
- * there are fewer than DSA_TRACKER_WORDS(slots, spans, log2_rows) words; then they are unchanged. It allocates
- * nothing.
+ * there are fewer than DSA_TRACKER_WORDS(slots, spans, log2_rows) words; then they are unchanged. Of words beyond these
+ * nothing is promised. It allocates nothing.
  */
 uint32_t dsa_track_begin(uint64_t *words, size_t words_len,
                          uint32_t slots, uint32_t spans, uint32_t log2_rows, uint32_t log2_unit,
                          struct dsa_refusal *refusal);
 
 /*
- * Takes a submission of descriptors, 64 bytes for each: the pieces as they are submitted, none of which is split,
- * whose staging area at `staging` counts as written. All pieces of a tracker have one PASID and privilege. It gets
- * the first free slot and waits for the outstanding submissions that conflict with it, and for those of `also` that
- * are outstanding.
+ * Takes a submission of descriptors, 64 bytes for each: the pieces as they are submitted, but without their fences;
+ * none is split. Their staging area at `staging` counts as written. All pieces of a tracker have one PASID and
+ * privilege. The submission gets the first free slot and waits for the outstanding ones that conflict with it, and for
+ * those of `also` that are outstanding.
  *
  * Returns 0: slot and waits are written. Returns another number: refusal has it, and nothing else was written. What
  * dsa_plan_list refuses of the bytes, 1 to 13, comes first; then DSA_NOT_A_TRACKER, 120, 121, 124 and 125. It
@@ -466,7 +467,8 @@ uint32_t dsa_track_spans(uint64_t *words, size_t words_len,
  *
  * A group that fails stops itself alone. With all slots in `also`, UINT64_MAX, each entry waits for all that are
  * outstanding, so for each earlier entry: then a caller that withdraws what waited for a failed group keeps the plan's
- * own stop point.
+ * own stop point. Give it for each plan with barriers (dsa_plan_fenced_list): a tracker sees addresses alone, and would
+ * lose a barrier between groups.
  *
  * Returns 0: slots begins with the slot of each entry, portal_len / 64 of them, and its rest is unchanged; what each
  * waits for says dsa_track_waits. Returns another number: refusal has it, and nothing else was written, nor is any
@@ -483,7 +485,8 @@ uint32_t dsa_track_groups(uint64_t *words, size_t words_len,
                           struct dsa_refusal *refusal);
 
 /*
- * The outstanding submissions that conflict with accesses to these spans: with none, the host may do them at once.
+ * The outstanding submissions that conflict with accesses to these spans: with none, the host may do them at once,
+ * before any further submission is rung.
  * Returns 0 or DSA_NOT_A_TRACKER.
  */
 uint32_t dsa_track_ask(const uint64_t *words, size_t words_len,

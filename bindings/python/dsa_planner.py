@@ -511,8 +511,9 @@ def plan_list(settings: Settings, operations: Bytes) -> Summary:
 
 
 def plan_fenced_list(settings: Settings, operations: Bytes) -> Summary:
-    """The same, but an operation may have the flag `BARRIER`: the device starts nothing of it, nor of what comes after
-    it, before all operations before it have ended with status 1. No plan that keeps each barrier costs less."""
+    """The same, but an operation may have the flag `BARRIER`. If each entry is awaited, and none is submitted after one
+    that failed, the device starts nothing of it, nor of what comes after it, before all operations before it have ended
+    with status 1. No plan that keeps each barrier costs less."""
     return _summary(_library.dsa_plan_fenced_list, settings, operations)
 
 
@@ -673,7 +674,7 @@ class Tracker:
         _answered(_library.dsa_track_begin(*self._words, *numbers, refusal), refusal)
 
     def submit(self, pieces: Bytes, staging: Tuple[int, int], also: Iterable[int] = ()) -> Submitted:
-        """Takes a submission of descriptors as they are submitted, whose staging area, its address and its length,
+        """Takes a submission of descriptors without their fences, whose staging area, its address and its length,
         counts as written. It waits for the outstanding ones that conflict with it, and for those of `also` that
         are outstanding."""
         slot, waits, refusal = ctypes.c_uint32(), ctypes.c_uint64(), _Refusal()

@@ -108,7 +108,8 @@ impl Descriptor {
     /// The same under this PASID, of 20 bits, and privilege; with shared virtual memory both stay 0.
     #[must_use]
     pub fn owned_by(mut self, pasid: u32, is_privileged: bool) -> Descriptor {
-        let word = (pasid & 0xf_ffff) | u32::from(is_privileged) << 31;
+        let within = pasid.min(1 << 20); // bit 20 is reserved: a larger number is refused
+        let word = within | u32::from(is_privileged) << 31;
         self.0[..4].copy_from_slice(&word.to_le_bytes());
         self
     }

@@ -315,12 +315,12 @@ pub fn plan_into(
     answer(code, summary, refusal)
 }
 
-/// The same, but an operation may have the flag 0x0001 ([`Descriptor::after_barrier`]): the device starts nothing of
-/// it, nor of what comes after it, before all operations before it have ended with status 1. No legal plan that keeps
-/// each barrier costs less.
+/// The same, but an operation may have the flag 0x0001 ([`Descriptor::after_barrier`]). If each entry is awaited, and
+/// none is submitted after one that failed, the device starts nothing of it, nor of what comes after it, before all
+/// operations before it have ended with status 1. No legal plan that keeps each barrier costs less.
 ///
 /// # Errors
-/// The same, of the list without the flags.
+/// The same, of the list without the flags; but other buffers may be too small.
 ///
 /// ```
 /// # use dsa_planner::{list_of, plan_fenced_into, BatchPrice, Descriptor, Settings};

@@ -57,9 +57,9 @@ pub struct Retired {
 /// Says which submissions in flight a further one has to wait for: those of which one writes what the other reads
 /// or writes. A submission has a slot until it is taken off.
 ///
-/// Its caller rings a submission only when it is ready, completes only what was rung and has ended, and withdraws
-/// only what was not rung. Then what it rings leaves what it leaves one after another. A call that fails has
-/// changed nothing.
+/// Its caller rings each submission once and only when it is ready, completes only what was rung and has ended, and
+/// withdraws only what was not rung. Then what it rings leaves what it leaves one after another. A call that fails
+/// has changed nothing.
 ///
 /// ```
 /// use dsa_planner::{Slots, Span, Tracker};
@@ -107,7 +107,7 @@ impl Tracker {
         answer(code, Tracker { words }, refusal)
     }
 
-    /// Takes a submission of descriptors, 64 bytes for each, as they are submitted; the staging area counts as
+    /// Takes a submission of descriptors, 64 bytes for each, without their fences; the staging area counts as
     /// written. It waits for the outstanding ones that conflict with it, and for those of `also` that are
     /// outstanding.
     ///

@@ -172,7 +172,7 @@ module _ {D P : Type 0} (machine : Machine D P) (subs : List (Setup D)) (meets :
             ]
 
         stays : (x : ℕ) → Gone s x → Gone (after_ring s z) x
-        stays x gone = gone_stays s (after_ring s z) (Ring z) x (record { is_outstanding = does.is_outstanding; is_ready = does.is_ready; after = refl }) gone
+        stays x gone = gone_stays s (after_ring s z) (Ring z) x (record { is_outstanding = does.is_outstanding; not_rung = does.not_rung; is_ready = does.is_ready; after = refl }) gone
 
         of_ready : (x : ℕ) → x < z → meets x z ≡ true → HasEnded subs s.flight x ⊎ Gone (after_ring s z) x
         of_ready x lt meet =

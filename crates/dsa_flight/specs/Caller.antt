@@ -43,9 +43,10 @@ SubmitsNext s new =
       flight = s.flight;
     }
 
--- an outstanding one that is ready is rung
+-- an outstanding one that is ready is rung, once
 pub record Rings {P : Type 0} (meets : ℕ → ℕ → Bool) (s : Session P) (y : ℕ) (new : Session P) : Type 0 where
   pub is_outstanding : IsTrue (s.tracking.outstanding y)
+  pub not_rung : s.tracking.rung y ≡ false
   pub is_ready : IsReady meets s.tracking y
   pub after : new ≡ record s { tracking = record { submitted = s.tracking.submitted; outstanding = s.tracking.outstanding; rung = with s.tracking.rung y true } }
 

@@ -1,6 +1,6 @@
--- No fewer waits do. Whether a wait that is left out shows depends on the data, so the law speaks of pieces that show the
--- order in which they are done: for any two submissions that conflict there are some that read and write just what these
--- do, and a flight without the wait that does not end in turn. (This project's choice.)
+-- Of two submissions that conflict the later has to wait. Whether a wait that is left out shows depends on the data, so the
+-- law speaks of pieces that show the order in which they are done: for any two submissions that conflict there are some that
+-- read and write just what these do, and a flight without the wait that does not end in turn. (This project's choice.)
 use Rattle.std.specs.Prelude.{◌≢◌, ℕ, ◌⊎◌, Bool, true, false, IsTrue, Some, None, List, [], ◌∷◌, if◌then◌else◌}
 use Rattle.dsa_image.specs.Memory.{Memory, Holds, byte_at, changed}
 use Rattle.dsa_core.specs.Machine.{Machine}

@@ -10,7 +10,7 @@ use Rattle.dsa_descriptor.specs.Places.{u32_at, u64_at, flags_at, code_at, op_at
 use Rattle.dsa_descriptor.specs.Spans.{IsAddressable}
 use Rattle.dsa_audit.specs.declared.repeats.Action.{Action}
 use Rattle.dsa_recording.specs.declared.further.Further.{Further}
-use Rattle.dsa_recording.specs.Furthers.{further_at, read_by, written_by, without_seed, is_checksum}
+use Rattle.dsa_recording.specs.Furthers.{further_at, read_by, written_by}
 use Rattle.dsa_audit.specs.declared.member.Unseen.{Unseen}
 use Rattle.dsa_audit.specs.declared.member.Unseen.TheVariants.{Blank, Operation, Nested, Owner, Empty, Wrap}
 use Rattle.dsa_audit.specs.declared.member.Member.{Member}
@@ -51,24 +51,9 @@ entry_reads e = sources_of (op_at e) (u32_at 32 e) (further_at e)
 abbrev pub entry_targets : List ℕ → List Span
 entry_targets e = targets_of (op_at e) (u32_at 32 e) (further_at e)
 
--- an operation of no plan, without the seed of a checksum
-abbrev pub seedless : Option Further → Option Further
-seedless None = None
-seedless (Some further) = Some (without_seed further)
-
--- the data that it reads, beside a seed, and those that it writes: a seed is meant to be in another's record
+-- both
 abbrev pub entry_data : List ℕ → List Span
-entry_data e = sources_of (op_at e) (u32_at 32 e) (seedless (further_at e)) ++ entry_targets e
-
--- the record of a checksum, else nothing
-abbrev pub results_by : Option Further → List Span → List Span
-results_by None records = []
-results_by (Some further) records = if is_checksum further then records else []
-
--- the record in which its checksum is, if it computes one, counts as data that it writes: software, and a later member by its
--- seed, reads the checksum there (linux/idxd.h, crc_val; that the whole record counts is this project's choice)
-abbrev pub results_of : List ℕ → List Span
-results_of e = results_by (further_at e) (records_of e)
+entry_data e = entry_reads e ++ entry_targets e
 
 -- all that it writes, its record too
 abbrev pub entry_writes : List ℕ → List Span
@@ -116,11 +101,11 @@ IsKnownAs reads writes head e (Unknown why) = IsFirstReason head e why
 abbrev pub IsMember : List ℕ → List ℕ → Member → Type 0
 IsMember head e m = IsKnownAs (entry_reads e) (entry_writes e) head e m
 
--- its data alone, the record of a checksum among them
+-- its data alone
 abbrev pub IsOperands : List ℕ → List ℕ → Member → Type 0
-IsOperands head e m = IsKnownAs (entry_reads e) (entry_targets e ++ results_of e) head e m
+IsOperands head e m = IsKnownAs (entry_reads e) (entry_targets e) head e m
 
--- its record as written, and its data beside a seed as read: two such members conflict just where the record of one meets the
--- record or these data of the other
+-- its record as written, and its data as read: two such members conflict just where the record of one meets the record or
+-- the data of the other
 abbrev pub IsRecord : List ℕ → List ℕ → Member → Type 0
 IsRecord head e m = IsKnownAs (entry_data e) (records_of e) head e m

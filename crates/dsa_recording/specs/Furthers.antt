@@ -1,6 +1,6 @@
 -- What operations beyond those of a plan read and write, beside their completion records. Where a rule has no other source
 -- it is that of specification 341204, operations; places of bytes are those of linux/idxd.h.
-use Rattle.std.specs.Prelude.{ℕ, ◌+◌, ◌-◌, ◌*◌, ◌/◌, ◌%◌, ◌^◌, ◌==◌, bit_and, Bool, true, false, List, [], ◌∷◌, codes, Option, Some, None, slice_index, if◌then◌else◌}
+use Rattle.std.specs.Prelude.{ℕ, ◌+◌, ◌-◌, ◌*◌, ◌/◌, ◌%◌, ◌^◌, ◌==◌, bit_and, Bool, List, [], ◌∷◌, codes, Option, Some, None, slice_index, if◌then◌else◌}
 use Rattle.dsa_descriptor.specs.declared.span.Span.{Span}
 use Rattle.dsa_descriptor.specs.Places.{u32_at, u64_at, flags_at, code_at}
 use Rattle.dsa_descriptor.specs.Spans.{span}
@@ -107,32 +107,6 @@ written_by (DifInsert src dst) = dst ∷ []
 written_by (DifStrip src dst) = dst ∷ []
 written_by (DifUpdate src dst) = dst ∷ []
 written_by (CacheFlush flushed) = []
-
--- without the seed of a checksum
-abbrev pub without_seed : Further → Further
-without_seed Drain = Drain
-without_seed (CreateDelta first second delta) = CreateDelta first second delta
-without_seed TranslationFetch = TranslationFetch
-without_seed (Crc src seed) = Crc src None
-without_seed (CopyCrc src dst seed) = CopyCrc src dst None
-without_seed (DifCheck src) = DifCheck src
-without_seed (DifInsert src dst) = DifInsert src dst
-without_seed (DifStrip src dst) = DifStrip src dst
-without_seed (DifUpdate src dst) = DifUpdate src dst
-without_seed (CacheFlush flushed) = CacheFlush flushed
-
--- it computes a checksum, which its completion record has
-abbrev pub is_checksum : Further → Bool
-is_checksum Drain = false
-is_checksum (CreateDelta first second delta) = false
-is_checksum TranslationFetch = false
-is_checksum (Crc src seed) = true
-is_checksum (CopyCrc src dst seed) = true
-is_checksum (DifCheck src) = false
-is_checksum (DifInsert src dst) = false
-is_checksum (DifStrip src dst) = false
-is_checksum (DifUpdate src dst) = false
-is_checksum (CacheFlush flushed) = false
 
 -- ---- its name
 

@@ -5,7 +5,7 @@ ghost use Rattle.dsa_ranges.specs.Ranges.{SpansConflict};
 ghost use Rattle.dsa_recording.specs.Entries.{entry_targets, entry_writes, records_of};
 ghost use Rattle.dsa_recording.specs.Flaws.{list_spans, IsInOwnDescriptor, OverwritesBatch, HasDataOverRecord, HasMisalignedRecord, AreFlaws, AreAllFlaws};
 
-use crate::member::{data_of, records_of, touched_by};
+use crate::member::{operands_of, records_of, touched_by};
 use arrayvec::ArrayVec;
 use dsa_descriptor::{Span, u32_at, u64_at};
 use dsa_ranges::{Touched, in_conflict};
@@ -56,7 +56,7 @@ fn data_meet_list(head: &[u8; 64], entry: &[u8; 64]) -> bool
 {
     let written = Touched {
         reads: ArrayVec::new(),
-        writes: data_of(entry).writes,
+        writes: operands_of(entry).writes,
     };
     let list = Touched {
         reads: ArrayVec::new(),
@@ -125,7 +125,7 @@ fn has_data_over_record(entry: &[u8; 64]) -> bool
         reads: ArrayVec::new(),
         writes: records_of(entry),
     };
-    in_conflict(&data_of(entry), &record)
+    in_conflict(&operands_of(entry), &record)
 }
 
 /// Whether an entry has a completion record at an address that is no multiple of 32.

@@ -2,7 +2,7 @@
 
 ghost use Rattle.std.specs.Prelude.{◌≡◌, ◌≤◌, ◌∷◌, []};
 ghost use Rattle.dsa_descriptor.specs.Places.{flags_at};
-ghost use Rattle.dsa_recording.specs.Furthers.{first_data, second_data, drain_at, create_delta_at, seed_at, block_at, insert_at, has_whole_fields, on_fields, strip_at, further_at, seed_spans, read_by, written_by, without_seed, is_checksum, code_name};
+ghost use Rattle.dsa_recording.specs.Furthers.{first_data, second_data, drain_at, create_delta_at, seed_at, block_at, insert_at, has_whole_fields, on_fields, strip_at, further_at, seed_spans, read_by, written_by, code_name};
 
 use arrayvec::ArrayVec;
 use dsa_descriptor::{Span, u32_at, u64_at};
@@ -127,37 +127,6 @@ impl Further {
             Further::CreateDelta { delta, .. } => one(delta),
             Further::CopyCrc { dst, .. } | Further::DifInsert { dst, .. } => one(dst),
             Further::DifStrip { dst, .. } | Further::DifUpdate { dst, .. } => one(dst),
-        }
-    }
-
-    /// The operation without the seed of a checksum.
-    pub(crate) fn without_seed(self) -> Further
-        ensures { result ≡ without_seed self }
-    {
-        match self {
-            Further::Crc { src, .. } => Further::Crc { src, seed: None },
-            Further::CopyCrc { src, dst, .. } => Further::CopyCrc {
-                src,
-                dst,
-                seed: None,
-            },
-            Further::Drain | Further::CreateDelta { .. } | Further::TranslationFetch => self,
-            Further::DifCheck { .. } | Further::DifInsert { .. } => self,
-            Further::DifStrip { .. } | Further::DifUpdate { .. } => self,
-            Further::CacheFlush { .. } => self,
-        }
-    }
-
-    /// Whether it computes a checksum, which its completion record has.
-    pub(crate) fn is_checksum(self) -> bool
-        ensures { result ≡ is_checksum self }
-    {
-        match self {
-            Further::Crc { .. } | Further::CopyCrc { .. } => true,
-            Further::Drain | Further::CreateDelta { .. } | Further::TranslationFetch => false,
-            Further::DifCheck { .. } | Further::DifInsert { .. } => false,
-            Further::DifStrip { .. } | Further::DifUpdate { .. } => false,
-            Further::CacheFlush { .. } => false,
         }
     }
 }

@@ -3,10 +3,10 @@
 ghost use Rattle.std.specs.Prelude.{◌≡◌, ◌↔◌, ◌≤◌, ◌++◌, length, IsTrue, MatchOption, None};
 ghost use Rattle.std.specs.List.{AllByRecursion};
 ghost use Rattle.dsa_descriptor.specs.Spans.{IsAddressable};
-ghost use Rattle.dsa_descriptor.specs.Places.{op_at, u32_at};
+ghost use Rattle.dsa_descriptor.specs.Places.{op_at};
 ghost use Rattle.dsa_audit.specs.declared.member.Unseen.{Unseen};
 ghost use Rattle.dsa_recording.specs.Furthers.{further_at};
-ghost use Rattle.dsa_recording.specs.Entries.{records_of, entry_reads, entry_targets, entry_data, entry_writes, results_of, sources_of, seedless, Applies, IsFirstReason, IsMember, IsOperands, IsRecord, action_of};
+ghost use Rattle.dsa_recording.specs.Entries.{records_of, entry_reads, entry_targets, entry_data, entry_writes, Applies, IsFirstReason, IsMember, IsOperands, IsRecord, action_of};
 
 use crate::further::further_at;
 use arrayvec::ArrayVec;
@@ -62,31 +62,6 @@ fn targets_of(entry: &[u8; 64]) -> ArrayVec<Span, 2>
     }
 }
 
-/// The data that it reads, beside the seed of a checksum.
-fn seedless_sources(entry: &[u8; 64]) -> ArrayVec<Span, 2>
-    ensures { result.items ≡
-        sources_of (op_at entry.now) (u32_at 32 entry.now) (seedless (further_at entry.now)) }
-{
-    if let Some(op) = op_at(entry) {
-        return op.sources(u32_at(entry, 32));
-    }
-    match further_at(entry) {
-        Some(further) => further.without_seed().sources(),
-        None => ArrayVec::new(),
-    }
-}
-
-/// The record of a checksum, which counts as data that it writes.
-fn results_of(entry: &[u8; 64]) -> ArrayVec<Span, 3>
-    ensures value { result.items ≡ results_of entry.now }
-    ensures short { length result.items ≤ 1 }
-{
-    match further_at(entry) {
-        Some(further) if further.is_checksum() => records_of(entry),
-        _ => ArrayVec::new(),
-    }
-}
-
 /// What the entry reads and writes, where its operation is known.
 pub(crate) fn touched_by(entry: &[u8; 64]) -> Touched
     ensures reads { result.reads.items ≡ entry_reads entry.now }
@@ -101,7 +76,7 @@ pub(crate) fn touched_by(entry: &[u8; 64]) -> Touched
 }
 
 /// The data that the entry reads and writes, where its operation is known.
-pub(crate) fn data_of(entry: &[u8; 64]) -> Touched
+pub(crate) fn operands_of(entry: &[u8; 64]) -> Touched
     ensures reads { result.reads.items ≡ entry_reads entry.now }
     ensures writes { result.writes.items ≡ entry_targets entry.now }
 {
@@ -109,17 +84,6 @@ pub(crate) fn data_of(entry: &[u8; 64]) -> Touched
     let (sources, targets) = (sources_of(entry), targets_of(entry));
     reads.try_extend_from_slice(sources.as_slice()).unwrap();
     writes.try_extend_from_slice(targets.as_slice()).unwrap();
-    Touched { reads, writes }
-}
-
-/// The same, with the record of a checksum among what is written.
-fn operands_of(entry: &[u8; 64]) -> Touched
-    ensures reads { result.reads.items ≡ entry_reads entry.now }
-    ensures writes { result.writes.items ≡ entry_targets entry.now ++ results_of entry.now }
-{
-    let Touched { reads, mut writes } = data_of(entry);
-    let results = results_of(entry);
-    writes.try_extend_from_slice(results.as_slice()).unwrap();
     Touched { reads, writes }
 }
 
@@ -133,14 +97,14 @@ pub(crate) fn action_of(entry: &[u8; 64]) -> Action
     }
 }
 
-/// Its record as written, and its data beside a seed as read.
+/// Its record as written, and its data as read.
 fn record_of(entry: &[u8; 64]) -> Touched
     ensures reads { result.reads.items ≡ entry_data entry.now }
     ensures writes { result.writes.items ≡ records_of entry.now }
 {
     let mut reads = ArrayVec::new();
     let writes = records_of(entry);
-    let (sources, targets) = (seedless_sources(entry), targets_of(entry));
+    let (sources, targets) = (sources_of(entry), targets_of(entry));
     reads.try_extend_from_slice(sources.as_slice()).unwrap();
     reads.try_extend_from_slice(targets.as_slice()).unwrap();
     Touched { reads, writes }
@@ -213,8 +177,7 @@ pub fn operands_member(head: &[u8; 64], entry: &[u8; 64]) -> Member
     }
 }
 
-/// Its record as written and its data beside a seed as read: two such members conflict where the record of one meets what
-/// the other has.
+/// Its record as written and its data as read: two such members conflict where the record of one meets what the other has.
 pub fn record_member(head: &[u8; 64], entry: &[u8; 64]) -> Member
     ensures { IsRecord head.now entry.now result }
 {

@@ -368,6 +368,7 @@ module _ {D P : Type 0} (machine : Machine D P) (r w : D → List Span) (tells :
       let ring : caller.Rings meets (seen out s) (s.number slot) (seen out next) =
       record {
         is_outstanding = (sim.of_held slot (does.is_ready.0, does.is_ready.1)).0;
+        not_rung = does.not_rung;
         is_ready = ready out s slot sim does.is_ready;
         after = refl;
       } in

@@ -58,9 +58,10 @@ pub record SubmitsNext {D P : Type 0} (r w : D → List Span) (subs : List (Setu
         flight = s.flight;
       }
 
--- one that the tracker calls ready is rung
+-- one that the tracker calls ready is rung, once: the tracker does not know of it
 pub record RingsOne {P : Type 0} (s : Moment P) (slot : ℕ) (new : Moment P) : Type 0 where
   pub is_ready : IsReady s.table.slots slot
+  pub not_rung : s.rung (s.number slot) ≡ false
   pub after : new ≡ record s { rung = with s.rung (s.number slot) true }
 
 -- one is taken off: the tracker's answer, and nothing else changes

@@ -1,8 +1,8 @@
 -- Lines that fit a recording.
-use Rattle.std.proofs.Common.{◌≡◌, ℕ, zero, suc, ◌+◌, ◌<◌, ◌≤◌, ◌⊎◌, inl, inr, Bool, true, false, List, [], ◌∷◌, ◌++◌, length, length-append, map, take, get_or, Option, Some, None, refl, sym, ap, subst, ◌∙◌, arith, add-one}
+use Rattle.std.proofs.Common.{◌≡◌, ℕ, zero, suc, ◌+◌, ◌<◌, ◌≤◌, inl, inr, Bool, true, false, List, [], ◌∷◌, ◌++◌, length, length-append, map, take, get_or, Some, None, refl, sym, ap, subst, ◌∙◌, arith}
 use Rattle.std.specs.Prelude.{if◌then◌else◌, not, nat_lt, ◌==◌}
-use Rattle.std.proofs.lemmas.Bool.{cases_eq, cases_lt, ltb-true}
-use Rattle.std.proofs.lemmas.List.{length-map, get_or_append_left, get_or_default, get_or_push, take_more, take_all}
+use Rattle.std.proofs.lemmas.Bool.{cases_eq, ltb-true}
+use Rattle.std.proofs.lemmas.List.{length-map, get_or_append_left, get_or_push, take_more}
 use Rattle.std.proofs.lemmas.Option.{slice_get-get_or}
 use Rattle.dsa_descriptor.specs.Places.{code_at}
 use Rattle.dsa_recording.specs.Submissions.{head_at}
@@ -10,13 +10,12 @@ use Rattle.dsa_recording.specs.declared.stream.Submission.{Submission}
 use Rattle.dsa_waits.specs.declared.event.Event.{Event}
 use Rattle.dsa_waits.specs.declared.event.Event.TheVariants as event
 use Rattle.dsa_waits.specs.declared.event.Queue.{Queue}
-use Rattle.dsa_waits.specs.declared.fitting.Misfit.{Misfit}
 use Rattle.dsa_waits.specs.declared.fitting.Misfit.TheVariants.{Number, Member, Recording}
 use Rattle.dsa_waits.specs.declared.lines.Line.{Line}
 use Rattle.dsa_waits.specs.declared.lines.Line.TheVariants.{Submitted, Happened}
-use Rattle.dsa_waits.specs.Fitting.{AreQueues, FitAll, FitUpTo, event_of, line_at, made_by, members_of, misfit_member, misfit_number, misfit_of, no_submission, queues_of, submission_at}
+use Rattle.dsa_waits.specs.Fitting.{AreQueues, FitAll, event_of, line_at, made_by, members_of, misfit_number, misfit_of, no_submission, queues_of, submission_at}
 use Rattle.dsa_waits.specs.Recorded.{FitsRecording, bytes_of}
-use Rattle.dsa_waits.specs.Waits.{is_made, made_before, no_queue}
+use Rattle.dsa_waits.specs.Waits.{is_made, no_queue}
 use Rattle.dsa_waits.proofs.Courses.{made_grows, made_more, none_before}
 
 -- ---- one line

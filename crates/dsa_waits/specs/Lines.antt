@@ -1,15 +1,13 @@
 -- Events as text, as `dsa_trace` writes them: a line for each.
-use Rattle.std.specs.Prelude.{◌≡◌, ℕ, zero, suc, ◌+◌, ◌<◌, ◌⊎◌, ◌≢◌, ◌==◌, ◌&&◌, List, [], ◌∷◌, length, take, drop, Option, Some, None, codes, if◌then◌else◌}
+use Rattle.std.specs.Prelude.{◌≡◌, ℕ, zero, suc, ◌+◌, ◌<◌, ◌⊎◌, ◌==◌, ◌&&◌, List, [], ◌∷◌, length, take, drop, Option, Some, None, codes, if◌then◌else◌}
 use Rattle.std.specs.Str.{bytes_eq}
 use Rattle.dsa_lines.specs.Numbers.{numeral}
-use Rattle.dsa_waits.specs.declared.event.Event.{Event}
 use Rattle.dsa_waits.specs.declared.event.Event.TheVariants as event
 use Rattle.dsa_waits.specs.declared.event.Queue.{Queue}
 use Rattle.dsa_waits.specs.declared.lines.Line.{Line}
 use Rattle.dsa_waits.specs.declared.lines.Line.TheVariants.{Submitted, Happened}
 use Rattle.dsa_waits.specs.declared.lines.LinesFault.{LinesFault}
 use Rattle.dsa_waits.specs.declared.lines.LinesFault.TheVariants as fault
-use Rattle.dsa_waits.specs.declared.lines.Submitting.{Submitting}
 
 -- ---- parts of a text
 

@@ -1,5 +1,5 @@
 -- ---- for private clauses: the search, event by event
-use Rattle.std.specs.Prelude.{ℕ, zero, suc, ◌≡◌, ◌+◌, ◌<◌, ◌≤◌, ◌⊎◌, false, List, [], ◌∷◌, length}
+use Rattle.std.specs.Prelude.{ℕ, ◌≡◌, ◌<◌, ◌≤◌, ◌⊎◌, false, List, length}
 use Rattle.std.specs.List.{AllPairs, Contains}
 use Rattle.dsa_audit.specs.Steps.{AreLasts}
 use Rattle.dsa_waits.specs.declared.course.Course.{Course}

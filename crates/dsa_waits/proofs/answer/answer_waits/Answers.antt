@@ -1,4 +1,4 @@
-use Rattle.std.proofs.Common.{◌≡◌, ℕ, ◌⊎◌, inl, inr, List, refl, sym, ap, subst, ◌∙◌}
+use Rattle.std.proofs.Common.{ℕ, inl, inr, List, refl, subst}
 use Rattle.std.proofs.lemmas.Result.{IfOk-weaker}
 use Rattle.dsa_descriptor.specs.Lists.{entries}
 use Rattle.dsa_recording.specs.declared.stream.Submission.{Submission}

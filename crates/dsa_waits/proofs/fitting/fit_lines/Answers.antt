@@ -1,5 +1,4 @@
-use Rattle.std.proofs.Common.{◌≡◌, ℕ, ◌+◌, ◌<◌, ◌≤◌, [], List, None, length, sym, ap, subst, ◌∙◌, below_more, arith}
-use Rattle.dsa_waits.specs.declared.event.Queue.{Queue}
+use Rattle.std.proofs.Common.{◌≡◌, None, length, sym, ap, subst, ◌∙◌, below_more, arith}
 use Rattle.dsa_waits.specs.Fitting.{AreQueues, line_at, made_by, misfit_of}
 use Rattle.dsa_waits.proofs.Fits.{events_next, few_more, no_queues, queues_next}
 use Rattle.dsa_waits.proofs.fitting.fit_lines.Goals as goal

@@ -1,4 +1,4 @@
-use Rattle.std.proofs.Common.{◌≡◌, ℕ, ◌<◌, length, arith}
+use Rattle.std.proofs.Common.{length, arith}
 use Rattle.dsa_waits.specs.Fitting.{no_submission}
 use Rattle.dsa_waits.proofs.Placed.{placed}
 use Rattle.dsa_waits.proofs.fitting.misfit_made.Goals as goal

@@ -1,4 +1,4 @@
-use Rattle.std.proofs.Common.{◌≡◌, length}
+use Rattle.std.proofs.Common.{length}
 use Rattle.dsa_waits.specs.Lines.{SpellsUpTo}
 use Rattle.dsa_waits.proofs.lines.read_lines.Given as goal
 

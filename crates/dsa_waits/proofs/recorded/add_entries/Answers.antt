@@ -1,4 +1,4 @@
-use Rattle.std.proofs.Common.{◌≡◌, ℕ, ◌+◌, ◌<◌, ◌≤◌, refl, sym, ap, subst, ◌∙◌, arith}
+use Rattle.std.proofs.Common.{◌≤◌, refl, arith}
 use Rattle.dsa_recording.specs.Submissions.{head_at}
 use Rattle.dsa_waits.specs.Recorded.{IsEpoch}
 use Rattle.dsa_waits.proofs.Entered.{added, epoch_next}

@@ -1,9 +1,7 @@
-use Rattle.std.proofs.Common.{◌≡◌, ℕ, ◌<◌, List, Bool, length, refl, sym, ap, subst, ◌∙◌, arith}
-use Rattle.dsa_waits.specs.declared.course.Course.{Course}
+use Rattle.std.proofs.Common.{List, Bool, length, subst}
 use Rattle.dsa_waits.specs.declared.event.Event.{Event}
 use Rattle.dsa_waits.specs.declared.event.Event.TheVariants.{Submitted}
-use Rattle.dsa_waits.specs.Recorded.{IsCourseOf}
-use Rattle.dsa_waits.specs.RecordedSteps.{AreMade, AreMarked, HasEntries}
+use Rattle.dsa_waits.specs.RecordedSteps.{AreMade, AreMarked}
 use Rattle.dsa_waits.proofs.Entered.{is_course, of_made}
 use Rattle.dsa_waits.proofs.recorded.course_of.Goals as goal
 

@@ -1,4 +1,4 @@
-use Rattle.std.proofs.Common.{◌≡◌, ℕ, ◌+◌, ◌<◌, ◌≤◌, length, refl, sym, ap, subst, ◌∙◌, arith}
+use Rattle.std.proofs.Common.{◌≡◌, ℕ, length, sym, ap, subst, ◌∙◌, arith}
 use Rattle.dsa_waits.specs.RecordedSteps.{HasEntries, entries_before, no_submission}
 use Rattle.dsa_waits.proofs.Placed.{placed, placed_all}
 use Rattle.dsa_waits.proofs.Entered.{entries_next}

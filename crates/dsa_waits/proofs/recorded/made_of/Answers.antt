@@ -1,4 +1,4 @@
-use Rattle.std.proofs.Common.{◌≡◌, ℕ, ◌+◌, ◌<◌, ◌≤◌, length, refl, sym, ap, subst, ◌∙◌, arith}
+use Rattle.std.proofs.Common.{length, arith}
 use Rattle.dsa_waits.specs.RecordedSteps.{no_submission}
 use Rattle.dsa_waits.proofs.Placed.{placed}
 use Rattle.dsa_waits.proofs.recorded.made_of.Goals as goal

@@ -1,4 +1,4 @@
-use Rattle.std.proofs.Common.{◌≡◌, ℕ, ◌+◌, ◌-◌, ◌<◌, ◌≤◌, true, false, length, get_or, Some, None, sym, subst, ◌∙◌, arith}
+use Rattle.std.proofs.Common.{◌≡◌, ◌-◌, ◌<◌, true, false, length, get_or, Some, None, sym, subst, ◌∙◌, arith}
 use Rattle.dsa_audit.specs.Members.{KnownConflict}
 use Rattle.dsa_conflicts.specs.Access.{IsGreatest}
 use Rattle.dsa_waits.proofs.Rising.{apart_more, below_at, is_last, none_of}

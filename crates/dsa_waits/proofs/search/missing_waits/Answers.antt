@@ -1,4 +1,4 @@
-use Rattle.std.proofs.Common.{◌≡◌, ℕ, length, ap, ◌∙◌, arith}
+use Rattle.std.proofs.Common.{◌≡◌, length, arith}
 use Rattle.dsa_waits.proofs.Courses.{all_done}
 use Rattle.dsa_waits.proofs.search.missing_waits.Goals as goal
 

@@ -1,6 +1,6 @@
-use Rattle.std.proofs.Common.{◌≡◌, ℕ, ◌+◌, ◌∷◌, [], ◌++◌, List, sym, subst, arith}
+use Rattle.std.proofs.Common.{ℕ, ◌+◌, sym, subst, arith}
 use Rattle.dsa_waits.specs.Steps.{AreBelow, WithRange}
-use Rattle.dsa_waits.proofs.Rising.{below_push, range_none, range_push}
+use Rattle.dsa_waits.proofs.Rising.{below_push, range_push}
 use Rattle.dsa_waits.proofs.search.push_entries.Goals as goal
 
 pub loop-entry-preserved : goal.loop-entry-preserved

@@ -1,4 +1,4 @@
-use Rattle.std.proofs.Common.{◌≡◌, ℕ, ◌+◌, ◌<◌, ◌≤◌, length, refl, sym, ap, subst, ◌∙◌, arith, filter}
+use Rattle.std.proofs.Common.{◌≡◌, refl, ap, subst, ◌∙◌, filter}
 use Rattle.std.specs.Prelude.{not}
 use Rattle.std.proofs.lemmas.List.{get_or_read}
 use Rattle.dsa_waits.specs.declared.event.Event.TheVariants.{Submitted}

@@ -1,4 +1,4 @@
-use Rattle.std.proofs.Common.{◌≡◌, ℕ, ◌+◌, ◌<◌, ◌≤◌, List, length, refl, sym, ap, subst, ◌∙◌, arith}
+use Rattle.std.proofs.Common.{◌≡◌, ℕ, ◌+◌, List, length, refl, sym, ap, subst, ◌∙◌, arith}
 use Rattle.dsa_waits.specs.declared.course.Made.{Made}
 use Rattle.dsa_waits.specs.Waits.{made_at}
 use Rattle.dsa_waits.specs.Steps.{AreBelow, AreOutstanding, HasSubmission, WithRange}

@@ -1,8 +1,8 @@
 """Looks for names in the pages that the tree does not have: paths, crates, and words in `code` marks that look like
 names. A word is known if the code, the definitions or the proofs have it outside of comments, or if it names a file: a
 must-fail edit, a patch, a test. The page of a crate has to name each of its modules and edits. A page that says what
-tests/words prints has to have its counts and, in a table of files, each definition in its order. It looks for unsafe
-code too. It needs no program. The words are names of pages, as docs/MODEL.md."""
+tests/words prints has to have its counts and, in a table, its files in their order, each with its definitions or their
+number. It looks for unsafe code too. It needs no program. The words are names of pages, as docs/MODEL.md."""
 
 import io
 import re
@@ -111,7 +111,8 @@ def look(page):
 
 
 def look_at_counts(page):
-    """The page says what tests/words prints, and its table of files has just these definitions."""
+    """The page says what tests/words prints, and its table has just these files, each with its definitions or their
+    number."""
     text = Path(page).read_text()
     for words, said in re.findall(r"tests/words ((?:[\w:/]+ ?)+)`?\s+prints (\d+ definitions .*? of the code)", text):
         starts, _, unknown = definitions.found_by(words.split())
@@ -119,9 +120,14 @@ def look_at_counts(page):
         wanted = definitions.summed(places)
         expect(not unknown and said == wanted, f"{page}: {words} prints {wanted}")
         rows = re.findall(r"^\| (dsa_\w+) (\w+) \| (.*?) \|", text, re.M)
-        listed = [(crate, file, name) for crate, file, names in rows for name in re.findall(r"`(\w+)`", names)]
-        wanted = [(place.crate, place.file, place.name) for place in places]
-        expect(listed == wanted, f"{page} lists others than {words} prints: {sorted(set(listed) ^ set(wanted))}")
+        defined = {}
+        for place in places:
+            defined.setdefault((place.crate, place.file), []).append(f"`{place.name}`")
+        expect([(crate, file) for crate, file, _ in rows] == list(defined), f"{page}: {words} prints other files")
+        for crate, file, listed in rows:
+            names = defined.get((crate, file), [])
+            right = listed in (str(len(names)), ", ".join(names))
+            expect(right, f"{page}: {words} prints {len(names)} of {crate} {file}: {', '.join(names)}")
 
 
 def look_at_halves():

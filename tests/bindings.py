@@ -158,7 +158,7 @@ def flights():
         tried("flights under valgrind", [*watch, plain, "3", "0", "7"])
     for flags in (SANITIZE, SANITIZE_THREADS):
         if sanitizers(flags):
-            tried(f"flights with {flags[0]}", [compiled(source, "-pthread", *flags), "20", "3", "9"])
+            tried(f"flights with {flags[0]}", [compiled(source, "-pthread", *flags), "20", "0", "9"])
         else:
             print(f"there is no {flags[0]}")
 

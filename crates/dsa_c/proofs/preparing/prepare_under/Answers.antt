@@ -3,7 +3,6 @@ use Rattle.dsa_plan.specs.Settings.{Limits}
 use Rattle.dsa_prepared.specs.Preparing.{IsCostedOf}
 use Rattle.dsa_prepared.specs.Rows.{rows_of}
 use Rattle.dsa_prepared.specs.Templates.{Template}
-use Rattle.dsa_c.specs.Raw.{limits_of}
 use Rattle.dsa_c.specs.Preparing.{IsPreparedFor, refusal_at}
 use Rattle.dsa_c.proofs.preparing.prepare_under.Goals as goal
 

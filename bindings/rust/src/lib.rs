@@ -294,25 +294,7 @@ pub fn plan_into(
     portal: &mut [u8],
     staging: &mut [u8],
 ) -> Result<Summary, Refusal> {
-    let (raw, table) = settings.raw();
-    let (mut summary, mut refusal) = (Summary::default(), raw::Refusal::default());
-    // SAFETY: each pointer and length are those of one slice, or of one struct, and no output overlaps another argument.
-    let code = unsafe {
-        raw::dsa_plan_list(
-            &raw,
-            table.as_ptr(),
-            table.len(),
-            list.as_ptr(),
-            list.len(),
-            portal.as_mut_ptr(),
-            portal.len(),
-            staging.as_mut_ptr(),
-            staging.len(),
-            &mut summary,
-            &mut refusal,
-        )
-    };
-    answer(code, summary, refusal)
+    written_by(raw::dsa_plan_list, settings, list, portal, staging)
 }
 
 /// The same, but an operation may have the flag 0x0001 ([`Descriptor::after_barrier`]). If each entry is awaited, and
@@ -339,12 +321,23 @@ pub fn plan_fenced_into(
     portal: &mut [u8],
     staging: &mut [u8],
 ) -> Result<Summary, Refusal> {
+    written_by(raw::dsa_plan_fenced_list, settings, list, portal, staging)
+}
+
+// What a call of the library that plans a list into buffers answers.
+fn written_by(
+    call: raw::PlanInto,
+    settings: &Settings,
+    list: &[u8],
+    portal: &mut [u8],
+    staging: &mut [u8],
+) -> Result<Summary, Refusal> {
     let (raw, table) = settings.raw();
     let (mut summary, mut refusal) = (Summary::default(), raw::Refusal::default());
     // SAFETY: each pointer and length are those of one slice, or of one struct, and no output overlaps another
     // argument.
     let code = unsafe {
-        raw::dsa_plan_fenced_list(
+        call(
             &raw,
             table.as_ptr(),
             table.len(),

@@ -39,6 +39,21 @@ pub struct Info {
     pub staging_len: u64,
 }
 
+// A call that plans a list into buffers.
+pub(crate) type PlanInto = unsafe extern "C" fn(
+    settings: &Settings,
+    table: *const u64,
+    table_len: usize,
+    list: *const u8,
+    list_len: usize,
+    portal: *mut u8,
+    portal_capacity: usize,
+    staging: *mut u8,
+    staging_capacity: usize,
+    planned: &mut Summary,
+    refusal: &mut Refusal,
+) -> u32;
+
 extern "C" {
     pub fn dsa_planner_version() -> u32;
 
@@ -63,6 +78,7 @@ extern "C" {
         planned: &mut Summary,
         refusal: &mut Refusal,
     ) -> u32;
+
     pub fn dsa_plan_fenced_list(
         settings: &Settings,
         table: *const u64,

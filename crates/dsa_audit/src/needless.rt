@@ -162,7 +162,8 @@ fn use_of<R: Relation>(
     requires known { length fences.now ≡ R.count relation.now }
     requires within { at < length fences.now }
     requires given { given ≤ at }
-    ensures { IsNextUse (R.conflict relation.now) effects.entry.fallible.now effects.entry.visible.now
+    ensures { IsNextUse (R.conflict relation.now)
+        effects.entry.fallible.now effects.entry.visible.now
         fences.now given epoch at result }
 {
     if !fences[at] {
@@ -189,7 +190,8 @@ pub fn drop_needless<R: Relation>(
     requires lasts { AreLasts (R.conflict relation.now) lasts.now }
     requires known { length fences.now ≡ R.count relation.now }
     ensures { IfOk result
-        (λ t. IsReduced (R.conflict relation.now) effects.entry.fallible.now effects.entry.visible.now
+        (λ t. IsReduced (R.conflict relation.now)
+        effects.entry.fallible.now effects.entry.visible.now
         fences.now t.uses.items t.fences.items) }
 {
     let mut uses = Vec::new(alloc);

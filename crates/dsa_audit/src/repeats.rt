@@ -16,7 +16,7 @@ use std::alloc::{AllocError, Global};
 /// What a member does.
 #[derive(Clone, Copy, Debug, PartialEq, Eq)]
 pub struct Action {
-    /// Its operation with all operands, if it is one of a plan's: no other is told to repeat one.
+    /// Its operation with all operands, if it is one of a plan's: no other is reported as a repeat.
     pub op: Option<Op>,
     /// Its size in bytes.
     pub size: u32,
@@ -156,7 +156,8 @@ pub(crate) fn ordered_lasts(
     requires count { length lasts.now ≡ length members.now }
     requires lasts { AreLasts (KnownConflict members.now) lasts.now }
     requires repeated { AreRepeats actions.now members.now repeated.now }
-    ensures { IfOk result (λ ordered. AreLasts (OrderMatters actions.now members.now) ordered.items) }
+    ensures { IfOk result
+        (λ ordered. AreLasts (OrderMatters actions.now members.now) ordered.items) }
 {
     let mut ordered: Vec<Option<usize>> = Vec::with_capacity(alloc, lasts.len())?;
     for k in 0..lasts.len() {

@@ -26,7 +26,8 @@ struct FencedList {
 
 /// The operations that the bytes spell, fenced or not, and their fences.
 fn read_fenced(alloc: Global, bytes: &[u8]) -> Result<FencedList, ListFault>
-    ensures listed { IfOk result (λ list. IsListOf (unfenced_list bytes.now) list.operations.items) }
+    ensures listed { IfOk result
+        (λ list. IsListOf (unfenced_list bytes.now) list.operations.items) }
     ensures fences { IfOk result (λ list. list.fences.items ≡ fences_of bytes.now) }
     ensures fault { IfErr result (λ fault. (fault ≡ ListMemory) ⊎
         IsFirstListFault (unfenced_list bytes.now) fault) }

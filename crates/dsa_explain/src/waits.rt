@@ -11,7 +11,7 @@ use dsa_plan::Plan;
 use dsa_tracker::{Slots, TrackFault, Tracker};
 use std::alloc::{AllocError, Global};
 
-/// How many slots a tracker has at most, so how many groups are told of.
+/// How many slots a tracker has at most, so how many groups can be explained.
 const MOST_GROUPS: u32 = 64;
 
 /// How many spans a group of 1,024 pieces may read or write.

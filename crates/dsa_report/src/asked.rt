@@ -18,7 +18,8 @@ pub trait Asked: Read {
     fn ask(&mut self, buffer: &mut [u8]) -> io::Result<usize>
         ensures turn { asks self.new ≤ asks self.old + 1 }
         ensures bound { ReadsAtMost result buffer.new }
-        ensures bytes { ReadConsumes (Self.remaining self.old) (Self.remaining self.new) result buffer.new };
+        ensures bytes { ReadConsumes
+            (Self.remaining self.old) (Self.remaining self.new) result buffer.new };
 }
 
 impl<R: Read> Asked for R {

@@ -32,7 +32,7 @@ pub record WithRange (xs : List ℕ) (from end : ℕ) (ys : List ℕ) : Type 0 w
   pub more : (x : ℕ) → from ≤ x → x < end → Contains ys x
   pub only : (x : ℕ) → Contains ys x → Contains xs x ⊎ ((from ≤ x) × (x < end))
 
--- none of the first k events after its making tells of entry e
+-- by none of the first k events after its making does the program know that entry e has ended
 abbrev pub IsNotTold : Course → ℕ → ℕ → Type 0
 IsNotTold c k e = (q : ℕ) → q < k → submission_of c e < made_before c.events.items q → tells c (event_at c q) e ≡ false
 

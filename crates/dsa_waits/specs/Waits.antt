@@ -49,11 +49,11 @@ event_at c k = get_or c.events.items k Submitted
 
 -- ---- what an event tells
 
--- the end of a member tells of itself, if it asks for a record
+-- when a member has ended, the program knows it of that member, if it asks for a record
 abbrev pub told_by_member : Course → ℕ → Told
 told_by_member c e = if (entry_at c e).asks_record then told.Entry e else told.Nothing
 
--- the end of a submission tells of all of it, if it asks for a record; but if it is seen whether the program looks at that
+-- when a submission has ended, the program knows it of all of it, if it asks for a record; but if it is seen whether it looks at that
 -- record, only its look tells
 abbrev pub told_by_end : Course → ℕ → Told
 told_by_end c n =
@@ -107,7 +107,7 @@ made_before (v ∷ vs) zero = 0
 made_before (v ∷ vs) (suc k) = is_made v + made_before vs k
 
 -- entry e was in flight for all that the program could know when submission n was made: no event between the makings of its
--- own submission and of n tells of its end
+-- own submission and of n shows its end
 abbrev pub IsOutstanding : Course → ℕ → ℕ → Type 0
 IsOutstanding c e n =
     (k : ℕ) → k < length c.events.items → submission_of c e < made_before c.events.items k →

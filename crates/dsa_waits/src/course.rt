@@ -143,7 +143,7 @@ fn is_same_or_drained(made: &[Made], earlier: usize, later: usize) -> bool
         && queue.number == drain.queue.number
 }
 
-/// Whether the entry is told of by the end of the member, which is another.
+/// Whether who knows that the member has ended knows it of the entry, which is another.
 fn is_before_epoch(course: &Course, member: usize, entry: usize) -> bool
     ensures { result ≡ is_before_epoch course.now member entry }
 {

@@ -187,7 +187,8 @@ fn fit_lines(
     lines: &[Line],
 ) -> Result<(Vec<Queue>, Vec<Event>), WaitsFault>
     requires { ReadsUpTo all.now 0 submissions.now (length all.now) }
-    ensures ok { IfOk result (λ r. AreFitted all.now submissions.now lines.now r.0.items r.1.items) }
+    ensures ok { IfOk result
+        (λ r. AreFitted all.now submissions.now lines.now r.0.items r.1.items) }
     ensures err { IfErr result (IsUnfit all.now submissions.now lines.now) }
 {
     let mut queues = Vec::new(alloc);

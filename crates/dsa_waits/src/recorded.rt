@@ -165,7 +165,8 @@ fn mark(watched: &mut Vec<bool>, event: Event)
 
 /// Of each of so many submissions, whether its record is watched.
 fn watched_of(alloc: Global, events: &[Event], count: usize) -> Result<Vec<bool>, AllocError>
-    ensures { IfOk result (λ watched. AreMarked events.now (length events.now) count watched.items) }
+    ensures { IfOk result
+        (λ watched. AreMarked events.now (length events.now) count watched.items) }
 {
     let mut watched = vec![in alloc; false; count]?;
     for event in events {

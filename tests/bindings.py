@@ -5,7 +5,6 @@ how many are prepared and filled (1,000), TRACKED how many sequences of a tracke
 many cases of many submissions in flight are run (300). tests/package.py has the callers of the package. The words are
 names of parts."""
 
-import ast
 import os
 import re
 import shutil
@@ -188,24 +187,25 @@ def recorder():
     expect(not mixed and owners == [thread for thread in range(4) for _ in range(200)], f"the recording has {mixed[:3]}")
 
 
-def sentences_of_bindings():
-    """The sentences of the Python module and of the Rust crate, by number, and those of settings by theirs."""
-    tree = ast.parse(Path("bindings/python/dsa_planner.py").read_text())
-    tables = {node.target.id: node.value for node in tree.body if isinstance(node, ast.AnnAssign)}
-    of_python = {number: said for number, (_, said) in ast.literal_eval(tables["CAUSES"]).items()}
-    settings = ast.literal_eval(tables["SETTINGS"])
-    source = Path("bindings/rust/src/cause.rs").read_text()
-    of_rust = {int(number): said for number, said in re.findall(r' = (\d+): "([^"]*)",', source)}
-    of_settings = {int(number): said for number, said in re.findall(r'^ +(\d+) => "([^"]*)",', source, re.M)}
-    expect((of_python, settings) == (of_rust, of_settings), "the crate and the module have other sentences")
-    return of_python, settings
+def sentences_of_the_page():
+    """What docs/FORMATS.md says of each cause of a call from C, by number, with its places as fields to fill in, and of each
+    setting by its number."""
+    page, said = Path("docs/FORMATS.md").read_text(), {}
+    for number, places, cause in re.findall(r"^\| (\d+) \| [A-Z]\w+([^|]*) \| (.*) \|$", page, re.M):
+        sentence = re.sub("^(preparing|filling|tracking|from C): ", "", cause)
+        if 2 <= int(number) <= 13:
+            sentence, places = f"descriptor i: {sentence}", "i"
+        for place, field in zip(places.split(), ("{0}", "{1}")):
+            sentence = re.sub(rf"\b{place}\b", field, sentence)
+        said[int(number)] = sentence
+    return said, {int(number): cause for number, cause in re.findall(r"^\| (\d) \| `\w+` \| (.*) \|$", page, re.M)}
 
 
 def texts():
-    """The text of each refusal is the sentence that Python and Rust say, whatever the room for it; no cause has none."""
-    (said, settings), most, wanted, asked = sentences_of_bindings(), 2**64 - 1, [], []
+    """The text of each refusal is the sentence that docs/FORMATS.md has, whatever the room for it; no cause has none."""
+    (said, settings), most, wanted, asked = sentences_of_the_page(), 2**64 - 1, [], []
     within = [(47, inner) for inner in (2, 10, 12, 13, 33, 37)] + [(60, inner) for inner in (40, 41, 42, 43)]
-    numbers = [(number, 0) for number in said] + within + [(0, 0), (14, 0), (112, 0), (2**32 - 1, 0), (0, 43), (60, 14)]
+    numbers = [(number, 0) for number in said] + within + [(0, 0), (14, 0), (129, 0), (2**32 - 1, 0), (0, 43), (60, 14)]
     for number, inner in numbers:
         firsts = ((k, 0) for k in range(1, 10)) if number == 83 else ()
         for first, second in ((0, 0), (7, 65_535), (most, most), *firsts):

@@ -233,44 +233,32 @@ def texts():
     refused("disassemble", "000000", "the list's length is no multiple of 64", "1 Length")
 
 
-def said_in(path, pattern, signs, end=None):
-    """The sentence of each number that a source has before its end, with `#` and `$` for the places that it names."""
-    text = Path(path).read_text()
-    found = re.findall(pattern, text[: text.index(end) if end else None], re.M | re.S)
-    sentences = {int(number): re.sub(r'"\s+"', "", said) for number, said in found}
-    return {number: said.replace(signs[0], "#").replace(signs[1], "$") for number, said in sentences.items()}
-
-
 def sentences():
-    """The sentences of dsa_sentences, of the Rust crate and of the Python module are those of docs/FORMATS.md, word for word,
-    and there is no other cause. The two bindings have those alone that a caller can meet."""
-    of_rattle = said_in("crates/dsa_sentences/src/sentences.rt", r'^ *(\d+) =>\s*"([^"]*)"', "#$", "fn of_settings")
-    of_rust = said_in("bindings/rust/src/cause.rs", r'^    \w+ = (\d+): "([^"]*)",', ("{0}", "{1}"))
-    of_python = said_in("bindings/python/dsa_planner.py", r'^    (\d+): \("\w+", "((?:[^"]|"\s+")*)"\),', ("{0}", "{1}"))
+    """The sentences of dsa_sentences are those of docs/FORMATS.md, word for word, and there is no other cause; the Rust crate
+    and the Python module name the causes that a caller can meet."""
+    source = Path("crates/dsa_sentences/src/sentences.rt").read_text()
+    of_causes, of_settings = source[: source.index("fn of_settings")], source[source.index("fn of_settings") :]
+    pattern = r'^ *(\d+) =>\s*"([^"]*)"'
+    known = {int(number): said for number, said in re.findall(pattern, of_causes, re.M)}
     page = Path("docs/FORMATS.md").read_text()
-    settings = {int(number): said for number, said in re.findall(r"^\| (\d) \| `\w+` \| (.*) \|$", page, re.M)}
     rows = re.findall(r"^\| (\d+) \| ([A-Z]\w+)([^|]*) \| (.*) \|$", page, re.M)
-    common.expect({int(number) for number, *_ in rows} == {*of_rattle}, "FORMATS.md has other causes than the sentences")
+    common.expect({int(number) for number, *_ in rows} == {*known}, "FORMATS.md has other causes than the sentences")
     for number, name, places, cause in rows:
         wanted = re.sub("^(preparing|filling|tracking|from C): ", "", cause)
         wanted = f"descriptor i: {wanted}" if 2 <= int(number) <= 13 else wanted
-        places = places.split() or (["i"] if 2 <= int(number) <= 13 else [])
-        for what, known in (("program", of_rattle), ("Rust crate", of_rust), ("Python module", of_python)):
-            said = known.get(int(number), wanted if known is not of_rattle else "nothing")
-            for sign, place in zip("#$", places):
-                said = said.replace(sign, place)
-            common.expect(said == wanted, f"{number} {name} is {wanted!r}, and the {what} says {said!r}")
-    source = Path("crates/dsa_sentences/src/sentences.rt").read_text()
-    sources = [
-        (source[source.index("fn of_settings") : source.index("pub fn sentence_of")], r'^ *(\d) =>\s*"([^"]*)"'),
-        (Path("bindings/rust/src/cause.rs").read_text(), r'^ +(\d) => "([^"]*)",'),
-        (Path("bindings/python/dsa_planner.py").read_text(), r'^    (\d): "([^"]*)",'),
-    ]
-    for source, pattern in sources:
-        said = {int(number): said for number, said in re.findall(pattern, source, re.M)}
-        common.expect(len(settings) == 8 and said == settings, f"FORMATS.md says of settings {settings}, a source {said}")
-    shared = {number for number in of_rattle if number not in (20, 21, 50, 70, 71, 72, 75, 76, 77, 80, 81, 82, 84, 85, 86)}
-    common.expect(shared == {*of_rust} == {*of_python}, f"the bindings have other causes: {shared ^ {*of_rust}}")
+        said = known.get(int(number), "nothing")
+        for sign, place in zip("#$", places.split() or ["i"]):
+            said = said.replace(sign, place)
+        common.expect(said == wanted, f"{number} {name} is {wanted!r}, and the program says {said!r}")
+    settings = re.findall(r"^\| (\d) \| `\w+` \| (.*) \|$", page, re.M)
+    said = re.findall(r'^ *(\d) =>\s*"([^"]*)"', of_settings[: of_settings.index("pub fn sentence_of")], re.M)
+    common.expect(len(settings) == 8 and said == settings, f"FORMATS.md says of settings {settings}, the source {said}")
+    jobs = {20, 21, 50, 70, 71, 72, 75, 76, 77, 80, 81, 82, 84, 85, 86}
+    wanted = {*known} - jobs
+    rust, python = Path("bindings/rust/src/cause.rs").read_text(), Path("bindings/python/dsa_planner.py").read_text()
+    of_rust = {int(number): name for name, number in re.findall(r"^    (\w+) = (\d+),", rust, re.M)}
+    of_python = {int(number): name for number, name in re.findall(r'^    (\d+): "(\w+)",', python, re.M)}
+    common.expect(of_rust == of_python and wanted == {*of_rust}, f"the bindings have other causes: {wanted ^ {*of_rust}}")
 
 
 def pieces_of(moves):

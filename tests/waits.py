@@ -19,7 +19,8 @@ VALID, REQUESTED, FENCE = 0x04, 0x08, 0x01
 KINDS = {("reads", "writes"): "read after write", ("writes", "writes"): "write after write"}
 KINDS |= {("writes", "reads"): "write after read"}
 LINE = re.compile(
-    r"entry (\d+) \((.*?)\): error: missing wait, (.*?): (\w+) what entry (\d+) \((.*?)\) (\w+), in flight, at 0x"
+    r"entry (\d+) \((.*?)\): error: missing wait, (.*?): (\w+) what entry (\d+) \((.*?)\) (\w+), in flight, at 0x\w+ "
+    r"\((\d+) bytes?\)\n  entry (\d+), byte (\d+): .*\n  entry (\d+), byte (\d+): .*"
 )
 
 # ---- recordings
@@ -180,12 +181,12 @@ def judged(seed):
     recording, events, waits = random_course(random.Random(seed))
     status, out, err = audited(recording, events)
     found = {}
-    for line in out.splitlines():
-        shown = LINE.match(line)
-        if shown:
-            found[int(shown[1])] = int(shown[5])
-            if KINDS.get((shown[4], shown[7])) != shown[3]:
-                common.expect(False, f"seed {seed}: {line}")
+    for shown in LINE.finditer(out):
+        later, earlier = int(shown[1]), int(shown[5])
+        found[later] = earlier
+        named = [int(shown[k]) for k in range(9, 13)]
+        if KINDS.get((shown[4], shown[7])) != shown[3] or named != [later, 64 * later, earlier, 64 * earlier] or shown[8] == "0":
+            common.expect(False, f"seed {seed}: {shown[0]}")
     wanted = f"{len(waits)} missing waits, "
     right = found == waits and wanted in out and (status == 1 or not waits) and status < 2
     common.expect(right, f"seed {seed}: wanted {waits}, found {found}, status {status} {err}")
@@ -204,7 +205,8 @@ def by_hand():
     made = ["S 0 wq0.0 op 3 members 0 tid 7 part 1 entry 0\n", "S 1 wq0.0 op 3 members 0 tid 7 part 1 entry 1\n"]
     wait = (
         "entry 1 (submission 1): error: missing wait, read after write: reads what entry 0 (submission 0) writes,"
-        " in flight, at 0x2010\n1 missing waits, 2 submissions\n"
+        " in flight, at 0x2010 (8 bytes)\n  entry 1, byte 64: move 0x2010 -> 0x3000, 8 bytes\n"
+        "  entry 0, byte 0: move 0x1000 -> 0x2000, 64 bytes\n1 missing waits, 2 submissions\n"
     )
     status, out, _ = audited(first + second, made[0] + made[1] + "C 0 1\nC 1 1\n")
     common.expect(status == 1 and wait in out, f"no wait: status {status}, {out}")

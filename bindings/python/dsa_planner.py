@@ -149,6 +149,7 @@ def _declare(library: ctypes.CDLL) -> None:
     number = ctypes.c_uint32
     certificate = [word, size, pairs, size]
     calls = {
+        "dsa_refusal_text": (ctypes.c_uint64, [refusal, ctypes.c_char_p, size]),
         "dsa_count_pieces": (ctypes.c_uint64, listed),
         "dsa_plan_list": (ctypes.c_uint32, [*listed, *rooms, planned, refusal]),
         "dsa_plan_fenced_list": (ctypes.c_uint32, [*listed, *rooms, planned, refusal]),
@@ -266,95 +267,82 @@ class Planned:
     certificate: Certificate
 
 
-CAUSES: Dict[int, Tuple[str, str]] = {
-    1: ("Length", "the list's length is no multiple of 64"),
-    2: ("Opcode", "descriptor {0}: the operation code is not one of a move, fill, compare, compare pattern, delta or dualcast"),
-    3: ("FlagBits", "descriptor {0}: a flag is set that may not be, or missing that has to be; check result is for compares alone"),
-    4: ("Reserved", "descriptor {0}: a reserved bit or byte is not zero"),
-    5: ("SizeZero", "descriptor {0}: the transfer size is 0"),
-    6: ("Wrap", "descriptor {0}: an address of its data or its record would be 2^64 or more"),
-    7: ("RecordAlign", "descriptor {0}: the record's address is no multiple of 32"),
-    8: ("DualcastBits", "descriptor {0}: the low twelve bits of a dualcast's destinations differ"),
-    9: ("Overlap", "descriptor {0}: two of a dualcast's regions meet, or a delta's record and its destination"),
-    10: ("Delta", "descriptor {0}: a delta's size is no multiple of 8 or above 0x80000, its destination no multiple of 8, or its "
-                  "record's size no multiple of 10"),
-    11: ("Expected", "descriptor {0}: the expected result of a compare or a compare pattern is above 1"),
-    12: ("MixedPasid", "descriptor {0}: its PASID or privilege is not the first operation's"),
-    13: ("RecordMeetsData", "descriptor {0}: the 32 bytes of the record meet a data range"),
-    30: ("DeltaTooLong", "operation {0} is a delta longer than the greatest transfer"),
-    31: ("ExpectedSplit", "operation {0} checks for a difference and needs more than one piece"),
-    32: ("TooManyPieces", "there are more than 65,536 pieces"),
-    33: ("StagingMeets", "the staging area, 96 bytes for each piece, meets a range of piece {0}"),
-    34: ("RowMeetsData", "the row of records of operation {0}'s pieces meets its own data"),
-    35: ("RowWrap", "an address of the row of records of operation {0} would be 2^64 or more"),
-    37: ("OverTransfer", "descriptor {0} is longer than the greatest transfer"),
-    40: ("Count", "the sizes of the groups do not add up to the number of pieces"),
-    41: ("GroupSize", "group {0} is empty or larger than the greatest batch"),
-    42: ("FirstFence", "the first of group {0} is fenced"),
-    43: ("Unfenced", "pieces {0} and {1} of one group conflict without a fence between"),
-    44: ("PortalLength", "the portal's length is no multiple of 64"),
-    45: ("BatchFields", "the number of descriptors in the batch entry of group {0} is outside 2 to the greatest batch, or a byte is not the one of its place"),
-    46: ("StagingLength", "the staging's length is not 64 for each piece in a batch and 32 for each batch, or there are more than 65,536 pieces"),
-    47: ("Entry", "piece {0} is refused"),
-    48: ("EntryFence", "the first piece of group {0} is fenced"),
-    49: ("RecordBytes", "the 32 record bytes of batch {0} are not all zero"),
-    60: ("Plan", "the plan is not legal"),
-    61: ("Lengths", "there are not n + 1 prices and n pairs for n pieces"),
-    62: ("Pair", "the pair of piece {0} is not one of conflicting pieces from there on"),
-    63: ("Price", "one group from piece {0} on gives a lower price at {1} (0 and 0: the first price is not 0)"),
-    64: ("Total", "the last price is not the plan's cost"),
-    65: ("Version", "the certificate is of another version than the settings"),
-    73: ("Memory", "there was not enough memory"),
-    83: ("Settings", "a setting is outside its limits, the version is neither 1 nor 2, or the table of prices has a wrong length"),
-    90: ("NoRoom", "a buffer is too small for the bytes to submit: portal needs {0} bytes and staging {1}"),
-    91: ("NoRoomForCertificate", "an array is too small for the prices, the pairs or the marks of {0} pieces"),
-    92: ("NoRoomForRows", "the array of rows is too small: {0} rows are needed"),
-    100: ("RegionWrap", "region {0} goes past 2^64"),
-    101: ("RegionOrder", "region {0} begins before the one before it has ended"),
-    102: ("Outside", "a range of operation {0}, or the row of its records, lies in no one region"),
-    103: ("Bases", "there are not as many bases as regions"),
-    104: ("Room", "a buffer is shorter than the bytes to submit"),
-    105: ("BaseWrap", "at its new base region {0} would go past 2^64"),
-    106: ("Misaligned", "a completion record in region {0} would be no multiple of 32, or a delta's destination there no multiple of 8"),
-    107: ("BaseDualcastBits", "the two destinations of a dualcast, in regions {0} and {1}, would differ in their low 12 bits"),
-    108: ("RegionsMeet", "at their new bases region {0} and the earlier region {1} share an address"),
-    109: ("BaseStagingMeets", "at its new base region {0} has an address in the staging area, 96 bytes for each piece"),
-    110: ("Staging", "the staging address is no multiple of 64, or above 2^63"),
-    111: ("NotPrepared", "the rows do not have the form of a prepared list"),
-    120: ("NoSlot", "no slot is free: complete a submission first"),
-    121: ("TooManySpans", "the submission may read or write {0} spans, more than the tracker keeps of one"),
-    122: ("NotOutstanding", "slot {0} has no outstanding submission"),
-    123: ("Held", "the submission of slot {0} still waits for another"),
-    124: ("SpanWrap", "span {0} goes past 2^64"),
-    125: ("OtherOwner", "piece {0} has another PASID or privilege than the first piece that came"),
-    126: ("NotATracker", "the words do not have the form of a tracker, or are too few for one of these measures"),
-    127: ("OtherPlan", "the groups of the plan do not have as many pieces as there are"),
-    128: ("FewSlots", "the plan has {0} groups, more than slots are free or have a place in the array"),
+CAUSES: Dict[int, str] = {
+    1: "Length",
+    2: "Opcode",
+    3: "FlagBits",
+    4: "Reserved",
+    5: "SizeZero",
+    6: "Wrap",
+    7: "RecordAlign",
+    8: "DualcastBits",
+    9: "Overlap",
+    10: "Delta",
+    11: "Expected",
+    12: "MixedPasid",
+    13: "RecordMeetsData",
+    30: "DeltaTooLong",
+    31: "ExpectedSplit",
+    32: "TooManyPieces",
+    33: "StagingMeets",
+    34: "RowMeetsData",
+    35: "RowWrap",
+    37: "OverTransfer",
+    40: "Count",
+    41: "GroupSize",
+    42: "FirstFence",
+    43: "Unfenced",
+    44: "PortalLength",
+    45: "BatchFields",
+    46: "StagingLength",
+    47: "Entry",
+    48: "EntryFence",
+    49: "RecordBytes",
+    60: "Plan",
+    61: "Lengths",
+    62: "Pair",
+    63: "Price",
+    64: "Total",
+    65: "Version",
+    73: "Memory",
+    83: "Settings",
+    90: "NoRoom",
+    91: "NoRoomForCertificate",
+    92: "NoRoomForRows",
+    100: "RegionWrap",
+    101: "RegionOrder",
+    102: "Outside",
+    103: "Bases",
+    104: "Room",
+    105: "BaseWrap",
+    106: "Misaligned",
+    107: "BaseDualcastBits",
+    108: "RegionsMeet",
+    109: "BaseStagingMeets",
+    110: "Staging",
+    111: "NotPrepared",
+    120: "NoSlot",
+    121: "TooManySpans",
+    122: "NotOutstanding",
+    123: "Held",
+    124: "SpanWrap",
+    125: "OtherOwner",
+    126: "NotATracker",
+    127: "OtherPlan",
+    128: "FewSlots",
 }
-"""The name and the sentence of each cause, by its number; {0} and {1} stand for the places that a refusal names."""
-
-SETTINGS: Dict[int, str] = {
-    1: "the version of the settings is neither 1 nor 2",
-    2: "the greatest batch is not 2 to 1,024 pieces",
-    3: "the greatest transfer is not 8 to 2^31 bytes, or no multiple of 8",
-    4: "the price of a lone descriptor is above 1,000,000,000",
-    5: "the price of a batch is above 1,000,000,000",
-    6: "the price of a fence is above 1,000,000,000",
-    7: "the staging address is no multiple of 64, or above 2^63",
-    8: "the table does not have a price of at most 1,000,000,000 for each size of a batch from 2 to the greatest",
-}
-"""The sentence of cause 83 by the setting that `first` of the refusal names."""
+"""The name of each cause, by its number."""
 
 
 class Refusal(Exception):
     """Why a call refuses: its cause, and the places that the cause names."""
 
     number: int
-    """The number of the cause; `CAUSES` has its name and its sentence."""
+    """The number of the cause; `CAUSES` has its name."""
     inner: int
     """The number of the cause within, of a plan or a piece that is refused in its turn, else 0."""
     first: int
-    """The first index that the cause names, else 0; of 83 the number of the setting (`SETTINGS`), of 90 the bytes that
+    """The first index that the cause names, else 0; of 83 the number of the setting, of 90 the bytes that
     portal needs, of 91 the number of pieces, of 92 that of rows, of 121 that of spans, of 122 and 123 the slot."""
     second: int
     """The second index, else 0; of 90 the bytes that staging needs."""
@@ -366,14 +354,23 @@ class Refusal(Exception):
     @property
     def name(self) -> str:
         """The name of the cause, as Unfenced."""
-        return CAUSES.get(self.number, ("Unknown", ""))[0]
+        return _name(self.number)
 
     def __str__(self) -> str:
-        unknown = ("Unknown", "a cause of a later version of the library")
         numbers = [self.number, self.inner] if self.inner else [self.number]
-        causes = {**CAUSES, 83: ("Settings", SETTINGS.get(self.first, CAUSES[83][1]))}
-        whole = ": ".join("{} {}: {}".format(number, *causes.get(number, unknown)) for number in numbers)
-        return f"refused {whole}".format(self.first, self.second)
+        said = (f"{number} {_name(number)}: {_sentence(number, self.first, self.second)}" for number in numbers)
+        return "refused " + ": ".join(said)
+
+
+def _name(number: int) -> str:
+    return CAUSES.get(number, "Unknown")
+
+
+def _sentence(number: int, first: int, second: int) -> str:
+    """What the cause of a number means, with the numbers that it names, as the library says it."""
+    text = ctypes.create_string_buffer(512)
+    length = _library.dsa_refusal_text(ctypes.byref(_Refusal(number, 0, first, second)), text, len(text))
+    return text.raw[:length].decode() or "a cause of a later version of the library"
 
 
 # ---- descriptors, and plans

@@ -149,34 +149,32 @@ impl Refusal {
         }
     }
 
-    // The sentence of the cause; of the settings that of the one which is outside its limits.
-    fn sentence(&self) -> &'static str {
-        match self.cause {
-            Cause::Settings => cause::sentence_of_setting(self.first),
-            cause => cause.sentence(),
+    // Writes what a cause means, with the numbers that the refusal names.
+    fn write_sentence(&self, f: &mut fmt::Formatter<'_>, cause: Cause) -> fmt::Result {
+        let (number, first, second) = (cause.number(), self.first, self.second);
+        let raw = raw::Refusal {
+            number,
+            inner: 0,
+            first,
+            second,
+        };
+        let mut text = [0; 512];
+        // SAFETY: both are the caller's own, and the length is the buffer's.
+        let length = unsafe { raw::dsa_refusal_text(&raw, text.as_mut_ptr(), text.len()) };
+        match core::str::from_utf8(&text[..length as usize]) {
+            Ok(said) if !said.is_empty() => f.write_str(said),
+            Ok(_) | Err(_) => f.write_str("a cause of a later version of the library"),
         }
-    }
-
-    // Writes a sentence with the places filled in.
-    fn write_sentence(&self, f: &mut fmt::Formatter<'_>, sentence: &str) -> fmt::Result {
-        for (k, part) in sentence.split('{').enumerate() {
-            match (k, part.strip_prefix("0}"), part.strip_prefix("1}")) {
-                (1.., Some(rest), _) => write!(f, "{}{rest}", self.first)?,
-                (1.., _, Some(rest)) => write!(f, "{}{rest}", self.second)?,
-                (_, _, _) => f.write_str(part)?,
-            }
-        }
-        Ok(())
     }
 }
 
 impl fmt::Display for Refusal {
     fn fmt(&self, f: &mut fmt::Formatter<'_>) -> fmt::Result {
         write!(f, "refused {}: ", self.cause)?;
-        self.write_sentence(f, self.sentence())?;
+        self.write_sentence(f, self.cause)?;
         if let Some(inner) = self.inner {
             write!(f, ": {inner}: ")?;
-            self.write_sentence(f, inner.sentence())?;
+            self.write_sentence(f, inner)?;
         }
         Ok(())
     }

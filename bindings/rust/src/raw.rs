@@ -57,6 +57,8 @@ pub(crate) type PlanInto = unsafe extern "C" fn(
 extern "C" {
     pub fn dsa_planner_version() -> u32;
 
+    pub fn dsa_refusal_text(refusal: &Refusal, text: *mut u8, text_capacity: usize) -> u64;
+
     pub fn dsa_count_pieces(
         settings: &Settings,
         table: *const u64,

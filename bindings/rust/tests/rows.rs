@@ -383,7 +383,7 @@ fn refusals_are_errors() {
     assert!(error.source().is_none());
     for cause in Cause::ALL {
         assert_eq!(Cause::of(cause.number()), *cause);
-        assert!(!cause.sentence().is_empty() && !cause.name().is_empty());
+        assert!(!cause.name().is_empty() && !cause.to_string().is_empty());
     }
 }
 

@@ -10,6 +10,8 @@ pub mod Found
 pub mod Status
 pub mod Summed
 pub mod Inputs
+mod Accepting
+mod Keyed
 pub mod Begun
 pub mod Priced
 pub mod StreamOf

@@ -24,7 +24,8 @@ use Rattle.dsa_recording.specs.declared.stream.Submission.{Submission}
 use Rattle.dsa_recording.specs.declared.submission.Audited.{Audited}
 use Rattle.dsa_recording.specs.Listings.{stand_in, is_apart_from_added, left_out, operation_line, plain_words, known_line, member_line, member_lines, listing_text, known_operation, member_operation, member_operations, listed_operations}
 use Rattle.dsa_recording.specs.Furthers.{code_name}
-use Rattle.dsa_recording.specs.Words.{named, operation_words, unseen_words}
+use Rattle.dsa_recording.specs.EntryWords.{in_brackets, operation_words}
+use Rattle.dsa_recording.specs.Words.{unseen_words}
 
 -- ---- a line
 
@@ -55,15 +56,15 @@ name_line code =
     (chosen (code == 0x17) (codes "DIX generate") _ refl
     (chosen (code == 0x20) (codes "cache flush") _ refl refl)))))))))))
 
-named_line : (name : List ℕ) → is_line name ≡ true → is_line (named name) ≡ true
+named_line : (name : List ℕ) → is_line name ≡ true → is_line (in_brackets name) ≡ true
 named_line [] e = refl
 named_line (letter ∷ letters) e =
     line_append (codes " (") ((letter ∷ letters) ++ codes ")") refl (line_append (letter ∷ letters) (codes ")") e refl)
 
 operation_is_line : (code : ℕ) → is_line (operation_words code) ≡ true
 operation_is_line code =
-    line_append (codes "operation 0x") (digits 16 false code ++ named (code_name code)) refl
-    (line_append (digits 16 false code) (named (code_name code)) (digits_line 16 code (omega arith) (omega arith)) (named_line (code_name code) (name_line code)))
+    line_append (codes "operation 0x") (digits 16 false code ++ in_brackets (code_name code)) refl
+    (line_append (digits 16 false code) (in_brackets (code_name code)) (digits_line 16 code (omega arith) (omega arith)) (named_line (code_name code) (name_line code)))
 
 plain_is_line : (code : ℕ) → is_line (plain_words code) ≡ true
 plain_is_line code =

@@ -5,7 +5,7 @@ use Rattle.dsa_descriptor.specs.Lists.{entries}
 use Rattle.dsa_drawing.specs.Pictures.{IsPicture}
 use Rattle.dsa_recording.specs.declared.answer.AuditAnswer.{AuditAnswer}
 use Rattle.dsa_recording.specs.declared.answer.AuditFormat.{AuditFormat}
-use Rattle.dsa_recording.specs.declared.answer.AuditFormat.TheVariants.{Text, Json, Picture, List as Listed}
+use Rattle.dsa_recording.specs.declared.answer.AuditFormat.TheVariants.{Text, Json, Picture, List as Listed, Keys}
 use Rattle.dsa_recording.specs.declared.answer.AuditOptions.{AuditOptions}
 use Rattle.dsa_recording.specs.declared.findings.Finding.{Finding}
 use Rattle.dsa_recording.specs.declared.findings.FindingKind.{FindingKind}
@@ -14,6 +14,8 @@ use Rattle.dsa_recording.specs.declared.report.Report.{Report}
 use Rattle.dsa_recording.specs.declared.stream.Submission.{Submission}
 use Rattle.dsa_recording.specs.Streams.{ReadsStream}
 use Rattle.dsa_recording.specs.Reports.{IsReport}
+use Rattle.dsa_recording.specs.Accepted.{IsAccepted}
+use Rattle.dsa_recording.specs.Details.{IsPlaced}
 use Rattle.dsa_recording.specs.Listings.{listing_text}
 use Rattle.dsa_recording.specs.declared.words.Denied.{Denied}
 
@@ -28,43 +30,55 @@ is_harmless denied NeedlessFence = not denied.needless
 is_harmless denied (Repeated earlier) = true
 is_harmless denied (Flawed flaw) = false
 
--- all findings are
-abbrev pub AreHarmless : Denied → List Finding → Type 0
-AreHarmless denied findings = AllByRecursion (λ f. is_harmless denied f.kind ≡ true) findings
+-- of these entries and their report the finding is no error: it is harmless, or accepted
+abbrev pub IsNoError : AuditOptions → List (List ℕ) → Report → Finding → Type 0
+IsNoError options es r f = (is_harmless options.denied f.kind ≡ true) ⊎ IsAccepted options.accepted.now es r f
+
+-- all findings are no errors
+abbrev pub AreNoErrors : AuditOptions → List (List ℕ) → Report → Type 0
+AreNoErrors options es r = AllByRecursion (IsNoError options es r) r.findings.items
 
 -- the status says that nothing that was found is an error, or that something is
-abbrev pub IsStatusOf : Denied → List Finding → ℕ → Type 0
-IsStatusOf denied findings status =
-    ((status ≡ 0) × AreHarmless denied findings) ⊎ ((status ≡ 1) × (¬ AreHarmless denied findings))
+abbrev pub IsStatusOf : AuditOptions → List (List ℕ) → Report → ℕ → Type 0
+IsStatusOf options es r status =
+    ((status ≡ 0) × AreNoErrors options es r) ⊎ ((status ≡ 1) × (¬ AreNoErrors options es r))
 
 -- the report on these entries has no picture: it has more than 1,024 submissions, or they are more than 65,536
 abbrev pub IsTooLarge : List (List ℕ) → Report → Type 0
 IsTooLarge es r = (1024 < length r.submissions.items) ⊎ (65536 < length es)
 
 -- the answer is a picture of the report, with the status of the findings
-pub record Draws (es : List (List ℕ)) (r : Report) (denied : Denied) (answer : AuditAnswer) : Type 0 where
+pub record Draws (options : AuditOptions) (es : List (List ℕ)) (r : Report) (answer : AuditAnswer) : Type 0 where
   pub fits : ¬ IsTooLarge es r
   pub picture : IsPicture (string_bytes answer.text)
-  pub status : IsStatusOf denied r.findings.items answer.status
+  pub status : IsStatusOf options es r answer.status
 
 -- the answer is the operations as a list to plan; its status says nothing of findings
 pub record Lists (es : List (List ℕ)) (r : Report) (answer : AuditAnswer) : Type 0 where
   pub text : string_bytes answer.text ≡ listing_text es r.submissions.items r.audits.items
   pub status : answer.status ≡ 0
 
--- the answer of a report: its status is that of the findings; or, of pictures alone, it is 2, and the report has none
-abbrev pub AnswersFormat : AuditFormat → List (List ℕ) → Report → Denied → AuditAnswer → Type 0
-AnswersFormat Text es r denied answer = IsStatusOf denied r.findings.items answer.status
-AnswersFormat Json es r denied answer = IsStatusOf denied r.findings.items answer.status
-AnswersFormat Picture es r denied answer = Draws es r denied answer ⊎ ((answer.status ≡ 2) × IsTooLarge es r)
-AnswersFormat Listed es r denied answer = Lists es r answer
+-- the answer of a report: its status is that of the findings; or, of pictures alone, it is 2, and the report has none; of
+-- keys it is 0
+abbrev pub AnswersFormat : AuditFormat → AuditOptions → List (List ℕ) → Report → AuditAnswer → Type 0
+AnswersFormat Text options es r answer = IsStatusOf options es r answer.status
+AnswersFormat Json options es r answer = IsStatusOf options es r answer.status
+AnswersFormat Picture options es r answer = Draws options es r answer ⊎ ((answer.status ≡ 2) × IsTooLarge es r)
+AnswersFormat Listed options es r answer = Lists es r answer
+AnswersFormat Keys options es r answer = answer.status ≡ 0
 
--- the same with the format and what is denied of the options
+-- the same in the format of the options
 abbrev pub AnswersReport : AuditOptions → List (List ℕ) → Report → AuditAnswer → Type 0
-AnswersReport options es r answer = AnswersFormat options.format es r options.denied answer
+AnswersReport options es r answer = AnswersFormat options.format options es r answer
 
 -- the answer of a recording: that of a report on the bytes; or its status is 2, and they are no recording
 abbrev pub AnswersRecording : AuditOptions → List ℕ → AuditAnswer → Type 0
 AnswersRecording options bytes answer =
     ((r : Report) × IsReport options.assumptions bytes r × AnswersReport options (entries bytes) r answer)
     ⊎ ((answer.status ≡ 2) × ((list : List Submission) → ¬ ReadsStream bytes list))
+
+-- ---- for private clauses
+
+-- each finding of the report is of an entry
+abbrev pub ArePlaced : List (List ℕ) → Report → Type 0
+ArePlaced es r = AllByRecursion (IsPlaced es r) r.findings.items

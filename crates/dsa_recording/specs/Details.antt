@@ -1,5 +1,5 @@
 -- What a finding says of its entry.
-use Rattle.std.specs.Prelude.{ℕ, ◌≡◌, ◌+◌, ◌-◌, ◌<◌, ◌≤◌, ◌&&◌, ◌==◌, nat_le, nat_lt, bit_and, Bool, false, List, [], length, slice_get, slice_index_or, Some}
+use Rattle.std.specs.Prelude.{ℕ, ◌≡◌, ◌+◌, ◌-◌, ◌<◌, ◌≤◌, ◌&&◌, ◌==◌, nat_le, nat_lt, bit_and, Bool, false, List, [], ◌∷◌, length, slice_get, slice_index_or, Option, Some, None}
 use Rattle.dsa_descriptor.specs.Places.{u32_at, u64_at, flags_at, code_at}
 use Rattle.dsa_descriptor.specs.Profile.{required_flags}
 use Rattle.dsa_audit.specs.declared.member.Member.{Member as KnownMember}
@@ -19,6 +19,8 @@ use Rattle.dsa_recording.specs.declared.detail.Cause.{Cause}
 use Rattle.dsa_recording.specs.declared.detail.Cause.TheVariants as cause
 use Rattle.dsa_recording.specs.declared.detail.Detail.{Detail}
 use Rattle.dsa_recording.specs.declared.detail.Records.{Records}
+use Rattle.dsa_ranges.specs.declared.hazards.Hazard.{Hazard}
+use Rattle.dsa_recording.specs.Overlaps.{overlap}
 use Rattle.dsa_recording.specs.Submissions.{head_at}
 use Rattle.dsa_recording.specs.declared.report.Report.{Report}
 
@@ -76,6 +78,26 @@ kind_of cause.NeedlessFence = NeedlessFence
 kind_of (cause.Repeated earlier) = Repeated earlier
 kind_of (cause.Flawed flaw) = Flawed flaw
 
+-- the other member that a flaw names
+abbrev pub named_by_flaw : Flaw → List ℕ
+named_by_flaw (SharedRecord earlier) = earlier ∷ []
+named_by_flaw OverwritesBatch = []
+named_by_flaw DataOverRecord = []
+named_by_flaw MisalignedRecord = []
+named_by_flaw (SmallBatch size) = []
+named_by_flaw FenceWithoutEffect = []
+
+-- the other members that a cause names, in this order
+abbrev pub named_by : Cause → List ℕ
+named_by (cause.NotSeen why) = []
+named_by (cause.MissingFence earlier h) = earlier ∷ []
+named_by (cause.GuardingFence earlier) = earlier ∷ []
+named_by (cause.SignallingFence awaited) = awaited ∷ []
+named_by (cause.GuardingAndSignallingFence earlier awaited) = earlier ∷ awaited ∷ []
+named_by cause.NeedlessFence = []
+named_by (cause.Repeated earlier) = earlier ∷ []
+named_by (cause.Flawed flaw) = named_by_flaw flaw
+
 -- the hazard of a missing fence before member k is between the two members
 abbrev pub HasHazard : List KnownMember → ℕ → Cause → Type 0
 HasHazard ms k (cause.NotSeen why) = Unit
@@ -119,6 +141,29 @@ shared_records es first at cause.NeedlessFence = record { earlier = false; later
 shared_records es first at (cause.Repeated earlier) = record { earlier = false; later = false }
 shared_records es first at (cause.Flawed flaw) = record { earlier = false; later = false }
 
+-- of a missing fence, how many bytes of the two members conflict from the address on
+abbrev pub overlap_between : Hazard → Option KnownMember → Option KnownMember → ℕ
+overlap_between h (Some earlier) (Some later) = overlap h.kind h.address earlier later
+overlap_between h (Some earlier) None = 0
+overlap_between h None (Some later) = 0
+overlap_between h None None = 0
+
+-- the same of what is found of member k
+abbrev pub overlap_of : List KnownMember → ℕ → Cause → ℕ
+overlap_of ms k (cause.MissingFence earlier h) = overlap_between h (slice_get ms earlier) (slice_get ms k)
+overlap_of ms k (cause.NotSeen why) = 0
+overlap_of ms k (cause.GuardingFence earlier) = 0
+overlap_of ms k (cause.SignallingFence awaited) = 0
+overlap_of ms k (cause.GuardingAndSignallingFence earlier awaited) = 0
+overlap_of ms k cause.NeedlessFence = 0
+overlap_of ms k (cause.Repeated earlier) = 0
+overlap_of ms k (cause.Flawed flaw) = 0
+
+-- and of a place; nothing conflicts with a batch's descriptor
+abbrev pub overlap_at : List KnownMember → Place → Cause → ℕ
+overlap_at ms Head c = 0
+overlap_at ms (Member k) c = overlap_of ms k c
+
 -- the entry of a place: the descriptor of the submission, or a member
 abbrev pub entry_at : Submission → Place → ℕ
 entry_at s Head = head_at s
@@ -142,12 +187,15 @@ pub record Describes (es : List (List ℕ)) (s : Submission) (ms : List KnownMem
   pub entry : d.entry ≡ entry_at s f.place
   pub code : d.code ≡ code_at (slice_index_or es (entry_at s f.place) [])
   pub number : d.submission ≡ f.submission
+  pub first : d.first ≡ s.first
+  pub size : d.size ≡ s.size
   pub place : d.place ≡ f.place
   pub is_batch : d.is_batch ≡ s.is_batch
   pub owner : d.owner ≡ u32_at 0 (slice_index_or es (entry_at s f.place) [])
   pub head_owner : d.head_owner ≡ u32_at 0 (slice_index_or es (head_at s) [])
   pub cause : IsCause ms f.place f.kind d.cause
   pub records : d.records ≡ shared_records es s.first (entry_at s f.place) d.cause
+  pub overlap : d.overlap ≡ overlap_at ms f.place d.cause
 
 -- the submission of the finding, and what is known of its members' operands
 pub record IsIn (r : Report) (f : Finding) (s : Submission) (ms : List KnownMember) : Type 0 where

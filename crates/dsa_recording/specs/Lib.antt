@@ -7,9 +7,13 @@ pub mod Flaws
 pub mod Submissions
 pub mod Findings
 pub mod Reports
+pub mod Overlaps
 pub mod Details
 pub mod Forms
+pub mod EntryWords
 pub mod Words
+pub mod Keys
+pub mod Accepted
 pub mod Answers
 pub mod Foreign
 pub mod Inputs

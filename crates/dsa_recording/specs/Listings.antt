@@ -20,7 +20,8 @@ use Rattle.dsa_lines.specs.Texts.{TextSpells}
 use Rattle.dsa_recording.specs.declared.stream.Submission.{Submission}
 use Rattle.dsa_recording.specs.declared.submission.Audited.{Audited}
 use Rattle.dsa_recording.specs.Entries.{entry_reads, entry_targets}
-use Rattle.dsa_recording.specs.Words.{operation_words, unseen_words}
+use Rattle.dsa_recording.specs.EntryWords.{operation_words}
+use Rattle.dsa_recording.specs.Words.{unseen_words}
 
 -- ---- the operation of an entry
 

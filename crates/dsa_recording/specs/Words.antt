@@ -1,5 +1,5 @@
 -- The words of a report on a recording (this project's choice): of each finding where it is, how severe, what, and why.
-use Rattle.std.specs.Prelude.{ℕ, ◌/◌, ◌%◌, ◌^◌, ◌==◌, Bool, true, false, ◌||◌, List, [], ◌∷◌, ◌++◌, codes, decimal, if◌then◌else◌}
+use Rattle.std.specs.Prelude.{ℕ, ◌+◌, ◌*◌, ◌/◌, ◌%◌, ◌^◌, ◌==◌, Bool, true, false, ◌||◌, List, [], ◌∷◌, ◌++◌, codes, decimal, slice_get, Option, Some, None, if◌then◌else◌}
 use Rattle.dsa_audit.specs.declared.member.Unseen.{Unseen}
 use Rattle.dsa_audit.specs.declared.member.Unseen.TheVariants.{Blank, Operation, Nested, Owner, Empty, Wrap}
 use Rattle.dsa_ranges.specs.declared.hazards.HazardKind.{HazardKind}
@@ -8,13 +8,14 @@ use Rattle.dsa_recording.specs.declared.detail.Detail.{Detail}
 use Rattle.dsa_recording.specs.declared.detail.Cause.{Cause}
 use Rattle.dsa_recording.specs.declared.detail.Cause.TheVariants.{NotSeen, MissingFence, GuardingFence, SignallingFence, GuardingAndSignallingFence, NeedlessFence, Repeated, Flawed}
 use Rattle.dsa_lines.specs.Numbers.{hex}
-use Rattle.dsa_recording.specs.Furthers.{code_name}
+use Rattle.dsa_recording.specs.Details.{named_by}
+use Rattle.dsa_recording.specs.EntryWords.{bytes_words, descriptor_words, operation_words}
 use Rattle.dsa_recording.specs.declared.findings.Flaw.{Flaw}
 use Rattle.dsa_recording.specs.declared.findings.Flaw.TheVariants.{SharedRecord, OverwritesBatch, DataOverRecord, MisalignedRecord, SmallBatch, FenceWithoutEffect}
 use Rattle.dsa_recording.specs.declared.findings.Place.{Place}
 use Rattle.dsa_recording.specs.declared.findings.Place.TheVariants.{Head, Member}
 use Rattle.dsa_recording.specs.declared.words.Severity.{Severity}
-use Rattle.dsa_recording.specs.declared.words.Severity.TheVariants.{Error, Warning, Note}
+use Rattle.dsa_recording.specs.declared.words.Severity.TheVariants.{Error, Warning, Note, Accepted}
 use Rattle.dsa_recording.specs.declared.words.Denied.{Denied}
 
 -- ---- where
@@ -50,22 +51,22 @@ severity_of denied NeedlessFence = note_unless denied.needless
 severity_of denied (Repeated earlier) = Note
 severity_of denied (Flawed flaw) = Error
 
+-- what is accepted is no error
+abbrev pub severity_with : Bool → Severity → Severity
+severity_with true Error = Accepted
+severity_with true Warning = Warning
+severity_with true Note = Note
+severity_with true Accepted = Accepted
+severity_with false severity = severity
+
 -- its word
 abbrev pub severity_words : Severity → List ℕ
 severity_words Error = codes ": error: "
 severity_words Warning = codes ": warning: "
 severity_words Note = codes ": note: "
+severity_words Accepted = codes ": accepted: "
 
 -- ---- what, and why
-
--- an operation by its code, and its name if it has one
-abbrev pub named : List ℕ → List ℕ
-named [] = []
-named (letter ∷ letters) = codes " (" ++ ((letter ∷ letters) ++ codes ")")
-
--- the same, with the code before it
-abbrev pub operation_words : ℕ → List ℕ
-operation_words code = codes "operation " ++ (hex code ++ named (code_name code))
 
 -- why a member is not looked at
 abbrev pub unseen_words : Unseen → ℕ → List ℕ
@@ -152,10 +153,14 @@ record_words true false earlier = codes ", in the record of member " ++ decimal 
 record_words false true earlier = codes ", in its own record"
 record_words true true earlier = codes ", in its own record and that of member " ++ decimal earlier
 
+-- how many bytes conflict from the address on
+abbrev pub overlap_words : ℕ → List ℕ
+overlap_words bytes = codes " (" ++ (bytes_words bytes ++ codes ")")
+
 -- what is said after the cause
 abbrev pub more_words : Detail → Cause → List ℕ
 more_words d (NotSeen why) = owners_words why d.owner d.head_owner
-more_words d (MissingFence earlier hazard) = record_words d.records.earlier d.records.later earlier
+more_words d (MissingFence earlier hazard) = overlap_words d.overlap ++ record_words d.records.earlier d.records.later earlier
 more_words d (GuardingFence earlier) = []
 more_words d (SignallingFence awaited) = []
 more_words d (GuardingAndSignallingFence earlier awaited) = []
@@ -163,10 +168,30 @@ more_words d NeedlessFence = []
 more_words d (Repeated earlier) = []
 more_words d (Flawed flaw) = []
 
--- ---- the line of a finding
+-- ---- the lines of a finding
 
--- the whole line
-abbrev pub finding_words : Denied → Bool → Detail → List ℕ
-finding_words denied complete d =
+-- an entry of the recording: its number, where its bytes begin, and what it does
+abbrev pub entry_line : ℕ → Option (List ℕ) → List ℕ
+entry_line n None = []
+entry_line n (Some e) =
+    codes "  entry " ++ (decimal n ++ (codes ", byte " ++ (decimal (n * 64) ++ (codes ": " ++ (descriptor_words e ++ 10 ∷ [])))))
+
+-- that of another member of the submission
+abbrev pub other_line : List (List ℕ) → Detail → ℕ → List ℕ
+other_line es d m = if d.first + m == d.entry then [] else entry_line (d.first + m) (slice_get es (d.first + m))
+
+-- those of members
+abbrev pub other_lines : List (List ℕ) → Detail → List ℕ → List ℕ
+other_lines es d [] = []
+other_lines es d (m ∷ ms) = other_line es d m ++ other_lines es d ms
+
+-- what is found
+abbrev pub finding_line : Severity → Bool → Detail → List ℕ
+finding_line severity complete d =
     place_words d
-    ++ (severity_words (severity_of denied d.cause) ++ (cause_words complete d.code d.cause ++ (more_words d d.cause ++ 10 ∷ [])))
+    ++ (severity_words severity ++ (cause_words complete d.code d.cause ++ (more_words d d.cause ++ 10 ∷ [])))
+
+-- the same, with its entry and those that it names
+abbrev pub finding_words : Severity → Bool → List (List ℕ) → Detail → List ℕ
+finding_words severity complete es d =
+    finding_line severity complete d ++ (entry_line d.entry (slice_get es d.entry) ++ other_lines es d (named_by d.cause))

@@ -3,24 +3,28 @@
 ghost use Rattle.dsa_recording.specs.declared.answer.AuditFormat.TheVariants.{Picture, List as Listed};
 ghost use Rattle.std.specs.Prelude.{◌≡◌, ◌≢◌, ◌≤◌, ◌^◌, ◌↔◌, All, length, IfOk, IsTrue};
 ghost use Rattle.dsa_recording.specs.declared.stream.StreamFault.TheVariants.{Memory};
-ghost use Rattle.dsa_recording.specs.Answers.{is_harmless, AnswersFormat, AnswersRecording, AnswersReport, AreHarmless, IsStatusOf};
+ghost use Rattle.dsa_recording.specs.Answers.{is_harmless, AnswersFormat, AnswersRecording, AnswersReport, AreNoErrors, ArePlaced, IsNoError, IsStatusOf};
+ghost use Rattle.dsa_recording.specs.Details.{IsPlaced};
 ghost use Rattle.dsa_recording.specs.Listings.{AreEntries};
 ghost use Rattle.dsa_recording.specs.Submissions.{IsWithin};
 ghost use Rattle.dsa_recording.specs.Totals.{HasSums};
 
+use crate::accepted::{Accepted, is_accepted};
 use crate::assumptions::Assumptions;
 use crate::costs::{costs_of, costs_text};
-use crate::detail::{detail_of, has_all_fences};
+use crate::detail::{Detail, detail_of, has_all_fences};
 use crate::findings::{Finding, FindingKind};
+use crate::folding::{folded_of, keys_text, push_alike};
 use crate::foreign::STAGING_HINT;
 use crate::freed::{freed_by, freed_text};
+use crate::keys::key_text;
 use crate::listing::listing_text;
 use crate::picture::{draw_report, is_too_large, too_large_text};
 use crate::report::{Report, audit_recording};
 use crate::report_json::report_json;
 use crate::stream::StreamFault;
 use crate::totals::{flaws_text, totals_of, totals_text};
-use crate::words::{Denied, finding_text};
+use crate::words::{Denied, Severity, finding_text, severity_of, severity_with};
 use dsa_descriptor::u32_at;
 use dsa_settings::Settings;
 use std::alloc::{AllocError, Global};
@@ -36,15 +40,21 @@ pub enum AuditFormat {
     Picture,
     /// The operations, as a list to plan.
     List,
+    /// The keys of the errors, a line each.
+    Keys,
 }
 
 /// How an audit is written, and what it denies.
-#[derive(Clone, Copy, Debug)]
-pub struct AuditOptions {
+#[derive(Clone, Copy)]
+pub struct AuditOptions<'a> {
     /// How the report is written.
     pub format: AuditFormat,
+    /// Whether a text has each finding; else the first of each key, and how many more there are.
+    pub every: bool,
     /// The findings that count as errors.
     pub denied: Denied,
+    /// Those that do not.
+    pub accepted: &'a Accepted,
     /// What is assumed of the software.
     pub assumptions: Assumptions,
 }
@@ -89,41 +99,92 @@ fn is_harmless(denied: Denied, kind: FindingKind) -> bool
     }
 }
 
-/// Whether no finding is an error.
-fn are_harmless(denied: Denied, findings: &[Finding]) -> bool
-    ensures { IsTrue result ↔ AreHarmless denied findings.now }
+/// Whether a finding of the report is no error.
+fn is_no_error(
+    alloc: Global,
+    options: AuditOptions<'_>,
+    all: &[[u8; 64]],
+    report: &Report,
+    finding: Finding,
+) -> Result<bool, AllocError>
+    requires { IsPlaced all.now report.now finding }
+    ensures { IfOk result (λ yes. IsTrue yes ↔ IsNoError options.entry all.now report.now finding) }
 {
-    findings
-        .iter()
-        .all(|finding| is_harmless(denied, finding.kind))
+    if is_harmless(options.denied, finding.kind) {
+        return Ok(true);
+    }
+    is_accepted(alloc, options.accepted, all, report, finding)
 }
 
-/// The status of a report with these findings.
-fn status_of(denied: Denied, findings: &[Finding]) -> u8
-    ensures { IsStatusOf denied findings.now result }
+/// The status of a report: whether some finding is an error.
+fn status_of(
+    alloc: Global,
+    options: AuditOptions<'_>,
+    all: &[[u8; 64]],
+    report: &Report,
+) -> Result<u8, AllocError>
+    requires { ArePlaced all.now report.now }
+    ensures { IfOk result (IsStatusOf options.entry all.now report.now) }
 {
-    if are_harmless(denied, findings) { 0 } else { 1 }
+    let mut rest = report.findings.as_slice();
+    while let [finding, after @ ..] = rest {
+        if !is_no_error(alloc, options, all, report, *finding)? {
+            return Ok(1);
+        }
+        rest = after;
+    }
+    Ok(0)
 }
 
-/// The report in words: a line for each finding, and what they come to.
+/// How severe a finding in these entries is under the options.
+pub(crate) fn severity_in(
+    alloc: Global,
+    options: AuditOptions<'_>,
+    all: &[[u8; 64]],
+    detail: &Detail,
+) -> Result<Severity, AllocError> {
+    let key = key_text(alloc, all, detail)?;
+    let severity = severity_of(options.denied, detail.cause);
+    Ok(severity_with(options.accepted.has(&key), severity))
+}
+
+/// Writes the lines of the findings, each or those of the first of each key.
+fn push_findings(
+    alloc: Global,
+    text: &mut String,
+    all: &[[u8; 64]],
+    report: &Report,
+    options: AuditOptions<'_>,
+) -> Result<(), AllocError> {
+    let complete = completeness(alloc, report)?;
+    let folded = folded_of(alloc, all, report, options.every)?;
+    for (finding, alike) in report.findings.iter().zip(folded.iter()) {
+        if *alike == 0 {
+            continue;
+        }
+        if let Some(detail) = detail_of(all, report, *finding) {
+            let known = is_complete(&complete, detail.submission);
+            let severity = severity_in(alloc, options, all, &detail)?;
+            text.push_str(&finding_text(alloc, all, &detail, known, severity)?)?;
+            push_alike(alloc, text, *alike)?;
+        }
+    }
+    Ok(())
+}
+
+/// The report in words: the findings, and what they come to.
 fn report_text(
     alloc: Global,
     all: &[[u8; 64]],
     report: &Report,
     settings: &Settings,
-    options: AuditOptions,
+    options: AuditOptions<'_>,
 ) -> Result<String, AllocError>
     requires sums { HasSums report.now }
     requires within { All (IsWithin all.now) report.now.submissions.items }
 {
-    let complete = completeness(alloc, report)?;
     let mut text = String::new(alloc);
-    for finding in &report.findings {
-        if let Some(detail) = detail_of(all, report, *finding) {
-            let known = is_complete(&complete, detail.submission);
-            text.push_str(&finding_text(alloc, &detail, known, options.denied)?)?;
-        }
-    }
+    push_findings(alloc, &mut text, all, report, options)?;
     let totals = totals_of(report);
     text.push_str(&totals_text(alloc, &totals)?)?;
     text.push_str(&flaws_text(alloc, totals.flaws)?)?;
@@ -133,13 +194,20 @@ fn report_text(
     Ok(text)
 }
 
-/// The answer of a report in this text, with status 1 where some finding is an error.
-fn written(denied: Denied, report: &Report, text: String) -> AuditAnswer
-    ensures text { result.text ≡ text }
-    ensures status { IsStatusOf denied report.now.findings.items result.status }
+/// The answer of a report in this text, with status 1 if some finding is an error.
+fn written(
+    alloc: Global,
+    options: AuditOptions<'_>,
+    all: &[[u8; 64]],
+    report: &Report,
+    text: String,
+) -> Result<AuditAnswer, AllocError>
+    requires { ArePlaced all.now report.now }
+    ensures text { IfOk result (λ answer. answer.text ≡ text) }
+    ensures status { IfOk result (λ answer. IsStatusOf options.entry all.now report.now answer.status) }
 {
-    let status = status_of(denied, &report.findings);
-    AuditAnswer { text, status }
+    let status = status_of(alloc, options, all, report)?;
+    Ok(AuditAnswer { text, status })
 }
 
 /// The answer of a report as a picture, or why it has none.
@@ -147,16 +215,18 @@ fn answer_picture(
     alloc: Global,
     all: &[[u8; 64]],
     report: &Report,
-    denied: Denied,
+    options: AuditOptions<'_>,
 ) -> Result<AuditAnswer, AllocError>
-    requires { HasSums report.now }
-    ensures { IfOk result (AnswersFormat Picture all.now report.now denied) }
+    requires sums { HasSums report.now }
+    requires placed { ArePlaced all.now report.now }
+    ensures { IfOk result (AnswersFormat Picture options.entry all.now report.now) }
 {
     if is_too_large(all, report) {
         let text = too_large_text(alloc, all, report)?;
         return Ok(AuditAnswer { text, status: 2 });
     }
-    Ok(written(denied, report, draw_report(alloc, all, report)?))
+    let picture = draw_report(alloc, all, report)?;
+    written(alloc, options, all, report, picture)
 }
 
 /// The answer of a report as a list to plan.
@@ -164,11 +234,11 @@ fn answer_list(
     alloc: Global,
     all: &[[u8; 64]],
     report: &Report,
-    denied: Denied,
+    options: AuditOptions<'_>,
 ) -> Result<AuditAnswer, AllocError>
     requires entries { AreEntries all.now report.now.submissions.items report.now.audits.items }
     requires few { length all.now ≤ 2 ^ 58 }
-    ensures { IfOk result (AnswersFormat Listed all.now report.now denied) }
+    ensures { IfOk result (AnswersFormat Listed options.entry all.now report.now) }
 {
     let text = listing_text(alloc, all, report)?;
     Ok(AuditAnswer { text, status: 0 })
@@ -180,26 +250,30 @@ fn answer_report(
     all: &[[u8; 64]],
     report: &Report,
     settings: &Settings,
-    options: AuditOptions,
+    options: AuditOptions<'_>,
 ) -> Result<AuditAnswer, AllocError>
     requires sums { HasSums report.now }
     requires entries { AreEntries all.now report.now.submissions.items report.now.audits.items }
     requires few { length all.now ≤ 2 ^ 58 }
     requires within { All (IsWithin all.now) report.now.submissions.items }
-    ensures { IfOk result (AnswersReport options all.now report.now) }
+    requires placed { ArePlaced all.now report.now }
+    ensures { IfOk result (AnswersReport options.entry all.now report.now) }
 {
-    let denied = options.denied;
     match options.format {
         AuditFormat::Text => {
             let text = report_text(alloc, all, report, settings, options)?;
-            Ok(written(denied, report, text))
+            written(alloc, options, all, report, text)
         }
         AuditFormat::Json => {
             let line = report_json(alloc, all, report, settings, options)?;
-            Ok(written(denied, report, line))
+            written(alloc, options, all, report, line)
         }
-        AuditFormat::Picture => answer_picture(alloc, all, report, denied),
-        AuditFormat::List => answer_list(alloc, all, report, denied),
+        AuditFormat::Picture => answer_picture(alloc, all, report, options),
+        AuditFormat::List => answer_list(alloc, all, report, options),
+        AuditFormat::Keys => {
+            let text = keys_text(alloc, all, report, options)?;
+            Ok(AuditAnswer { text, status: 0 })
+        }
     }
 }
 
@@ -234,9 +308,9 @@ pub(crate) fn audit_bytes(
     alloc: Global,
     bytes: &[u8],
     settings: &Settings,
-    options: AuditOptions,
+    options: AuditOptions<'_>,
 ) -> Result<AuditAnswer, AllocError>
-    ensures { IfOk result (AnswersRecording options bytes.now) }
+    ensures { IfOk result (AnswersRecording options.entry bytes.now) }
 {
     match audit_recording(alloc, bytes, options.assumptions) {
         Ok(report) => {

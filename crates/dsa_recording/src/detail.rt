@@ -4,12 +4,14 @@ ghost use Rattle.std.specs.Prelude.{◌≡◌, ◌↔◌, ◌<◌, List, length,
 ghost use Rattle.std.specs.List.{AllByRecursion};
 ghost use Rattle.dsa_audit.specs.declared.member.Member.{Member};
 ghost use Rattle.dsa_recording.specs.declared.findings.Place.TheVariants as Place;
-ghost use Rattle.dsa_recording.specs.Details.{finding_at, is_in_record, shared_records, IsBehind, IsFlawAt, IsOfHead, IsOfMember, IsHeadCause, IsMemberCause, HasEntry, Describes, IsPlaced, IsDetail, IsRight};
+ghost use Rattle.dsa_recording.specs.Details.{finding_at, is_in_record, named_by, overlap_of, shared_records, IsBehind, IsFlawAt, IsOfHead, IsOfMember, IsHeadCause, IsMemberCause, HasEntry, Describes, IsPlaced, IsDetail, IsRight};
 
 use crate::findings::{Finding, FindingKind, Flaw, Place};
+use crate::overlaps::overlap;
 use crate::report::Report;
 use crate::stream::Submission;
 use crate::submission::{Audited, head_at};
+use arrayvec::ArrayVec;
 use dsa_audit::{FencePlace, Member, Unseen, hazard_between};
 use dsa_descriptor::{u32_at, u64_at};
 use dsa_ranges::Hazard;
@@ -53,6 +55,10 @@ pub struct Detail {
     pub code: u8,
     /// The number of the submission.
     pub submission: usize,
+    /// The number of the entry that is its first member.
+    pub first: usize,
+    /// How many members it has.
+    pub size: usize,
     /// What of it.
     pub place: Place,
     /// Whether the submission is a batch.
@@ -65,6 +71,36 @@ pub struct Detail {
     pub cause: Cause,
     /// Of a missing fence, whose completion record has the address; else none has.
     pub records: Records,
+    /// Of a missing fence, how many bytes conflict from the address on; else 0.
+    pub overlap: u64,
+}
+
+/// The other members that a cause names.
+pub(crate) fn named_by(cause: Cause) -> ArrayVec<usize, 2>
+    ensures { result.items ≡ named_by cause }
+{
+    let mut members = ArrayVec::new();
+    match cause {
+        Cause::MissingFence(member, _)
+        | Cause::GuardingFence(member)
+        | Cause::SignallingFence(member)
+        | Cause::Repeated(member)
+        | Cause::Flawed(Flaw::SharedRecord(member)) => members.push(member),
+        Cause::GuardingAndSignallingFence(earlier, awaited) => {
+            members.push(earlier);
+            members.push(awaited);
+        }
+        Cause::NotSeen(_)
+        | Cause::NeedlessFence
+        | Cause::Flawed(
+            Flaw::OverwritesBatch
+            | Flaw::DataOverRecord
+            | Flaw::MisalignedRecord
+            | Flaw::SmallBatch(_)
+            | Flaw::FenceWithoutEffect,
+        ) => {}
+    }
+    members
 }
 
 /// Whether this can be wrong at the place.
@@ -193,6 +229,27 @@ fn shared_records(all: &[[u8; 64]], first: usize, at: usize, cause: Cause) -> Re
     }
 }
 
+/// Of a missing fence before the member, how many bytes conflict from the address on.
+fn overlap_of(operands: &[Member], member: usize, cause: Cause) -> u64
+    ensures { result ≡ overlap_of operands.now member cause }
+{
+    match cause {
+        Cause::MissingFence(earlier, hazard) => {
+            match (operands.get(earlier), operands.get(member)) {
+                (Some(earlier), Some(later)) => overlap(hazard, earlier, later),
+                (Some(_) | None, Some(_) | None) => 0,
+            }
+        }
+        Cause::NotSeen(_)
+        | Cause::GuardingFence(_)
+        | Cause::SignallingFence(_)
+        | Cause::GuardingAndSignallingFence(_, _)
+        | Cause::NeedlessFence
+        | Cause::Repeated(_)
+        | Cause::Flawed(_) => 0,
+    }
+}
+
 /// A finding of the descriptor of a batch, with all that can be said of its entry.
 fn head_detail(
     all: &[[u8; 64]],
@@ -217,6 +274,8 @@ fn head_detail(
         entry,
         code: code as u8,
         submission: number,
+        first: submission.first,
+        size: submission.size,
         place: Place::Head,
         is_batch: submission.is_batch,
         owner,
@@ -226,6 +285,7 @@ fn head_detail(
             earlier: false,
             later: false,
         },
+        overlap: 0,
     })
 }
 
@@ -257,12 +317,15 @@ fn member_detail(
         entry,
         code: code as u8,
         submission: number,
+        first: submission.first,
+        size: submission.size,
         place: Place::Member(member),
         is_batch: submission.is_batch,
         owner: u32_at(&all[entry], 0),
         head_owner: u32_at(&all[head], 0),
         cause,
         records: shared_records(all, submission.first, entry, cause),
+        overlap: overlap_of(operands, member, cause),
     })
 }
 

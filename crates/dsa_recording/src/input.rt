@@ -108,9 +108,9 @@ fn audit_entries(
     alloc: Global,
     bytes: &[u8],
     settings: &Settings,
-    options: AuditOptions,
+    options: AuditOptions<'_>,
 ) -> Result<AuditAnswer, AllocError>
-    ensures { IfOk result (AnswersEntries options bytes.now) }
+    ensures { IfOk result (AnswersEntries options.entry bytes.now) }
 {
     match find_foreign(alloc, bytes)? {
         Some(foreign) => {
@@ -129,9 +129,9 @@ pub fn audit(
     alloc: Global,
     input: &[u8],
     settings: &Settings,
-    options: AuditOptions,
+    options: AuditOptions<'_>,
 ) -> Result<AuditAnswer, AllocError>
-    ensures { IfOk result (AnswersInput options input.now) }
+    ensures { IfOk result (AnswersInput options.entry input.now) }
 {
     if !is_text(input) {
         return audit_entries(alloc, input, settings, options);

@@ -2,23 +2,28 @@
 //! on their fences.
 #![tactic(auto)]
 
+mod accepted;
 mod answer;
 mod assumptions;
 mod costs;
 mod detail;
 mod dumps;
+mod entry_words;
 mod failure;
 mod findings;
 mod flaws;
+mod folding;
 mod foreign;
 mod forms;
 mod freed;
 mod further;
 mod input;
+mod keys;
 mod laws;
 mod listing;
 mod marks;
 mod member;
+mod overlaps;
 mod picture;
 mod places;
 mod report;
@@ -30,11 +35,13 @@ mod submission;
 mod totals;
 mod words;
 
+pub use accepted::Accepted;
 pub use answer::{AuditAnswer, AuditFormat, AuditOptions};
 pub use assumptions::{Assumptions, Await};
 pub use costs::{Costs, costs_of, costs_text};
 pub use detail::{Cause, Detail, Records, detail_of, has_all_fences};
 pub use dumps::{Dump, StagingFault, stage};
+pub use entry_words::{bytes_text, descriptor_text};
 pub use failure::can_fail;
 pub use findings::{Finding, FindingKind, Flaw, Place, findings_of};
 pub use flaws::{Flaws, flaws_of};
@@ -42,15 +49,18 @@ pub use forms::{Form, Part, bytes_of_text, first_part, form_of, is_passed, is_te
 pub use freed::{Freed, freed_by, needless_under};
 pub use further::{Further, further_at};
 pub use input::{audit, one_recording};
+pub use keys::key_text;
 pub use laws::{findings_are_placed, listed_are_known};
 pub use listing::{listing_is_read, stand_ins_conflict};
 pub use member::{member_of, operands_member, record_member, unseen_reason};
+pub use overlaps::overlap;
 pub use picture::MOST_ENTRIES;
 pub use places::{BytesFault, DigitFault, bytes_of_input};
 pub use report::{Report, audit_recording};
+pub use report_json::VERSION;
 pub use showing::can_show;
 pub use staged::audit_staged;
 pub use stream::{StreamFault, Submission, read_stream};
 pub use submission::{Audited, audit_submission, audit_submissions};
 pub use totals::Totals;
-pub use words::{Denied, Severity, finding_text, severity_of};
+pub use words::{Denied, Severity, finding_text, push_entry, severity_of};

@@ -6,8 +6,9 @@ ghost use Rattle.dsa_descriptor.specs.Places.{code_at, op_at, pasid_at, privileg
 ghost use Rattle.dsa_lines.specs.Text.{line_text};
 ghost use Rattle.dsa_recording.specs.Listings.{record_in_list, stand_in, is_clear, expecting_zero, is_apart_from_added, left_out, operation_line, plain_words, known_line, member_line, member_lines, listing_text, AreEntries, StandInsConflict, ListingIsRead};
 
+use crate::entry_words::operation_text;
 use crate::report::Report;
-use crate::words::{operation_text, unseen_text};
+use crate::words::unseen_text;
 use dsa_audit::Member;
 use dsa_descriptor::{Op, Span, op_at, u32_at, u64_at};
 use dsa_ranges::Touched;

@@ -4,20 +4,25 @@ ghost use Rattle.std.specs.Prelude.{All};
 ghost use Rattle.dsa_recording.specs.Submissions.{IsWithin};
 ghost use Rattle.dsa_recording.specs.Totals.{HasSums};
 
-use crate::answer::{AuditOptions, completeness, is_complete};
+use crate::answer::{AuditOptions, completeness, is_complete, severity_in};
 use crate::assumptions::Assumptions;
 use crate::costs::{Costs, costs_of};
-use crate::detail::{Cause, Detail, detail_of};
+use crate::detail::{Cause, Detail, detail_of, named_by};
+use crate::entry_words::descriptor_text;
 use crate::findings::{Flaw, Place};
 use crate::freed::{Freed, await_name, freed_by};
+use crate::keys::key_text;
 use crate::report::Report;
 use crate::totals::{Totals, totals_of};
-use crate::words::{Denied, Severity, severity_of};
+use crate::words::Severity;
 use dsa_audit::Unseen;
 use dsa_ranges::{Hazard, HazardKind};
 use dsa_settings::Settings;
 use serde_json::{Value, json};
 use std::alloc::{AllocError, Global};
+
+/// The version of the program that writes reports, which is that of bindings/c/dsa_planner.h.
+pub const VERSION: &str = "1.0.0";
 
 /// The name of a severity.
 fn severity_name(severity: Severity) -> &'static str {
@@ -25,6 +30,7 @@ fn severity_name(severity: Severity) -> &'static str {
         Severity::Error => "error",
         Severity::Warning => "warning",
         Severity::Note => "note",
+        Severity::Accepted => "accepted",
     }
 }
 
@@ -71,12 +77,13 @@ fn hazard_json(
     let records = records_json(alloc, detail, earlier)?;
     let (name, address) = (hazard_name(hazard.kind), hazard.address);
     let address = format!(in alloc; "0x{address:x}")?;
-    let earlier = earlier as u64;
+    let (earlier, bytes) = (earlier as u64, detail.overlap);
     json!(in alloc; {
         "kind": "missing",
         "earlier": earlier,
         "hazard": name,
         "address": address,
+        "bytes": bytes,
         "records": records
     })
 }
@@ -152,26 +159,63 @@ fn cause_json(alloc: Global, detail: &Detail, complete: bool) -> Result<Value, A
     }
 }
 
+/// The object of an entry: its number, where its bytes begin, and what it does.
+fn entry_json(alloc: Global, number: usize, entry: &[u8; 64]) -> Result<Value, AllocError> {
+    let (operation, number) = (descriptor_text(alloc, entry)?, number as u64);
+    let offset = number.saturating_mul(64);
+    json!(in alloc; {"entry": number, "offset": offset, "operation": operation})
+}
+
+/// Adds the object of the entry of this number, if there is one.
+fn push_entry(
+    alloc: Global,
+    entries: &mut Vec<Value>,
+    all: &[[u8; 64]],
+    number: usize,
+) -> Result<(), AllocError> {
+    if let Some(entry) = all.get(number) {
+        entries.push(entry_json(alloc, number, entry)?)?;
+    }
+    Ok(())
+}
+
+/// The array of the entries that a finding is of: its own, and those of the members that it names.
+fn entries_json(alloc: Global, all: &[[u8; 64]], detail: &Detail) -> Result<Value, AllocError> {
+    let mut entries = Vec::new(alloc);
+    push_entry(alloc, &mut entries, all, detail.entry)?;
+    for member in named_by(detail.cause).as_slice() {
+        let number = detail.first.saturating_add(*member);
+        if number != detail.entry {
+            push_entry(alloc, &mut entries, all, number)?;
+        }
+    }
+    Ok(Value::Array(entries))
+}
+
 /// The object of a finding.
 fn finding_json(
     alloc: Global,
+    all: &[[u8; 64]],
     detail: &Detail,
     complete: bool,
-    denied: Denied,
+    options: AuditOptions<'_>,
 ) -> Result<Value, AllocError> {
     let (entry, submission) = (detail.entry as u64, detail.submission as u64);
     let member = match (detail.place, detail.is_batch) {
         (Place::Member(member), true) => Value::from(member as u64),
         (Place::Member(_), false) | (Place::Head, true | false) => Value::Null,
     };
-    let severity = severity_name(severity_of(denied, detail.cause));
+    let severity = severity_name(severity_in(alloc, options, all, detail)?);
+    let (key, entries) = (key_text(alloc, all, detail)?, entries_json(alloc, all, detail)?);
     let what = cause_json(alloc, detail, complete)?;
     json!(in alloc; {
         "entry": entry,
         "submission": submission,
         "member": member,
         "severity": severity,
-        "what": what
+        "what": what,
+        "entries": entries,
+        "key": key
     })
 }
 
@@ -214,6 +258,11 @@ fn assumptions_json(alloc: Global, assumptions: Assumptions) -> Result<Value, Al
     json!(in alloc; {"await": awaited, "resident": resident})
 }
 
+/// The object of the program that wrote the report.
+fn tool_json(alloc: Global) -> Result<Value, AllocError> {
+    json!(in alloc; {"name": "dsa_text", "version": VERSION})
+}
+
 /// The array of how many more fences would be needless.
 fn freed_json(alloc: Global, freed: &[Freed]) -> Result<Value, AllocError> {
     let mut rows = Vec::new(alloc);
@@ -231,14 +280,14 @@ fn push_findings(
     line: &mut String,
     all: &[[u8; 64]],
     report: &Report,
-    denied: Denied,
+    options: AuditOptions<'_>,
 ) -> Result<(), AllocError> {
     let complete = completeness(alloc, report)?;
     let mut is_first = true;
     for finding in &report.findings {
         if let Some(detail) = detail_of(all, report, *finding) {
             let known = is_complete(&complete, detail.submission);
-            let value = finding_json(alloc, &detail, known, denied)?;
+            let value = finding_json(alloc, all, &detail, known, options)?;
             if !is_first {
                 line.push_str(",")?;
             }
@@ -255,7 +304,7 @@ pub(crate) fn report_json(
     all: &[[u8; 64]],
     report: &Report,
     settings: &Settings,
-    options: AuditOptions,
+    options: AuditOptions<'_>,
 ) -> Result<String, AllocError>
     requires sums { HasSums report.now }
     requires within { All (IsWithin all.now) report.now.submissions.items }
@@ -267,10 +316,12 @@ pub(crate) fn report_json(
     let costs = costs_json(alloc, &costs_of(settings, report))?;
     line.push_str(&costs.to_string(alloc)?)?;
     line.push_str(",\"findings\":[")?;
-    push_findings(alloc, &mut line, all, report, options.denied)?;
+    push_findings(alloc, &mut line, all, report, options)?;
     line.push_str("],\"freed\":")?;
     let freed = freed_by(alloc, all, report, options.assumptions)?;
     line.push_str(&freed_json(alloc, &freed)?.to_string(alloc)?)?;
+    line.push_str(",\"tool\":")?;
+    line.push_str(&tool_json(alloc)?.to_string(alloc)?)?;
     line.push_str(",\"totals\":")?;
     let totals = totals_json(alloc, &totals_of(report))?;
     line.push_str(&totals.to_string(alloc)?)?;

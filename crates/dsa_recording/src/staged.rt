@@ -46,9 +46,9 @@ fn audit_portal(
     portal: &[u8],
     dumps: &[Dump],
     settings: &Settings,
-    options: AuditOptions,
+    options: AuditOptions<'_>,
 ) -> Result<AuditAnswer, AllocError>
-    ensures { IfOk result (AnswersPortal options dumps.now portal.now) }
+    ensures { IfOk result (AnswersPortal options.entry dumps.now portal.now) }
 {
     match stage(alloc, portal, dumps) {
         Ok(stream) => audit_bytes(alloc, &stream, settings, options),
@@ -67,9 +67,9 @@ pub fn audit_staged(
     input: &[u8],
     dumps: &[Dump],
     settings: &Settings,
-    options: AuditOptions,
+    options: AuditOptions<'_>,
 ) -> Result<AuditAnswer, AllocError>
-    ensures { IfOk result (AnswersStaged options dumps.now input.now) }
+    ensures { IfOk result (AnswersStaged options.entry dumps.now input.now) }
 {
     if !is_text(input) {
         return audit_portal(alloc, input, dumps, settings, options);

@@ -1,15 +1,16 @@
 //! The words of what an audit finds.
 
-ghost use Rattle.std.specs.Prelude.{◌≡◌, ◌++◌, true, IfOk, OnOk, codes, string_bytes};
+ghost use Rattle.std.specs.Prelude.{◌≡◌, ◌++◌, true, IfOk, OnOk, codes, slice_get, string_bytes};
 ghost use Rattle.dsa_recording.specs.declared.detail.Detail.{Detail};
 ghost use Rattle.dsa_recording.specs.declared.findings.Place.TheVariants as Place;
-ghost use Rattle.dsa_recording.specs.Furthers.{code_name};
-ghost use Rattle.dsa_recording.specs.Words.{entry_words, member_words, place_words, note_unless, severity_of, severity_words, named, operation_words, unseen_words, hazard_words, guarding_words, signalling_words, both_words, repeated_words, flaw_words, needless_words, cause_words, privilege_words, owners_words, record_words, more_words, finding_words};
+ghost use Rattle.dsa_recording.specs.Details.{named_by};
+ghost use Rattle.dsa_recording.specs.EntryWords.{operation_words};
+ghost use Rattle.dsa_recording.specs.Words.{entry_words, member_words, place_words, note_unless, severity_of, severity_with, severity_words, unseen_words, hazard_words, guarding_words, signalling_words, both_words, repeated_words, flaw_words, needless_words, cause_words, privilege_words, owners_words, record_words, overlap_words, more_words, entry_line, other_line, other_lines, finding_line, finding_words};
 ghost use Rattle.dsa_audit.specs.declared.member.Unseen.TheVariants.{Owner};
 
-use crate::detail::{Cause, Detail, Records};
+use crate::detail::{Cause, Detail, Records, named_by};
 use crate::findings::{Flaw, Place};
-use crate::further::code_name;
+use crate::entry_words::{bytes_text, descriptor_text, operation_text};
 use dsa_audit::Unseen;
 use dsa_ranges::{Hazard, HazardKind};
 use std::alloc::{AllocError, Global};
@@ -23,6 +24,8 @@ pub enum Severity {
     Warning,
     /// It may be left as it is.
     Note,
+    /// It would be an error, but is known and accepted.
+    Accepted,
 }
 
 /// The notes and warnings that count as errors too.
@@ -70,6 +73,16 @@ pub fn severity_of(denied: Denied, cause: Cause) -> Severity
         Cause::NeedlessFence => note_unless(denied.needless),
         Cause::Repeated(_) => Severity::Note,
         Cause::Flawed(_) => Severity::Error,
+    }
+}
+
+/// How severe it is if its key is accepted, or is not.
+pub(crate) fn severity_with(accepted: bool, severity: Severity) -> Severity
+    ensures { result ≡ severity_with accepted severity }
+{
+    match (accepted, severity) {
+        (true, Severity::Error) => Severity::Accepted,
+        (true, Severity::Warning | Severity::Note | Severity::Accepted) | (false, _) => severity,
     }
 }
 
@@ -124,26 +137,8 @@ fn push_severity(text: &mut String, severity: Severity) -> Result<(), AllocError
         Severity::Error => text.push_str(": error: "),
         Severity::Warning => text.push_str(": warning: "),
         Severity::Note => text.push_str(": note: "),
+        Severity::Accepted => text.push_str(": accepted: "),
     }
-}
-
-/// The name of an operation code in brackets, if it has one.
-fn named(alloc: Global, code: u8) -> Result<String, AllocError>
-    ensures { IfOk result (λ s. string_bytes s ≡ named (code_name code)) }
-{
-    let name = code_name(code);
-    if name.is_empty() {
-        return Ok(String::new(alloc));
-    }
-    format!(in alloc; " ({name})")
-}
-
-/// An operation by its code, and its name if it has one.
-pub(crate) fn operation_text(alloc: Global, code: u8) -> Result<String, AllocError>
-    ensures { IfOk result (λ s. string_bytes s ≡ operation_words code) }
-{
-    let name = named(alloc, code)?;
-    format!(in alloc; "operation 0x{code:x}{name}")
 }
 
 /// That a member of this operation code is not looked at.
@@ -323,7 +318,15 @@ fn record_text(alloc: Global, records: Records, earlier: usize) -> Result<String
     }
 }
 
-/// Writes what is said after the cause: two owners, or whose completion record has the address.
+/// How many bytes conflict from the address on.
+fn overlap_text(alloc: Global, bytes: u64) -> Result<String, AllocError>
+    ensures { IfOk result (λ s. string_bytes s ≡ overlap_words bytes) }
+{
+    let count = bytes_text(alloc, bytes)?;
+    format!(in alloc; " ({count})")
+}
+
+/// Writes what is said after the cause: two owners, or how far the conflict goes and whose completion record it is in.
 fn push_more(alloc: Global, line: &mut String, detail: &Detail) -> Result<(), AllocError>
     ensures { OnOk result (string_bytes line.new ≡ string_bytes line.old ++
         more_words detail.now detail.now.cause) }
@@ -333,6 +336,7 @@ fn push_more(alloc: Global, line: &mut String, detail: &Detail) -> Result<(), Al
             line.push_str(&owners_text(alloc, detail.owner, detail.head_owner)?)
         }
         Cause::MissingFence(earlier, _) => {
+            line.push_str(&overlap_text(alloc, detail.overlap)?)?;
             line.push_str(&record_text(alloc, detail.records, earlier)?)
         }
         Cause::NotSeen(
@@ -347,19 +351,92 @@ fn push_more(alloc: Global, line: &mut String, detail: &Detail) -> Result<(), Al
     }
 }
 
-/// The line of a finding: where it is, how severe, what, and why; `complete`: no fence of its submission is missing.
-pub fn finding_text(
+/// Writes the line of a finding: where it is, how severe, what, and why; `complete`: no fence of its submission is missing.
+fn finding_line(
     alloc: Global,
     detail: &Detail,
     complete: bool,
-    denied: Denied,
+    severity: Severity,
 ) -> Result<String, AllocError>
-    ensures { IfOk result (λ s. string_bytes s ≡ finding_words denied complete detail.now) }
+    ensures { IfOk result (λ s. string_bytes s ≡ finding_line severity complete detail.now) }
 {
     let mut line = place_text(alloc, detail)?;
-    push_severity(&mut line, severity_of(denied, detail.cause))?;
+    push_severity(&mut line, severity)?;
     line.push_str(&cause_text(alloc, detail, complete)?)?;
     push_more(alloc, &mut line, detail)?;
     line.push_str("\n")?;
     Ok(line)
+}
+
+/// Writes a line of the entry of this number, if there is one.
+pub fn push_entry(
+    alloc: Global,
+    text: &mut String,
+    all: &[[u8; 64]],
+    number: usize,
+) -> Result<(), AllocError>
+    ensures { OnOk result (string_bytes text.new ≡ string_bytes text.old ++
+        entry_line number (slice_get all.now number)) }
+{
+    let Some(entry) = all.get(number) else {
+        return Ok(());
+    };
+    let (first, words) = (number as u128 * 64, descriptor_text(alloc, entry)?);
+    text.push_str(&format!(in alloc; "  entry {number}, byte {first}: {words}\n")?)
+}
+
+/// Writes a line of another member of the finding's submission.
+fn push_other(
+    alloc: Global,
+    text: &mut String,
+    all: &[[u8; 64]],
+    detail: &Detail,
+    member: usize,
+) -> Result<(), AllocError>
+    ensures { OnOk result (string_bytes text.new ≡ string_bytes text.old ++
+        other_line all.now detail.now member) }
+{
+    let number = detail.first as u128 + member as u128;
+    if number == detail.entry as u128 {
+        return Ok(());
+    }
+    match usize::try_from(number) {
+        Ok(number) => push_entry(alloc, text, all, number),
+        Err(_) => Ok(()),
+    }
+}
+
+/// Writes a line of each other member that the cause of a finding names.
+fn push_others(
+    alloc: Global,
+    text: &mut String,
+    all: &[[u8; 64]],
+    detail: &Detail,
+) -> Result<(), AllocError>
+    ensures { OnOk result (string_bytes text.new ≡ string_bytes text.old ++
+        other_lines all.now detail.now (named_by detail.now.cause)) }
+{
+    let members = named_by(detail.cause);
+    for member in members.as_slice() {
+        push_other(alloc, text, all, detail, *member)?;
+    }
+    Ok(())
+}
+
+/// The lines of a finding of this severity: where it is, what, and why; its entry, and those that it names. `complete`: no
+/// fence of its submission is missing.
+pub fn finding_text(
+    alloc: Global,
+    all: &[[u8; 64]],
+    detail: &Detail,
+    complete: bool,
+    severity: Severity,
+) -> Result<String, AllocError>
+    ensures { IfOk result (λ s. string_bytes s ≡
+        finding_words severity complete all.now detail.now) }
+{
+    let mut text = finding_line(alloc, detail, complete, severity)?;
+    push_entry(alloc, &mut text, all, detail.entry)?;
+    push_others(alloc, &mut text, all, detail)?;
+    Ok(text)
 }

@@ -7,7 +7,7 @@ use Rattle.clap.specs.declared.parser.matches.ArgMatches.{ArgMatches}
 use Rattle.dsa_plan.specs.Settings.{Limits}
 use Rattle.dsa_recording.specs.declared.answer.AuditAnswer.{AuditAnswer}
 use Rattle.dsa_recording.specs.declared.answer.AuditFormat.{AuditFormat}
-use Rattle.dsa_recording.specs.declared.answer.AuditFormat.TheVariants.{Text, Json, Picture, List as Listed}
+use Rattle.dsa_recording.specs.declared.answer.AuditFormat.TheVariants.{Text, Json, Picture, List as Listed, Keys}
 use Rattle.dsa_recording.specs.declared.assumptions.Await.{Await}
 use Rattle.dsa_recording.specs.declared.assumptions.Await.TheVariants.{Writes, Signals, Batches}
 use Rattle.dsa_recording.specs.declared.words.Denied.{Denied}
@@ -15,6 +15,7 @@ use Rattle.dsa_recording.specs.declared.answer.AuditOptions.{AuditOptions}
 use Rattle.dsa_recording.specs.declared.dumps.Dump.{Dump}
 use Rattle.dsa_recording.specs.Dumps.{AnswersStaged}
 use Rattle.dsa_recording.specs.Inputs.{AnswersInput}
+use Rattle.dsa_text.specs.declared.auditing.Given.{Given}
 use Rattle.dsa_text.specs.declared.settings.SettingsWords.{SettingsWords}
 use Rattle.dsa_text.specs.SettingsWords.{GivesSettings}
 use Rattle.dsa_text.specs.Options.{IsFlag, word_of}
@@ -65,15 +66,16 @@ awaited_in m = awaited_by (word_of m (codes "await"))
 
 -- ---- the form of the report, and the settings
 
--- the format that flags ask for: JSON, a picture, a list; else text
-abbrev pub format_of : Bool → Bool → Bool → AuditFormat
-format_of json svg list = if json then Json else (if svg then Picture else (if list then Listed else Text))
+-- the format that flags ask for: JSON, a picture, a list, the keys of errors; else text
+abbrev pub format_of : Bool → Bool → Bool → Bool → AuditFormat
+format_of json svg list keys =
+    if json then Json else (if svg then Picture else (if list then Listed else (if keys then Keys else Text)))
 
 -- it is that of the options that were given
 abbrev pub IsFormat : ArgMatches → AuditFormat → Type 0
 IsFormat m format =
-    (json svg list : Bool) × IsFlag m (codes "json") json × IsFlag m (codes "svg") svg × IsFlag m (codes "list") list
-    × (format ≡ format_of json svg list)
+    (json svg list keys : Bool) × IsFlag m (codes "json") json × IsFlag m (codes "svg") svg × IsFlag m (codes "list") list
+    × IsFlag m (codes "write-accept") keys × (format ≡ format_of json svg list keys)
 
 -- each word is the value of the option of its name; an audit has no option of transfers and of the staging area
 pub record AreAuditWords (m : ArgMatches) (w : SettingsWords) : Type 0 where
@@ -92,22 +94,22 @@ abbrev pub AnswersWith : AuditOptions → List Dump → List ℕ → AuditAnswer
 AnswersWith options [] input a = AnswersInput options input a
 AnswersWith options (d ∷ ds) input a = AnswersStaged options (d ∷ ds) input a
 
--- status 2 where the options spell no settings; else the answer to the input in the form that they name
-pub data AuditsWithOptions (m : ArgMatches) (ds : List Dump) (denied : Denied) (awaited : Await) (input : List ℕ) (a : AuditAnswer) : Type 0 where
+-- status 2 if the options spell no settings; else the answer to the input in the form that they name
+pub data AuditsWithOptions (m : ArgMatches) (g : Given) (denied : Denied) (awaited : Await) (input : List ℕ) (a : AuditAnswer) : Type 0 where
   spells_none :
       (w : SettingsWords) → AreAuditWords m w → GivesSettings w None → a.status ≡ 2 →
-      AuditsWithOptions m ds denied awaited input a
+      AuditsWithOptions m g denied awaited input a
   spells_settings :
       (w : SettingsWords) (s : Limits) (o : AuditOptions) → AreAuditWords m w → GivesSettings w (Some s) →
-      IsFormat m o.format → o.denied ≡ denied → o.assumptions.awaited ≡ awaited →
-      IsFlag m (codes "resident") o.assumptions.resident → AnswersWith o ds input a →
-      AuditsWithOptions m ds denied awaited input a
+      IsFormat m o.format → IsFlag m (codes "all") o.every → o.denied ≡ denied → o.accepted.now ≡ g.accepted.now →
+      o.assumptions.awaited ≡ awaited → IsFlag m (codes "resident") o.assumptions.resident →
+      AnswersWith o g.dumps.now input a → AuditsWithOptions m g denied awaited input a
 
--- status 2 where the option of what counts as an error, or the one of what software looks at, names something else
-abbrev pub AuditsAssuming : Option Denied → Option Await → ArgMatches → List Dump → List ℕ → AuditAnswer → Type 0
-AuditsAssuming None awaited m ds input a = a.status ≡ 2
-AuditsAssuming (Some denied) None m ds input a = a.status ≡ 2
-AuditsAssuming (Some denied) (Some awaited) m ds input a = AuditsWithOptions m ds denied awaited input a
+-- status 2 if the option of what counts as an error, or the one of what software looks at, names something else
+abbrev pub AuditsAssuming : Option Denied → Option Await → ArgMatches → Given → List ℕ → AuditAnswer → Type 0
+AuditsAssuming None awaited m g input a = a.status ≡ 2
+AuditsAssuming (Some denied) None m g input a = a.status ≡ 2
+AuditsAssuming (Some denied) (Some awaited) m g input a = AuditsWithOptions m g denied awaited input a
 
-abbrev pub AuditsInput : ArgMatches → List Dump → List ℕ → AuditAnswer → Type 0
-AuditsInput m ds input a = AuditsAssuming (denied_in m) (awaited_in m) m ds input a
+abbrev pub AuditsInput : ArgMatches → Given → List ℕ → AuditAnswer → Type 0
+AuditsInput m g input a = AuditsAssuming (denied_in m) (awaited_in m) m g input a

@@ -3,6 +3,7 @@ use Rattle.std.specs.Prelude.{ℕ, ◌≡◌, ◌⊎◌, ◌==◌, List, [], max
 use Rattle.clap.specs.declared.parser.matches.ArgMatches.{ArgMatches}
 use Rattle.dsa_recording.specs.declared.answer.AuditAnswer.{AuditAnswer}
 use Rattle.dsa_recording.specs.Forms.{IsText, SpellsBytes, SpellsNone}
+use Rattle.dsa_text.specs.declared.auditing.Given.{Given}
 use Rattle.dsa_text.specs.Audited.{AuditsInput}
 use Rattle.dsa_waits.specs.Answered.{AnswersWaits}
 
@@ -18,8 +19,8 @@ abbrev pub joined_status : ℕ → ℕ → ℕ
 joined_status report waits = if waits == 2 then 2 else max report waits
 
 -- that of the report, if it is 2; else that of both
-abbrev pub AuditsEvents : ArgMatches → List ℕ → List ℕ → AuditAnswer → Type 0
-AuditsEvents m input events a =
-    (report : AuditAnswer) × AuditsInput m [] input report
+abbrev pub AuditsEvents : ArgMatches → Given → List ℕ → List ℕ → AuditAnswer → Type 0
+AuditsEvents m g input events a =
+    (report : AuditAnswer) × AuditsInput m g input report
     × (((report.status ≡ 2) × (a.status ≡ 2))
     ⊎ ((waits : AuditAnswer) × AnswersEvents input events waits × (a.status ≡ joined_status report.status waits.status)))

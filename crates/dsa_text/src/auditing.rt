@@ -15,9 +15,18 @@ use clap::{Arg, ArgAction, ArgMatches, Command};
 use dsa_calls::PlanFault;
 use dsa_plan::Settings;
 use dsa_recording::{
-    Assumptions, AuditAnswer, AuditFormat, AuditOptions, Await, Denied, Dump, audit, audit_staged,
+    Accepted, Assumptions, AuditAnswer, AuditFormat, AuditOptions, Await, Denied, Dump, audit, audit_staged,
 };
 use std::alloc::{AllocError, Global};
+
+/// What files that options name have.
+#[derive(Clone, Copy)]
+pub(crate) struct Given<'a> {
+    /// The kinds of errors that are known.
+    pub accepted: &'a Accepted,
+    /// The dumps of memory.
+    pub dumps: &'a [Dump],
+}
 
 /// What the help of `audit` says of recordings and statuses.
 const RECORDINGS: &str =
@@ -41,6 +50,11 @@ ended. --await and --resident say what the software is known to do, and free fen
   --resident        no member can end with a page fault
 Drop needless fences of one audit together, and never with those of an audit under other options.
 
+Each finding names its entries and what they do. Of findings of one kind in like batches the first is written, and how many
+more there are; --all writes each. --write-accept writes a line for each kind of error that there is; with such a file
+--accept takes errors of these kinds as known, so that others alone make the status 1:
+  dsa_text audit --write-accept recording.bin > known.txt && dsa_text audit --accept known.txt recording.bin
+
 With --events it also reports missing waits: an entry that conflicts with one of an earlier submission of which the
 program could not know that it had ended. Each is an error.
   dsa_text audit --events NAME.PID.events NAME.PID.dsa
@@ -57,6 +71,15 @@ fn deny<'a>(alloc: Global) -> Arg<'a> {
         .value_name("KIND,..")
         .action(ArgAction::Set)
         .help("findings that are errors too: needless, guarding, signalling, unseen")
+}
+
+/// The option of the errors that are known.
+fn accept<'a>(alloc: Global) -> Arg<'a> {
+    Arg::new(alloc, "accept")
+        .long("accept")
+        .value_name("FILE")
+        .action(ArgAction::Set)
+        .help("errors of the kinds that this file has, a line each, are known and no errors")
 }
 
 /// The option of what software looks at.
@@ -90,6 +113,7 @@ fn events<'a>(alloc: Global) -> Result<Arg<'a>, AllocError> {
         .conflicts_with("json")?
         .conflicts_with("svg")?
         .conflicts_with("list")?
+        .conflicts_with("write-accept")?
         .conflicts_with("staging")
 }
 
@@ -118,6 +142,15 @@ pub(crate) fn audit_command<'a>(alloc: Global) -> Result<Command<'a>, AllocError
         .conflicts_with("json")?
         .conflicts_with("svg")?
         .conflicts_with("deny")?;
+    let all = flag(alloc, "all", "write each finding, not the first of each kind");
+    let write = flag(
+        alloc,
+        "write-accept",
+        "write the kinds of the errors, for --accept",
+    )
+    .conflicts_with("json")?
+    .conflicts_with("svg")?
+    .conflicts_with("list")?;
     let resident = flag(
         alloc,
         "resident",
@@ -128,7 +161,10 @@ pub(crate) fn audit_command<'a>(alloc: Global) -> Result<Command<'a>, AllocError
         json,
         svg,
         list,
+        all,
         deny(alloc),
+        accept(alloc),
+        write,
         awaited(alloc),
         resident,
         staging(alloc),
@@ -208,8 +244,8 @@ fn awaited_in(matches: &ArgMatches<'_>) -> Option<Await>
 }
 
 /// The format that flags ask for.
-fn format_of(json: bool, svg: bool, list: bool) -> AuditFormat
-    ensures { result ≡ format_of json svg list }
+fn format_of(json: bool, svg: bool, list: bool, keys: bool) -> AuditFormat
+    ensures { result ≡ format_of json svg list keys }
 {
     if json {
         return AuditFormat::Json;
@@ -219,6 +255,9 @@ fn format_of(json: bool, svg: bool, list: bool) -> AuditFormat
     }
     if list {
         return AuditFormat::List;
+    }
+    if keys {
+        return AuditFormat::Keys;
     }
     AuditFormat::Text
 }
@@ -230,7 +269,15 @@ fn format_in(matches: &ArgMatches<'_>) -> AuditFormat
     let json = matches.get_flag("json");
     let svg = matches.get_flag("svg");
     let list = matches.get_flag("list");
-    format_of(json, svg, list)
+    let keys = matches.get_flag("write-accept");
+    format_of(json, svg, list, keys)
+}
+
+/// Whether each finding is to be written.
+fn every_in(matches: &ArgMatches<'_>) -> bool
+    ensures { IsFlag matches.now (codes "all") result }
+{
+    matches.get_flag("all")
 }
 
 /// Whether all memory is said to be resident.
@@ -276,9 +323,9 @@ fn audit_with(
     dumps: &[Dump],
     input: &[u8],
     settings: &Settings,
-    options: AuditOptions,
+    options: AuditOptions<'_>,
 ) -> Result<AuditAnswer, AllocError>
-    ensures { IfOk result (AnswersWith options dumps.now input.now) }
+    ensures { IfOk result (AnswersWith options.entry dumps.now input.now) }
 {
     if dumps.is_empty() {
         return audit(alloc, input, settings, options);
@@ -290,37 +337,40 @@ fn audit_with(
 fn audit_denying(
     alloc: Global,
     matches: &ArgMatches<'_>,
-    dumps: &[Dump],
+    given: Given<'_>,
     denied: Denied,
     awaited: Await,
     input: &[u8],
 ) -> Result<AuditAnswer, AllocError>
-    ensures { IfOk result (AuditsWithOptions matches.now dumps.now denied awaited input.now) }
+    ensures { IfOk result (AuditsWithOptions matches.now given.entry denied awaited input.now) }
 {
     let format = format_in(matches);
     let resident = resident_in(matches);
+    let every = every_in(matches);
     let words = audit_words(matches);
     match settings_of(alloc, &words)? {
         Some(settings) => {
             let options = AuditOptions {
                 format,
+                every,
                 denied,
+                accepted: given.accepted,
                 assumptions: Assumptions { awaited, resident },
             };
-            audit_with(alloc, dumps, input, &settings, options)
+            audit_with(alloc, given.dumps, input, &settings, options)
         }
         None => refused_settings(alloc, &words),
     }
 }
 
-/// What `audit` answers of an input, dumps of memory and options.
+/// What `audit` answers of an input, options, and the files that they name.
 pub(crate) fn audit_input(
     alloc: Global,
     matches: &ArgMatches<'_>,
-    dumps: &[Dump],
+    given: Given<'_>,
     input: &[u8],
 ) -> Result<AuditAnswer, AllocError>
-    ensures { IfOk result (AuditsInput matches.now dumps.now input.now) }
+    ensures { IfOk result (AuditsInput matches.now given.entry input.now) }
 {
     let Some(denied) = denied_in(alloc, matches)? else {
         let reason =
@@ -328,7 +378,7 @@ pub(crate) fn audit_input(
         return Ok(refusal(String::from_str(alloc, reason)?));
     };
     match awaited_in(matches) {
-        Some(awaited) => audit_denying(alloc, matches, dumps, denied, awaited, input),
+        Some(awaited) => audit_denying(alloc, matches, given, denied, awaited, input),
         None => {
             let reason = "error: --await takes writes, signals or batches\n";
             Ok(refusal(String::from_str(alloc, reason)?))

@@ -28,7 +28,7 @@ mod words;
 
 use crate::answer::Answer;
 use crate::assembling::{assemble_job, assemble_list};
-use crate::auditing::{audit_command, audit_input};
+use crate::auditing::{Given, audit_command, audit_input};
 use crate::bytes::bytes_or_refusal;
 use crate::disassembling::{disassemble_list, disassemble_portal, disassemble_staging};
 use crate::dumps::dumps_in;
@@ -41,7 +41,7 @@ use crate::traced::audit_traced;
 use clap::error::ErrorKind;
 use clap::{Arg, ArgAction, ArgMatches, Command};
 use dsa_calls::PlanFault;
-use dsa_recording::is_text;
+use dsa_recording::{Accepted, AuditAnswer, VERSION, is_text};
 use dsa_report::{Stop, read_text, write_line};
 use std::alloc::{AllocError, Global};
 use std::fs::File;
@@ -52,9 +52,6 @@ use std::process::ExitCode;
 const BYTES: &str =
     "Hexadecimal as xxd, xxd -p and hexdump -v -C write it, or the bytes as they stand.
 Example: dsa_text disassemble --staging --at 0x10000 staging.hex";
-
-/// The version of the program, which is that of bindings/c/dsa_planner.h.
-const VERSION: &str = "1.0.0";
 
 /// What is said where memory was refused, which takes none.
 const NO_MEMORY: &str = "error: there was not enough memory [73 Memory]\n";
@@ -481,6 +478,38 @@ fn events_in<'a>(
     }
 }
 
+/// The errors that the options name as known, or the status if their file has none.
+fn accepted_in(
+    rt: &HostRuntime,
+    matches: &ArgMatches<'_>,
+) -> Result<Result<Accepted, ExitCode>, AllocError> {
+    let Some(file) = matches.get_str("accept") else {
+        return Ok(Ok(Accepted::none(rt.alloc())));
+    };
+    match input(rt, Some(file)) {
+        Ok(text) => match str::from_utf8(&text) {
+            Ok(lines) => Ok(Ok(Accepted::read(rt.alloc(), lines)?)),
+            Err(_) => Ok(Err(unread(rt, Some(file), "is no text in UTF-8")?)),
+        },
+        Err(NoText::Refused(fault)) => Ok(Err(failed(rt, &message_of(rt.alloc(), fault)?))),
+        Err(NoText::Failed(what)) => Ok(Err(unread(rt, Some(file), what)?)),
+    }
+}
+
+/// The answer of `audit` to this text, in the light of the files that the options name.
+fn audit_answer(
+    rt: &HostRuntime,
+    matches: &ArgMatches<'_>,
+    given: Given<'_>,
+    events: Option<(&str, Vec<u8>)>,
+    text: &[u8],
+) -> Result<AuditAnswer, AllocError> {
+    match events {
+        Some((name, events)) => audit_traced(rt.alloc(), matches, given, text, name, &events),
+        None => audit_input(rt.alloc(), matches, given, text),
+    }
+}
+
 /// Answers `audit`. Status 1 is that a fence is missing, so the report goes to standard output, and a refusal has status 2.
 fn audited(rt: &HostRuntime, matches: &ArgMatches<'_>) -> Result<ExitCode, AllocError> {
     let dumps = match dumps_in(rt, matches)? {
@@ -491,13 +520,18 @@ fn audited(rt: &HostRuntime, matches: &ArgMatches<'_>) -> Result<ExitCode, Alloc
         Ok(events) => events,
         Err(code) => return Ok(code),
     };
+    let accepted = match accepted_in(rt, matches)? {
+        Ok(accepted) => accepted,
+        Err(code) => return Ok(code),
+    };
+    let given = Given {
+        accepted: &accepted,
+        dumps: &dumps,
+    };
     let file = file_in(matches);
     match input(rt, file) {
         Ok(text) => {
-            let answer = match events {
-                Some((name, events)) => audit_traced(rt.alloc(), matches, &text, name, &events)?,
-                None => audit_input(rt.alloc(), matches, &dumps, &text)?,
-            };
+            let answer = audit_answer(rt, matches, given, events, &text)?;
             if answer.status == 2 {
                 Ok(failed(rt, &answer.text))
             } else {

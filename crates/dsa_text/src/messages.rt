@@ -8,51 +8,34 @@ use crate::words::{column_at_fault, hint_of, push_found, word_at};
 use dsa_calls::{InnerFault, PlanFault};
 use dsa_descriptor::{Indices, ListFault};
 use dsa_lines::Expected;
-use dsa_sentences::sentence_of;
+use dsa_sentences::refusal_text;
 use std::alloc::{AllocError, Global};
 
-/// The index at this place of a sentence, from 0 on.
-fn index_at(indices: Indices, place: usize) -> Option<u64> {
-    match (indices, place) {
-        (Indices::One(index), 0) => Some(index),
-        (Indices::Two(first, _), 0) => Some(first),
-        (Indices::Two(_, second), 1) => Some(second),
-        (Indices::Empty | Indices::One(_) | Indices::Two(_, _), _) => None,
+/// The first two numbers of the indices, 0 for each that is missing.
+fn numbers_of(indices: Indices) -> (u64, u64) {
+    match indices {
+        Indices::Empty => (0, 0),
+        Indices::One(index) => (index, 0),
+        Indices::Two(first, second) => (first, second),
     }
 }
 
-/// What the cause of this number means. Which descriptor it is about stands before, as the place.
-fn sentence_without_place(number: u64) -> &'static str {
-    let sentence = sentence_of(number);
-    match sentence.strip_prefix("descriptor #: ") {
-        Some(rest) => rest,
-        None => sentence,
+/// What a cause means, without the descriptor that it is about.
+fn without_place(said: &str) -> &str {
+    match said.strip_prefix("descriptor ").and_then(|rest| rest.split_once(": ")) {
+        Some((_, cause)) => cause,
+        None => said,
     }
 }
 
-/// Writes an index, where there is one.
-fn push_index(alloc: Global, text: &mut String, index: Option<u64>) -> Result<(), AllocError> {
-    match index {
-        Some(index) => text.push_str(&format!(in alloc; "{index}")?),
-        None => Ok(()),
+/// Writes the sentence of a cause with its indices. Which descriptor it is about is written before, as the place.
+fn push_sentence(text: &mut String, number: u64, indices: Indices) -> Result<(), AllocError> {
+    let (first, second) = numbers_of(indices);
+    let said = refusal_text(number as u32, 0, first, second);
+    match str::from_utf8(said.as_slice()) {
+        Ok(said) => text.push_str(without_place(said)),
+        Err(_) => Ok(()),
     }
-}
-
-/// Writes the sentence of a cause with its indices.
-fn push_sentence(
-    alloc: Global,
-    text: &mut String,
-    number: u64,
-    indices: Indices,
-) -> Result<(), AllocError> {
-    for sign in sentence_without_place(number).chars() {
-        match sign {
-            '#' => push_index(alloc, text, index_at(indices, 0))?,
-            '$' => push_index(alloc, text, index_at(indices, 1))?,
-            _ => text.push(sign)?,
-        }
-    }
-    Ok(())
 }
 
 /// Writes what the refusal means, and the operation that it is about.
@@ -60,17 +43,17 @@ fn push_cause(alloc: Global, text: &mut String, fault: PlanFault) -> Result<(), 
     if let PlanFault::List(ListFault::Field(index, _) | ListFault::MixedPasid(index)) = fault {
         text.push_str(&format!(in alloc; "operation {index}: ")?)?;
     }
-    push_sentence(alloc, text, fault.number(), fault.indices())?;
-    if let Some(inner) = fault.inner() {
-        push_inner(alloc, text, inner)?;
+    push_sentence(text, fault.number(), fault.indices())?;
+    match fault.inner() {
+        Some(inner) => push_inner(text, inner),
+        None => Ok(()),
     }
-    Ok(())
 }
 
 /// Writes the cause within.
-fn push_inner(alloc: Global, text: &mut String, inner: InnerFault) -> Result<(), AllocError> {
+fn push_inner(text: &mut String, inner: InnerFault) -> Result<(), AllocError> {
     text.push_str(": ")?;
-    push_sentence(alloc, text, u64::from(inner.number()), inner.indices())
+    push_sentence(text, u64::from(inner.number()), inner.indices())
 }
 
 /// Writes a space and a number.

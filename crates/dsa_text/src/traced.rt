@@ -3,7 +3,7 @@
 ghost use Rattle.std.specs.Prelude.{◌≡◌, [], IfOk};
 ghost use Rattle.dsa_text.specs.Traced.{AnswersEvents, AuditsEvents, joined_status};
 
-use crate::auditing::audit_input;
+use crate::auditing::{Given, audit_input};
 use clap::ArgMatches;
 use dsa_recording::{AuditAnswer, BytesFault, bytes_of_input, is_text};
 use dsa_waits::answer_waits;
@@ -51,13 +51,14 @@ fn joined(
 pub(crate) fn audit_traced(
     alloc: Global,
     matches: &ArgMatches<'_>,
+    given: Given<'_>,
     input: &[u8],
     file: &str,
     events: &[u8],
 ) -> Result<AuditAnswer, AllocError>
-    ensures { IfOk result (AuditsEvents matches.now input.now events.now) }
+    ensures { IfOk result (AuditsEvents matches.now given.entry input.now events.now) }
 {
-    let report = audit_input(alloc, matches, &[], input)?;
+    let report = audit_input(alloc, matches, given, input)?;
     if report.status == 2 {
         return Ok(report);
     }

@@ -21,10 +21,14 @@ fn misses_none(waits: &[Option<usize>]) -> bool
 }
 
 /// The answer of what was found.
-fn found_answer(alloc: Global, found: &Found) -> Result<AuditAnswer, AllocError>
+fn found_answer(
+    alloc: Global,
+    all: &[[u8; 64]],
+    found: &Found,
+) -> Result<AuditAnswer, AllocError>
     ensures { IfOk result (λ a. IsStatusOf found.now.waits.items a.status) }
 {
-    let text = waits_text(alloc, found)?;
+    let text = waits_text(alloc, all, found)?;
     if misses_none(&found.waits) {
         return Ok(AuditAnswer { text, status: 0 });
     }
@@ -46,7 +50,7 @@ pub fn answer_waits(alloc: Global, bytes: &[u8], text: &[u8]) -> Result<AuditAns
     };
     let (all, _) = bytes.as_chunks::<64>();
     match find_waits(alloc, all, &submissions, text) {
-        Ok(found) => found_answer(alloc, &found),
+        Ok(found) => found_answer(alloc, all, &found),
         Err(fault) => {
             let text = fault_text(alloc, fault)?;
             Ok(AuditAnswer { text, status: 2 })

@@ -8,6 +8,7 @@ use crate::event::Event;
 use crate::fitting::{Found, Misfit, WaitsFault};
 use dsa_audit::hazard_between;
 use dsa_ranges::{Hazard, HazardKind};
+use dsa_recording::{bytes_text, overlap, push_entry};
 use std::alloc::{AllocError, Global};
 
 /// An entry: its number, its submission and what it is there.
@@ -41,9 +42,10 @@ fn hazard_text(alloc: Global, earlier: &str, hazard: Hazard) -> Result<String, A
     }
 }
 
-/// The line of a missing wait.
+/// The lines of a missing wait: what it is, and both entries.
 fn wait_text(
     alloc: Global,
+    all: &[[u8; 64]],
     course: &Course,
     earlier: usize,
     later: usize,
@@ -57,7 +59,12 @@ fn wait_text(
     let place = place_text(alloc, course, later)?;
     let other = place_text(alloc, course, earlier)?;
     let what = hazard_text(alloc, &other, hazard)?;
-    format!(in alloc; "{place}: error: missing wait, {what}\n")
+    let bytes = overlap(hazard, &course.members[earlier], &course.members[later]);
+    let count = bytes_text(alloc, bytes)?;
+    let mut text = format!(in alloc; "{place}: error: missing wait, {what} ({count})\n")?;
+    push_entry(alloc, &mut text, all, later)?;
+    push_entry(alloc, &mut text, all, earlier)?;
+    Ok(text)
 }
 
 /// Whether some event says that the program has looked at a record.
@@ -75,12 +82,16 @@ const ALL_KNOWN: &str =
     "no event says when the program looked at a record (K): it is taken to know of an end at once\n";
 
 /// The lines of all missing waits, and how many there are.
-pub(crate) fn waits_text(alloc: Global, found: &Found) -> Result<String, AllocError> {
+pub(crate) fn waits_text(
+    alloc: Global,
+    all: &[[u8; 64]],
+    found: &Found,
+) -> Result<String, AllocError> {
     let mut text = String::new(alloc);
     let mut missing: usize = 0;
     for (later, wait) in found.waits.iter().enumerate() {
         if let Some(earlier) = *wait {
-            text.push_str(&wait_text(alloc, &found.course, earlier, later)?)?;
+            text.push_str(&wait_text(alloc, all, &found.course, earlier, later)?)?;
             missing = missing.saturating_add(1);
         }
     }

@@ -1,4 +1,6 @@
-use Rattle.std.proofs.Common.{arith}
+use Rattle.std.proofs.Common.{arith, subst, sym}
+use Rattle.dsa_recording.specs.Answers.{ArePlaced}
+use Rattle.dsa_recording.proofs.Found.{report_placed}
 use Rattle.dsa_recording.proofs.ListingLines.{report_entries}
 use Rattle.dsa_recording.proofs.Status.{reported}
 use Rattle.dsa_recording.proofs.Summed.{has_sums}
@@ -14,6 +16,11 @@ answer_report-requires-clause-entries c = report_entries c.args.options.assumpti
 pub answer_report-requires-clause-within : goal.answer_report-requires-clause-within
 answer_report-requires-clause-within c =
     within c.args.bytes.now c.as_chunks.result.0.now c.in-Ok.report.submissions.items c.as_chunks.ensures.front c.in-Ok.ensures.answer.submissions
+
+pub answer_report-requires-clause-placed : goal.answer_report-requires-clause-placed
+answer_report-requires-clause-placed c =
+    subst (λ es. ArePlaced es c.in-Ok.report) (sym c.as_chunks.ensures.front)
+    (report_placed c.args.options.assumptions c.args.bytes.now c.in-Ok.report c.in-Ok.ensures.answer)
 
 pub returns-in-Ok : goal.returns-in-Ok
 returns-in-Ok c =

@@ -1,0 +1,71 @@
+//! Findings that are accepted.
+
+ghost use Rattle.std.specs.Prelude.{◌≡◌, ◌↔◌, ℕ, List, false, IfOk, IsTrue};
+ghost use Rattle.dsa_recording.specs.Accepted.{AcceptsLines, IsAccepted, has_key};
+ghost use Rattle.dsa_recording.specs.Details.{IsPlaced};
+
+use crate::detail::detail_of;
+use crate::findings::Finding;
+use crate::keys::key_text;
+use crate::report::Report;
+use std::alloc::{AllocError, Global};
+use std::collections::BTreeSet;
+
+/// The keys of the findings that are accepted: they are no errors.
+#[derive(Drop)]
+pub struct Accepted {
+    /// The keys.
+    pub keys: BTreeSet<String>,
+}
+
+impl Accepted {
+    /// None.
+    pub fn none(alloc: Global) -> Accepted
+        ensures { (key : List ℕ) → has_key result key ≡ false }
+    {
+        Accepted {
+            keys: BTreeSet::new(alloc),
+        }
+    }
+
+    /// Those whose keys are the lines of the text. Other lines, as comments, are no keys, and change nothing.
+    pub fn read(alloc: Global, text: &str) -> Result<Accepted, AllocError>
+        ensures { IfOk result (AcceptsLines text.now) }
+    {
+        let mut keys = BTreeSet::new(alloc);
+        let mut rest = text;
+        while let Some((line, after)) = rest.split_once('\n') {
+            keys.insert(String::from_str(alloc, line)?)?;
+            rest = after;
+        }
+        keys.insert(String::from_str(alloc, rest)?)?;
+        Ok(Accepted { keys })
+    }
+
+    /// Whether the key is accepted.
+    pub fn has(&self, key: &str) -> bool
+        ensures { result ≡ has_key self.now key.now }
+    {
+        self.keys.contains(key)
+    }
+}
+
+/// Whether a finding of a report on these entries is accepted.
+pub(crate) fn is_accepted(
+    alloc: Global,
+    accepted: &Accepted,
+    all: &[[u8; 64]],
+    report: &Report,
+    finding: Finding,
+) -> Result<bool, AllocError>
+    requires { IsPlaced all.now report.now finding }
+    ensures { IfOk result (λ yes. IsTrue yes ↔ IsAccepted accepted.now all.now report.now finding) }
+{
+    match detail_of(all, report, finding) {
+        Some(detail) => {
+            let key = key_text(alloc, all, &detail)?;
+            Ok(accepted.has(&key))
+        }
+        None => Ok(false),
+    }
+}

@@ -1,0 +1,199 @@
+//! What findings of one kind have in common.
+
+ghost use Rattle.std.specs.Prelude.{◌≡◌, ◌++◌, IfOk, OnOk, codes, slice_get, string_bytes};
+ghost use Rattle.dsa_recording.specs.Details.{named_by};
+ghost use Rattle.dsa_recording.specs.Furthers.{code_name};
+ghost use Rattle.dsa_recording.specs.Keys.{batch_key, cause_key, entry_key, flaw_key, hazard_key, key_words, member_key, name_or_code, operation_name, other_key, others_key, place_key};
+
+use crate::detail::{Cause, Detail, named_by};
+use crate::entry_words::operation_text;
+use crate::findings::{Flaw, Place};
+use crate::further::code_name;
+use crate::words::unseen_text;
+use dsa_descriptor::u32_at;
+use dsa_ranges::HazardKind;
+use std::alloc::{AllocError, Global};
+
+/// The name of an operation that no plan has, or its code if it has none.
+fn name_or_code(alloc: Global, code: u8) -> Result<String, AllocError>
+    ensures { IfOk result (λ s. string_bytes s ≡ name_or_code code (code_name code)) }
+{
+    let name = code_name(code);
+    if name.is_empty() {
+        return operation_text(alloc, code);
+    }
+    String::from_str(alloc, name)
+}
+
+/// The name of an operation.
+fn operation_name(alloc: Global, code: u8) -> Result<String, AllocError>
+    ensures { IfOk result (λ s. string_bytes s ≡ operation_name code) }
+{
+    match code {
+        0x01 => String::from_str(alloc, "batch"),
+        0x03 => String::from_str(alloc, "move"),
+        0x04 => String::from_str(alloc, "fill"),
+        0x05 => String::from_str(alloc, "compare"),
+        0x06 => String::from_str(alloc, "compare pattern"),
+        0x08 => String::from_str(alloc, "delta"),
+        0x09 => String::from_str(alloc, "dualcast"),
+        _ => name_or_code(alloc, code),
+    }
+}
+
+/// The operation of the entry of this number, and its size.
+fn entry_key(alloc: Global, all: &[[u8; 64]], number: usize) -> Result<String, AllocError>
+    ensures { IfOk result (λ s. string_bytes s ≡ entry_key (slice_get all.now number)) }
+{
+    let Some(entry) = all.get(number) else {
+        return Ok(String::new(alloc));
+    };
+    let (code, size) = (u32_at(entry, 4) >> 24, u32_at(entry, 32));
+    let name = operation_name(alloc, code as u8)?;
+    format!(in alloc; "{name}, {size} bytes")
+}
+
+/// A member of a submission whose first member is entry `first`.
+fn member_key(
+    alloc: Global,
+    all: &[[u8; 64]],
+    first: usize,
+    member: usize,
+) -> Result<String, AllocError>
+    ensures { IfOk result (λ s. string_bytes s ≡ member_key all.now first member) }
+{
+    let key = entry_key(alloc, all, first.saturating_add(member))?;
+    format!(in alloc; "; member {member}: {key}")
+}
+
+/// A batch of so many members.
+fn batch_key(alloc: Global, size: usize) -> Result<String, AllocError>
+    ensures { IfOk result (λ s. string_bytes s ≡ batch_key size) }
+{
+    format!(in alloc; "; batch of {size}")
+}
+
+/// A member of a batch of so many members.
+fn batch_member_key(
+    alloc: Global,
+    all: &[[u8; 64]],
+    detail: &Detail,
+    member: usize,
+) -> Result<String, AllocError>
+    ensures { IfOk result (λ s. string_bytes s ≡
+        batch_key detail.now.size ++ member_key all.now detail.now.first member) }
+{
+    let mut text = batch_key(alloc, detail.size)?;
+    text.push_str(&member_key(alloc, all, detail.first, member)?)?;
+    Ok(text)
+}
+
+/// Writes what the finding is of.
+fn push_place(
+    alloc: Global,
+    text: &mut String,
+    all: &[[u8; 64]],
+    detail: &Detail,
+) -> Result<(), AllocError>
+    ensures { OnOk result (string_bytes text.new ≡ string_bytes text.old ++
+        place_key all.now detail.now detail.now.is_batch detail.now.place) }
+{
+    match (detail.place, detail.is_batch) {
+        (Place::Head, true | false) => text.push_str(&batch_key(alloc, detail.size)?),
+        (Place::Member(member), true) => {
+            text.push_str(&batch_member_key(alloc, all, detail, member)?)
+        }
+        (Place::Member(_), false) => {
+            text.push_str("; lone: ")?;
+            text.push_str(&entry_key(alloc, all, detail.first)?)
+        }
+    }
+}
+
+/// Writes another member that the cause names.
+fn push_other(
+    alloc: Global,
+    text: &mut String,
+    all: &[[u8; 64]],
+    detail: &Detail,
+    member: usize,
+) -> Result<(), AllocError>
+    ensures { OnOk result (string_bytes text.new ≡ string_bytes text.old ++
+        other_key all.now detail.now member) }
+{
+    if detail.first as u128 + member as u128 == detail.entry as u128 {
+        return Ok(());
+    }
+    text.push_str(&member_key(alloc, all, detail.first, member)?)
+}
+
+/// Writes the members that the cause names.
+fn push_others(
+    alloc: Global,
+    text: &mut String,
+    all: &[[u8; 64]],
+    detail: &Detail,
+) -> Result<(), AllocError>
+    ensures { OnOk result (string_bytes text.new ≡ string_bytes text.old ++
+        others_key all.now detail.now (named_by detail.now.cause)) }
+{
+    let members = named_by(detail.cause);
+    for member in members.as_slice() {
+        push_other(alloc, text, all, detail, *member)?;
+    }
+    Ok(())
+}
+
+/// A missing fence, by the kind of its hazard.
+fn hazard_key(kind: HazardKind) -> &'static str
+    ensures { result.now ≡ hazard_key kind }
+{
+    match kind {
+        HazardKind::ReadAfterWrite => "missing fence, read after write",
+        HazardKind::WriteAfterRead => "missing fence, write after read",
+        HazardKind::WriteAfterWrite => "missing fence, write after write",
+    }
+}
+
+/// What else is wrong.
+fn flaw_key(flaw: Flaw) -> &'static str
+    ensures { result.now ≡ flaw_key flaw }
+{
+    match flaw {
+        Flaw::SharedRecord(_) => "shared record",
+        Flaw::OverwritesBatch => "overwrites its batch",
+        Flaw::DataOverRecord => "data over its own completion record",
+        Flaw::MisalignedRecord => "misaligned record",
+        Flaw::SmallBatch(_) => "small batch",
+        Flaw::FenceWithoutEffect => "fence without effect",
+    }
+}
+
+/// What is found.
+fn cause_key(alloc: Global, code: u8, cause: Cause) -> Result<String, AllocError>
+    ensures { IfOk result (λ s. string_bytes s ≡ cause_key code cause) }
+{
+    match cause {
+        Cause::NotSeen(why) => unseen_text(alloc, why, code),
+        Cause::MissingFence(_, hazard) => String::from_str(alloc, hazard_key(hazard.kind)),
+        Cause::GuardingFence(_) => String::from_str(alloc, "guarding fence"),
+        Cause::SignallingFence(_) => String::from_str(alloc, "signalling fence"),
+        Cause::GuardingAndSignallingFence(_, _) => {
+            String::from_str(alloc, "guarding and signalling fence")
+        }
+        Cause::NeedlessFence => String::from_str(alloc, "needless fence"),
+        Cause::Repeated(_) => String::from_str(alloc, "repeated operation"),
+        Cause::Flawed(flaw) => String::from_str(alloc, flaw_key(flaw)),
+    }
+}
+
+/// The key of a finding in these entries: what it is, of which operations, in a submission of how many members. It has no
+/// address, so findings of one kind in like batches have one key, in another run too.
+pub fn key_text(alloc: Global, all: &[[u8; 64]], detail: &Detail) -> Result<String, AllocError>
+    ensures { IfOk result (λ s. string_bytes s ≡ key_words all.now detail.now) }
+{
+    let mut text = cause_key(alloc, detail.code, detail.cause)?;
+    push_place(alloc, &mut text, all, detail)?;
+    push_others(alloc, &mut text, all, detail)?;
+    Ok(text)
+}

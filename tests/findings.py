@@ -1,0 +1,217 @@
+"""What `dsa_text audit` says of each finding of random recordings, typed from docs/FORMATS.md: the entries that it is of and
+what they do, how many bytes conflict, its key; that a text has the first finding of each key, and with --all each; and that
+--write-accept names the errors, and --accept those that are known. A number is how many recordings are judged, 200
+without one."""
+
+import json
+import struct
+import subprocess
+import tempfile
+from collections import Counter
+from pathlib import Path
+
+import audit
+import common
+from audit import (
+    CHECK, COMPARE, COPY_CRC, CRC, CREATE, DELTA, DRAIN, DUALCAST, FETCH, FILL, FLUSH, INSERT, MOVE, PATTERN, STRIP, UPDATE,
+    Maker, data_of, further_data,
+)
+from common import named, program, run_test
+
+COUNT = 200
+NAMES = {
+    0: "no-op", 1: "batch", MOVE: "move", FILL: "fill", COMPARE: "compare", PATTERN: "compare pattern", DELTA: "delta",
+    DUALCAST: "dualcast", DRAIN: "drain", CREATE: "create delta", FETCH: "translation fetch", CRC: "CRC",
+    COPY_CRC: "copy with CRC", CHECK: "DIF check", INSERT: "DIF insert", STRIP: "DIF strip", UPDATE: "DIF update",
+    0x17: "DIX generate", FLUSH: "cache flush",
+}
+KINDS = {"guarding": "guarding fence", "signalling": "signalling fence", "needless": "needless fence"}
+KINDS |= {"guarding and signalling": "guarding and signalling fence", "data over record": "data over its own completion record"}
+KINDS |= {"overwrites batch": "overwrites its batch"}
+WHY = audit.WHY
+
+
+def run(recording, *words):
+    """The status and the output of an audit."""
+    ran = subprocess.run([TEXT, "audit", *words], input=recording, capture_output=True, text=False)
+    common.expect(ran.returncode in (0, 1), f"audit {words} ends with {ran.returncode}: {ran.stderr[:300]}")
+    return ran.returncode, ran.stdout.decode()
+
+
+def code_words(code):
+    return f"operation {code:#x}" + (f" ({NAMES[code]})" if code in audit.NAMED else "")
+
+
+def operation(it):
+    """What an entry does, with its operands."""
+    _, word, _, first, second, size = struct.unpack_from("<IIQQQI", it)
+    code, own, seed = word >> 24, int.from_bytes(it[40:48], "little"), int.from_bytes(it[48:56], "little")
+    copy, at_seed = f"{first:#x} -> {second:#x}, {size} bytes", f", seed at {seed:#x}" if word & 0x010000 else ""
+    known = {
+        0: "no-op", 1: f"batch of {size} at {first:#x}", MOVE: f"move {copy}",
+        FILL: f"fill {second:#x} with {it[16:24].hex()}, {size} bytes",
+        COMPARE: f"compare {first:#x} with {second:#x}, {size} bytes, expect {it[40]}",
+        PATTERN: f"compare {first:#x} with pattern {it[24:32].hex()}, {size} bytes, expect {it[40]}",
+        DELTA: f"delta {first:#x}, {own & 0xFFFFFFFF} bytes -> {second:#x}, {size} bytes",
+        DUALCAST: f"dualcast {first:#x} -> {second:#x} and {own:#x}, {size} bytes",
+    }
+    if code in known:
+        return known[code]
+    if further_data(it) is None:
+        return code_words(code)
+    return {
+        DRAIN: "drain", FETCH: "translation fetch", CREATE: f"create delta {first:#x} with {second:#x} -> {own:#x}, {size} bytes",
+        CRC: f"CRC {first:#x}, {size} bytes{at_seed}", COPY_CRC: f"copy with CRC {copy}{at_seed}",
+        CHECK: f"DIF check {first:#x}, {size} bytes", INSERT: f"DIF insert {copy}", STRIP: f"DIF strip {copy}",
+        UPDATE: f"DIF update {copy}", FLUSH: f"cache flush {second:#x}, {size} bytes",
+    }[code]
+
+
+def overlap(earlier, later, hazard, address):
+    """How many bytes from the address on are in both: of each the first span that has the address counts."""
+    (reads, writes), (reads2, writes2) = data_of(earlier), data_of(later)
+    one, other = {
+        "read after write": (writes, reads2), "write after read": (reads, writes2), "write after write": (writes, writes2),
+    }[hazard]
+    ends = [next(it.stop for it in spans if address in it) for spans in (one, other)]
+    return min(ends) - address
+
+
+def others(what):
+    """The other members that a finding names."""
+    return [what[name] for name in ("earlier", "awaited") if name in what]
+
+
+def key_of(what, entries, place, first, size):
+    """The key of a finding of a submission of so many members, of which entry `first` is the first one."""
+    kind = what["kind"]
+    text = KINDS.get(kind, kind)
+    if kind == "missing":
+        text = f"missing fence, {what['hazard']}"
+    if kind == "unseen":
+        text = "not looked at: " + (code_words(what["operation"]) if what["why"] == "operation" else WHY[what["why"]])
+
+    def member(k):
+        it = entries[first + k]
+        return f"{NAMES.get(it[7]) or code_words(it[7])}, {struct.unpack_from('<I', it, 32)[0]} bytes"
+
+    if place == "head":
+        return f"{text}; batch of {size}"
+    if place == "lone":
+        return f"{text}; lone: {member(0)}" + "".join(f"; member {k}: {member(k)}" for k in others(what) if k)
+    named = [place, *(k for k in others(what) if k != place)]
+    return f"{text}; batch of {size}" + "".join(f"; member {k}: {member(k)}" for k in named)
+
+
+def placed(entries):
+    """The submissions of a recording: whether each is a batch, its first member, and how many it has."""
+    at = 0
+    while at < len(entries):
+        is_batch = entries[at][7] == 1
+        size = struct.unpack_from("<I", entries[at], 32)[0] if is_batch else 1
+        yield is_batch, at + is_batch, size
+        at += size + is_batch
+
+
+def judge(recording, name):
+    """Judges what is said of the findings of a recording, and answers their keys and whether they are errors."""
+    entries, keys = [recording[k : k + 64] for k in range(0, len(recording), 64)], []
+    report = json.loads(run(recording, "--json")[1])
+    version = "1.0.0"
+    common.expect(report["tool"] == {"name": "dsa_text", "version": version}, f"{name}: the tool is {report['tool']}")
+    where = [*placed(entries)]
+    for finding in report["findings"]:
+        is_batch, first, size = where[finding["submission"]]
+        what, at, k = finding["what"], finding["entry"], finding["member"]
+        place = ("head" if is_batch and k is None else "lone" if k is None else k)
+        numbers = [at, *(first + other for other in others(what) if place != "head" and first + other != at)]
+        wanted = [{"entry": n, "offset": 64 * n, "operation": operation(entries[n])} for n in numbers]
+        common.expect(finding["entries"] == wanted, f"{name}: {finding} is of {wanted}")
+        if what["kind"] == "missing":
+            address = int(what["address"], 16)
+            count = overlap(entries[first + what["earlier"]], entries[at], what["hazard"], address)
+            common.expect(what["bytes"] == count, f"{name}: {finding} conflicts in {count} bytes")
+        key = key_of(what, entries, place, first, size)
+        common.expect(finding["key"] == key, f"{name}: {finding} has the key {key!r}")
+        keys.append((key, finding["severity"], wanted))
+    return keys
+
+
+def told(text):
+    """The findings of a text: the line of each, its entries, and how many more are like it."""
+    found = []
+    for line in text.splitlines():
+        if line.startswith("entry "):
+            found.append([line, [], 0])
+        elif line.startswith("  entry "):
+            found[-1][1].append(line)
+        elif line.startswith("  and "):
+            found[-1][2] = int(line.split()[1])
+    return found
+
+
+def texts(recording, keys, name):
+    """Of findings with one key the first is written, and how many more there are; with --all each is."""
+    lines = [[f"  entry {it['entry']}, byte {it['offset']}: {it['operation']}" for it in entries] for _, _, entries in keys]
+    every = told(run(recording, "--all")[1])
+    common.expect([entries for _, entries, _ in every] == lines, f"{name}: with --all {every}")
+    common.expect(not any(more for *_, more in every), f"{name}: with --all some are left out")
+    count = Counter(key for key, *_ in keys)
+    firsts = {key: k for k, (key, *_) in reversed([*enumerate(keys)])}
+    wanted = [[every[k][0], lines[k], count[key] - 1] for k, (key, *_) in enumerate(keys) if firsts[key] == k]
+    common.expect(told(run(recording)[1]) == wanted, f"{name}: folded {run(recording)[1]}")
+
+
+def accepting(recording, keys, folder, name):
+    """The keys of the errors are written, and errors with a key that is accepted are none."""
+    errors = [*dict.fromkeys(key for key, severity, _ in keys if severity == "error")]
+    status, text = run(recording, "--write-accept")
+    common.expect((status, text) == (0, "".join(f"{key}\n" for key in errors)), f"{name}: the errors are {text}")
+    for known in (errors, errors[:-1], errors[1:], ["# of last week", "", *errors[::2]]):
+        path = Path(folder, "known.txt")
+        path.write_text("\n".join(known) + "\n" * (len(known) % 2))
+        status, text = run(recording, "--json", "--accept", str(path))
+        wanted = ["accepted" if it == "error" and key in known else it for key, it, _ in keys]
+        severities = [finding["severity"] for finding in json.loads(text)["findings"]]
+        common.expect((severities, status) == (wanted, int("error" in wanted)), f"{name}, accepting {known}: {severities}, {status}")
+        left = run(recording, "--write-accept", "--accept", str(path))[1]
+        common.expect(left.splitlines() == [key for key in errors if key not in known], f"{name}: left are {left}")
+
+
+def brute_force():
+    """Random recordings, also one after another with all that is in them."""
+    folded = 0
+    with tempfile.TemporaryDirectory() as folder:
+        for seed in range(COUNT):
+            maker = Maker(seed)
+            recording = maker.recording() * (1 + maker.random.randrange(3))
+            keys = judge(recording, f"seed {seed}")
+            texts(recording, keys, f"seed {seed}")
+            accepting(recording, keys, folder, f"seed {seed}")
+            folded += len(keys) - len({key for key, *_ in keys})
+    common.expect(folded > COUNT, f"only {folded} findings were folded")
+
+
+def unread():
+    """A file of accepted keys that is missing or no text is refused."""
+    with tempfile.TemporaryDirectory() as folder:
+        path = Path(folder, "known")
+        for bad in (None, b"\xff\xfe"):
+            if bad:
+                path.write_bytes(bad)
+            ran = subprocess.run([TEXT, "audit", "--accept", path], input=b"", capture_output=True, text=True)
+            said = "is no text in UTF-8" if bad else "can't be opened: there is no such file"
+            common.expect((ran.returncode, ran.stdout, ran.stderr) == (2, "", f"error: {path} {said}\n"), f"{bad}: {ran}")
+
+
+def main(words):
+    global TEXT, COUNT
+    TEXT = program("dsa_text")
+    numbers = [int(word) for word in words if word.isdigit()]
+    COUNT = numbers[-1] if numbers else COUNT
+    for part in named([brute_force, unread], [it for it in words if not it.isdigit()]):
+        part()
+
+
+if __name__ == "__main__":
+    run_test(main)

@@ -22,7 +22,10 @@ fn numbers_of(indices: Indices) -> (u64, u64) {
 
 /// What a cause means, without the descriptor that it is about.
 fn without_place(said: &str) -> &str {
-    match said.strip_prefix("descriptor ").and_then(|rest| rest.split_once(": ")) {
+    match said
+        .strip_prefix("descriptor ")
+        .and_then(|rest| rest.split_once(": "))
+    {
         Some((_, cause)) => cause,
         None => said,
     }

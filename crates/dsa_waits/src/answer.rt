@@ -21,11 +21,7 @@ fn misses_none(waits: &[Option<usize>]) -> bool
 }
 
 /// The answer of what was found.
-fn found_answer(
-    alloc: Global,
-    all: &[[u8; 64]],
-    found: &Found,
-) -> Result<AuditAnswer, AllocError>
+fn found_answer(alloc: Global, all: &[[u8; 64]], found: &Found) -> Result<AuditAnswer, AllocError>
     ensures { IfOk result (λ a. IsStatusOf found.now.waits.items a.status) }
 {
     let text = waits_text(alloc, all, found)?;

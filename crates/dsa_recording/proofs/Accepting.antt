@@ -52,7 +52,7 @@ key_added text rest line after q old new e differ is so_far =
     let lines : lines_of rest ≡ line ∷ lines_of after = ap lines_of e ∙ lines_cut line after differ in
     let any : is_line_of q rest ≡ (bytes_eq line q || is_line_of q after) = ap (list_any (λ other. bytes_eq other q)) lines in
     let step : (new || is_line_of q after) ≡ (old || (bytes_eq line q || is_line_of q after)) =
-        ap (λ (b : Bool). b || is_line_of q after) is ∙ swap (bytes_eq line q) old (is_line_of q after) in
+    ap (λ (b : Bool). b || is_line_of q after) is ∙ swap (bytes_eq line q) old (is_line_of q after) in
     step ∙ (ap (λ (b : Bool). old || b) (sym any) ∙ so_far)
 
 -- with the last one, all lines are keys

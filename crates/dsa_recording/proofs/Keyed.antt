@@ -153,13 +153,17 @@ named_by_kind (cause.Flawed flaw) = refl
 one_cause : (ms : List KnownMember) (place : Place) (kind : FindingKind) (c d : Cause) → IsCause ms place kind c → IsCause ms place kind d
     → (kind_of c ≡ kind_of d) × (hazard_of c ≡ hazard_of d)
 one_cause ms Head kind c d (of, is) (of', is') =
-    let same : kind_of c ≡ kind_of d = is ∙ sym is' in
-    (same, one_hazard ms 0 (kind_of c) (hazard_of c) (hazard_of d) (suits_head ms c (subst IsOfHead (sym is) of))
-    (subst (λ (z : FindingKind). Suits ms 0 z (hazard_of d)) (sym same) (suits_head ms d (subst IsOfHead (sym is') of'))))
+    let same : kind_of c ≡ kind_of d = is ∙ sym is' in (
+      same,
+      one_hazard ms 0 (kind_of c) (hazard_of c) (hazard_of d) (suits_head ms c (subst IsOfHead (sym is) of))
+          (subst (λ (z : FindingKind). Suits ms 0 z (hazard_of d)) (sym same) (suits_head ms d (subst IsOfHead (sym is') of'))),
+    )
 one_cause ms (Member k) kind c d (is, has) (is', has') =
-    let same : kind_of c ≡ kind_of d = is ∙ sym is' in
-    (same, one_hazard ms k (kind_of c) (hazard_of c) (hazard_of d) (suits_member ms k c has)
-    (subst (λ (z : FindingKind). Suits ms k z (hazard_of d)) (sym same) (suits_member ms k d has')))
+    let same : kind_of c ≡ kind_of d = is ∙ sym is' in (
+      same,
+      one_hazard ms k (kind_of c) (hazard_of c) (hazard_of d) (suits_member ms k c has)
+          (subst (λ (z : FindingKind). Suits ms k z (hazard_of d)) (sym same) (suits_member ms k d has')),
+    )
 
 -- ---- of a finding
 
@@ -187,12 +191,12 @@ same_key : (es : List (List ℕ)) (d e : Detail) → d.entry ≡ e.entry → d.c
     → d.place ≡ e.place → kind_of d.cause ≡ kind_of e.cause → hazard_of d.cause ≡ hazard_of e.cause → key_words es d ≡ key_words es e
 same_key es d e entry code first size is_batch place kinds hazards =
     let key : cause_key d.code d.cause ≡ cause_key e.code e.cause = key_by_kind d.code d.cause
-        ∙ (by_kinds d.code e.code (kind_of d.cause) (kind_of e.cause) (hazard_of d.cause) (hazard_of e.cause) code kinds hazards ∙ sym (key_by_kind e.code e.cause)) in
+    ∙ (by_kinds d.code e.code (kind_of d.cause) (kind_of e.cause) (hazard_of d.cause) (hazard_of e.cause) code kinds hazards ∙ sym (key_by_kind e.code e.cause)) in
     let named : named_by d.cause ≡ named_by e.cause = named_by_kind d.cause ∙ (ap kind_named kinds ∙ sym (named_by_kind e.cause)) in
     let middle : place_key es d d.is_batch d.place ≡ place_key es e e.is_batch e.place =
-        of_place es d e first size d.is_batch d.place ∙ (ap (λ (b : Bool). place_key es e b d.place) is_batch ∙ ap (place_key es e e.is_batch) place) in
+    of_place es d e first size d.is_batch d.place ∙ (ap (λ (b : Bool). place_key es e b d.place) is_batch ∙ ap (place_key es e e.is_batch) place) in
     let last : others_key es d (named_by d.cause) ≡ others_key es e (named_by e.cause) =
-        of_parts es d e first size entry (named_by d.cause) ∙ ap (others_key es e) named in
+    of_parts es d e first size entry (named_by d.cause) ∙ ap (others_key es e) named in
     joined (cause_key d.code d.cause) (place_key es d d.is_batch d.place) (others_key es d (named_by d.cause))
     (cause_key e.code e.cause) (place_key es e e.is_batch e.place) (others_key es e (named_by e.cause)) key middle last
 

@@ -35,12 +35,7 @@ fn copy_text(alloc: Global, name: &str, src: Span, dst: Span) -> Result<String, 
 }
 
 /// What the creation of a delta does.
-fn create_text(
-    alloc: Global,
-    first: Span,
-    second: Span,
-    delta: Span,
-) -> Result<String, AllocError>
+fn create_text(alloc: Global, first: Span, second: Span, delta: Span) -> Result<String, AllocError>
     ensures { IfOk result (λ s. string_bytes s ≡ create_words first second delta) }
 {
     let (src, src2, to, len) = (first.first, second.first, delta.first, first.len);

@@ -23,7 +23,9 @@ pub(crate) fn folded_of(
             continue;
         }
         if let Some(detail) = detail_of(all, report, *finding) {
-            let first = *firsts.entry(key_text(alloc, all, &detail)?)?.or_insert(index);
+            let first = *firsts
+                .entry(key_text(alloc, all, &detail)?)?
+                .or_insert(index);
             if first < index {
                 count_in(&mut alike, first, index);
             }

@@ -33,10 +33,8 @@ fn earlier_side(kind: HazardKind, member: &Member) -> &[Span]
     match (member, kind) {
         (Member::Unknown(_), _) => &[],
         (Member::Known(touched), HazardKind::WriteAfterRead) => touched.reads.as_slice(),
-        (
-            Member::Known(touched),
-            HazardKind::ReadAfterWrite | HazardKind::WriteAfterWrite,
-        ) => touched.writes.as_slice(),
+        (Member::Known(touched), HazardKind::ReadAfterWrite | HazardKind::WriteAfterWrite) =>
+            touched.writes.as_slice(),
     }
 }
 
@@ -47,10 +45,8 @@ fn later_side(kind: HazardKind, member: &Member) -> &[Span]
     match (member, kind) {
         (Member::Unknown(_), _) => &[],
         (Member::Known(touched), HazardKind::ReadAfterWrite) => touched.reads.as_slice(),
-        (
-            Member::Known(touched),
-            HazardKind::WriteAfterRead | HazardKind::WriteAfterWrite,
-        ) => touched.writes.as_slice(),
+        (Member::Known(touched), HazardKind::WriteAfterRead | HazardKind::WriteAfterWrite) =>
+            touched.writes.as_slice(),
     }
 }
 

@@ -206,7 +206,10 @@ fn finding_json(
         (Place::Member(_), false) | (Place::Head, true | false) => Value::Null,
     };
     let severity = severity_name(severity_in(alloc, options, all, detail)?);
-    let (key, entries) = (key_text(alloc, all, detail)?, entries_json(alloc, all, detail)?);
+    let (key, entries) = (
+        key_text(alloc, all, detail)?,
+        entries_json(alloc, all, detail)?,
+    );
     let what = cause_json(alloc, detail, complete)?;
     json!(in alloc; {
         "entry": entry,

@@ -9,8 +9,8 @@ ghost use Rattle.dsa_recording.specs.Words.{entry_words, member_words, place_wor
 ghost use Rattle.dsa_audit.specs.declared.member.Unseen.TheVariants.{Owner};
 
 use crate::detail::{Cause, Detail, Records, named_by};
-use crate::findings::{Flaw, Place};
 use crate::entry_words::{bytes_text, descriptor_text, operation_text};
+use crate::findings::{Flaw, Place};
 use dsa_audit::Unseen;
 use dsa_ranges::{Hazard, HazardKind};
 use std::alloc::{AllocError, Global};

@@ -15,7 +15,8 @@ use clap::{Arg, ArgAction, ArgMatches, Command};
 use dsa_calls::PlanFault;
 use dsa_plan::Settings;
 use dsa_recording::{
-    Accepted, Assumptions, AuditAnswer, AuditFormat, AuditOptions, Await, Denied, Dump, audit, audit_staged,
+    Accepted, Assumptions, AuditAnswer, AuditFormat, AuditOptions, Await, Denied, Dump, audit,
+    audit_staged,
 };
 use std::alloc::{AllocError, Global};
 
@@ -142,7 +143,11 @@ pub(crate) fn audit_command<'a>(alloc: Global) -> Result<Command<'a>, AllocError
         .conflicts_with("json")?
         .conflicts_with("svg")?
         .conflicts_with("deny")?;
-    let all = flag(alloc, "all", "write each finding, not the first of each kind");
+    let all = flag(
+        alloc,
+        "all",
+        "write each finding, not the first of each kind",
+    );
     let write = flag(
         alloc,
         "write-accept",

@@ -158,10 +158,17 @@ def parts_of(it):
     return set().union(*reads), set().union(*writes), held
 
 
+def operands_of(it):
+    """The bytes of data that an entry reads and those that it writes, the value of a checksum in its record too."""
+    reads, writes, record = parts_of(it)
+    return reads, writes | (record if it[7] in (CRC, COPY_CRC) else set())
+
+
 def shares_record(one, other):
-    """The record of one meets the record or the data of the other."""
+    """The record of one meets the record of the other or data that it writes, or is read by it and no checksum's."""
     (reads, writes, record), (reads2, writes2, record2) = parts_of(one), parts_of(other)
-    return bool(record & (reads2 | writes2 | record2) or record2 & (reads | writes))
+    status, status2 = (held if it[7] not in (CRC, COPY_CRC) else set() for it, held in ((one, record), (other, record2)))
+    return bool(record & (writes2 | record2) or record2 & writes or status & reads2 or status2 & reads)
 
 
 def is_misaligned(it):
@@ -245,7 +252,7 @@ class Batch:
         self.fences = {k for k, it in enumerate(entries) if it[4] & 1}
         pairs = list(itertools.combinations(range(len(entries)), 2))
         is_seen = [not isinstance(it, str) for it in self.known]
-        self.operands = [parts_of(it)[:2] for it in entries]
+        self.operands = [operands_of(it) for it in entries]
         both = [p for p in pairs if all(is_seen[k] for k in p)]
         clash = {p for p in both if conflict(*(self.known[k] for k in p))}
         known = [p for p in both if conflict(*(self.operands[k] for k in p))]

@@ -67,9 +67,15 @@ def operation(it):
     }[code]
 
 
+def operands(it):
+    """The spans of data that an entry reads and those that it writes, at last the record of a checksum."""
+    (reads, writes), record = data_of(it), struct.unpack_from("<Q", it, 8)[0]
+    return reads, writes + [range(record, record + 32)] * (it[7] in (CRC, COPY_CRC) and it[4] & 0x04 > 0)
+
+
 def overlap(earlier, later, hazard, address):
     """How many bytes from the address on are in both: of each the first span that has the address counts."""
-    (reads, writes), (reads2, writes2) = data_of(earlier), data_of(later)
+    (reads, writes), (reads2, writes2) = operands(earlier), operands(later)
     one, other = {
         "read after write": (writes, reads2), "write after read": (reads, writes2), "write after write": (writes, writes2),
     }[hazard]

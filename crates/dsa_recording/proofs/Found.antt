@@ -1,7 +1,7 @@
 -- Each finding of a report is of an entry.
 use Rattle.std.specs.Prelude.{nat_lt, if◌then◌else◌}
 use Rattle.std.proofs.lemmas.Option.{slice_get-get_or}
-use Rattle.std.proofs.Common.{Bool, true, false, Option, None, ◌≡◌, ℕ, zero, suc, ◌+◌, ◌-◌, ◌<◌, ◌≤◌, List, [], ◌∷◌, ◌++◌, Some, length, get_or, slice_get, drop, min, refl, sym, ap, subst, ◌∙◌, arith}
+use Rattle.std.proofs.Common.{Bool, true, false, Option, None, ◌≡◌, ℕ, zero, suc, ◌+◌, ◌-◌, ◌<◌, ◌≤◌, ◌⊎◌, List, [], ◌∷◌, ◌++◌, Some, length, get_or, slice_get, drop, min, refl, sym, ap, subst, ◌∙◌, arith}
 use Rattle.std.specs.List.{AllByRecursion}
 use Rattle.std.proofs.lemmas.List.{length-take, length-drop}
 use Rattle.dsa_descriptor.specs.Lists.{entries}
@@ -96,10 +96,10 @@ fits_use k is_batch ms C bs vs g h fence_use.Needless count holds = fits_needles
 fits_use k is_batch ms C bs vs g h (fence_use.Needed i j) count holds = tt
 
 -- the last conflict of a member is an earlier one
-fits_shared : (k : ℕ) (ms rs : List KnownMember) (shared : List (Option ℕ)) (o : Option ℕ) → AreLasts (KnownConflict rs) shared → slice_get shared k ≡ Some o
+fits_shared : (k : ℕ) (ms : List KnownMember) (C : ℕ → ℕ → Type 0) (shared : List (Option ℕ)) (o : Option ℕ) → AreLasts C shared → slice_get shared k ≡ Some o
     → Fits ms (Member k) (shared_kind o)
-fits_shared k ms rs shared None lasts at = tt
-fits_shared k ms rs shared (Some i) lasts at = (lasts k (Some i) at).0.0
+fits_shared k ms C shared None lasts at = tt
+fits_shared k ms C shared (Some i) lasts at = (lasts k (Some i) at).0.0
 
 -- a repeated member is an earlier one
 fits_repeated : (k : ℕ) (actions : List Action) (ms : List KnownMember) (repeated : List (Option ℕ)) (o : Option ℕ) → AreRepeats actions ms repeated → slice_get repeated k ≡ Some o
@@ -130,7 +130,7 @@ found_upto assumed es s number a (suc k) is le =
     let kinds : AllByRecursion (Fits ms (Member k)) (member_kinds a k) = (
       fits_unseen k ms (get_or a.members.items k (member.Unknown Operation)),
       (
-        fits_shared k ms is.shared.records a.shared.items o is.shared.lasts there,
+        fits_shared k ms (λ i j. KnownConflict is.shared.records i j ⊎ KnownConflict is.shared.statuses i j) a.shared.items o is.shared.lasts there,
         (
           fits_flaw ms (Member k) OverwritesBatch (get_or a.flaws.items k no_flaws).overwrites_batch tt,
           (

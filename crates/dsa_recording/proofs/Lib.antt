@@ -12,6 +12,7 @@ pub mod Summed
 pub mod Inputs
 mod Accepting
 mod Keyed
+mod Sharing
 pub mod Begun
 pub mod Priced
 pub mod StreamOf

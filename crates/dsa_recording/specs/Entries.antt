@@ -1,6 +1,6 @@
 -- What an entry of a recording reads and writes, and why it is not looked at. `head` is the descriptor of its batch, or
 -- of a lone descriptor the entry itself.
-use Rattle.std.specs.Prelude.{◌≡◌, ◌≢◌, ℕ, ◌<◌, List, [], ◌∷◌, ◌++◌, replicate, Option, Some, None, bit_and, if◌then◌else◌, ◌==◌}
+use Rattle.std.specs.Prelude.{◌≡◌, ◌≢◌, ℕ, ◌<◌, ◌||◌, Bool, List, [], ◌∷◌, ◌++◌, replicate, Option, Some, None, bit_and, if◌then◌else◌, ◌==◌}
 use Rattle.std.specs.List.{AllByRecursion}
 use Rattle.dsa_descriptor.specs.declared.op.Op.{Op}
 use Rattle.dsa_descriptor.specs.declared.span.Span.{Span}
@@ -51,9 +51,22 @@ entry_reads e = sources_of (op_at e) (u32_at 32 e) (further_at e)
 abbrev pub entry_targets : List ℕ → List Span
 entry_targets e = targets_of (op_at e) (u32_at 32 e) (further_at e)
 
--- both
-abbrev pub entry_data : List ℕ → List Span
-entry_data e = entry_reads e ++ entry_targets e
+-- the operation is a checksum, a CRC or a copy with CRC (codes: linux/idxd.h): its record has the value (specification
+-- 341204, CRC generation), which a later operation may be meant to read
+abbrev pub is_checksum : List ℕ → Bool
+is_checksum e = code_at e == 0x10 || code_at e == 0x11
+
+-- the record of an entry as data: that of a checksum
+abbrev pub value_records : List ℕ → List Span
+value_records e = if is_checksum e then records_of e else []
+
+-- its record as a status alone: that of any other operation
+abbrev pub status_records : List ℕ → List Span
+status_records e = if is_checksum e then [] else records_of e
+
+-- the data that it writes, its value too
+abbrev pub entry_results : List ℕ → List Span
+entry_results e = entry_targets e ++ value_records e
 
 -- all that it writes, its record too
 abbrev pub entry_writes : List ℕ → List Span
@@ -103,9 +116,14 @@ IsMember head e m = IsKnownAs (entry_reads e) (entry_writes e) head e m
 
 -- its data alone
 abbrev pub IsOperands : List ℕ → List ℕ → Member → Type 0
-IsOperands head e m = IsKnownAs (entry_reads e) (entry_targets e) head e m
+IsOperands head e m = IsKnownAs (entry_reads e) (entry_results e) head e m
 
--- its record as written, and its data as read: two such members conflict just where the record of one meets the record or
--- the data of the other
+-- its record as written, and the data that it writes as read: two such members conflict exactly if the record of one meets
+-- the record of the other, or data that the other writes
 abbrev pub IsRecord : List ℕ → List ℕ → Member → Type 0
-IsRecord head e m = IsKnownAs (entry_data e) (records_of e) head e m
+IsRecord head e m = IsKnownAs (entry_targets e) (records_of e) head e m
+
+-- its record as written, if that is a status alone, and the data that it reads: two such members conflict if one reads the
+-- status of the other
+abbrev pub IsStatus : List ℕ → List ℕ → Member → Type 0
+IsStatus head e m = IsKnownAs (entry_reads e) (status_records e) head e m

@@ -1,5 +1,5 @@
 -- The audit of a recorded submission.
-use Rattle.std.specs.Prelude.{ℕ, ◌≡◌, ◌↔◌, IsTrue, ◌-◌, ◌%◌, ◌<◌, ◌≤◌, Bool, List, [], ◌∷◌, Option, length, map, get_or, slice_index_or, slice_range, if◌then◌else◌, ◌==◌}
+use Rattle.std.specs.Prelude.{ℕ, ◌≡◌, ◌⊎◌, ◌↔◌, IsTrue, ◌-◌, ◌%◌, ◌<◌, ◌≤◌, Bool, List, [], ◌∷◌, Option, length, map, get_or, slice_index_or, slice_range, if◌then◌else◌, ◌==◌}
 use Rattle.dsa_descriptor.specs.Places.{flags_at}
 use Rattle.dsa_audit.specs.declared.member.Member.{Member}
 use Rattle.dsa_audit.specs.declared.member.Member.TheVariants.{Unknown}
@@ -10,7 +10,7 @@ use Rattle.dsa_recording.specs.declared.submission.Audited.{Audited}
 use Rattle.dsa_recording.specs.Streams.{end_of}
 use Rattle.dsa_audit.specs.Members.{KnownConflict}
 use Rattle.dsa_audit.specs.Steps.{AreLasts}
-use Rattle.dsa_recording.specs.Entries.{IsMember, IsOperands, IsRecord, action_of}
+use Rattle.dsa_recording.specs.Entries.{IsMember, IsOperands, IsRecord, IsStatus, action_of}
 use Rattle.dsa_recording.specs.Flaws.{AreAllFlaws, HasMisalignedRecord}
 use Rattle.dsa_recording.specs.Failures.{AreFallible}
 use Rattle.dsa_recording.specs.Showing.{AreVisible}
@@ -48,13 +48,20 @@ pub record AreRecords (head : List ℕ) (es : List (List ℕ)) (ms : List Member
   pub count : length ms ≡ length es
   pub each : (k : ℕ) → k < length es → IsRecord head (get_or es k []) (get_or ms k (Unknown Operation))
 
--- for each entry, the last one before it with which it shares a record: the record of one meets the record or the data of
--- the other
+-- and of those that are a status alone
+pub record AreStatuses (head : List ℕ) (es : List (List ℕ)) (ms : List Member) : Type 0 where
+  pub count : length ms ≡ length es
+  pub each : (k : ℕ) → k < length es → IsStatus head (get_or es k []) (get_or ms k (Unknown Operation))
+
+-- for each entry, the last one before it with which it shares a record: the record of one meets the record of the other, or
+-- data that it writes; or one reads a record of the other that is a status alone
 pub record AreShared (head : List ℕ) (es : List (List ℕ)) (shared : List (Option ℕ)) : Type 0 where
   pub records : List Member
+  pub statuses : List Member
   pub are : AreRecords head es records
+  pub are_statuses : AreStatuses head es statuses
   pub count : length shared ≡ length es
-  pub lasts : AreLasts (KnownConflict records) shared
+  pub lasts : AreLasts (λ a b. KnownConflict records a b ⊎ KnownConflict statuses a b) shared
 
 -- whether it is a batch, the fences of the submission's entries, what is known of them, what they do and with which data, which share
 -- records, what else is wrong with each, which can fail and which show under these assumptions, and an audit of these

@@ -6,7 +6,7 @@ ghost use Rattle.dsa_descriptor.specs.Spans.{IsAddressable};
 ghost use Rattle.dsa_descriptor.specs.Places.{op_at};
 ghost use Rattle.dsa_audit.specs.declared.member.Unseen.{Unseen};
 ghost use Rattle.dsa_recording.specs.Furthers.{further_at};
-ghost use Rattle.dsa_recording.specs.Entries.{records_of, entry_reads, entry_targets, entry_data, entry_writes, Applies, IsFirstReason, IsMember, IsOperands, IsRecord, action_of};
+ghost use Rattle.dsa_recording.specs.Entries.{records_of, entry_reads, entry_results, entry_targets, entry_writes, is_checksum, status_records, value_records, Applies, IsFirstReason, IsMember, IsOperands, IsRecord, IsStatus, action_of};
 
 use crate::further::further_at;
 use arrayvec::ArrayVec;
@@ -34,6 +34,35 @@ pub(crate) fn records_of(entry: &[u8; 64]) -> ArrayVec<Span, 3>
         writes.push(record_span(u64_at(entry, 8)));
     }
     writes
+}
+
+/// Whether the operation is a checksum, whose record has its value.
+fn is_checksum(entry: &[u8; 64]) -> bool
+    ensures { result ≡ is_checksum entry.now }
+{
+    let code = u32_at(entry, 4) >> 24;
+    code == 0x10 || code == 0x11
+}
+
+/// The completion record as data: that of a checksum.
+fn value_records(entry: &[u8; 64]) -> ArrayVec<Span, 3>
+    ensures value { result.items ≡ value_records entry.now }
+    ensures short { length result.items ≤ 1 }
+{
+    if is_checksum(entry) {
+        return records_of(entry);
+    }
+    ArrayVec::new()
+}
+
+/// The completion record as a status alone: that of any other operation.
+fn status_records(entry: &[u8; 64]) -> ArrayVec<Span, 3>
+    ensures { result.items ≡ status_records entry.now }
+{
+    if is_checksum(entry) {
+        return ArrayVec::new();
+    }
+    records_of(entry)
 }
 
 /// The data that the entry reads, where its operation is known.
@@ -97,16 +126,39 @@ pub(crate) fn action_of(entry: &[u8; 64]) -> Action
     }
 }
 
-/// Its record as written, and its data as read.
+/// The data that the entry reads and writes, with the value of a checksum.
+fn results_of(entry: &[u8; 64]) -> Touched
+    ensures reads { result.reads.items ≡ entry_reads entry.now }
+    ensures writes { result.writes.items ≡ entry_results entry.now }
+{
+    let (mut reads, mut writes) = (ArrayVec::new(), ArrayVec::new());
+    let (sources, targets) = (sources_of(entry), targets_of(entry));
+    let values = value_records(entry);
+    reads.try_extend_from_slice(sources.as_slice()).unwrap();
+    writes.try_extend_from_slice(targets.as_slice()).unwrap();
+    writes.try_extend_from_slice(values.as_slice()).unwrap();
+    Touched { reads, writes }
+}
+
+/// Its record as written, and the data that it writes as read.
 fn record_of(entry: &[u8; 64]) -> Touched
-    ensures reads { result.reads.items ≡ entry_data entry.now }
+    ensures reads { result.reads.items ≡ entry_targets entry.now }
     ensures writes { result.writes.items ≡ records_of entry.now }
 {
     let mut reads = ArrayVec::new();
-    let writes = records_of(entry);
-    let (sources, targets) = (sources_of(entry), targets_of(entry));
-    reads.try_extend_from_slice(sources.as_slice()).unwrap();
+    let (targets, writes) = (targets_of(entry), records_of(entry));
     reads.try_extend_from_slice(targets.as_slice()).unwrap();
+    Touched { reads, writes }
+}
+
+/// Its record as written, if that is a status alone, and the data that it reads.
+fn status_of(entry: &[u8; 64]) -> Touched
+    ensures reads { result.reads.items ≡ entry_reads entry.now }
+    ensures writes { result.writes.items ≡ status_records entry.now }
+{
+    let mut reads = ArrayVec::new();
+    let (sources, writes) = (sources_of(entry), status_records(entry));
+    reads.try_extend_from_slice(sources.as_slice()).unwrap();
     Touched { reads, writes }
 }
 
@@ -167,22 +219,34 @@ pub fn member_of(head: &[u8; 64], entry: &[u8; 64]) -> Member
     }
 }
 
-/// The same of its data alone.
+/// The same of its data alone, with the value of a checksum.
 pub fn operands_member(head: &[u8; 64], entry: &[u8; 64]) -> Member
     ensures { IsOperands head.now entry.now result }
 {
     match unseen_reason(head, entry) {
         Some(why) => Member::Unknown(why),
-        None => Member::Known(operands_of(entry)),
+        None => Member::Known(results_of(entry)),
     }
 }
 
-/// Its record as written and its data as read: two such members conflict where the record of one meets what the other has.
+/// Its record as written, and the data that it writes as read: two such members conflict if the record of one meets the
+/// record of the other, or data that the other writes.
 pub fn record_member(head: &[u8; 64], entry: &[u8; 64]) -> Member
     ensures { IsRecord head.now entry.now result }
 {
     match unseen_reason(head, entry) {
         Some(why) => Member::Unknown(why),
         None => Member::Known(record_of(entry)),
+    }
+}
+
+/// Its record as written, if that is a status alone, and the data that it reads: two such members conflict if one reads the
+/// status of the other.
+pub fn status_member(head: &[u8; 64], entry: &[u8; 64]) -> Member
+    ensures { IsStatus head.now entry.now result }
+{
+    match unseen_reason(head, entry) {
+        Some(why) => Member::Unknown(why),
+        None => Member::Known(status_of(entry)),
     }
 }

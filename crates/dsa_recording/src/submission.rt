@@ -2,15 +2,16 @@
 
 ghost use Rattle.std.specs.Prelude.{◌≡◌, All, map, IfOk};
 ghost use Rattle.dsa_recording.specs.Entries.{action_of};
-ghost use Rattle.dsa_recording.specs.Submissions.{head_at, is_fenced, IsWithin, AreMembers, AreOperands, AreRecords, AreShared, IsAudited, AreAudited};
+ghost use Rattle.dsa_recording.specs.Submissions.{head_at, is_fenced, IsWithin, AreMembers, AreOperands, IsAudited, AreAudited};
 
 use crate::assumptions::Assumptions;
 use crate::failure::fallible_of;
 use crate::flaws::{Flaws, all_flaws, has_misaligned_record};
-use crate::member::{action_of, member_of, operands_member, record_member};
+use crate::member::{action_of, member_of, operands_member};
+use crate::shared::shared_in;
 use crate::showing::visible_of;
 use crate::stream::Submission;
-use dsa_audit::{Action, Audit, Effects, Member, all_lasts, audit_fences};
+use dsa_audit::{Action, Audit, Effects, Member, audit_fences};
 use dsa_descriptor::u32_at;
 use std::alloc::{AllocError, Global};
 
@@ -111,33 +112,6 @@ fn operands_in(
         members.push(operands_member(head, entry))?;
     }
     Ok(members)
-}
-
-/// The record and the data of each of the entries, whose batch has the descriptor `head`.
-fn records_in(
-    alloc: Global,
-    head: &[u8; 64],
-    entries: &[[u8; 64]],
-) -> Result<Vec<Member>, AllocError>
-    ensures { IfOk result (λ members. AreRecords head.now entries.now members.items) }
-{
-    let mut members = Vec::with_capacity(alloc, entries.len())?;
-    for entry in entries {
-        members.push(record_member(head, entry))?;
-    }
-    Ok(members)
-}
-
-/// For each of the entries, whose batch has the descriptor `head`, the last one before it with which it shares a record.
-fn shared_in(
-    alloc: Global,
-    head: &[u8; 64],
-    entries: &[[u8; 64]],
-) -> Result<Vec<Option<usize>>, AllocError>
-    ensures { IfOk result (λ shared. AreShared head.now entries.now shared.items) }
-{
-    let records = records_in(alloc, head, entries)?;
-    all_lasts(alloc, &records)
 }
 
 /// The fences of a submission of these entries: which are missing, and which are needless under the assumptions.

@@ -9,6 +9,7 @@ mod diagnosis;
 mod disassembling;
 mod dumps;
 mod explaining;
+mod faulty;
 mod form;
 mod inputs;
 mod jobs;

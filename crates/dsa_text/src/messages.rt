@@ -4,10 +4,11 @@ ghost use Rattle.std.specs.Prelude.{◌≡◌, ◌++◌, IfOk, OnOk, codes, stri
 ghost use Rattle.dsa_calls.specs.Fault.{indices_text, inner_text, list_cause, named_text, place_text};
 ghost use Rattle.dsa_text.specs.Refusals.{NamesCause, NamesGrammar, cause_words};
 
-use crate::words::{column_at_fault, hint_of, push_found, word_at};
+use crate::faulty::push_values;
+use crate::words::{column_at_fault, hint_of, line_at, push_found, word_at};
 use dsa_calls::{InnerFault, PlanFault};
 use dsa_descriptor::{Indices, ListFault};
-use dsa_lines::Expected;
+use dsa_lines::{Expected, operation_bytes};
 use dsa_sentences::refusal_text;
 use std::alloc::{AllocError, Global};
 
@@ -141,7 +142,7 @@ pub(crate) fn message_with(
     Ok(text)
 }
 
-/// Writes the place of an operation's fault in its line, the cause, and what stands there.
+/// Writes the place of an operation's fault in its line, the cause, and what was found there.
 fn push_line_cause(
     alloc: Global,
     text: &mut String,
@@ -150,12 +151,28 @@ fn push_line_cause(
     fault: ListFault,
 ) -> Result<(), AllocError> {
     let Some(column) = column_at_fault(given, line, fault) else {
-        return push_cause(alloc, text, PlanFault::from(fault));
+        push_cause(alloc, text, PlanFault::from(fault))?;
+        return push_line_values(alloc, text, given, line, fault);
     };
     text.push_str(&format!(in alloc; "column {column}, ")?)?;
     push_cause(alloc, text, PlanFault::from(fault))?;
     text.push_str(", found ")?;
     push_found(alloc, text, word_at(given, line, column))
+}
+
+/// Writes the values that are at fault in the operation of a line.
+fn push_line_values(
+    alloc: Global,
+    text: &mut String,
+    given: &[u8],
+    line: usize,
+    fault: ListFault,
+) -> Result<(), AllocError> {
+    match (fault, operation_bytes(line_at(given, line))) {
+        (ListFault::Field(_, fault), Ok(Some(entry))) => push_values(alloc, text, &entry, fault),
+        (ListFault::Field(_, _), Ok(None) | Err(_))
+        | (ListFault::Length | ListFault::MixedPasid(_) | ListFault::Memory, _) => Ok(()),
+    }
 }
 
 /// The message of an operation of a text that can't be listed.

@@ -1,4 +1,4 @@
-//! The word at a place of a text, and what helps where another was expected.
+//! The word at a place of a text, and what helps if another was expected.
 
 use dsa_descriptor::{FieldFault, ListFault};
 use dsa_lines::{Expected, operation_bytes};
@@ -16,7 +16,7 @@ fn is_between(byte: u8) -> bool {
 }
 
 /// The line of this number, from 1 on.
-fn line_at(text: &[u8], line: usize) -> &[u8] {
+pub(crate) fn line_at(text: &[u8], line: usize) -> &[u8] {
     text.split(|byte| *byte == b'\n')
         .nth(line.saturating_sub(1))
         .unwrap_or(&[])
@@ -38,7 +38,7 @@ pub(crate) fn line_of_operation(text: &[u8], index: usize) -> usize {
     number
 }
 
-/// What stands at a column of a line, both from 1 on: a word, a comma, or nothing at the end of the line.
+/// What is at a column of a line, both from 1 on: a word, a comma, or nothing at the end of the line.
 pub(crate) fn word_at(text: &[u8], line: usize, column: usize) -> &[u8] {
     let rest = line_at(text, line)
         .get(column.saturating_sub(1)..)
@@ -49,7 +49,7 @@ pub(crate) fn word_at(text: &[u8], line: usize, column: usize) -> &[u8] {
     rest.split(|byte| is_between(*byte)).next().unwrap_or(&[])
 }
 
-/// The column of the word of this name in a line, or of the one behind it.
+/// The column of the word of this name in a line, or of the one after it.
 fn column_of(line: &[u8], name: &[u8], is_behind: bool) -> Option<usize> {
     let mut column: usize = 1;
     let mut is_named = false;
@@ -89,12 +89,23 @@ pub(crate) fn column_at_fault(text: &[u8], line: usize, fault: ListFault) -> Opt
     }
 }
 
-/// Writes what stands at a place, in quotes.
+/// Writes what was found at a place, in quotes: a text as it is, up to 40 bytes, other bytes by their numbers.
 pub(crate) fn push_found(alloc: Global, text: &mut String, word: &[u8]) -> Result<(), AllocError> {
     if word.is_empty() {
         return text.push_str("the end of the line");
     }
     text.push_str("'")?;
+    match str::from_utf8(word) {
+        Ok(shown) if word.len() <= MOST_SHOWN && !shown.chars().any(char::is_control) => {
+            text.push_str(shown)?;
+        }
+        Ok(_) | Err(_) => push_bytes(alloc, text, word)?,
+    }
+    text.push_str(if word.len() > MOST_SHOWN { "..'" } else { "'" })
+}
+
+/// Writes the first bytes of a word: those of a character in ASCII as it, others by their numbers.
+fn push_bytes(alloc: Global, text: &mut String, word: &[u8]) -> Result<(), AllocError> {
     for byte in word.iter().take(MOST_SHOWN) {
         if byte.is_ascii_graphic() {
             text.push(*byte as char)?;
@@ -102,22 +113,43 @@ pub(crate) fn push_found(alloc: Global, text: &mut String, word: &[u8]) -> Resul
             text.push_str(&format!(in alloc; "\\x{byte:02x}")?)?;
         }
     }
-    text.push_str(if word.len() > MOST_SHOWN { "..'" } else { "'" })
+    Ok(())
 }
 
-/// Whether the bytes have an arrow somewhere.
-fn has_arrow(word: &[u8]) -> bool {
-    word.windows(2).any(|pair| matches!(pair, [b'-', b'>']))
+/// Whether an arrow is next to something else without a blank.
+fn has_tight_arrow(word: &[u8]) -> bool {
+    word.len() > 2 && word.windows(2).any(|pair| matches!(pair, [b'-', b'>']))
+}
+
+/// Whether all bytes are hexadecimal digits, and some is a letter.
+fn is_hexadecimal(word: &[u8]) -> bool {
+    word.iter().all(u8::is_ascii_hexdigit) && word.iter().any(u8::is_ascii_alphabetic)
 }
 
 /// What helps where a number was expected.
 fn hint_of_number(word: &[u8]) -> Option<&'static str> {
+    if word.contains(&b'_') {
+        return Some("digits without separators, as 262144");
+    }
+    if is_hexadecimal(word) {
+        return Some("0x before hexadecimal digits");
+    }
     match word {
-        [b'0', b'X', ..] => Some("0x stands before hexadecimal digits"),
-        [b'0'..=b'9', .., b'h' | b'H'] => Some("0x stands before hexadecimal digits"),
+        [b'0', b'X', ..] | [b'0'..=b'9', .., b'h' | b'H'] => Some("0x before hexadecimal digits"),
         [b'0'..=b'9', .., b'k' | b'K' | b'm' | b'M'] => Some("in bytes: 4K is 4096"),
-        [b'0'..=b'9', .., b's'] => Some("a blank stands before `bytes`"),
+        [b'0'..=b'9', .., b's'] => Some("a blank before `bytes`"),
         _ => None,
+    }
+}
+
+/// What helps where `bytes` was expected.
+fn hint_of_bytes(word: &[u8]) -> Option<&'static str> {
+    match word {
+        b"," => Some("digits without separators, as 262144"),
+        b"K" | b"KB" | b"kB" | b"KiB" | b"M" | b"MB" | b"MiB" | b"G" | b"GB" | b"GiB" => {
+            Some("in bytes: 4 KiB is 4096 bytes")
+        }
+        _ => Some("`bytes` comes after each size, of 1 too"),
     }
 }
 
@@ -125,6 +157,17 @@ fn hint_of_number(word: &[u8]) -> Option<&'static str> {
 fn hint_of_operation(word: &[u8]) -> Option<&'static str> {
     match word {
         b"unknown" => Some("an entry that is no listed descriptor, so it can't be planned"),
+        [b'/', b'/', ..] | [b';', ..] => Some("a comment begins with #"),
+        [b'A'..=b'Z', ..] => Some("in lower case"),
+        _ => None,
+    }
+}
+
+/// What helps where a comma, or the end of the line, was expected.
+fn hint_of_comma(word: &[u8]) -> Option<&'static str> {
+    match word {
+        [] => Some("`, record ADDRESS` follows: of 32 bytes, at a multiple of 32"),
+        [b'/', b'/', ..] | [b';', ..] => Some("a comment begins with #"),
         _ => None,
     }
 }
@@ -134,26 +177,25 @@ pub(crate) fn hint_of(word: &[u8], expected: Expected) -> Option<&'static str> {
     if word.starts_with(&MARK) {
         return Some("a byte order mark: save the text without one");
     }
-    if has_arrow(word) {
-        return Some("blanks stand around ->");
+    if has_tight_arrow(word) {
+        return Some("blanks before and after ->");
     }
     match expected {
         Expected::Number | Expected::NumberOrPattern | Expected::Size => hint_of_number(word),
         Expected::Pattern => Some("byte 0 first, as 0102030405060708"),
-        Expected::Bytes => Some("`bytes` stands behind each size, of 1 too"),
-        Expected::Option => Some("each stands once"),
+        Expected::Bytes => hint_of_bytes(word),
+        Expected::Option => Some("each comes once"),
         Expected::Operation => hint_of_operation(word),
+        Expected::Comma | Expected::CommaOrEnd => hint_of_comma(word),
+        Expected::Expect => Some("`expect 0` if they should be equal, else `expect 1`"),
+        Expected::Record => Some("`record ADDRESS`: of 32 bytes, at a multiple of 32"),
         Expected::Pasid
         | Expected::Handle
         | Expected::Flags
         | Expected::Bit
-        | Expected::Comma
-        | Expected::CommaOrEnd
         | Expected::Arrow
         | Expected::With
         | Expected::And
-        | Expected::Expect
-        | Expected::Record
         | Expected::Of
         | Expected::At
         | Expected::End => None,

@@ -2,7 +2,7 @@ use Rattle.std.proofs.Common.{◌≡◌, ℕ, ◌<◌, length, get_or, []}
 use Rattle.dsa_audit.specs.declared.member.Member.TheVariants.{Unknown}
 use Rattle.dsa_audit.specs.declared.member.Unseen.TheVariants.{Operation}
 use Rattle.dsa_recording.specs.Entries.{IsRecord}
-use Rattle.dsa_recording.proofs.submission.records_in.Given as goal
+use Rattle.dsa_recording.proofs.shared.records_in.Given as goal
 
 -- the members so far are those of the entries so far
 abbrev pub invariant-loop-entry : goal.invariant-loop-entry

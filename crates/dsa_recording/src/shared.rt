@@ -1,0 +1,84 @@
+//! Which entries share a completion record.
+
+ghost use Rattle.std.specs.Prelude.{◌≡◌, ℕ, ◌<◌, get_or, length, IfOk, None};
+ghost use Rattle.dsa_conflicts.specs.Access.{later};
+ghost use Rattle.dsa_recording.specs.Submissions.{AreRecords, AreShared, AreStatuses};
+
+use crate::member::{record_member, status_member};
+use dsa_audit::{Member, all_lasts};
+use std::alloc::{AllocError, Global};
+
+/// The record of each of the entries, whose batch has the descriptor `head`, and the data that it writes.
+fn records_in(
+    alloc: Global,
+    head: &[u8; 64],
+    entries: &[[u8; 64]],
+) -> Result<Vec<Member>, AllocError>
+    ensures { IfOk result (λ members. AreRecords head.now entries.now members.items) }
+{
+    let mut members = Vec::with_capacity(alloc, entries.len())?;
+    for entry in entries {
+        members.push(record_member(head, entry))?;
+    }
+    Ok(members)
+}
+
+/// The record of each of the entries, if that is a status alone, and the data that it reads.
+fn statuses_in(
+    alloc: Global,
+    head: &[u8; 64],
+    entries: &[[u8; 64]],
+) -> Result<Vec<Member>, AllocError>
+    ensures { IfOk result (λ members. AreStatuses head.now entries.now members.items) }
+{
+    let mut members = Vec::with_capacity(alloc, entries.len())?;
+    for entry in entries {
+        members.push(status_member(head, entry))?;
+    }
+    Ok(members)
+}
+
+/// The later of two members, if there are any.
+fn later_of(first: Option<usize>, second: Option<usize>) -> Option<usize>
+    ensures { result ≡ later first second }
+{
+    match (first, second) {
+        (Some(a), Some(b)) => Some(a.max(b)),
+        (Some(a), None) => Some(a),
+        (None, other) => other,
+    }
+}
+
+/// The later of both, for each member.
+fn later_lasts(
+    alloc: Global,
+    firsts: &[Option<usize>],
+    seconds: &[Option<usize>],
+) -> Result<Vec<Option<usize>>, AllocError>
+    requires { length seconds.now ≡ length firsts.now }
+    ensures count { IfOk result (λ lasts. length lasts.items ≡ length firsts.now) }
+    ensures each { IfOk result (λ lasts. (k : ℕ) → k < length firsts.now →
+        get_or lasts.items k None ≡ later (get_or firsts.now k None) (get_or seconds.now k None)) }
+{
+    let mut lasts = Vec::with_capacity(alloc, firsts.len())?;
+    for k in 0..firsts.len() {
+        lasts.push(later_of(firsts[k], seconds[k]))?;
+    }
+    Ok(lasts)
+}
+
+/// For each of the entries, whose batch has the descriptor `head`, the last one before it with which it shares a record.
+pub(crate) fn shared_in(
+    alloc: Global,
+    head: &[u8; 64],
+    entries: &[[u8; 64]],
+) -> Result<Vec<Option<usize>>, AllocError>
+    ensures { IfOk result (λ shared. AreShared head.now entries.now shared.items) }
+{
+    let records = records_in(alloc, head, entries)?;
+    let statuses = statuses_in(alloc, head, entries)?;
+    let firsts = all_lasts(alloc, &records)?;
+    let seconds = all_lasts(alloc, &statuses)?;
+    let shared = later_lasts(alloc, &firsts, &seconds)?;
+    Ok(shared)
+}

@@ -1,0 +1,93 @@
+//! The values that are at fault in an operation that can't be listed.
+
+use dsa_descriptor::{FieldFault, Span, op_at, record_span, u32_at, u64_at};
+use dsa_ranges::meets;
+use std::alloc::{AllocError, Global};
+
+/// Writes the addresses of a span, the first and the last.
+fn push_span(alloc: Global, text: &mut String, span: Span) -> Result<(), AllocError> {
+    let (first, last) = (span.first, span.end().saturating_sub(1));
+    text.push_str(&format!(in alloc; "0x{first:x} to 0x{last:x}")?)
+}
+
+/// Writes two ranges that share an address.
+fn push_both(
+    alloc: Global,
+    text: &mut String,
+    first: Span,
+    second: Span,
+) -> Result<(), AllocError> {
+    text.push_str(": ")?;
+    push_span(alloc, text, first)?;
+    text.push_str(" and ")?;
+    push_span(alloc, text, second)
+}
+
+/// Writes the record and the first of the data that it meets.
+fn push_record(alloc: Global, text: &mut String, entry: &[u8; 64]) -> Result<(), AllocError> {
+    let (record, size) = (record_span(u64_at(entry, 8)), u32_at(entry, 32));
+    let Some(op) = op_at(entry) else {
+        return Ok(());
+    };
+    for span in op.sources(size).iter().chain(op.targets(size).iter()) {
+        if meets(record, *span) {
+            return push_both(alloc, text, record, *span);
+        }
+    }
+    Ok(())
+}
+
+/// Writes the first range that goes past 2^64.
+fn push_wrap(alloc: Global, text: &mut String, entry: &[u8; 64]) -> Result<(), AllocError> {
+    let (record, size) = (record_span(u64_at(entry, 8)), u32_at(entry, 32));
+    let Some(op) = op_at(entry) else {
+        return Ok(());
+    };
+    for span in op
+        .sources(size)
+        .iter()
+        .chain(op.targets(size).iter())
+        .chain([record].iter())
+    {
+        if span.end() > 1 << 64 {
+            let (first, len) = (span.first, span.len);
+            return text.push_str(&format!(in alloc; ": {len} bytes at 0x{first:x}")?);
+        }
+    }
+    Ok(())
+}
+
+/// Writes what of a delta is at fault.
+fn push_delta(alloc: Global, text: &mut String, entry: &[u8; 64]) -> Result<(), AllocError> {
+    let (size, dst) = (u32_at(entry, 32), u64_at(entry, 24));
+    let record_size = u32_at(entry, 40);
+    if size % 8 != 0 || size > 0x8_0000 {
+        return text.push_str(&format!(in alloc; ": its size is {size}")?);
+    }
+    if dst % 8 != 0 {
+        return text.push_str(&format!(in alloc; ": its destination is 0x{dst:x}")?);
+    }
+    text.push_str(&format!(in alloc; ": its record has {record_size} bytes")?)
+}
+
+/// Writes the values that are at fault in an operation with these bytes, if they help.
+pub(crate) fn push_values(
+    alloc: Global,
+    text: &mut String,
+    entry: &[u8; 64],
+    fault: FieldFault,
+) -> Result<(), AllocError> {
+    match fault {
+        FieldFault::RecordMeetsData => push_record(alloc, text, entry),
+        FieldFault::Wrap => push_wrap(alloc, text, entry),
+        FieldFault::Delta => push_delta(alloc, text, entry),
+        FieldFault::Opcode
+        | FieldFault::FlagBits
+        | FieldFault::Reserved
+        | FieldFault::SizeZero
+        | FieldFault::RecordAlign
+        | FieldFault::DualcastBits
+        | FieldFault::Overlap
+        | FieldFault::Expected => Ok(()),
+    }
+}

@@ -34,10 +34,12 @@ def tried(what, command, printed=None, **how):
 
 
 def compiled(source, *words, memory=True):
-    """Builds a caller, over the memory functions of the package unless it has its own; answers where the program is."""
+    """Builds a caller, a file or a folder of them, over the memory functions of the package unless it has its own;
+    answers where the program is."""
     output = f"{WORK}/{Path(source).stem}{len(os.listdir(WORK))}"
     flags = ["-std=c11", "-D_GNU_SOURCE", *WARN, "-O2", "-g", "-I", "bindings/c"]
-    sources = [source, *(["bindings/c/memory.c"] if memory else [])]
+    files = sorted(Path(source).glob("*.c")) or [source]
+    sources = [*files, *(["bindings/c/memory.c"] if memory else [])]
     tried(f"the build of {source}", [compiler(), *flags, *sources, ARCHIVE, *words, "-o", output])
     return output
 
@@ -149,7 +151,7 @@ def tracked():
 
 def flights():
     """Lists that several threads do as a tracker lets them leave what they leave in order; a dropped wait is seen."""
-    source, count = "tests/bindings/flights.c", os.environ.get("FLIGHTS", "300")
+    source, count = "tests/bindings/flights", os.environ.get("FLIGHTS", "300")
     plain = compiled(source, "-pthread")
     tried("flights", [plain, count, "50", "20261126"])
     if shutil.which("valgrind"):

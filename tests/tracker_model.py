@@ -234,6 +234,9 @@ def answered(call, *given):
 
 
 def main(count, seed):
+    if answered(Tracker, 64, 2**32 - 1) != (73, 0):
+        print("a tracker that fits into no memory is not refused 73")
+        return 1
     chance, kinds, calls = random.Random(seed), set(), 0
     for number in range(count):
         sequence, trail = Sequence(chance), []

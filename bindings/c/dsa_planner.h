@@ -421,10 +421,10 @@ struct dsa_span {
 /*
  * Makes the words a tracker whose slots are free: at most 64 slots, for submissions that read at most `spans` spans
  * and write at most `spans` spans. log2_rows, 1 to 32, and log2_unit, 1 to 63, change no answer: there are
- * 2^log2_rows rows of bits for a first look (13 does for most), and addresses are looked up in units of 2^log2_unit
- * bytes, best near the length of an operation. Returns 0, or DSA_NOT_A_TRACKER: a measure is outside its limits, or
- * there are fewer than DSA_TRACKER_WORDS(slots, spans, log2_rows) words; then they are unchanged. Of words beyond these
- * nothing is promised. It allocates nothing.
+ * 2^log2_rows rows of bits for a first look (13 does for most, 14 for more than 4,096 units in flight), and addresses
+ * are looked up in units of 2^log2_unit bytes, best near the length of an operation. Returns 0, or DSA_NOT_A_TRACKER: a
+ * measure is outside its limits, or there are fewer than DSA_TRACKER_WORDS(slots, spans, log2_rows) words; then they
+ * are unchanged. Of words beyond these nothing is promised. It allocates nothing.
  */
 uint32_t dsa_track_begin(uint64_t *words, size_t words_len,
                          uint32_t slots, uint32_t spans, uint32_t log2_rows, uint32_t log2_unit,

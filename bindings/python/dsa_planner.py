@@ -667,7 +667,10 @@ class Tracker:
         if slots > 64 or log2_rows > 32:
             raise Refusal(126)
         size = 16 + slots * (3 + 4 * spans) + (2 << log2_rows)
-        self._words, refusal = ((ctypes.c_uint64 * size)(), size), _Refusal()
+        try:
+            self._words, refusal = ((ctypes.c_uint64 * size)(), size), _Refusal()
+        except MemoryError:
+            raise Refusal(73) from None
         _answered(_library.dsa_track_begin(*self._words, *numbers, refusal), refusal)
 
     def submit(self, pieces: Bytes, staging: Tuple[int, int], also: Iterable[int] = ()) -> Submitted:

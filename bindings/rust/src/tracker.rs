@@ -80,8 +80,8 @@ pub struct Tracker {
 impl Tracker {
     /// A tracker with at most 64 slots, for submissions that read at most so many spans and write at most so many;
     /// a list of n pieces takes 3 n + 1. The other two change no answer: there are 2^`log2_rows` rows of bits for a
-    /// first look, 1 to 32 (13 does for most), and addresses are looked up in units of 2^`log2_unit` bytes, 1 to
-    /// 63, best near the length of an operation.
+    /// first look, 1 to 32 (13 does for most, 14 for more than 4,096 units in flight), and addresses are looked up in
+    /// units of 2^`log2_unit` bytes, 1 to 63, best near the length of an operation.
     ///
     /// # Errors
     /// [`Cause::NotATracker`](crate::Cause::NotATracker): a measure is outside its limits.
@@ -120,24 +120,23 @@ impl Tracker {
         staging: Span,
         also: Slots,
     ) -> Result<Submitted, Refusal> {
-        let (mut slot, mut waits, mut refusal) = (0, 0, raw::Refusal::default());
-        // SAFETY: each pointer and length are those of one slice or vector, and no output overlaps another argument.
-        let code = unsafe {
-            raw::dsa_track_list(
-                self.words.as_mut_ptr(),
-                self.words.len(),
-                pieces.as_ptr(),
-                pieces.len(),
-                staging.first,
-                staging.len,
-                also.0,
-                &mut slot,
-                &mut waits,
-                &mut refusal,
-            )
-        };
-        let waits = Slots(waits);
-        answer(code, Submitted { slot, waits }, refusal)
+        self.take(|words, slot, waits, refusal| {
+            // SAFETY: each pointer and length are those of one slice, and no output overlaps another argument.
+            unsafe {
+                raw::dsa_track_list(
+                    words.as_mut_ptr(),
+                    words.len(),
+                    pieces.as_ptr(),
+                    pieces.len(),
+                    staging.first,
+                    staging.len,
+                    also.0,
+                    slot,
+                    waits,
+                    refusal,
+                )
+            }
+        })
     }
 
     /// The same of a submission that reads and writes these spans, whoever owns them.
@@ -150,24 +149,23 @@ impl Tracker {
         writes: &[Span],
         also: Slots,
     ) -> Result<Submitted, Refusal> {
-        let (mut slot, mut waits, mut refusal) = (0, 0, raw::Refusal::default());
-        // SAFETY: each pointer and length are those of one slice or vector, and no output overlaps another argument.
-        let code = unsafe {
-            raw::dsa_track_spans(
-                self.words.as_mut_ptr(),
-                self.words.len(),
-                reads.as_ptr(),
-                reads.len(),
-                writes.as_ptr(),
-                writes.len(),
-                also.0,
-                &mut slot,
-                &mut waits,
-                &mut refusal,
-            )
-        };
-        let waits = Slots(waits);
-        answer(code, Submitted { slot, waits }, refusal)
+        self.take(|words, slot, waits, refusal| {
+            // SAFETY: each pointer and length are those of one slice, and no output overlaps another argument.
+            unsafe {
+                raw::dsa_track_spans(
+                    words.as_mut_ptr(),
+                    words.len(),
+                    reads.as_ptr(),
+                    reads.len(),
+                    writes.as_ptr(),
+                    writes.len(),
+                    also.0,
+                    slot,
+                    waits,
+                    refusal,
+                )
+            }
+        })
     }
 
     /// Takes each entry of a portal as a submission of its own, in their order, and answers their slots: groups of
@@ -266,6 +264,16 @@ impl Tracker {
     /// [`Cause::NotOutstanding`](crate::Cause::NotOutstanding).
     pub fn withdraw(&mut self, slot: u32) -> Result<Retired, Refusal> {
         self.retire(raw::dsa_track_withdraw, slot)
+    }
+
+    fn take(
+        &mut self,
+        call: impl FnOnce(&mut [u64], &mut u32, &mut u64, &mut raw::Refusal) -> u32,
+    ) -> Result<Submitted, Refusal> {
+        let (mut slot, mut waits, mut refusal) = (0, 0, raw::Refusal::default());
+        let code = call(&mut self.words, &mut slot, &mut waits, &mut refusal);
+        let waits = Slots(waits);
+        answer(code, Submitted { slot, waits }, refusal)
     }
 
     fn retire(&mut self, call: raw::Retire, slot: u32) -> Result<Retired, Refusal> {

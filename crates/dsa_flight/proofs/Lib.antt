@@ -8,5 +8,6 @@ pub mod Spans
 pub mod Hosted
 pub mod Ready
 pub mod Planned
+pub mod Groups
 pub mod Agree
 pub mod Existing

@@ -1,5 +1,5 @@
 -- Planned lists in flight.
-use Rattle.std.proofs.Common.{◌≡◌, ℕ, zero, suc, inl, inr, Bool, true, false, List, [], ◌∷◌, length, take, map, refl, sym, ap, ◌∙◌, subst}
+use Rattle.std.proofs.Common.{◌≡◌, ℕ, zero, suc, inl, inr, Bool, true, false, List, [], ◌∷◌, ◌<◌, length, take, map, refl, sym, ap, ◌∙◌, subst, arith}
 use Rattle.std.proofs.Math.Seq.{take-length}
 use Rattle.std.proofs.lemmas.Option.{same_Some}
 use Rattle.dsa_descriptor.specs.Descriptors.{fields}
@@ -23,7 +23,7 @@ use Rattle.dsa_flight.specs.Needed.{all_go}
 use Rattle.dsa_flight.specs.Planned.{PlannedList, submission, submissions, AllCanRun, lists_in_turn, AllSucceedInTurn, PlannedEndInTurn}
 use Rattle.dsa_flight.proofs.InTurn.{every_flight_ends_in_turn}
 
-fitting : (ps : List PlannedList) (m : Memory) → AllCanRun ps m → AllFitting descriptor_machine (submissions ps) m
+pub fitting : (ps : List PlannedList) (m : Memory) → AllCanRun ps m → AllFitting descriptor_machine (submissions ps) m
 fitting [] m can x setup h = absurd (none_read x setup h)
 fitting (p ∷ ps) m can zero setup h =
     let here = fits p.greatest_batch (map fields p.list) p.plan m p.engines (listed_apart p.list) (can 0 p refl) in
@@ -42,8 +42,8 @@ whole p m k stop all =
     ∙ ap (λ ds. memory_in_order descriptor_machine ds m) (take-length pieces)
     ∙ memory_is_fold pieces m apart
 
-in_turn :
-    (ps : List PlannedList) (goes : ℕ → Bool) (lanes : List (List (Progress Partial))) (m end : Memory) → ((x : ℕ) → goes x ≡ true) →
+pub in_turn :
+    (ps : List PlannedList) (goes : ℕ → Bool) (lanes : List (List (Progress Partial))) (m end : Memory) → ((x : ℕ) → x < length ps → goes x ≡ true) →
     EndsInTurn descriptor_machine goes (submissions ps) lanes m end → AllSucceedInTurn ps m → end ≡ lists_in_turn ps m
 in_turn [] goes [] m end all ends succeed = ends
 in_turn [] goes (qs ∷ lanes) m end all ends succeed = absurd ends
@@ -52,9 +52,9 @@ in_turn (p ∷ ps) goes (qs ∷ lanes) m end all ends succeed =
     let mid : Memory = ends.0 in
     let mid_is : mid ≡ fold_done (map fields p.list) m = ends.3.memory_is ∙ elim ends.2 [
       | inl going ↦ whole p m ends.1 going.1 (succeed.0, tt)
-      | inr still ↦ absurd (no_both (goes 0) (all 0) still.0)
+      | inr still ↦ absurd (no_both (goes 0) (all 0 (omega arith)) still.0)
     ] in
-    in_turn ps (λ x. goes (suc x)) lanes mid end (λ x. all (suc x)) ends.4 (subst (λ n. AllSucceedInTurn ps n) (sym mid_is) succeed.1)
+    in_turn ps (λ x. goes (suc x)) lanes mid end (λ x lt. all (suc x) (omega (arith, lt))) ends.4 (subst (λ n. AllSucceedInTurn ps n) (sym mid_is) succeed.1)
     ∙ ap (λ n. lists_in_turn ps n) mid_is
   where
     no_both : (b : Bool) → b ≡ true → b ≡ false → ⊥
@@ -62,5 +62,5 @@ in_turn (p ∷ ps) goes (qs ∷ lanes) m end all ends succeed =
 
 pub planned_end_in_turn : PlannedEndInTurn
 planned_end_in_turn ps waits m events s can cover flight ended succeed =
-    in_turn ps all_go s.lanes m s.memory (λ x. refl)
+    in_turn ps all_go s.lanes m s.memory (λ x lt. refl)
     (every_flight_ends_in_turn descriptor_machine (submissions ps) all_go waits m events s (fitting ps m can) cover flight ended) succeed

@@ -1,5 +1,5 @@
 -- Planned lists in flight.
-use Rattle.std.specs.Prelude.{◌≡◌, ℕ, Bool, List, [], ◌∷◌, map, Some, slice_get}
+use Rattle.std.specs.Prelude.{◌≡◌, ℕ, Bool, List, [], ◌∷◌, drop, flat_map, length, map, Some, slice_get, take}
 use Rattle.dsa_descriptor.specs.declared.descriptor.Descriptor.{Descriptor}
 use Rattle.dsa_descriptor.specs.Descriptors.{fields}
 use Rattle.dsa_descriptor.specs.Fields.{Fields}
@@ -52,4 +52,28 @@ PlannedEndInTurn =
     (ps : List PlannedList) (waits : ℕ → ℕ → Bool) (m : Memory) (events : List (ℕ × Event)) (s : Flight Partial) →
     AllCanRun ps m → WaitsCover descriptor_machine (submissions ps) all_go waits →
     IsFlight descriptor_machine (submissions ps) all_go waits m events s → AllEnded (submissions ps) all_go s →
+    AllSucceedInTurn ps m → s.memory ≡ lists_in_turn ps m
+
+-- the groups of a plan, each as a planned list of its own: its pieces are the next of the list (that each entry of a portal
+-- may be a submission of its own is this project's choice)
+abbrev pub each_group : ℕ → ℕ → Plan → List Descriptor → List PlannedList
+each_group greatest_batch engines [] list = []
+each_group greatest_batch engines (group ∷ plan) list =
+    record { greatest_batch = greatest_batch; plan = group ∷ []; list = take (length group) list; engines = engines }
+    ∷ each_group greatest_batch engines plan (drop (length group) list)
+
+-- the groups of a planned list
+abbrev pub groups_of : PlannedList → List PlannedList
+groups_of p = each_group p.greatest_batch p.engines p.plan p.list
+
+-- the groups of one planned list after another
+abbrev pub all_groups : List PlannedList → List PlannedList
+all_groups ps = flat_map groups_of ps
+
+-- the same of planned lists whose groups are in flight each by itself, with waits between all groups that conflict
+abbrev pub GroupsEndInTurn : Type 0
+GroupsEndInTurn =
+    (ps : List PlannedList) (waits : ℕ → ℕ → Bool) (m : Memory) (events : List (ℕ × Event)) (s : Flight Partial) →
+    AllCanRun ps m → WaitsCover descriptor_machine (submissions (all_groups ps)) all_go waits →
+    IsFlight descriptor_machine (submissions (all_groups ps)) all_go waits m events s → AllEnded (submissions (all_groups ps)) all_go s →
     AllSucceedInTurn ps m → s.memory ≡ lists_in_turn ps m

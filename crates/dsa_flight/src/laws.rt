@@ -7,7 +7,7 @@ ghost use Rattle.dsa_flight.specs.Hosted.{AnyPiece, hosted_machine};
 ghost use Rattle.dsa_flight.specs.Laws.{CompleteFlightsExist, EndedIsLast, EveryFlightEndsInTurn, FlightsAgree};
 ghost use Rattle.dsa_flight.specs.Needed.{NoFewerWaits};
 ghost use Rattle.dsa_flight.specs.Own.{OthersKeepIt};
-ghost use Rattle.dsa_flight.specs.Planned.{PlannedEndInTurn};
+ghost use Rattle.dsa_flight.specs.Planned.{GroupsEndInTurn, PlannedEndInTurn};
 ghost use Rattle.dsa_flight.specs.Spans.{SpansTell, StagingIsWritten, any_read_spans, any_written_spans};
 ghost use Rattle.dsa_ranges.specs.Ranges.{read_spans, written_spans};
 
@@ -22,6 +22,11 @@ pub fn every_flight_ends_in_turn()
 /// descriptor succeeds there.
 pub fn planned_end_in_turn()
     ensures { PlannedEndInTurn }
+{}
+
+/// The same if each group of their plans is a submission of its own.
+pub fn groups_end_in_turn()
+    ensures { GroupsEndInTurn }
 {}
 
 /// Complete flights of the same submissions end alike.

@@ -21,3 +21,4 @@ pub mod Whole
 pub mod Counting
 pub mod Grouped
 pub mod Named
+pub mod Planned

@@ -13,3 +13,4 @@ pub mod Inside
 pub mod Words
 pub mod Head
 pub mod Honest
+pub mod Planned

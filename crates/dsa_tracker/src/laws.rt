@@ -6,6 +6,7 @@ ghost use Rattle.dsa_flight.specs.Spans.{any_read_spans, any_written_spans};
 ghost use Rattle.dsa_ranges.specs.Ranges.{read_spans, written_spans};
 ghost use Rattle.dsa_tracker.specs.Groups.{GroupsStageWhatEntriesName};
 ghost use Rattle.dsa_tracker.specs.Honest.{TrackerEndsInTurn};
+ghost use Rattle.dsa_tracker.specs.Planned.{GroupsAreSubmitted, TrackedGroupsEndInTurn};
 
 /// A caller that rings only what its tracker calls ready, completes only what is ready and has
 /// ended, and withdraws only what it did not ring, finds what the submissions that it rang leave
@@ -19,4 +20,12 @@ pub fn tracker_ends_in_turn()
 /// device reads, and the completion record that it writes.
 pub fn groups_stage_what_entries_name()
     ensures { GroupsStageWhatEntriesName }
+{}
+
+/// Such a caller that has rung each group of planned lists, a submission of its own, finds what the
+/// lists leave one after another, if each descriptor succeeds. The call that takes the groups of a
+/// list submits them, with their parts of the staging area, and does nothing else.
+pub fn groups_end_in_turn()
+    ensures leaves { TrackedGroupsEndInTurn }
+    ensures submitted { GroupsAreSubmitted }
 {}

@@ -22,7 +22,7 @@ mod units;
 pub mod words;
 
 pub use fault::{TrackFault, WordsFault};
-pub use laws::{groups_stage_what_entries_name, tracker_ends_in_turn};
+pub use laws::{groups_end_in_turn, groups_stage_what_entries_name, tracker_ends_in_turn};
 pub use owner::Owner;
 pub use slots::Slots;
 pub use tracker::{Retired, Submitted, Tracker};

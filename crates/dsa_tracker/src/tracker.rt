@@ -24,7 +24,7 @@ use std::alloc::{AllocError, Global};
 use std::marker::Model;
 
 /// The number of rows, as a power of two.
-const LOG2_ROWS: u32 = 13;
+const LOG2_ROWS: u32 = 14;
 
 /// A submission that the tracker has taken.
 #[derive(Clone, Copy, Debug, PartialEq, Eq)]

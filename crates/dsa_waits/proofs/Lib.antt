@@ -4,3 +4,4 @@ pub mod Parts
 pub mod Placed
 pub mod Entered
 pub mod Fits
+pub mod Agreeing

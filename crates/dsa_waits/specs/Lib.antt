@@ -5,3 +5,4 @@ pub mod Recorded
 pub mod RecordedSteps
 pub mod Fitting
 pub mod Answered
+pub mod Agreeing

@@ -6,6 +6,8 @@ pub mod Submissions
 pub mod FencedLists
 pub mod FencedPlans
 pub mod FencedJudged
+pub mod SameChoice
+pub mod Unfenced
 pub mod Beginnings
 pub mod Refusals
 pub mod Histories

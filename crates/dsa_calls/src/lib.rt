@@ -19,8 +19,8 @@ pub use fenced::{judge_fenced_list, plan_fenced_list};
 pub use judging::{judge_bytes, judge_pieces, judge_pieces_with};
 pub use laws::{
     fenced_plan_is_least, one_checked, one_fenced_plan, one_judged, one_planned, one_replayed,
-    one_run, planned_is_least_and_shown, planned_runs_leave_whole, replays_follow_plans,
-    runs_follow_plans,
+    one_run, planned_is_least_and_shown, planned_runs_leave_whole, plans_without_barriers,
+    replays_follow_plans, runs_follow_plans,
 };
 pub use line::{LONGEST_LINE, refusal_line};
 pub use planning::{Planned, plan_list, plan_operations, plan_operations_with};

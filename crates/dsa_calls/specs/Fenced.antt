@@ -31,6 +31,14 @@ unfenced_list bytes = flat_map unfenced (entries bytes) ++ drop (64 * (length by
 abbrev pub PiecesConflict : Limits → List Fields → List Bool → List Fields → ℕ → ℕ → Type 0
 PiecesConflict s operations barriers pieces a b = WithBarriers (ConflictAt pieces) (piece_barriers s.greatest_transfer operations barriers) a b
 
+-- these are the pieces that the operations are split into which the bytes without their fences spell, and their barriers
+pub record AreFencedPieces (bytes : List ℕ) (s : Limits) (pieces : List Descriptor) (barriers : List Bool) : Type 0 where
+  pub operations : List Descriptor
+  pub listed : IsListOf (unfenced_list bytes) operations
+  pub split : IsSplit s.greatest_transfer s.staging (map fields operations)
+  pub pieces_are : map fields pieces ≡ all_pieces (map fields operations) s.greatest_transfer
+  pub barriers_are : barriers ≡ piece_barriers s.greatest_transfer (map fields operations) (fences_of bytes)
+
 -- The submission of these operations and their barriers: the pieces that they are split into, and the chosen plan of these
 -- with the barriers, its prices and pairs, the version of the settings, the plan's cost, and its emission.
 pub record IsSubmissionWith (barriers : List Bool) (s : Limits) (operations : List Fields) (p : Submission) : Type 0 where

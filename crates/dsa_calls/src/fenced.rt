@@ -1,31 +1,37 @@
 //! Planning and judging lists in which a fence is a barrier.
 
-ghost use Rattle.std.specs.Prelude.{◌≡◌, ◌⊎◌, ℕ, IfOk, IfErr, Result};
+ghost use Rattle.std.specs.Prelude.{◌≡◌, ◌⊎◌, ℕ, Err, IfOk, IfErr, map, Result};
+ghost use Rattle.dsa_descriptor.specs.Descriptors.{fields};
 ghost use Rattle.dsa_descriptor.specs.Lists.{IsFirstListFault};
 ghost use Rattle.dsa_descriptor.specs.declared.fault.ListFault.TheVariants.{Memory as ListMemory};
 ghost use Rattle.dsa_calls.specs.declared.fault.PlanFault.{PlanFault};
+ghost use Rattle.dsa_calls.specs.declared.fault.PlanFault.TheVariants.{Memory};
 ghost use Rattle.dsa_calls.specs.Lists.{IsListOf, OrMemory, IsOrMemory};
-ghost use Rattle.dsa_calls.specs.Planned.{Submission, submission_of};
-ghost use Rattle.dsa_calls.specs.Fenced.{fences_of, unfenced_list, IsFencedLeast, JudgesFenced, PlansFenced};
+ghost use Rattle.dsa_calls.specs.Planned.{CanBePlanned, Submission, submission_of};
+ghost use Rattle.dsa_calls.specs.Fenced.{fences_of, unfenced_list, AreFencedPieces, IsFencedLeast, JudgesFenced, PlansFenced};
 
 use crate::fault::PlanFault;
 use crate::judging::judge_pieces_with;
-use crate::planning::{Planned, plan_operations_with};
+use crate::planning::{Planned, plan_pieces};
 use dsa_descriptor::{Descriptor, ListFault, agree_on_owner};
 use dsa_plan::{Plan, Settings, is_fenced, unfenced};
+use dsa_splitter::{MarkedPieces, into_marked_pieces};
 use std::alloc::Global;
 
 /// What the bytes of a list with fences spell.
 #[derive(Debug, Drop)]
-struct FencedList {
+pub struct FencedList {
     /// The operations, without their fences.
-    operations: Vec<Descriptor>,
+    pub operations: Vec<Descriptor>,
     /// Whether each was fenced.
-    fences: Vec<bool>,
+    pub fences: Vec<bool>,
 }
 
 /// The operations that the bytes spell, fenced or not, and their fences.
-fn read_fenced(alloc: Global, bytes: &[u8]) -> Result<FencedList, ListFault>
+///
+/// # Errors
+/// The first fault of the bytes without their fences as a list, as [`read_list`](dsa_descriptor::read_list) reports it.
+pub fn read_fenced_list(alloc: Global, bytes: &[u8]) -> Result<FencedList, ListFault>
     ensures listed { IfOk result
         (λ list. IsListOf (unfenced_list bytes.now) list.operations.items) }
     ensures fences { IfOk result (λ list. list.fences.items ≡ fences_of bytes.now) }
@@ -52,6 +58,24 @@ fn read_fenced(alloc: Global, bytes: &[u8]) -> Result<FencedList, ListFault>
     Ok(FencedList { operations, fences })
 }
 
+/// The pieces of the operations that the bytes spell, fenced or not, and their barriers.
+pub(crate) fn fenced_pieces(
+    alloc: Global,
+    list: &[u8],
+    settings: &Settings,
+) -> Result<MarkedPieces, PlanFault>
+    ensures found { IfOk result (λ found.
+        AreFencedPieces list.now settings.now found.pieces.items found.barriers.items) }
+    ensures can { IfOk result (λ found.
+        CanBePlanned settings.now (map fields found.pieces.items)) }
+    ensures fault { IfErr result (λ fault. (fault ≡ Memory) ⊎
+        PlansFenced list.now settings.now (Err fault)) }
+{
+    let read = read_fenced_list(alloc, list)?;
+    let found = into_marked_pieces(alloc, read.operations, read.fences, settings)?;
+    Ok(found)
+}
+
 /// Plans the operations that the bytes spell, as [`plan_list`](crate::plan_list) does. An operation with the flag
 /// 0x0001, fence, begins after a barrier; of one that is split the first piece does. The plan is of least cost among
 /// those that keep each barrier, and has the fences that it needs. A fence on the first operation says nothing.
@@ -72,8 +96,9 @@ pub fn plan_fenced_list(
     // The plan keeps the barriers, no legal plan that does costs less, and its certificate is good.
     ensures least { IfOk result (λ p. IsFencedLeast list.now settings.now (submission_of p)) }
 {
-    let read = read_fenced(alloc, list)?;
-    plan_operations_with(alloc, &read.operations, &read.fences, settings)
+    let MarkedPieces { pieces, barriers } = fenced_pieces(alloc, list, settings)?;
+    let planned = plan_pieces(alloc, pieces, &barriers, settings)?;
+    Ok(planned)
 }
 
 /// The cost of the plan for the pieces that the bytes spell, as [`judge_bytes`](crate::judge_bytes) judges them. A
@@ -96,6 +121,6 @@ pub fn judge_fenced_list(
         JudgesFenced list.now plan.now settings.now outcome →
         IsOrMemory (λ cost. cost) outcome result }
 {
-    let read = read_fenced(alloc, list)?;
+    let read = read_fenced_list(alloc, list)?;
     judge_pieces_with(&read.operations, &read.fences, plan, settings)
 }

@@ -15,7 +15,7 @@ mod running;
 pub use checking::{check_bytes, check_plan, check_plan_with};
 pub use dsa_descriptor::MOST_PIECES;
 pub use fault::{InnerFault, PlanFault};
-pub use fenced::{judge_fenced_list, plan_fenced_list};
+pub use fenced::{FencedList, judge_fenced_list, plan_fenced_list, read_fenced_list};
 pub use judging::{judge_bytes, judge_pieces, judge_pieces_with};
 pub use laws::{
     fenced_plan_is_least, one_checked, one_fenced_plan, one_judged, one_planned, one_replayed,

@@ -3,7 +3,7 @@ use Rattle.dsa_descriptor.specs.Descriptors.{fields}
 use Rattle.dsa_descriptor.specs.Lists.{IsSoundAt, list_spelling}
 use Rattle.dsa_plan.specs.EmissionFaults.{is_fenced}
 use Rattle.dsa_calls.specs.Fenced.{unfenced_list}
-use Rattle.dsa_calls.proofs.fenced.read_fenced.Given as goal
+use Rattle.dsa_calls.proofs.fenced.read_fenced_list.Given as goal
 
 -- each entry so far is sound without its fence, and the lists have its operation and its fence
 abbrev pub invariant-loop-index : goal.invariant-loop-index

@@ -6,7 +6,7 @@ use Rattle.dsa_descriptor.specs.Lists.{list_spelling}
 use Rattle.dsa_descriptor.specs.Spelling.{spelling}
 use Rattle.dsa_plan.specs.EmissionFaults.{unfenced}
 use Rattle.dsa_calls.proofs.FencedLists.{length_fault, field_fault, mixed_fault, sound_next, spelt_next, fences_next, all_read}
-use Rattle.dsa_calls.proofs.fenced.read_fenced.Goals as goal
+use Rattle.dsa_calls.proofs.fenced.read_fenced_list.Goals as goal
 
 pub returns-then-not-is_empty-clause-fault : goal.returns-then-not-is_empty-clause-fault
 returns-then-not-is_empty-clause-fault c =

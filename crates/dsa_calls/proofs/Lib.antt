@@ -8,6 +8,7 @@ pub mod FencedPlans
 pub mod FencedJudged
 pub mod SameChoice
 pub mod Unfenced
+pub mod FencedChecked
 pub mod Beginnings
 pub mod Refusals
 pub mod Histories

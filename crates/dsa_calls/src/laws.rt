@@ -2,6 +2,7 @@
 //! what the proof shows.
 
 ghost use Rattle.dsa_calls.specs.Fenced.{OneFencedPlan, FencedPlanIsLeast, NoBarriersPlanAlike, NoFencesPlanAlike};
+ghost use Rattle.dsa_calls.specs.FencedChecked.{FencedPlanIsChecked, OneFencedCheck};
 ghost use Rattle.dsa_calls.specs.Laws.{OneJudged, OnePlanned, OneChecked, OneReplayed, OneRun, PlannedIsLeastAndShown, PlannedRunsLeaveWhole, ReplaysFollowPlans, RunsFollowPlans};
 
 /// Bytes, a plan and settings have one outcome at most of judging them.
@@ -30,6 +31,16 @@ pub fn fenced_plan_is_least()
 pub fn plans_without_barriers()
     ensures first { NoBarriersPlanAlike }
     ensures none { NoFencesPlanAlike }
+{}
+
+/// A list, bytes, settings and a certificate have one outcome at most of checking the bytes for the list.
+pub fn one_fenced_check()
+    ensures { OneFencedCheck }
+{}
+
+/// Where planning with fences answers, checking what it submits for the list, with its certificate, answers its cost.
+pub fn fenced_plan_is_checked()
+    ensures { FencedPlanIsChecked }
 {}
 
 /// Bytes, settings and a certificate have one outcome at most of checking them.

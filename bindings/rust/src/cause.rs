@@ -136,6 +136,8 @@ causes! {
     Total = 64: "the last price is not the plan's cost",
     /// The certificate has another version than the settings.
     Version = 65: "the certificate is of another version than the settings",
+    /// The submitted piece `first` is not the list's.
+    OtherPiece = 66: "the submitted piece {0} is not the list's",
     /// An allocation failed.
     Memory = 73: "there was not enough memory",
     /// A setting is outside its limits, the version is neither 1 nor 2, or the table of prices has a wrong length.

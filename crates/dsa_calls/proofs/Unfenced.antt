@@ -100,7 +100,7 @@ no_barriers_plan_alike bytes s outcome none = (
 
 -- ---- bytes with no flag
 
-plain_entry : (entry : List ℕ) → (is_fenced entry ≡ true → ⊥) → unfenced entry ≡ entry
+pub plain_entry : (entry : List ℕ) → (is_fenced entry ≡ true → ⊥) → unfenced entry ≡ entry
 plain_entry entry none =
     elim (cases_Bool (is_fenced entry)) [
       | inl set ↦ absurd (none set)

@@ -2,7 +2,10 @@
 
 ghost use Rattle.std.specs.Prelude.{◌≡◌, ◌⊎◌, ℕ, Err, IfOk, IfErr, map, Result};
 ghost use Rattle.dsa_descriptor.specs.Descriptors.{fields};
+ghost use Rattle.dsa_descriptor.specs.Faults.{IsFirstFault};
 ghost use Rattle.dsa_descriptor.specs.Lists.{IsFirstListFault};
+ghost use Rattle.dsa_descriptor.specs.Spelling.{spelling};
+ghost use Rattle.dsa_plan.specs.EmissionFaults.{unfenced};
 ghost use Rattle.dsa_descriptor.specs.declared.fault.ListFault.TheVariants.{Memory as ListMemory};
 ghost use Rattle.dsa_calls.specs.declared.fault.PlanFault.{PlanFault};
 ghost use Rattle.dsa_calls.specs.declared.fault.PlanFault.TheVariants.{Memory};
@@ -13,7 +16,7 @@ ghost use Rattle.dsa_calls.specs.Fenced.{fences_of, unfenced_list, AreFencedPiec
 use crate::fault::PlanFault;
 use crate::judging::judge_pieces_with;
 use crate::planning::{Planned, plan_pieces};
-use dsa_descriptor::{Descriptor, ListFault, agree_on_owner};
+use dsa_descriptor::{Descriptor, FieldFault, ListFault, agree_on_owner};
 use dsa_plan::{Plan, Settings, is_fenced, unfenced};
 use dsa_splitter::{MarkedPieces, into_marked_pieces};
 use std::alloc::Global;
@@ -25,6 +28,18 @@ pub struct FencedList {
     pub operations: Vec<Descriptor>,
     /// Whether each was fenced.
     pub fences: Vec<bool>,
+}
+
+/// The operation that the entry spells without its fence. An entry without one is not copied.
+#[inline(always)]
+fn read_unfenced(entry: &[u8; 64]) -> Result<Descriptor, FieldFault>
+    ensures found { IfOk result (λ operation. unfenced entry.now ≡ spelling (fields operation)) }
+    ensures fault { IfErr result (IsFirstFault (unfenced entry.now)) }
+{
+    if is_fenced(entry) {
+        return Descriptor::read(&unfenced(entry));
+    }
+    Descriptor::read(entry)
 }
 
 /// The operations that the bytes spell, fenced or not, and their fences.
@@ -45,15 +60,15 @@ pub fn read_fenced_list(alloc: Global, bytes: &[u8]) -> Result<FencedList, ListF
     let mut operations = Vec::with_capacity(alloc, all.len())?;
     let mut fences = Vec::with_capacity(alloc, all.len())?;
     for (index, entry) in all.iter().enumerate() {
-        let operation = match Descriptor::read(&unfenced(entry)) {
+        let operation = match read_unfenced(entry) {
             Ok(operation) => operation,
             Err(fault) => return Err(ListFault::Field(index, fault)),
         };
         if !agree_on_owner(&all[0], entry) {
             return Err(ListFault::MixedPasid(index));
         }
-        operations.push(operation)?;
-        fences.push(is_fenced(entry))?;
+        operations.push_reserved(operation);
+        fences.push_reserved(is_fenced(entry));
     }
     Ok(FencedList { operations, fences })
 }

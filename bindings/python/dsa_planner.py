@@ -22,9 +22,10 @@ from typing import Dict, FrozenSet, Iterable, List, NamedTuple, Optional, Sequen
 
 __all__ = [
     "BARRIER", "BEGINS", "BLOCK_ON_FAULT", "CAUSES", "FENCED", "MOST_PIECES", "Certificate", "Group", "Planned",
-    "Prepared", "Refusal", "Retired", "Settings", "Submitted", "Summary", "Tracker", "apply_delta", "check", "compare",
-    "compare_pattern", "count_pieces", "dualcast", "fill", "groups", "judge", "library_version", "move",
-    "plan_fenced_list", "plan_list", "plan_list_certified", "prepare",
+    "Prepared", "Refusal", "Retired", "Settings", "Submitted", "Summary", "Tracker", "apply_delta", "check",
+    "check_fenced_list", "compare", "compare_pattern", "count_pieces", "dualcast", "fill", "groups", "judge",
+    "library_version", "move", "plan_fenced_list", "plan_list", "plan_list_certified",
+    "prepare", "prepare_fenced",
 ]
 
 MOST_PIECES = 65_536
@@ -155,8 +156,10 @@ def _declare(library: ctypes.CDLL) -> None:
         "dsa_plan_fenced_list": (ctypes.c_uint32, [*listed, *rooms, planned, refusal]),
         "dsa_plan_list_certified": (ctypes.c_uint32, [*listed, *rooms, *certificate, byte, size, planned, refusal]),
         "dsa_check": (ctypes.c_uint32, [*listed, byte, size, ctypes.c_uint64, *certificate, word, refusal]),
+        "dsa_check_fenced_list": (ctypes.c_uint32, [*listed, *[byte, size] * 2, ctypes.c_uint64, *certificate, word, refusal]),
         "dsa_judge": (ctypes.c_uint32, [*listed, byte, size, word, refusal]),
         "dsa_prepare": (ctypes.c_uint32, [*listed, regions, size, rows, size, info, refusal]),
+        "dsa_prepare_fenced": (ctypes.c_uint32, [*listed, regions, size, rows, size, info, refusal]),
         "dsa_fill": (ctypes.c_uint32, [rows, size, word, size, ctypes.c_uint64, *rooms, refusal]),
         "dsa_track_begin": (number, [*words, number, number, number, number, refusal]),
         "dsa_track_list": (number, [*words, byte, size, *[ctypes.c_uint64] * 3, slot, word, refusal]),
@@ -304,6 +307,7 @@ CAUSES: Dict[int, str] = {
     63: "Price",
     64: "Total",
     65: "Version",
+    66: "OtherPiece",
     73: "Memory",
     83: "Settings",
     90: "NoRoom",
@@ -537,8 +541,21 @@ def plan_list_certified(settings: Settings, operations: Bytes) -> Planned:
 def check(settings: Settings, portal: Bytes, staging: Bytes, certificate: Certificate) -> int:
     """What the bytes of a portal and a staging area cost, where each conflict within a batch has its fence and the
     certificate shows that no legal plan of their pieces costs less. Raises `Refusal`. It needs 256 KiB of stack."""
+    return _checked(_library.dsa_check, settings, [_given("portal", portal), _given("staging", staging)], certificate)
+
+
+def check_fenced_list(
+    settings: Settings, operations: Bytes, portal: Bytes, staging: Bytes, certificate: Certificate
+) -> int:
+    """The same for a list as `plan_fenced_list` takes it, which says where the barriers are: the bytes submit the pieces of
+    the list, the plan keeps each barrier, and the certificate shows that no legal plan that does costs less."""
+    given = [_given("operations", operations), _given("portal", portal), _given("staging", staging)]
+    return _checked(_library.dsa_check_fenced_list, settings, given, certificate)
+
+
+def _checked(call, settings: Settings, given: Sequence, certificate: Certificate) -> int:
+    """The cost that a call answers of these bytes and the certificate."""
     raw, table, entries = settings._raw()
-    to_portal, to_staging = _given("portal", portal), _given("staging", staging)
     prices = _words([_whole("a price", price) for price in certificate.prices])
     pairs = (_Pair * max(1, len(certificate.pairs)))()
     for at, pair in enumerate(certificate.pairs):
@@ -547,7 +564,8 @@ def check(settings: Settings, portal: Bytes, staging: Bytes, certificate: Certif
     cost, refusal = ctypes.c_uint64(), _Refusal()
     version = _whole("the version", certificate.version)
     certified = version, prices, len(certificate.prices), pairs, len(certificate.pairs)
-    _answered(_library.dsa_check(raw, table, entries, *to_portal, *to_staging, *certified, cost, refusal), refusal)
+    arrays = [part for array in given for part in array]
+    _answered(call(raw, table, entries, *arrays, *certified, cost, refusal), refusal)
     return cost.value
 
 
@@ -597,6 +615,17 @@ class Prepared:
 def prepare(settings: Settings, operations: Bytes, regions: Sequence[Tuple[int, int]]) -> Prepared:
     """Plans a list once, for buffers at any addresses: the regions, each its first address and its length, are those with
     which the list was made, in the order of their addresses. Raises `Refusal`."""
+    return _prepared(_library.dsa_prepare, settings, operations, regions)
+
+
+def prepare_fenced(settings: Settings, operations: Bytes, regions: Sequence[Tuple[int, int]]) -> Prepared:
+    """The same, but an operation may have the flag `BARRIER`, as for `plan_fenced_list`: each filled submission keeps its
+    barrier."""
+    return _prepared(_library.dsa_prepare_fenced, settings, operations, regions)
+
+
+def _prepared(call, settings: Settings, operations: Bytes, regions: Sequence[Tuple[int, int]]) -> Prepared:
+    """What a call that prepares a list answers."""
     raw, table, entries = settings._raw()
     listed, size = _given("operations", operations)
     pieces = min(int(_library.dsa_count_pieces(raw, table, entries, listed, size)), MOST_PIECES)
@@ -605,7 +634,7 @@ def prepare(settings: Settings, operations: Bytes, regions: Sequence[Tuple[int, 
         spans[at] = _Region(_whole("a region's address", first), _whole("a region's length", length))
     room = 1 + len(regions) + 3 * pieces
     rows, info, refusal = (_Row * room)(), _Info(), _Refusal()
-    code = _library.dsa_prepare(raw, table, entries, listed, size, spans, len(regions), rows, room, info, refusal)
+    code = call(raw, table, entries, listed, size, spans, len(regions), rows, room, info, refusal)
     _answered(code, refusal)
     return Prepared(bytes(rows)[: info.rows * ctypes.sizeof(_Row)])
 

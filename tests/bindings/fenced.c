@@ -3,7 +3,8 @@
  * Random lists of up to seven moves over a few pages, with random barriers. Of all plans those that dsa_judge takes and
  * that begin a group or set a fence at each barrier are legal; the least cost of these is the answer, and what is
  * submitted keeps each barrier. Without barriers the bytes are those of dsa_plan_list, and what that refuses of the
- * list without fences is refused. */
+ * list without fences is refused. With the certificate of these costs dsa_check_fenced_list accepts the bytes of those
+ * plans alone that are legal, keep the barriers and cost the least, and no bytes of other pieces. */
 #include <inttypes.h>
 #include <stdio.h>
 #include <stdlib.h>
@@ -65,17 +66,22 @@ static void draw(struct list *l)
     }
 }
 
+/* The cost of the plan that the marks spell, if it is legal, whatever the barriers are. */
+static uint64_t judged(const struct list *l, const uint8_t *marks)
+{
+    struct dsa_refusal r;
+    uint64_t cost = UINT64_MAX;
+    return dsa_judge(&l->settings, l->table, l->entries, l->plain, 64 * l->count, marks, l->count, &cost, &r)
+               ? UINT64_MAX
+               : cost;
+}
+
 /* The least cost of a plan with these marks for pieces before `next`, whatever the others are. */
 static uint64_t least(const struct list *l, uint8_t *marks, size_t next)
 {
     uint64_t best = UINT64_MAX;
-    if (next == l->count) {
-        struct dsa_refusal r;
-        uint64_t cost = UINT64_MAX;
-        return dsa_judge(&l->settings, l->table, l->entries, l->plain, 64 * l->count, marks, l->count, &cost, &r)
-                   ? UINT64_MAX
-                   : cost;
-    }
+    if (next == l->count)
+        return judged(l, marks);
     for (uint8_t mark = next ? 0 : DSA_BEGINS; mark <= DSA_FENCED; mark++) {
         if (next && l->is_barrier[next] && mark == 0)
             continue;
@@ -132,6 +138,211 @@ static void try_list(const struct list *l)
         fail(l, "a list without barriers is planned otherwise", planned.cost, plain.cost);
 }
 
+/* Whether two spans share an address. */
+static int meet(uint64_t a, uint64_t a_len, uint64_t b, uint64_t b_len)
+{
+    return a < b + b_len && b < a + a_len;
+}
+
+/* Whether one of two moves writes what the other reads or writes, or a barrier is between them. */
+static int conflict(const struct list *l, size_t a, size_t b)
+{
+    uint64_t at[2][3], len[2][3] = {{0, 0, 32}, {0, 0, 32}};
+    const size_t of[2] = {a, b};
+    for (int k = 0; k < 2; k++) {
+        const uint8_t *d = l->bytes + 64 * of[k];
+        uint32_t size;
+        memcpy(&size, d + 32, 4);
+        memcpy(&at[k][0], d + 16, 8); /* read */
+        memcpy(&at[k][1], d + 24, 8); /* written, and the record too */
+        memcpy(&at[k][2], d + 8, 8);
+        len[k][0] = len[k][1] = size;
+    }
+    for (int p = 0; p < 3; p++)
+        for (int q = 0; q < 3; q++)
+            if (p + q && meet(at[0][p], len[0][p], at[1][q], len[1][q]))
+                return 1;
+    return b == a + 1 && l->is_barrier[b];
+}
+
+struct certificate {
+    uint64_t prices[MOST + 1];
+    struct dsa_pair pairs[MOST];
+};
+
+/* The least cost of the first 0, 1, .. moves, and for each move the first pair that a batch from it on can hold. */
+static struct certificate certificate_of(const struct list *l)
+{
+    struct certificate c = {{0}, {{0}}};
+    struct list front = *l;
+    uint8_t marks[MOST];
+    for (front.count = 1; front.count <= l->count; front.count++)
+        c.prices[front.count] = least(&front, marks, 0);
+    for (size_t i = 0; i < l->count; i++) {
+        c.pairs[i] = (struct dsa_pair){UINT32_MAX, UINT32_MAX};
+        for (size_t b = i + 1; b < l->count && b < i + l->settings.greatest_batch; b++)
+            for (size_t a = b; a-- > i && c.pairs[i].second == UINT32_MAX;)
+                if (conflict(l, a, b))
+                    c.pairs[i] = (struct dsa_pair){(uint32_t)a, (uint32_t)b};
+    }
+    return c;
+}
+
+struct bytes {
+    uint8_t portal[ROOM], staging[STAGED];
+    size_t portal_len, staging_len;
+};
+
+/* A batch of the descriptors that are staged from `from` on, with the record of this number. */
+static void put_batch(const struct list *l, uint8_t *d, size_t from, size_t count, size_t batched, size_t number)
+{
+    static const uint8_t flags[4] = {0x0c, 0, 0, 1};
+    const uint64_t record = l->settings.staging + 64 * batched + 32 * number, at = l->settings.staging + 64 * from;
+    const uint32_t size = (uint32_t)count;
+    memset(d, 0, 64);
+    memcpy(d + 4, flags, 4);
+    memcpy(d + 8, &record, 8);
+    memcpy(d + 16, &at, 8);
+    memcpy(d + 32, &size, 4);
+}
+
+/* The bytes that submit the plan that the marks spell. */
+static struct bytes emitted(const struct list *l, const uint8_t *marks)
+{
+    struct bytes b = {{0}, {0}, 0, 0};
+    size_t sizes[MOST] = {0}, groups = 0, batched = 0, staged = 0, batches = 0;
+    for (size_t k = 0; k < l->count; k++) {
+        groups += k == 0 || (marks[k] & DSA_BEGINS);
+        sizes[groups - 1]++;
+    }
+    for (size_t g = 0; g < groups; g++)
+        batched += sizes[g] > 1 ? sizes[g] : 0;
+    for (size_t g = 0, piece = 0; g < groups; piece += sizes[g], g++) {
+        if (sizes[g] == 1) {
+            memcpy(b.portal + 64 * g, l->plain + 64 * piece, 64);
+            continue;
+        }
+        put_batch(l, b.portal + 64 * g, staged, sizes[g], batched, batches++);
+        for (size_t k = piece; k < piece + sizes[g]; k++, staged++) {
+            memcpy(b.staging + 64 * staged, l->plain + 64 * k, 64);
+            b.staging[64 * staged + 4] |= marks[k] & DSA_FENCED ? 1 : 0;
+        }
+    }
+    b.portal_len = 64 * groups;
+    b.staging_len = 64 * batched + 32 * batches;
+    return b;
+}
+
+/* The number of the refusal of these bytes for the list, or 0 and their cost. */
+static uint32_t checked(const struct list *l, const struct bytes *b, const struct certificate *c, uint64_t *cost,
+                        struct dsa_refusal *r)
+{
+    return dsa_check_fenced_list(&l->settings, l->table, l->entries, l->bytes, 64 * l->count, b->portal, b->portal_len,
+                                 b->staging, b->staging_len, l->settings.version, c->prices, l->count + 1, c->pairs,
+                                 l->count, cost, r);
+}
+
+/* Each plan is accepted exactly if it is legal, keeps the barriers and costs the least. */
+static void try_plans(const struct list *l, const struct certificate *c, uint8_t *marks, size_t next)
+{
+    if (next < l->count) {
+        for (uint8_t mark = next ? 0 : DSA_BEGINS; mark <= (next ? DSA_FENCED : DSA_BEGINS); mark++) {
+            marks[next] = mark;
+            try_plans(l, c, marks, next + 1);
+        }
+        return;
+    }
+    const struct bytes b = emitted(l, marks);
+    struct dsa_refusal r = {0};
+    uint64_t cost = 7;
+    uint32_t want = DSA_OK;
+    for (size_t k = 1; k < l->count; k++)
+        want = l->is_barrier[k] && !marks[k] ? DSA_PLAN : want;
+    const uint64_t own = judged(l, marks);
+    if (own == UINT64_MAX)
+        want = DSA_PLAN;
+    else if (want == DSA_OK && own != c->prices[l->count])
+        want = DSA_TOTAL;
+    const uint32_t code = checked(l, &b, c, &cost, &r);
+    if (code == DSA_BATCH_FIELDS && want == DSA_PLAN) /* a batch is too large */
+        return;
+    if (code != want || (code && cost != 7) || (!code && cost != own))
+        fail(l, "checking a plan", code, want);
+}
+
+/* Bytes of other pieces are refused: of the first move that is another, and of the first that is missing. */
+static void try_others(struct list *l, const struct certificate *c)
+{
+    uint8_t marks[MOST];
+    memset(marks, DSA_BEGINS, sizeof marks);
+    struct bytes b = emitted(l, marks);
+    struct dsa_refusal r = {0};
+    uint64_t cost = 7;
+    const size_t k = drawn((uint32_t)l->count);
+    uint8_t *size = l->bytes + 64 * k + 32;
+    size[0] ^= size[0] == 1 && size[1] == 0 ? 2 : 1;
+    size[1] &= 0x0f;
+    const uint32_t other = checked(l, &b, c, &cost, &r);
+    if (l->bytes[64 * k + 33] == l->plain[64 * k + 33] && (other != DSA_OTHER_PIECE || r.first != k))
+        fail(l, "another piece", other, k);
+    memcpy(size, l->plain + 64 * k + 32, 4);
+    b.portal_len -= 64;
+    const uint32_t fewer = checked(l, &b, c, &cost, &r);
+    if (fewer != DSA_OTHER_PIECE || r.first != l->count - 1 || cost != 7)
+        fail(l, "a piece fewer", fewer, l->count - 1);
+}
+
+/* What is checked of the list: its plans, other pieces, and what planning answers. */
+static void try_checks(struct list *l)
+{
+    const struct certificate c = certificate_of(l);
+    uint8_t marks[MOST];
+    try_plans(l, &c, marks, 0);
+    try_others(l, &c);
+    struct bytes b;
+    struct dsa_planned planned;
+    struct dsa_refusal r;
+    uint64_t cost = 0;
+    if (dsa_plan_fenced_list(&l->settings, l->table, l->entries, l->bytes, 64 * l->count, b.portal, sizeof b.portal,
+                             b.staging, sizeof b.staging, &planned, &r))
+        fail(l, "refused", r.number, 0);
+    b.portal_len = planned.portal_len;
+    b.staging_len = planned.staging_len;
+    if (checked(l, &b, &c, &cost, &r) || cost != planned.cost)
+        fail(l, "what is planned is not accepted", r.number, cost);
+}
+
+/* What is filled of the prepared list is what planning it at its new addresses answers. */
+static void try_prepared(const struct list *l)
+{
+    const struct dsa_region regions[2] = {{0x10000, 0xc000}, {0x800000, 32 * MOST}};
+    const uint64_t bases[2] = {0x40000 + 0x1000 * drawn(64), 0xa00000 + 32 * drawn(64)}, area = UINT64_C(3) << 40;
+    struct dsa_prepared_row rows[DSA_PREPARED_ROOM(2, MOST)];
+    struct dsa_prepared_info info;
+    struct dsa_planned planned;
+    struct dsa_refusal r;
+    struct list moved = *l;
+    uint8_t portal[ROOM], staging[STAGED], want_portal[ROOM], want_staging[STAGED];
+    moved.settings.staging = area;
+    for (size_t k = 0; k < l->count; k++)
+        for (size_t at = 8; at <= 24; at += 8) {
+            uint64_t address;
+            memcpy(&address, moved.bytes + 64 * k + at, 8);
+            address += at == 8 ? bases[1] - regions[1].first : bases[0] - regions[0].first;
+            memcpy(moved.bytes + 64 * k + at, &address, 8);
+        }
+    if (dsa_prepare_fenced(&l->settings, l->table, l->entries, l->bytes, 64 * l->count, regions, 2, rows,
+                           sizeof rows / sizeof *rows, &info, &r)
+        || dsa_fill(rows, info.rows, bases, 2, area, portal, sizeof portal, staging, sizeof staging, &r))
+        fail(l, "preparing is refused", r.number, r.first);
+    if (dsa_plan_fenced_list(&moved.settings, l->table, l->entries, moved.bytes, 64 * l->count, want_portal,
+                             sizeof want_portal, want_staging, sizeof want_staging, &planned, &r))
+        fail(l, "the list on the new buffers is refused", r.number, r.first);
+    if (info.cost != planned.cost || info.portal_len != planned.portal_len || info.staging_len != planned.staging_len
+        || memcmp(portal, want_portal, planned.portal_len) || memcmp(staging, want_staging, planned.staging_len))
+        fail(l, "what is filled is not what is planned", info.cost, planned.cost);
+}
+
 /* Damaged lists are refused as without fences, and nothing is written. */
 static void try_refusal(struct list *l)
 {
@@ -166,6 +377,8 @@ int main(int argc, char **argv)
         struct list l;
         draw(&l);
         try_list(&l);
+        try_checks(&l);
+        try_prepared(&l);
         try_refusal(&l);
     }
     printf("%d lists with barriers\n", count);

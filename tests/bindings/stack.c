@@ -8,7 +8,7 @@
 
 #include <dsa_planner.h>
 
-enum { MOST = DSA_MOST_PIECES, STACK = 1 << 20, CALLS = 11 };
+enum { MOST = DSA_MOST_PIECES, STACK = 1 << 20, CALLS = 13 };
 
 static const struct dsa_settings settings = {1, 1024, 4096, 10, 14, 3, UINT64_C(1) << 40};
 static uint8_t list[64 * MOST], portal[64 * MOST], staging[80 * MOST], marks[MOST];
@@ -40,13 +40,6 @@ static void put_moves(uint64_t n)
     len = 64 * n;
 }
 
-/* Sets the fence of each fifth move, or clears it again. */
-static void turn_barriers(void)
-{
-    for (size_t at = 0; at < len; at += 5 * 64)
-        list[at + 4] ^= 1;
-}
-
 static void *call(void *which)
 {
     const struct dsa_settings *s = &settings;
@@ -60,36 +53,42 @@ static void *call(void *which)
         code = dsa_plan_list(s, &s->batch, 0, list, len, portal, sizeof portal, staging, sizeof staging, &planned, &refusal);
         break;
     case 2:
-        turn_barriers();
-        code = dsa_plan_fenced_list(s, &s->batch, 0, list, len, portal, sizeof portal, staging, sizeof staging,
-                                    &planned, &refusal);
-        turn_barriers();
-        break;
-    case 3:
         code = dsa_plan_list_certified(s, &s->batch, 0, list, len, portal, sizeof portal, staging, sizeof staging, prices,
                                        MOST + 1, pairs, MOST, marks, MOST, &planned, &refusal);
         break;
-    case 4:
+    case 3:
         code = dsa_check(s, &s->batch, 0, portal, planned.portal_len, staging, planned.staging_len, 1, prices, n + 1,
                          pairs, n, &cost, &refusal);
         break;
-    case 5:
+    case 4:
         code = dsa_judge(s, &s->batch, 0, list, len, marks, n, &cost, &refusal);
         break;
-    case 6:
+    case 5:
         code = dsa_prepare(s, &s->batch, 0, list, len, regions, 2, rows, DSA_PREPARED_ROOM(2, MOST), &prepared, &refusal);
         break;
-    case 7:
+    case 6:
         code = dsa_fill(rows, prepared.rows, bases, 2, s->staging, portal, sizeof portal, staging, sizeof staging, &refusal);
         break;
-    case 8:
+    case 7:
         code = dsa_track_begin(words, sizeof words / sizeof *words, 1, DSA_TRACKER_SPANS(MOST), 13, 12, &refusal);
         if (code == DSA_OK)
             code = dsa_track_list(words, sizeof words / sizeof *words, list, len, s->staging, 96 * n, 0, &slot, &waited,
                                   &refusal);
         break;
-    case 9:
+    case 8:
         code = dsa_track_complete(words, sizeof words / sizeof *words, slot, &waited, &ready, &refusal);
+        break;
+    case 10:
+        code = dsa_plan_fenced_list(s, &s->batch, 0, list, len, portal, sizeof portal, staging, sizeof staging, &planned,
+                                    &refusal);
+        break;
+    case 11:
+        code = dsa_check_fenced_list(s, &s->batch, 0, list, len, portal, planned.portal_len, staging, planned.staging_len,
+                                     1, prices, n + 1, pairs, n, &cost, &refusal);
+        break;
+    case 12:
+        code = dsa_prepare_fenced(s, &s->batch, 0, list, len, regions, 2, rows, DSA_PREPARED_ROOM(2, MOST), &prepared,
+                                  &refusal);
         break;
     default: /* large groups, and many, are refused once they are read */
         code = dsa_track_begin(words, sizeof words / sizeof *words, 64, 1024, 13, 12, &refusal);
@@ -129,9 +128,9 @@ static size_t touched_by(void *(*run)(void *), int which)
 
 int main(int argc, char **argv)
 {
-    static const char *const names[CALLS] = {"count_pieces", "plan_list", "plan_fenced_list", "plan_list_certified",
-                                             "check", "judge", "prepare", "fill", "track_list", "track_complete",
-                                             "track_groups"};
+    static const char *const names[CALLS] = {"count_pieces", "plan_list", "plan_list_certified", "check", "judge",
+                                             "prepare", "fill", "track_list", "track_complete", "track_groups",
+                                             "plan_fenced_list", "check_fenced_list", "prepare_fenced"};
     static const uint64_t lengths[] = {2, 63, 65, 3000, MOST};
     size_t greatest[CALLS] = {0}, limits[2] = {0, 0};
     if (argc != 3)
@@ -149,7 +148,7 @@ int main(int argc, char **argv)
     int is_over = 0;
     for (int which = 0; which < CALLS; which++) {
         printf("%s: %zu bytes of stack\n", names[which], greatest[which]);
-        is_over |= greatest[which] > limits[which == 4 || which == 5];
+        is_over |= greatest[which] > limits[which == 3 || which == 4 || which == 11];
     }
     return is_over;
 }

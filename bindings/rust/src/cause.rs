@@ -126,6 +126,8 @@ causes! {
     Total = 64,
     /// The certificate has another version than the settings.
     Version = 65,
+    /// The submitted piece `first` is not the list's.
+    OtherPiece = 66,
     /// An allocation failed.
     Memory = 73,
     /// A setting is outside its limits, the version is neither 1 nor 2, or the table of prices has a wrong length.

@@ -19,8 +19,8 @@
 //! ```
 //!
 //! **Threads.** No call keeps state, takes a lock or starts a thread; calls may run at the same time. All types are plain
-//! data: they are `Send` and `Sync`. [`check`] and [`judge`] need 256 KiB of stack, the other calls 64 KiB; a thread that
-//! `std` starts has 2 MiB.
+//! data: they are `Send` and `Sync`. [`check`], [`check_fenced_list`] and [`judge`] need 256 KiB of stack, the other calls
+//! 64 KiB; a thread that `std` starts has 2 MiB.
 //!
 //! **Memory.** The library takes its memory from the program's global allocator and has given it back when a call returns.
 //! Where the allocator fails within the library, the answer is [`Cause::Memory`].
@@ -48,7 +48,7 @@ use core::fmt;
 
 pub use cause::Cause;
 pub use descriptor::{groups_of, list_of, Descriptor, Group, BLOCK_ON_FAULT};
-pub use prepared::{prepare, Prepared, Region, Row};
+pub use prepared::{prepare, prepare_fenced, Prepared, Region, Row};
 pub use tracker::{Retired, Slots, Span, Submitted, Tracker};
 
 /// The most pieces of a planned list. An operation longer than `greatest_transfer` is several pieces.
@@ -442,10 +442,7 @@ pub fn check(
     certificate: &Certificate,
 ) -> Result<u64, Refusal> {
     let (raw, table) = settings.raw();
-    let pair_of = |pair: &Option<(u32, u32)>| {
-        pair.map_or(NONE, |(first, second)| raw::Pair { first, second })
-    };
-    let pairs: Vec<_> = certificate.pairs.iter().map(pair_of).collect();
+    let pairs = raw_pairs(certificate);
     let (mut cost, mut refusal) = (0, raw::Refusal::default());
     // SAFETY: each pointer and length are those of one slice, or of one struct, and no output overlaps another argument.
     let code = unsafe {
@@ -453,6 +450,67 @@ pub fn check(
             &raw,
             table.as_ptr(),
             table.len(),
+            portal.as_ptr(),
+            portal.len(),
+            staging.as_ptr(),
+            staging.len(),
+            certificate.version,
+            certificate.prices.as_ptr(),
+            certificate.prices.len(),
+            pairs.as_ptr(),
+            pairs.len(),
+            &mut cost,
+            &mut refusal,
+        )
+    };
+    answer(code, cost, refusal)
+}
+
+// The pairs of a certificate, as C lays them out.
+fn raw_pairs(certificate: &Certificate) -> Vec<raw::Pair> {
+    let pair_of = |pair: &Option<(u32, u32)>| {
+        pair.map_or(NONE, |(first, second)| raw::Pair { first, second })
+    };
+    certificate.pairs.iter().map(pair_of).collect()
+}
+
+/// The same for a list as [`plan_fenced_into`] takes it, which says where the barriers are: the bytes submit the pieces of
+/// the list, the plan keeps each barrier, and no legal plan that does costs less. It needs 256 KiB of stack.
+///
+/// # Errors
+/// The first fault of the settings, the list and its pieces, or the bytes; [`Cause::OtherPiece`]; then that of the plan or
+/// the certificate. A barrier that is not kept is [`Cause::Unfenced`].
+///
+/// ```
+/// # use dsa_planner::{check_fenced_list, list_of, plan_fenced_into, BatchPrice, Certificate, Descriptor, Settings};
+/// # let (lone, batch, fence) = (10, BatchPrice::Flat(14), 3);
+/// # let settings = Settings { greatest_batch: 4, greatest_transfer: 4096, lone, batch, fence, staging: 0x10000 };
+/// let checked = Descriptor::compare(0x1000, 0x2000, 64, 0x8000).expecting(false);
+/// let list = list_of(&[checked, Descriptor::memory_move(0x3000, 0x4000, 64, 0x8020).after_barrier()]);
+/// let (mut portal, mut staging) = ([0; 64], [0; 160]);
+/// let summary = plan_fenced_into(&settings, &list, &mut portal, &mut staging)?;
+/// let certificate = Certificate { version: 1, prices: vec![0, 10, 17], pairs: vec![Some((0, 1)), None] };
+/// assert_eq!(check_fenced_list(&settings, &list, &portal, &staging, &certificate)?, summary.cost);
+/// # Ok::<(), dsa_planner::Refusal>(())
+/// ```
+pub fn check_fenced_list(
+    settings: &Settings,
+    list: &[u8],
+    portal: &[u8],
+    staging: &[u8],
+    certificate: &Certificate,
+) -> Result<u64, Refusal> {
+    let (raw, table) = settings.raw();
+    let pairs = raw_pairs(certificate);
+    let (mut cost, mut refusal) = (0, raw::Refusal::default());
+    // SAFETY: each pointer and length are those of one slice, or of one struct, and no output overlaps another argument.
+    let code = unsafe {
+        raw::dsa_check_fenced_list(
+            &raw,
+            table.as_ptr(),
+            table.len(),
+            list.as_ptr(),
+            list.len(),
             portal.as_ptr(),
             portal.len(),
             staging.as_ptr(),

@@ -54,6 +54,21 @@ pub(crate) type PlanInto = unsafe extern "C" fn(
     refusal: &mut Refusal,
 ) -> u32;
 
+// A call that prepares a list.
+pub(crate) type PrepareInto = unsafe extern "C" fn(
+    settings: &Settings,
+    table: *const u64,
+    table_len: usize,
+    list: *const u8,
+    list_len: usize,
+    regions: *const Region,
+    regions_len: usize,
+    rows: *mut Row,
+    rows_capacity: usize,
+    info: &mut Info,
+    refusal: &mut Refusal,
+) -> u32;
+
 extern "C" {
     pub fn dsa_planner_version() -> u32;
 
@@ -132,6 +147,25 @@ extern "C" {
         refusal: &mut Refusal,
     ) -> u32;
 
+    pub fn dsa_check_fenced_list(
+        settings: &Settings,
+        table: *const u64,
+        table_len: usize,
+        list: *const u8,
+        list_len: usize,
+        portal: *const u8,
+        portal_len: usize,
+        staging: *const u8,
+        staging_len: usize,
+        version: u64,
+        prices: *const u64,
+        prices_len: usize,
+        pairs: *const Pair,
+        pairs_len: usize,
+        cost: &mut u64,
+        refusal: &mut Refusal,
+    ) -> u32;
+
     pub fn dsa_judge(
         settings: &Settings,
         table: *const u64,
@@ -145,6 +179,20 @@ extern "C" {
     ) -> u32;
 
     pub fn dsa_prepare(
+        settings: &Settings,
+        table: *const u64,
+        table_len: usize,
+        list: *const u8,
+        list_len: usize,
+        regions: *const Region,
+        regions_len: usize,
+        rows: *mut Row,
+        rows_capacity: usize,
+        info: &mut Info,
+        refusal: &mut Refusal,
+    ) -> u32;
+
+    pub fn dsa_prepare_fenced(
         settings: &Settings,
         table: *const u64,
         table_len: usize,

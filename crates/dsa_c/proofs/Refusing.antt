@@ -1,5 +1,5 @@
 -- Why calls refuse, and what planning answers.
-use Rattle.std.proofs.Common.{List, ℕ, ◌≡◌, ◌⊎◌, ◌<◌, Ok, Err, inl, inr, length, map, ap, subst, ◌∙◌, arith}
+use Rattle.std.proofs.Common.{List, Result, ℕ, ◌≡◌, ◌⊎◌, ◌<◌, Ok, Err, inl, inr, length, map, ap, subst, ◌∙◌, arith}
 use Rattle.dsa_descriptor.specs.Descriptors.{fields}
 use Rattle.dsa_ranges.specs.Ranges.{ConflictAt}
 use Rattle.dsa_plan.specs.Settings.{Limits, tariff_of}
@@ -11,6 +11,9 @@ use Rattle.dsa_calls.specs.declared.fault.PlanFault.TheVariants.{Memory}
 use Rattle.dsa_calls.specs.Planned.{Submission, Plans}
 use Rattle.dsa_calls.specs.Fenced.{IsFencedLeast, PlansFenced}
 use Rattle.dsa_calls.specs.Checked.{Checks}
+use Rattle.dsa_calls.specs.declared.fenced_checking.FencedFault.{FencedFault}
+use Rattle.dsa_calls.specs.declared.fenced_checking.FencedFault.TheVariants.{Call}
+use Rattle.dsa_calls.specs.FencedChecked.{ChecksFenced, IsLeastEmission}
 use Rattle.dsa_c.specs.declared.settings.RawSettings.{RawSettings}
 use Rattle.dsa_c.specs.declared.refusal.RawRefusal.{RawRefusal}
 use Rattle.dsa_c.specs.Raw.{limits_of, AreSettings, refusal_of, no_room}
@@ -19,6 +22,7 @@ use Rattle.dsa_c.specs.Marks.{plan_of}
 use Rattle.dsa_calls.specs.Judge.{Judges}
 use Rattle.dsa_c.specs.Checking.{RefusesCheck}
 use Rattle.dsa_c.specs.Judging.{RefusesJudge}
+use Rattle.dsa_c.specs.FencedChecking.{IsFencedCost, RefusesFencedCheck, fenced_refusal_of}
 use Rattle.dsa_c.specs.Planning.{IsPlannedFor, Refuses}
 use Rattle.dsa_c.specs.Fenced.{IsFencedFor, RefusesFenced}
 
@@ -79,6 +83,30 @@ refuses_check s table portal staging l c d fault r is are same (inl memory) valu
 refuses_check s table portal staging l c d fault r is are same (inr refused) value =
     let for_c = subst (λ (x : Contents). Checks portal staging l x (Err fault)) same refused in
     inr (inr (fault, are, subst (λ (x : Limits). Checks portal staging x c (Err fault)) is for_c, value))
+
+-- checking for a list with fences refuses
+pub refuses_fenced_check : (s : RawSettings) (table list portal staging : List ℕ) (l : Limits) (c d : Contents) (fault : FencedFault) (r : RawRefusal) → l ≡ limits_of s table → AreSettings s table → d ≡ c
+    → (◌≡◌ {A = Result ℕ FencedFault} (Err fault) (Err (Call Memory))) ⊎ ChecksFenced list portal staging l d (Err fault) → r ≡ fenced_refusal_of fault
+    → RefusesFencedCheck s table list portal staging c r
+refuses_fenced_check s table list portal staging l c d fault r is are same (inl memory) value =
+    let cause : fault ≡ Call Memory = cc in
+    inr (inl (value ∙ ap fenced_refusal_of cause, are))
+refuses_fenced_check s table list portal staging l c d fault r is are same (inr refused) value =
+    let for_c = subst (λ (x : Contents). ChecksFenced list portal staging l x (Err fault)) same refused in
+    inr (inr (fault, are, subst (λ (x : Limits). ChecksFenced list portal staging x c (Err fault)) is for_c, value))
+
+-- what it answers
+pub fenced_cost : (s : RawSettings) (table list portal staging : List ℕ) (l : Limits) (c d : Contents) (cost : ℕ) → l ≡ limits_of s table → AreSettings s table → d ≡ c
+    → (◌≡◌ {A = Result ℕ FencedFault} (Ok cost) (Err (Call Memory))) ⊎ ChecksFenced list portal staging l d (Ok cost) → IsLeastEmission list portal staging l cost
+    → IsFencedCost s table list portal staging c cost
+fenced_cost s table list portal staging l c d cost is are same (inl memory) least = cc
+fenced_cost s table list portal staging l c d cost is are same (inr checks) least =
+    let for_c = subst (λ (x : Contents). ChecksFenced list portal staging l x (Ok cost)) same checks in
+    record {
+      settings = are;
+      checks = subst (λ (x : Limits). ChecksFenced list portal staging x c (Ok cost)) is for_c;
+      least = subst (λ (x : Limits). IsLeastEmission list portal staging x cost) is least;
+    }
 
 -- judging refuses
 pub refuses_judge : (s : RawSettings) (table list marks : List ℕ) (l : Limits) (plan : Plan) (fault : PlanFault) (r : RawRefusal) → l ≡ limits_of s table → AreSettings s table

@@ -1,5 +1,5 @@
 -- How many rows a prepared list has.
-use Rattle.std.proofs.Common.{◌≡◌, ℕ, ◌<◌, ◌≤◌, ◌*◌, inl, inr, List, [], ◌∷◌, ◌++◌, length, map, Ok, ap, subst, sym, arith}
+use Rattle.std.proofs.Common.{◌≡◌, ℕ, ◌<◌, ◌≤◌, ◌*◌, inl, inr, List, [], ◌∷◌, ◌++◌, length, map, ap, subst, sym, arith}
 use Rattle.std.proofs.lemmas.Bool.{cases_lt}
 use Rattle.std.proofs.lemmas.List.{length-append, length-map}
 use Rattle.std.proofs.lemmas.List.Sums.{sum_by-cons}
@@ -10,11 +10,12 @@ use Rattle.dsa_descriptor.specs.Fields.{Fields}
 use Rattle.dsa_image.specs.Lines.{quotient_up}
 use Rattle.dsa_image.proofs.Rounds.{parts_reach}
 use Rattle.dsa_plan.specs.Settings.{Limits}
+use Rattle.dsa_plan.specs.Plan.{piece_count}
+use Rattle.dsa_splitter.specs.Pieces.{all_pieces}
 use Rattle.dsa_splitter.specs.Rules.{piece_total}
 use Rattle.dsa_splitter.proofs.Walks.{length_all}
-use Rattle.dsa_calls.specs.Planned.{Plans}
-use Rattle.dsa_calls.proofs.Submissions.{planned_is_least_and_shown}
-use Rattle.dsa_prepared.specs.Preparing.{IsCostedOf}
+use Rattle.dsa_calls.specs.Planned.{Submission}
+use Rattle.dsa_prepared.specs.Preparing.{IsCostedOf, IsFencedCostedOf}
 use Rattle.dsa_prepared.specs.Rows.{entry_row, region_rows_of, rows_of, tie_row}
 use Rattle.dsa_prepared.specs.Templates.{Template, template_of, units_of}
 use Rattle.dsa_prepared.proofs.SoundTemplates.{few_entries, few_ties}
@@ -70,18 +71,22 @@ rows_of_parts rs t operations pieces regions ties more portal staging =
       length-append regions_of (tie_rows ++ (portal_rows ++ staging_rows)),
     )
 
-pub few_rows : (list : List ℕ) (s : Limits) (rs : List Span) (ds : List Descriptor) (t : Template) (cost : ℕ) → IsCostedOf list s rs ds t cost
-    → length (rows_of t) ≤ prepared_room (length rs) t.pieces
-few_rows list s rs ds t cost costed =
-    let h = costed.0 in
-    let p = h.submission in
+few_kept : (s : Limits) (rs : List Span) (ds : List Descriptor) (p : Submission) (t : Template) → 8 ≤ s.greatest_transfer → map fields p.pieces ≡ all_pieces (map fields ds) s.greatest_transfer
+    → piece_count p.plan ≡ length p.pieces → t ≡ template_of rs (map fields ds) p.plan (map fields p.pieces) → length (rows_of t) ≤ prepared_room (length rs) t.pieces
+few_kept s rs ds p t least are covers is =
     let fs = map fields p.pieces in
-    let planned : Plans list s (Ok p) = inr (ds, h.listed, h.planned) in
-    let legal = (planned_is_least_and_shown list s p planned).least.legal in
-    let pos : 0 < s.greatest_transfer = omega (arith, h.limits.least_transfer) in
-    let entries = few_entries rs p.plan fs (omega (arith, legal.covers, length-map p.pieces fields)) in
-    let counted : length ds ≤ length fs = omega (arith, many_pieces ds s.greatest_transfer pos, length_all (map fields ds) s.greatest_transfer, ap length h.planned.pieces_are) in
+    let pos : 0 < s.greatest_transfer = omega (arith, least) in
+    let entries = few_entries rs p.plan fs (omega (arith, covers, length-map p.pieces fields)) in
+    let counted : length ds ≤ length fs = omega (arith, many_pieces ds s.greatest_transfer pos, length_all (map fields ds) s.greatest_transfer, ap length are) in
     let whole = template_of rs (map fields ds) p.plan fs in
     let rows : length (rows_of whole) ≤ prepared_room (length rs) (length fs) =
     rows_of_parts rs whole (length ds) (length fs) (few_regions rs (units_of rs (map fields ds))) (omega (arith, few_ties rs (map fields ds), length-map ds fields)) counted entries.0 entries.1 in
-    subst (λ (x : Template). length (rows_of x) ≤ prepared_room (length rs) x.pieces) (sym h.template) rows
+    subst (λ (x : Template). length (rows_of x) ≤ prepared_room (length rs) x.pieces) (sym is) rows
+
+pub few_rows : (list : List ℕ) (s : Limits) (rs : List Span) (ds : List Descriptor) (t : Template) (cost : ℕ) → IsCostedOf list s rs ds t cost
+    → length (rows_of t) ≤ prepared_room (length rs) t.pieces
+few_rows list s rs ds t cost (h, is) = few_kept s rs ds h.submission t h.limits.least_transfer h.planned.pieces_are h.planned.chosen.has_plan.covers h.template
+
+pub few_fenced_rows : (list : List ℕ) (s : Limits) (rs : List Span) (ds : List Descriptor) (t : Template) (cost : ℕ) → IsFencedCostedOf list s rs ds t cost
+    → length (rows_of t) ≤ prepared_room (length rs) t.pieces
+few_fenced_rows list s rs ds t cost (h, is) = few_kept s rs ds h.submission t h.limits.least_transfer h.planned.pieces_are h.planned.of_pieces.chosen.has_plan.covers h.template

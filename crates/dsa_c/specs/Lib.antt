@@ -8,4 +8,5 @@ pub mod Fenced
 pub mod Checking
 pub mod Judging
 pub mod Preparing
+pub mod FencedChecking
 pub mod Tracking

@@ -12,10 +12,10 @@ use std::alloc::Global;
 
 /// A certificate in the arrays of the caller.
 #[derive(Clone, Copy)]
-struct RawCertificate<'a> {
-    version: u64,
-    prices: &'a [u64],
-    pairs: &'a [RawPair],
+pub(crate) struct RawCertificate<'a> {
+    pub(crate) version: u64,
+    pub(crate) prices: &'a [u64],
+    pub(crate) pairs: &'a [RawPair],
 }
 
 /// The cost of the bytes, if the certificate checks.

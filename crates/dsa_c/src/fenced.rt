@@ -10,7 +10,7 @@ ghost use Rattle.dsa_c.specs.Fenced.{IsFencedFor, IsFencedWritten, RefusesFenced
 use crate::buffer::put;
 use crate::planning::{RawPlanned, summary};
 use crate::refusal::{RawRefusal, no_room, refusal};
-use crate::settings::{RawSettings, settings_of, settings_refusal};
+use crate::settings::{RawSettings, by_size, same_price, settings_refusal};
 use dsa_calls::{Planned, plan_fenced_list};
 use dsa_plan::Settings;
 use std::alloc::Global;
@@ -44,6 +44,57 @@ fn plan_fenced_under(
     }
 }
 
+/// The planned list with a price of a batch by its size. Not inlined: a function zeroes its frame, and settings take
+/// 8 KiB.
+#[inline(never)]
+fn plan_fenced_by_size(
+    alloc: Global,
+    settings: &RawSettings,
+    table: &[u64],
+    list: &[u8],
+    portal_room: usize,
+    staging_room: usize,
+) -> Result<Planned, RawRefusal>
+    requires { settings.now.version ≡ 2 }
+    ensures { MatchResult result
+        (λ p. IsFencedFor settings.now table.now list.now (submission_of p)
+        × FitsIn (submission_of p) portal_room staging_room)
+        (λ r. (0 < r.number)
+        × RefusesFenced settings.now table.now list.now portal_room staging_room r) }
+{
+    match &by_size(settings, table) {
+        Ok(checked) => plan_fenced_under(alloc, checked, list, portal_room, staging_room),
+        Err(_) => Err(settings_refusal(settings)),
+    }
+}
+
+/// The planned list with one price for all batches.
+#[inline(never)]
+fn plan_fenced_at_one_price(
+    alloc: Global,
+    settings: &RawSettings,
+    table: &[u64],
+    list: &[u8],
+    portal_room: usize,
+    staging_room: usize,
+) -> Result<Planned, RawRefusal>
+    requires { settings.now.version ≡ 1 }
+    ensures { MatchResult result
+        (λ p. IsFencedFor settings.now table.now list.now (submission_of p)
+        × FitsIn (submission_of p) portal_room staging_room)
+        (λ r. (0 < r.number)
+        × RefusesFenced settings.now table.now list.now portal_room staging_room r) }
+{
+    // Asked before, the compiler knows below that there are settings, and does not copy them.
+    let Ok(_) = same_price(settings) else {
+        return Err(settings_refusal(settings));
+    };
+    match &same_price(settings) {
+        Ok(checked) => plan_fenced_under(alloc, checked, list, portal_room, staging_room),
+        Err(_) => Err(settings_refusal(settings)),
+    }
+}
+
 /// The planned list, if it is planned and its bytes fit.
 fn plan_fenced_for(
     alloc: Global,
@@ -59,10 +110,13 @@ fn plan_fenced_for(
         (λ r. (0 < r.number)
         × RefusesFenced settings.now table.now list.now portal_room staging_room r) }
 {
-    match &settings_of(settings, table) {
-        Ok(checked) => plan_fenced_under(alloc, checked, list, portal_room, staging_room),
-        Err(_) => Err(settings_refusal(settings)),
+    if settings.version == 1 {
+        return plan_fenced_at_one_price(alloc, settings, table, list, portal_room, staging_room);
     }
+    if settings.version == 2 {
+        return plan_fenced_by_size(alloc, settings, table, list, portal_room, staging_room);
+    }
+    Err(settings_refusal(settings))
 }
 
 /// The same as [`dsa_plan_list`](crate::dsa_plan_list), but an operation of the list may have the flag 0x0001, fence:

@@ -34,7 +34,7 @@ pub struct RawInfo {
 }
 
 /// The refusal of this cause.
-fn prepare_refusal(fault: PrepareFault) -> RawRefusal
+pub(crate) fn prepare_refusal(fault: PrepareFault) -> RawRefusal
     ensures value { result ≡ prepare_refusal_of fault }
     ensures some { 0 < result.number }
 {
@@ -47,7 +47,7 @@ fn prepare_refusal(fault: PrepareFault) -> RawRefusal
 }
 
 /// What was prepared, and what filling writes.
-fn info_of(costed: &Costed) -> RawInfo
+pub(crate) fn info_of(costed: &Costed) -> RawInfo
     ensures { result ≡ info_of costed.now.prepared costed.now.cost }
 {
     RawInfo {

@@ -23,7 +23,7 @@ use Rattle.dsa_calls.specs.declared.fault.PlanFault.{PlanFault}
 use Rattle.dsa_calls.specs.declared.fault.PlanFault.TheVariants.{Emission, Check, Memory}
 use Rattle.dsa_calls.specs.Fault.{emission_cause}
 use Rattle.dsa_calls.specs.Lists.{OrMemory}
-use Rattle.dsa_calls.specs.Checked.{IsShownLeast, ChecksPlan, Checks}
+use Rattle.dsa_calls.specs.Checked.{IsShownLeast, IsShownLeastBy, ChecksPlan, ChecksPlanBy, Checks}
 use Rattle.dsa_calls.specs.Laws.{OneChecked}
 
 -- the bytes were refused
@@ -35,25 +35,28 @@ bytes_refused portal staging s c cause fault is first = go (emission_is_memory c
     go true e same = inl same
     go false e same = inr (inl (cause, (λ f. let g = ap emission_is_memory f in cc), first, ap Err same))
 
--- what a yes says, in the checker's words
-held_of : (s : Limits) (fs : List Fields) (plan : Plan) (c : Contents) (cost : ℕ) → IsShownLeast s fs plan c cost
-    → IsLegal (ConflictAt fs) s.greatest_batch (length fs) plan × (c.version ≡ version_of s) × IsGood (ConflictAt fs) s.greatest_batch (tariff_of s) (length fs) c.prices c.pairs cost × (cost ≡ plan_cost (tariff_of s) plan)
-held_of s fs plan c cost h = (h.legal, h.version, h.good, h.is_cost)
+-- a plan and a certificate have one outcome, whichever pieces conflict
+module _ (C : ℕ → ℕ → Type 0) (s : Limits) (n : ℕ) (plan : Plan) (c : Contents) where
+  -- what a yes says, in the checker's words
+  held_of : (cost : ℕ) → IsShownLeastBy C s n plan c cost
+      → IsLegal C s.greatest_batch n plan × (c.version ≡ version_of s) × IsGood C s.greatest_batch (tariff_of s) n c.prices c.pairs cost × (cost ≡ plan_cost (tariff_of s) plan)
+  held_of cost h = (h.legal, h.version, h.good, h.is_cost)
 
-not_both : (s : Limits) (fs : List Fields) (plan : Plan) (c : Contents) (cost : ℕ) (f : CheckFault) → IsShownLeast s fs plan c cost
-    → IsFirstCheckFault (ConflictAt fs) s.greatest_batch (tariff_of s) (version_of s) (length fs) plan c f → ⊥
-not_both s fs plan c cost f h first = yes_has_no_fault (ConflictAt fs) s.greatest_batch (tariff_of s) (version_of s) (length fs) plan c cost (held_of s fs plan c cost h) f first
+  not_both : (cost : ℕ) (f : CheckFault) → IsShownLeastBy C s n plan c cost → IsFirstCheckFault C s.greatest_batch (tariff_of s) (version_of s) n plan c f → ⊥
+  not_both cost f h first = yes_has_no_fault C s.greatest_batch (tariff_of s) (version_of s) n plan c cost (held_of cost h) f first
 
--- a plan of pieces and a certificate have one outcome
+  pub one_checked_by : (o p : Result ℕ PlanFault) → ChecksPlanBy C s n plan c o → ChecksPlanBy C s n plan c p → o ≡ p
+  one_checked_by (Ok cost) (Ok cost') h k = ap Ok (h.is_cost ∙ sym k.is_cost)
+  one_checked_by (Ok cost) (Err cause) h (f, is, first) = absurd (not_both cost f h first)
+  one_checked_by (Err cause) (Ok cost) (f, is, first) k = absurd (not_both cost f k first)
+  one_checked_by (Err cause) (Err other) (f, is, first) (g, is', first') =
+      ap Err (is ∙ ap Check (one_check_fault C s.greatest_batch (tariff_of s) (version_of s) n plan c f g first first') ∙ sym is')
+
 pub one_plan_checked : (s : Limits) (fs : List Fields) (plan : Plan) (c : Contents) (o p : Result ℕ PlanFault) → ChecksPlan s fs plan c o → ChecksPlan s fs plan c p → o ≡ p
-one_plan_checked s fs plan c (Ok cost) (Ok cost') h k = ap Ok (h.is_cost ∙ sym k.is_cost)
-one_plan_checked s fs plan c (Ok cost) (Err cause) h (f, is, first) = absurd (not_both s fs plan c cost f h first)
-one_plan_checked s fs plan c (Err cause) (Ok cost) (f, is, first) k = absurd (not_both s fs plan c cost f k first)
-one_plan_checked s fs plan c (Err cause) (Err other) (f, is, first) (g, is', first') =
-    ap Err (is ∙ ap Check (one_check_fault (ConflictAt fs) s.greatest_batch (tariff_of s) (version_of s) (length fs) plan c f g first first') ∙ sym is')
+one_plan_checked s fs plan c o p h k = one_checked_by (ConflictAt fs) s (length fs) plan c o p h k
 
 -- bytes are the emission of one plan and its pieces
-same_emission : (s : Limits) (portal staging : List ℕ) (plan plan' : Plan) (ds ds' : List Descriptor) → IsEmission s portal staging plan ds → IsEmission s portal staging plan' ds'
+pub same_emission : (s : Limits) (portal staging : List ℕ) (plan plan' : Plan) (ds ds' : List Descriptor) → IsEmission s portal staging plan ds → IsEmission s portal staging plan' ds'
     → (plan ≡ plan') × (ds ≡ ds')
 same_emission s portal staging plan plan' ds ds' e e' =
     one_emission s plan plan' ds ds' e.can_be e'.can_be (sym e.portal_is ∙ e'.portal_is) (sym e.staging_is ∙ e'.staging_is)

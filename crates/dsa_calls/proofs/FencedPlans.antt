@@ -7,18 +7,23 @@ use Rattle.dsa_descriptor.specs.declared.fault.ListFault.TheVariants.{Memory as 
 use Rattle.dsa_descriptor.specs.Fields.{Fields}
 use Rattle.dsa_descriptor.specs.Descriptors.{fields}
 use Rattle.dsa_descriptor.specs.Lists.{IsFirstListFault}
+use Rattle.dsa_ranges.specs.Ranges.{ConflictAt}
+use Rattle.dsa_plan.specs.Barriers.{WithBarriers}
 use Rattle.dsa_plan.specs.Settings.{Limits, tariff_of}
 use Rattle.dsa_plan.specs.Certificate.{IsGood}
+use Rattle.dsa_splitter.specs.declared.fault.SplitFault.{SplitFault}
+use Rattle.dsa_splitter.specs.Rules.{IsFirstSplitFault}
 use Rattle.dsa_splitter.proofs.OneFault.{split_no_fault}
 use Rattle.dsa_search.proofs.Choosing.{chosen_is_good, chosen_is_least}
 use Rattle.dsa_calls.specs.declared.fault.PlanFault.{PlanFault}
+use Rattle.dsa_calls.specs.declared.fault.PlanFault.TheVariants.{Memory as NoMemory}
 use Rattle.dsa_calls.specs.declared.planning.Planned.{Planned}
-use Rattle.dsa_calls.specs.Fault.{list_cause}
+use Rattle.dsa_calls.specs.Fault.{list_cause, split_cause}
 use Rattle.dsa_calls.specs.Lists.{IsListOf, OverList, OrMemory, IsOrMemory}
-use Rattle.dsa_calls.specs.Planned.{Submission, submission_of}
-use Rattle.dsa_calls.specs.Fenced.{fences_of, unfenced_list, PiecesConflict, IsSubmissionWith, PlansWith, PlansFenced, IsFencedLeast, OneFencedPlan, FencedPlanIsLeast}
+use Rattle.dsa_calls.specs.Planned.{Submission, IsSubmissionOfPiecesBy, submission_of}
+use Rattle.dsa_calls.specs.Fenced.{fences_of, unfenced_list, AreFencedPieces, PiecesConflict, IsSubmissionWith, PlansWith, PlansFenced, IsFencedLeast, OneFencedPlan, FencedPlanIsLeast}
 use Rattle.dsa_calls.proofs.Over.{list_refused, one_over_list, only_outcome}
-use Rattle.dsa_calls.proofs.Submissions.{one_of_pieces, one_operations}
+use Rattle.dsa_calls.proofs.Submissions.{one_of_pieces, one_operations, operations_refused}
 
 -- ---- one outcome
 
@@ -63,11 +68,28 @@ pub refused_list : (bytes : List ℕ) (s : Limits) (cause : ListFault) (fault : 
     → OrMemory submission_of (PlansFenced bytes s) (Err fault)
 refused_list bytes s cause fault is h = refused_by submission_of (λ fs o. PlansWith (fences_of bytes) s fs o) bytes cause fault is h
 
-pub answer_of : (bytes : List ℕ) (s : Limits) (ds : List Descriptor) (barriers : List Bool) (r : Result Planned PlanFault) → IsListOf (unfenced_list bytes) ds → barriers ≡ fences_of bytes
-    → OrMemory submission_of (PlansWith barriers s (map fields ds)) r → OrMemory submission_of (PlansFenced bytes s) r
-answer_of bytes s ds barriers (Ok p) listed is h = inr (ds, listed, subst (λ (marks : List Bool). IsSubmissionWith marks s (map fields ds) (submission_of p)) is h)
-answer_of bytes s ds barriers (Err fault) listed is (inl memory) = inl memory
-answer_of bytes s ds barriers (Err fault) listed is (inr h) = inr (inr (ds, listed, h))
+-- splitting the operations was refused
+pub split_refused_list : (bytes : List ℕ) (s : Limits) (ds : List Descriptor) (cause : SplitFault) (fault : PlanFault) → IsListOf (unfenced_list bytes) ds → fault ≡ split_cause cause
+    → IsFirstSplitFault s.greatest_transfer s.staging (map fields ds) cause → (fault ≡ NoMemory) ⊎ PlansFenced bytes s (Err fault)
+split_refused_list bytes s ds cause fault listed is first =
+    elim (operations_refused s (map fields ds) cause fault is first) [
+      | inl memory ↦ inl memory
+      | inr refused ↦ inr (inr (ds, listed, refused))
+    ]
+
+-- the pieces and their barriers were planned
+pub pieces_planned : (bytes : List ℕ) (s : Limits) (p : Submission) (barriers : List Bool) → AreFencedPieces bytes s p.pieces barriers
+    → IsSubmissionOfPiecesBy (WithBarriers (ConflictAt (map fields p.pieces)) barriers) s p → PlansFenced bytes s (Ok p)
+pieces_planned bytes s p barriers are sub =
+    inr (
+      are.operations,
+      are.listed,
+      record {
+        split = are.split;
+        pieces_are = are.pieces_are;
+        of_pieces = subst (λ (marks : List Bool). IsSubmissionOfPiecesBy (WithBarriers (ConflictAt (map fields p.pieces)) marks) s p) are.barriers_are sub;
+      },
+    )
 
 pub only_answer : (bytes : List ℕ) (s : Limits) (r : Result Planned PlanFault) → OrMemory submission_of (PlansFenced bytes s) r → (o : Result Submission PlanFault) → PlansFenced bytes s o
     → IsOrMemory submission_of o r

@@ -6,6 +6,9 @@ pub mod Submissions
 pub mod FencedLists
 pub mod FencedPlans
 pub mod FencedJudged
+pub mod SameChoice
+pub mod Unfenced
+pub mod FencedChecked
 pub mod Beginnings
 pub mod Refusals
 pub mod Histories

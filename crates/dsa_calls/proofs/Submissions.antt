@@ -101,7 +101,7 @@ one_of_pieces C s p q are h k =
     (h.portal_is ∙ ap (λ (x : Plan). portal_bytes s x (map fields p.pieces)) same.2 ∙ ap (λ (x : List Descriptor). portal_bytes s q.plan (map fields x)) pieces ∙ sym k.portal_is)
     (h.staging_is ∙ ap (λ (x : Plan). staging_bytes x (map fields p.pieces)) same.2 ∙ ap (λ (x : List Descriptor). staging_bytes q.plan (map fields x)) pieces ∙ sym k.staging_is)
 
-of_pieces : (s : Limits) (fs : List Fields) (p : Submission) → IsSubmissionOf s fs p → IsSubmissionOfPieces s p
+pub of_pieces : (s : Limits) (fs : List Fields) (p : Submission) → IsSubmissionOf s fs p → IsSubmissionOfPieces s p
 of_pieces s fs p h = record { chosen = h.chosen; version_is = h.version_is; cost_is = h.cost_is; portal_is = h.portal_is; staging_is = h.staging_is }
 
 one_submission : (s : Limits) (fs : List Fields) (p q : Submission) → IsSubmissionOf s fs p → IsSubmissionOf s fs q → p ≡ q

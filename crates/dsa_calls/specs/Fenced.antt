@@ -1,11 +1,11 @@
 -- Lists in which a fence is a barrier, and what planning says of their bytes.
-use Rattle.std.specs.Prelude.{◌≡◌, ℕ, ◌*◌, ◌/◌, Bool, List, ◌++◌, drop, length, map, flat_map, Result, Ok, Err}
+use Rattle.std.specs.Prelude.{◌≡◌, ℕ, ◌*◌, ◌/◌, ◌<◌, ◌↔◌, Bool, List, ◌++◌, drop, length, map, flat_map, Result, Ok, Err}
 use Rattle.dsa_descriptor.specs.declared.descriptor.Descriptor.{Descriptor}
 use Rattle.dsa_descriptor.specs.Fields.{Fields}
 use Rattle.dsa_descriptor.specs.Descriptors.{fields}
 use Rattle.dsa_descriptor.specs.Lists.{entries}
 use Rattle.dsa_ranges.specs.Ranges.{ConflictAt}
-use Rattle.dsa_plan.specs.Barriers.{WithBarriers}
+use Rattle.dsa_plan.specs.Barriers.{IsBarrier, WithBarriers}
 use Rattle.dsa_plan.specs.EmissionFaults.{is_fenced, unfenced}
 use Rattle.dsa_plan.specs.Plan.{Plan}
 use Rattle.dsa_plan.specs.Settings.{Limits, tariff_of}
@@ -16,7 +16,7 @@ use Rattle.dsa_splitter.specs.Rules.{IsSplit}
 use Rattle.dsa_calls.specs.declared.fault.PlanFault.{PlanFault}
 use Rattle.dsa_calls.specs.Lists.{IsListOf, OverList}
 use Rattle.dsa_calls.specs.Judge.{JudgesPiecesBy}
-use Rattle.dsa_calls.specs.Planned.{Submission, IsSubmissionOfPiecesBy, PlansOperations}
+use Rattle.dsa_calls.specs.Planned.{Submission, IsSubmissionOfPiecesBy, Plans, PlansOperations}
 
 -- whether each entry of 64 bytes has the flag 0x0001, fence (specification 341204); in a list it is a barrier before the
 -- operation (this project's choice)
@@ -30,6 +30,14 @@ unfenced_list bytes = flat_map unfenced (entries bytes) ++ drop (64 * (length by
 -- the pieces of these operations conflict, or a barrier of the operations is between them
 abbrev pub PiecesConflict : Limits → List Fields → List Bool → List Fields → ℕ → ℕ → Type 0
 PiecesConflict s operations barriers pieces a b = WithBarriers (ConflictAt pieces) (piece_barriers s.greatest_transfer operations barriers) a b
+
+-- these are the pieces that the operations are split into which the bytes without their fences spell, and their barriers
+pub record AreFencedPieces (bytes : List ℕ) (s : Limits) (pieces : List Descriptor) (barriers : List Bool) : Type 0 where
+  pub operations : List Descriptor
+  pub listed : IsListOf (unfenced_list bytes) operations
+  pub split : IsSplit s.greatest_transfer s.staging (map fields operations)
+  pub pieces_are : map fields pieces ≡ all_pieces (map fields operations) s.greatest_transfer
+  pub barriers_are : barriers ≡ piece_barriers s.greatest_transfer (map fields operations) (fences_of bytes)
 
 -- The submission of these operations and their barriers: the pieces that they are split into, and the chosen plan of these
 -- with the barriers, its prices and pairs, the version of the settings, the plan's cost, and its emission.
@@ -73,3 +81,17 @@ OneFencedPlan = (bytes : List ℕ) (s : Limits) (outcome other : Result Submissi
 -- if planning with fences answers, its plan is least
 abbrev pub FencedPlanIsLeast : Type 0
 FencedPlanIsLeast = (bytes : List ℕ) (s : Limits) (p : Submission) → PlansFenced bytes s (Ok p) → IsFencedLeast bytes s p
+
+-- no descriptor after the first has the flag, so no barrier is between two
+abbrev pub HasNoBarriers : List ℕ → Type 0
+HasNoBarriers bytes = (k : ℕ) → 0 < k → ¬ IsBarrier (fences_of bytes) k
+
+-- then planning with fences says what planning says of the bytes without them
+abbrev pub NoBarriersPlanAlike : Type 0
+NoBarriersPlanAlike = (bytes : List ℕ) (s : Limits) (outcome : Result Submission PlanFault) →
+    HasNoBarriers bytes → (PlansFenced bytes s outcome ↔ Plans (unfenced_list bytes) s outcome)
+
+-- of bytes with no flag it says what planning says of them
+abbrev pub NoFencesPlanAlike : Type 0
+NoFencesPlanAlike = (bytes : List ℕ) (s : Limits) (outcome : Result Submission PlanFault) →
+    ((k : ℕ) → ¬ IsBarrier (fences_of bytes) k) → (PlansFenced bytes s outcome ↔ Plans bytes s outcome)

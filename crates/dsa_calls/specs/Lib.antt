@@ -4,5 +4,6 @@ pub mod Judge
 pub mod Planned
 pub mod Fenced
 pub mod Checked
+pub mod FencedChecked
 pub mod Runs
 pub mod Laws

@@ -1,31 +1,52 @@
 //! Planning and judging lists in which a fence is a barrier.
 
-ghost use Rattle.std.specs.Prelude.{◌≡◌, ◌⊎◌, ℕ, IfOk, IfErr, Result};
+ghost use Rattle.std.specs.Prelude.{◌≡◌, ◌⊎◌, ℕ, Err, IfOk, IfErr, map, Result};
+ghost use Rattle.dsa_descriptor.specs.Descriptors.{fields};
+ghost use Rattle.dsa_descriptor.specs.Faults.{IsFirstFault};
 ghost use Rattle.dsa_descriptor.specs.Lists.{IsFirstListFault};
+ghost use Rattle.dsa_descriptor.specs.Spelling.{spelling};
+ghost use Rattle.dsa_plan.specs.EmissionFaults.{unfenced};
 ghost use Rattle.dsa_descriptor.specs.declared.fault.ListFault.TheVariants.{Memory as ListMemory};
 ghost use Rattle.dsa_calls.specs.declared.fault.PlanFault.{PlanFault};
+ghost use Rattle.dsa_calls.specs.declared.fault.PlanFault.TheVariants.{Memory};
 ghost use Rattle.dsa_calls.specs.Lists.{IsListOf, OrMemory, IsOrMemory};
-ghost use Rattle.dsa_calls.specs.Planned.{Submission, submission_of};
-ghost use Rattle.dsa_calls.specs.Fenced.{fences_of, unfenced_list, IsFencedLeast, JudgesFenced, PlansFenced};
+ghost use Rattle.dsa_calls.specs.Planned.{CanBePlanned, Submission, submission_of};
+ghost use Rattle.dsa_calls.specs.Fenced.{fences_of, unfenced_list, AreFencedPieces, IsFencedLeast, JudgesFenced, PlansFenced};
 
 use crate::fault::PlanFault;
 use crate::judging::judge_pieces_with;
-use crate::planning::{Planned, plan_operations_with};
-use dsa_descriptor::{Descriptor, ListFault, agree_on_owner};
+use crate::planning::{Planned, plan_pieces};
+use dsa_descriptor::{Descriptor, FieldFault, ListFault, agree_on_owner};
 use dsa_plan::{Plan, Settings, is_fenced, unfenced};
+use dsa_splitter::{MarkedPieces, into_marked_pieces};
 use std::alloc::Global;
 
 /// What the bytes of a list with fences spell.
 #[derive(Debug, Drop)]
-struct FencedList {
+pub struct FencedList {
     /// The operations, without their fences.
-    operations: Vec<Descriptor>,
+    pub operations: Vec<Descriptor>,
     /// Whether each was fenced.
-    fences: Vec<bool>,
+    pub fences: Vec<bool>,
+}
+
+/// The operation that the entry spells without its fence. An entry without one is not copied.
+#[inline(always)]
+fn read_unfenced(entry: &[u8; 64]) -> Result<Descriptor, FieldFault>
+    ensures found { IfOk result (λ operation. unfenced entry.now ≡ spelling (fields operation)) }
+    ensures fault { IfErr result (IsFirstFault (unfenced entry.now)) }
+{
+    if is_fenced(entry) {
+        return Descriptor::read(&unfenced(entry));
+    }
+    Descriptor::read(entry)
 }
 
 /// The operations that the bytes spell, fenced or not, and their fences.
-fn read_fenced(alloc: Global, bytes: &[u8]) -> Result<FencedList, ListFault>
+///
+/// # Errors
+/// The first fault of the bytes without their fences as a list, as [`read_list`](dsa_descriptor::read_list) reports it.
+pub fn read_fenced_list(alloc: Global, bytes: &[u8]) -> Result<FencedList, ListFault>
     ensures listed { IfOk result
         (λ list. IsListOf (unfenced_list bytes.now) list.operations.items) }
     ensures fences { IfOk result (λ list. list.fences.items ≡ fences_of bytes.now) }
@@ -39,17 +60,35 @@ fn read_fenced(alloc: Global, bytes: &[u8]) -> Result<FencedList, ListFault>
     let mut operations = Vec::with_capacity(alloc, all.len())?;
     let mut fences = Vec::with_capacity(alloc, all.len())?;
     for (index, entry) in all.iter().enumerate() {
-        let operation = match Descriptor::read(&unfenced(entry)) {
+        let operation = match read_unfenced(entry) {
             Ok(operation) => operation,
             Err(fault) => return Err(ListFault::Field(index, fault)),
         };
         if !agree_on_owner(&all[0], entry) {
             return Err(ListFault::MixedPasid(index));
         }
-        operations.push(operation)?;
-        fences.push(is_fenced(entry))?;
+        operations.push_reserved(operation);
+        fences.push_reserved(is_fenced(entry));
     }
     Ok(FencedList { operations, fences })
+}
+
+/// The pieces of the operations that the bytes spell, fenced or not, and their barriers.
+pub(crate) fn fenced_pieces(
+    alloc: Global,
+    list: &[u8],
+    settings: &Settings,
+) -> Result<MarkedPieces, PlanFault>
+    ensures found { IfOk result (λ found.
+        AreFencedPieces list.now settings.now found.pieces.items found.barriers.items) }
+    ensures can { IfOk result (λ found.
+        CanBePlanned settings.now (map fields found.pieces.items)) }
+    ensures fault { IfErr result (λ fault. (fault ≡ Memory) ⊎
+        PlansFenced list.now settings.now (Err fault)) }
+{
+    let read = read_fenced_list(alloc, list)?;
+    let found = into_marked_pieces(alloc, read.operations, read.fences, settings)?;
+    Ok(found)
 }
 
 /// Plans the operations that the bytes spell, as [`plan_list`](crate::plan_list) does. An operation with the flag
@@ -72,8 +111,9 @@ pub fn plan_fenced_list(
     // The plan keeps the barriers, no legal plan that does costs less, and its certificate is good.
     ensures least { IfOk result (λ p. IsFencedLeast list.now settings.now (submission_of p)) }
 {
-    let read = read_fenced(alloc, list)?;
-    plan_operations_with(alloc, &read.operations, &read.fences, settings)
+    let MarkedPieces { pieces, barriers } = fenced_pieces(alloc, list, settings)?;
+    let planned = plan_pieces(alloc, pieces, &barriers, settings)?;
+    Ok(planned)
 }
 
 /// The cost of the plan for the pieces that the bytes spell, as [`judge_bytes`](crate::judge_bytes) judges them. A
@@ -96,6 +136,6 @@ pub fn judge_fenced_list(
         JudgesFenced list.now plan.now settings.now outcome →
         IsOrMemory (λ cost. cost) outcome result }
 {
-    let read = read_fenced(alloc, list)?;
+    let read = read_fenced_list(alloc, list)?;
     judge_pieces_with(&read.operations, &read.fences, plan, settings)
 }

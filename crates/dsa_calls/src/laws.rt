@@ -1,7 +1,8 @@
 //! What the outcomes of the calls promise of each other. Each function is a law: its body is empty, and its clause is
 //! what the proof shows.
 
-ghost use Rattle.dsa_calls.specs.Fenced.{OneFencedPlan, FencedPlanIsLeast};
+ghost use Rattle.dsa_calls.specs.Fenced.{OneFencedPlan, FencedPlanIsLeast, NoBarriersPlanAlike, NoFencesPlanAlike};
+ghost use Rattle.dsa_calls.specs.FencedChecked.{FencedPlanIsChecked, OneFencedCheck};
 ghost use Rattle.dsa_calls.specs.Laws.{OneJudged, OnePlanned, OneChecked, OneReplayed, OneRun, PlannedIsLeastAndShown, PlannedRunsLeaveWhole, ReplaysFollowPlans, RunsFollowPlans};
 
 /// Bytes, a plan and settings have one outcome at most of judging them.
@@ -23,6 +24,23 @@ pub fn one_fenced_plan()
 /// certificate is good.
 pub fn fenced_plan_is_least()
     ensures { FencedPlanIsLeast }
+{}
+
+/// A list in which no operation but the first has the fence flag is planned as without that flag, and one in which none
+/// has it as [`plan_list`](crate::plan_list) plans it.
+pub fn plans_without_barriers()
+    ensures first { NoBarriersPlanAlike }
+    ensures none { NoFencesPlanAlike }
+{}
+
+/// A list, bytes, settings and a certificate have one outcome at most of checking the bytes for the list.
+pub fn one_fenced_check()
+    ensures { OneFencedCheck }
+{}
+
+/// Where planning with fences answers, checking what it submits for the list, with its certificate, answers its cost.
+pub fn fenced_plan_is_checked()
+    ensures { FencedPlanIsChecked }
 {}
 
 /// Bytes, settings and a certificate have one outcome at most of checking them.

@@ -53,7 +53,7 @@ pub(crate) fn pieces_of(
 }
 
 /// The plan of the pieces and their barriers, with its certificate, its cost and its emission.
-fn plan_pieces(
+pub(crate) fn plan_pieces(
     alloc: Global,
     pieces: Vec<Descriptor>,
     barriers: &[bool],

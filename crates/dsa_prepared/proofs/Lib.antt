@@ -26,3 +26,4 @@ pub mod RowWords
 pub mod RowLists
 pub mod RowChecks
 pub mod RowParts
+pub mod FencedFilled

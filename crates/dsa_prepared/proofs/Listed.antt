@@ -120,7 +120,7 @@ module _ (rs : List Region) (apart : AreDisjoint rs) (fit : AllByRecursion (λ r
 pub listed_relocates : ListedRelocates
 listed_relocates rs f apart fit h lie aligned = moves_listed rs apart fit f h lie aligned
 
-one_owner : (to : ℕ → ℕ) (fs : List Fields) → HaveOneOwner fs → HaveOneOwner (map (relocated_fields to) fs)
+pub one_owner : (to : ℕ → ℕ) (fs : List Fields) → HaveOneOwner fs → HaveOneOwner (map (relocated_fields to) fs)
 one_owner to fs one i j d less lt =
     let count = length-map fs (relocated_fields to) in
     let a = get_or-map (relocated_fields to) fs i d d (omega (arith, less, lt, count)) in

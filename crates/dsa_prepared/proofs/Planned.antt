@@ -11,6 +11,7 @@ use Rattle.dsa_descriptor.specs.Fields.{Fields}
 use Rattle.dsa_descriptor.specs.Profile.{IsListed}
 use Rattle.dsa_descriptor.specs.Spans.{ApartFrom, IsAddressable, span}
 use Rattle.dsa_image.specs.Parts.{quotient_up}
+use Rattle.dsa_plan.specs.Plan.{Plan}
 use Rattle.dsa_plan.specs.Settings.{Limits}
 use Rattle.dsa_plan.specs.Emission.{portal_bytes, staging_bytes}
 use Rattle.dsa_descriptor.specs.Lists.{list_spelling}
@@ -31,7 +32,7 @@ use Rattle.dsa_prepared.proofs.PiecesLie.{all_join, all_first, pieces_lie}
 use Rattle.dsa_prepared.proofs.ByRegions.{pieces_relocate}
 use Rattle.dsa_prepared.proofs.Submissions.{may_split}
 use Rattle.dsa_prepared.specs.Templates.{Template, template_of}
-use Rattle.dsa_prepared.specs.Preparing.{IsPreparedOf, relocation}
+use Rattle.dsa_prepared.specs.Preparing.{AreRegions, IsPreparedOf, IsSplitInto, relocation}
 use Rattle.dsa_prepared.specs.Filling.{HasBases, CanFill, relocated_list}
 use Rattle.dsa_prepared.specs.Laws.{FilledIsPlanned}
 use Rattle.dsa_prepared.specs.Templates.{filled_portal, filled_staging}
@@ -116,6 +117,53 @@ module _ (rel : List Region) (g : ℕ) (pos : 0 < g) (apart : AreDisjoint rel) (
 
 -- ---- the whole
 
+-- the operations and their pieces at their new addresses, and the bytes that submit a plan of these
+pub record IsMoved (rs : List Span) (bases : List ℕ) (staging : ℕ) (s : Limits) (ds pieces : List Descriptor) (plan : Plan) : Type 0 where
+  pub operations : List Descriptor
+  pub operations_are : map fields operations ≡ map (relocated_fields (relocated (relocation rs bases))) (map fields ds)
+  pub moved : List Descriptor
+  pub moved_are : map fields moved ≡ map (relocated_fields (relocated (relocation rs bases))) (map fields pieces)
+  pub may : MayRelocate (relocation rs bases) staging s (map fields ds)
+  pub portal_is : portal_bytes (staged_at staging s) plan (map fields moved) ≡ filled_portal (template_of rs (map fields ds) plan (map fields pieces)) bases staging
+  pub staging_is : staging_bytes plan (map fields moved) ≡ filled_staging (template_of rs (map fields ds) plan (map fields pieces)) bases staging
+
+pub moves : (rs : List Span) (bases : List ℕ) (staging : ℕ) (s : Limits) (ds pieces : List Descriptor) (plan : Plan) → 8 ≤ s.greatest_transfer → IsSplitInto s ds pieces → AreRegions rs →
+    AllByRecursion (LiesWhole rs s.greatest_transfer) (map fields ds) → HasBases (template_of rs (map fields ds) plan (map fields pieces)) bases →
+    CanFill (template_of rs (map fields ds) plan (map fields pieces)) bases staging → IsMoved rs bases staging s ds pieces plan
+moves rs bases staging s ds pieces plan least is regions lies count can =
+    let g : ℕ = s.greatest_transfer in
+    let pos : 0 < g = omega (arith, least) in
+    let ops : List Fields = map fields ds in
+    let rel : List Region = relocation rs bases in
+    let to : Fields → Fields = relocated_fields (relocated (relocation rs bases)) in
+    let spans = bases_are rs bases count in
+    let apart = disjoint rs bases count regions can.apart in
+    let fit = all_fit rs bases count can.fit in
+    let whole : AllByRecursion (LiesWhole (map base_span rel) g) ops = subst (λ (ss : List Span). AllByRecursion (LiesWhole ss g) ops) (sym spans) lies in
+    let lie : AllLieInOne rs ops = ops_lie rs g ds pos lies in
+    let lie' : AllLieInOne (map base_span rel) ops = subst (λ (ss : List Span). AllLieInOne ss ops) (sym spans) lie in
+    let aligned = aligned_bases_align rs bases ds pieces plan count lie can.aligned can.tied in
+    let total : length (map fields pieces) ≡ piece_total g ops = ap length is.pieces_are ∙ length_all ops g in
+    let clear : ApartFrom (staging_area staging (piece_total g ops)) (map new_span rel) =
+    subst (λ (n : ℕ). ApartFrom (staging_area staging n) (map new_span rel)) total (all_clear rs bases (staging_area staging (length (map fields pieces))) count can.clear) in
+    let may : MayRelocate rel staging s ops = record { apart = apart; addressable = fit; clear = clear; operations = whole } in
+    let listed = ops_listed rel g pos apart fit ds lie' aligned in
+    let listed' = subst (λ (fs : List Fields). AllByRecursion IsListed fs) (pieces_relocate rel g ops apart pos whole ∙ ap (map to) (sym is.pieces_are))
+    (pieces_listed rel g pos apart fit ops whole is.split.few.may_split listed) in
+    let new_ops = all_made (map to ops) listed in
+    let new_pieces = all_made (map to (map fields pieces)) listed' in
+    let pieces_in : AllLieInOne rs (map fields pieces) = subst (λ (fs : List Fields). AllLieInOne rs fs) (sym is.pieces_are) (pieces_lie rs g ops pos lies) in
+    let bytes = filled_is_emission rs bases staging s ds pieces plan count pieces_in in
+    record {
+      operations = new_ops.0;
+      operations_are = new_ops.1;
+      moved = new_pieces.0;
+      moved_are = new_pieces.1;
+      may = may;
+      portal_is = ap (λ (fs : List Fields). portal_bytes (staged_at staging s) plan fs) new_pieces.1 ∙ sym bytes.0;
+      staging_is = ap (λ (fs : List Fields). staging_bytes plan fs) new_pieces.1 ∙ sym bytes.1;
+    }
+
 abbrev Answer : List Span → List ℕ → ℕ → Limits → List Descriptor → Template → Type 0
 Answer rs bases staging s ds t =
     (p : Submission) × Plans (relocated_list rs bases ds) (staged_at staging s) (Ok p)
@@ -126,36 +174,14 @@ of_template : (list : List ℕ) (s : Limits) (rs : List Span) (ds : List Descrip
     CanFill (template_of rs (map fields ds) h.submission.plan (map fields h.submission.pieces)) bases staging →
     Answer rs bases staging s ds (template_of rs (map fields ds) h.submission.plan (map fields h.submission.pieces))
 of_template list s rs ds t bases staging h count can =
-    let g : ℕ = s.greatest_transfer in
     let least = h.limits.least_transfer in
-    let pos : 0 < g = omega (arith, least) in
-    let ops : List Fields = map fields ds in
     let p : Submission = h.submission in
-    let rel : List Region = relocation rs bases in
-    let to : Fields → Fields = relocated_fields (relocated (relocation rs bases)) in
-    let spans = bases_are rs bases count in
-    let apart = disjoint rs bases count h.regions can.apart in
-    let fit = all_fit rs bases count can.fit in
-    let whole : AllByRecursion (LiesWhole (map base_span rel) g) ops = subst (λ (ss : List Span). AllByRecursion (LiesWhole ss g) ops) (sym spans) h.lie in
-    let lie : AllLieInOne rs ops = ops_lie rs g ds pos h.lie in
-    let lie' : AllLieInOne (map base_span rel) ops = subst (λ (ss : List Span). AllLieInOne ss ops) (sym spans) lie in
-    let aligned = aligned_bases_align rs bases ds p.pieces p.plan count lie can.aligned can.tied in
-    let total : length (map fields p.pieces) ≡ piece_total g ops = ap length h.planned.pieces_are ∙ length_all ops g in
-    let clear : ApartFrom (staging_area staging (piece_total g ops)) (map new_span rel) =
-    subst (λ (n : ℕ). ApartFrom (staging_area staging n) (map new_span rel)) total (all_clear rs bases (staging_area staging (length (map fields p.pieces))) count can.clear) in
-    let may : MayRelocate rel staging s ops = record { apart = apart; addressable = fit; clear = clear; operations = whole } in
-    let listed = ops_listed rel g pos apart fit ds lie' aligned in
-    let listed' = subst (λ (fs : List Fields). AllByRecursion IsListed fs) (pieces_relocate rel g ops apart pos whole ∙ ap (map to) (sym h.planned.pieces_are))
-    (pieces_listed rel g pos apart fit ops whole h.planned.split.few.may_split listed) in
-    let new_ops = all_made (map to ops) listed in
-    let new_pieces = all_made (map to (map fields p.pieces)) listed' in
-    let pieces_in : AllLieInOne rs (map fields p.pieces) = subst (λ (fs : List Fields). AllLieInOne rs fs) (sym h.planned.pieces_are) (pieces_lie rs g ops pos h.lie) in
-    let bytes = filled_is_emission rs bases staging s ds p.pieces p.plan count pieces_in in
-    let plans = plans_relocate rel staging s list ds new_ops.0 new_pieces.0 p pos may h.listed h.planned new_ops.1 new_pieces.1 in (
-      with_pieces (staged_at staging s) new_pieces.0 p,
-      subst (λ (fs : List Fields). Plans (list_spelling fs) (staged_at staging s) (Ok (with_pieces (staged_at staging s) new_pieces.0 p))) new_ops.1 plans,
-      ap (λ (fs : List Fields). portal_bytes (staged_at staging s) p.plan fs) new_pieces.1 ∙ sym bytes.0,
-      ap (λ (fs : List Fields). staging_bytes p.plan fs) new_pieces.1 ∙ sym bytes.1,
+    let m = moves rs bases staging s ds p.pieces p.plan least (record { split = h.planned.split; pieces_are = h.planned.pieces_are }) h.regions h.lie count can in
+    let plans = plans_relocate (relocation rs bases) staging s list ds m.operations m.moved p (omega (arith, least)) m.may h.listed h.planned m.operations_are m.moved_are in (
+      with_pieces (staged_at staging s) m.moved p,
+      subst (λ (fs : List Fields). Plans (list_spelling fs) (staged_at staging s) (Ok (with_pieces (staged_at staging s) m.moved p))) m.operations_are plans,
+      m.portal_is,
+      m.staging_is,
     )
 
 pub filled_is_planned : FilledIsPlanned

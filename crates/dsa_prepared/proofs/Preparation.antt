@@ -1,6 +1,6 @@
 -- What preparing has of a planned list, and that one cause at most is the first why a list is not prepared.
-use Rattle.std.proofs.Common.{◌≡◌, ℕ, ◌<◌, ◌≤◌, inl, inr, List, length, map, Result, Ok, Err, sym, ap, subst, arith}
-use Rattle.std.specs.Prelude.{All, slice_index_or}
+use Rattle.std.proofs.Common.{◌≡◌, ◌⊎◌, ℕ, ◌<◌, ◌≤◌, inl, inr, Bool, List, length, map, Result, Ok, Err, sym, ap, subst, arith}
+use Rattle.std.specs.Prelude.{All, IfErr, IfOk, slice_index_or}
 use Rattle.std.specs.List.{AllByRecursion}
 use Rattle.std.proofs.lemmas.Bool.{cases_order}
 use Rattle.std.proofs.lemmas.List.{get_or_default, length-map}
@@ -10,14 +10,16 @@ use Rattle.dsa_descriptor.specs.Descriptors.{fields}
 use Rattle.dsa_descriptor.specs.Fields.{Fields}
 use Rattle.dsa_descriptor.specs.Pieces.{most_pieces}
 use Rattle.dsa_descriptor.specs.Spans.{IsAddressable}
-use Rattle.dsa_plan.specs.Plan.{Plan}
 use Rattle.dsa_plan.specs.Settings.{Limits, tariff_of}
-use Rattle.dsa_plan.specs.Legal.{IsLeast}
 use Rattle.dsa_splitter.specs.Operations.{IsSplittable}
 use Rattle.dsa_splitter.proofs.Walks.{length_all}
+use Rattle.dsa_search.proofs.Choosing.{chosen_is_least}
 use Rattle.dsa_calls.specs.declared.fault.PlanFault.{PlanFault}
+use Rattle.dsa_calls.specs.declared.fault.PlanFault.TheVariants.{Memory}
+use Rattle.dsa_calls.specs.Fenced.{fences_of, unfenced_list, IsSubmissionWith, PlansFenced}
 use Rattle.dsa_calls.specs.Lists.{IsListOf}
-use Rattle.dsa_calls.specs.Planned.{Submission, IsSubmissionOf, Plans, PlansOperations}
+use Rattle.dsa_calls.specs.Planned.{Submission, IsSubmissionOf, IsSubmissionOfPiecesBy, Plans}
+use Rattle.dsa_calls.proofs.FencedPlans.{one_fenced_plan}
 use Rattle.dsa_calls.proofs.Over.{one_list}
 use Rattle.dsa_calls.proofs.Submissions.{one_planned}
 use Rattle.dsa_prepared.specs.Regions.{AllLieInOne, LiesWhole}
@@ -27,46 +29,35 @@ use Rattle.dsa_prepared.specs.declared.fault.PrepareFault.{PrepareFault}
 use Rattle.dsa_prepared.specs.declared.fault.PrepareFault.TheVariants.{Plan as InPlan, RegionWrap, RegionOrder, Outside}
 use Rattle.dsa_prepared.specs.Sound.{AreNonempty}
 use Rattle.dsa_prepared.specs.Templates.{Template}
-use Rattle.dsa_prepared.specs.Preparing.{AreRegions, FollowsAt, region_at, IsPreparedOf, IsRegionFault, IsFirstOutside, IsFirstPrepareFault}
+use Rattle.dsa_prepared.specs.Preparing.{AreRegions, FollowsAt, region_at, IsCostedOf, IsFencedCostedOf, IsFirstFencedFault, IsFirstOutside, IsFirstPrepareFault, IsFirstPrepareFaultBy, IsKept, IsPlaceFault, IsRegionFault, IsSplitInto}
 use Rattle.dsa_prepared.proofs.Outside.{field_there}
 use Rattle.dsa_prepared.proofs.Planned.{ops_lie}
 
 -- ---- what was planned
 
--- the list spells these operations, and this is their submission
-pub record IsPlanOf (list : List ℕ) (s : Limits) (ds : List Descriptor) (p : Submission) : Type 0 where
-  pub listed : IsListOf list ds
-  pub planned : IsSubmissionOf s (map fields ds) p
-
 never_both : (p : Submission) (f : PlanFault) → ◌≡◌ {A = Result Submission PlanFault} (Ok p) (Err f) → ⊥
 never_both p f is = cc
 
--- what planning them says it says of a list that spells them
-pub plans_list : (list : List ℕ) (s : Limits) (ds : List Descriptor) (p : Submission) → IsListOf list ds → IsSubmissionOf s (map fields ds) p → Plans list s (Ok p)
-plans_list list s ds p listed planned = inr (ds, listed, planned)
-
-pub plan_refused : (list : List ℕ) (s : Limits) (ds : List Descriptor) (fault : PlanFault) → IsListOf list ds → PlansOperations s (map fields ds) (Err fault) → Plans list s (Err fault)
-plan_refused list s ds fault listed refused = inr (ds, listed, refused)
-
-pub all_splittable : (list : List ℕ) (s : Limits) (ds : List Descriptor) (p : Submission) → IsPlanOf list s ds p → All (λ d. IsSplittable d.op d.size s.greatest_transfer) ds
-all_splittable list s ds p h k d lt =
+pub all_splittable : (s : Limits) (ds pieces : List Descriptor) → IsSplitInto s ds pieces → All (λ d. IsSplittable d.op d.size s.greatest_transfer) ds
+all_splittable s ds pieces h k d lt =
     let x : Descriptor = slice_index_or ds k d in
-    (h.planned.split.few.may_split k (fields x) (field_there ds k x lt (get_or_default ds k d x lt))).splittable
+    (h.split.few.may_split k (fields x) (field_there ds k x lt (get_or_default ds k d x lt))).splittable
 
-pub all_lie : (list : List ℕ) (s : Limits) (rs : List Span) (ds : List Descriptor) (p : Submission) → IsPlanOf list s ds p → 8 ≤ s.greatest_transfer →
-    AllByRecursion (LiesWhole rs s.greatest_transfer) (map fields ds) → AllLieInOne rs (map fields ds) × AllLieInOne rs (map fields p.pieces)
-all_lie list s rs ds p h least whole =
+pub all_lie : (s : Limits) (rs : List Span) (ds pieces : List Descriptor) → IsSplitInto s ds pieces → 8 ≤ s.greatest_transfer →
+    AllByRecursion (LiesWhole rs s.greatest_transfer) (map fields ds) → AllLieInOne rs (map fields ds) × AllLieInOne rs (map fields pieces)
+all_lie s rs ds pieces h least whole =
     let pos : 0 < s.greatest_transfer = omega (arith, least) in (
       ops_lie rs s.greatest_transfer ds pos whole,
-      subst (λ (fs : List Fields). AllLieInOne rs fs) (sym h.planned.pieces_are) (pieces_lie rs s.greatest_transfer (map fields ds) pos whole),
+      subst (λ (fs : List Fields). AllLieInOne rs fs) (sym h.pieces_are) (pieces_lie rs s.greatest_transfer (map fields ds) pos whole),
     )
 
-pub few_pieces : (list : List ℕ) (s : Limits) (ds : List Descriptor) (p : Submission) → IsPlanOf list s ds p → length p.pieces ≤ most_pieces
-few_pieces list s ds p h =
-    omega (arith, h.planned.split.few.few, ap length h.planned.pieces_are, length_all (map fields ds) s.greatest_transfer, length-map p.pieces fields)
+pub few_pieces : (s : Limits) (ds pieces : List Descriptor) → IsSplitInto s ds pieces → length pieces ≤ most_pieces
+few_pieces s ds pieces h = omega (arith, h.split.few.few, ap length h.pieces_are, length_all (map fields ds) s.greatest_transfer, length-map pieces fields)
 
-pub plan_nonempty : (C : ℕ → ℕ → Type 0) (s : Limits) (n : ℕ) (plan : Plan) → IsLeast C s.greatest_batch (tariff_of s) n plan → AreNonempty plan
-plan_nonempty C s n plan least number group is = (least.legal.groups number group is).size.nonempty
+pub chosen_nonempty : (C : ℕ → ℕ → Type 0) (s : Limits) (p : Submission) → IsSubmissionOfPiecesBy C s p → AreNonempty p.plan
+chosen_nonempty C s p sub number group is =
+    let least = chosen_is_least C s.greatest_batch (tariff_of s) (length p.pieces) p.certificate.prices p.certificate.pairs p.plan sub.chosen in
+    (least.0.legal.groups number group is).size.nonempty
 
 -- ---- one cause at most
 
@@ -122,51 +113,96 @@ outside_same rs greatest fs i j p q =
       | inr (inr more) ↦ absurd (q.outside (p.before j q.operation more q.there))
     ]
 
-refused_or_planned : (list : List ℕ) (s : Limits) (f : PlanFault) (p : Submission) → Plans list s (Err f) → Plans list s (Ok p) → ⊥
-refused_or_planned list s f p refused planned = never_both p f (one_planned list s (Ok p) (Err f) planned refused)
+-- of a call that says at most one thing of a list
+module _ (Says : Result Submission PlanFault → Type 0) (one : (o p : Result Submission PlanFault) → Says o → Says p → o ≡ p) (list : List ℕ) (s : Limits) (rs : List Span) where
+  refused_or_planned : (f : PlanFault) (p : Submission) → Says (Err f) → Says (Ok p) → ⊥
+  refused_or_planned f p refused planned = never_both p f (one (Ok p) (Err f) planned refused)
 
-plan_faults_same : (list : List ℕ) (s : Limits) (f g : PlanFault) → Plans list s (Err f) → Plans list s (Err g) → f ≡ g
-plan_faults_same list s f g p q = let e = one_planned list s (Err f) (Err g) p q in cc
+  plan_faults_same : (f g : PlanFault) → Says (Err f) → Says (Err g) → f ≡ g
+  plan_faults_same f g p q = let e = one (Err f) (Err g) p q in cc
+
+  pub one_cause_by : (f g : PrepareFault) → IsFirstPrepareFaultBy Says list s rs f → IsFirstPrepareFaultBy Says list s rs g → f ≡ g
+  one_cause_by (InPlan f) (InPlan g) p q = ap InPlan (plan_faults_same f g p q)
+  one_cause_by (InPlan f) (RegionWrap j) p q = absurd (refused_or_planned f q.0.0 p q.0.1)
+  one_cause_by (InPlan f) (RegionOrder j) p q = absurd (refused_or_planned f q.0.0 p q.0.1)
+  one_cause_by (InPlan f) (Outside j) p q = absurd (refused_or_planned f q.0.0 p q.0.1)
+  one_cause_by (RegionWrap i) (InPlan g) p q = absurd (refused_or_planned g p.0.0 q p.0.1)
+  one_cause_by (RegionWrap i) (RegionWrap j) p q = one_region_fault rs (RegionWrap i) (RegionWrap j) p.1 q.1
+  one_cause_by (RegionWrap i) (RegionOrder j) p q = one_region_fault rs (RegionWrap i) (RegionOrder j) p.1 q.1
+  one_cause_by (RegionWrap i) (Outside j) p q = absurd (no_region_fault rs (RegionWrap i) q.1 p.1)
+  one_cause_by (RegionOrder i) (InPlan g) p q = absurd (refused_or_planned g p.0.0 q p.0.1)
+  one_cause_by (RegionOrder i) (RegionWrap j) p q = one_region_fault rs (RegionOrder i) (RegionWrap j) p.1 q.1
+  one_cause_by (RegionOrder i) (RegionOrder j) p q = one_region_fault rs (RegionOrder i) (RegionOrder j) p.1 q.1
+  one_cause_by (RegionOrder i) (Outside j) p q = absurd (no_region_fault rs (RegionOrder i) q.1 p.1)
+  one_cause_by (Outside i) (InPlan g) p q = absurd (refused_or_planned g p.0.0 q p.0.1)
+  one_cause_by (Outside i) (RegionWrap j) p q = absurd (no_region_fault rs (RegionWrap j) p.1 q.1)
+  one_cause_by (Outside i) (RegionOrder j) p q = absurd (no_region_fault rs (RegionOrder j) p.1 q.1)
+  one_cause_by (Outside i) (Outside j) p q =
+      let same : q.2.0 ≡ p.2.0 = one_list list p.2.0 q.2.0 p.2.1 q.2.1 in
+      let here = subst (λ (xs : List Descriptor). IsFirstOutside rs s.greatest_transfer (map fields xs) j) same q.2.2 in
+      ap Outside (outside_same rs s.greatest_transfer (map fields p.2.0) i j p.2.2 here)
+
+  -- what is prepared has no cause
+  pub no_cause_by : (ds : List Descriptor) (p : Submission) → Says (Ok p) → IsListOf list ds → AreRegions rs → AllByRecursion (LiesWhole rs s.greatest_transfer) (map fields ds) →
+      (f : PrepareFault) → IsFirstPrepareFaultBy Says list s rs f → ⊥
+  no_cause_by ds p planned listed regions lie (InPlan f) h = refused_or_planned f p h planned
+  no_cause_by ds p planned listed regions lie (RegionWrap i) h = no_region_fault rs (RegionWrap i) regions h.1
+  no_cause_by ds p planned listed regions lie (RegionOrder i) h = no_region_fault rs (RegionOrder i) regions h.1
+  no_cause_by ds p planned listed regions lie (Outside i) h =
+      let same : h.2.0 ≡ ds = one_list list ds h.2.0 listed h.2.1 in
+      let first = subst (λ (xs : List Descriptor). IsFirstOutside rs s.greatest_transfer (map fields xs) i) same h.2.2 in
+      first.outside (all_at (LiesWhole rs s.greatest_transfer) (map fields ds) i first.operation lie first.there)
+
+  -- a cause, as the code finds it, is the first
+  pub place_first : (ds : List Descriptor) (p : Submission) (f : PrepareFault) → Says (Ok p) → IsListOf list ds → IsPlaceFault s rs ds f → IsFirstPrepareFaultBy Says list s rs f
+  place_first ds p (InPlan f) planned listed (inl h) = absurd h
+  place_first ds p (RegionWrap i) planned listed (inl h) = ((p, planned), h)
+  place_first ds p (RegionOrder i) planned listed (inl h) = ((p, planned), h)
+  place_first ds p (Outside i) planned listed (inl h) = absurd h
+  place_first ds p f planned listed (inr (i, is, regions, first)) =
+      subst (λ (x : PrepareFault). IsFirstPrepareFaultBy Says list s rs x) (sym is) ((p, planned), regions, (ds, listed, first))
+
+  -- so that the first cause is the answer
+  pub refused_by : {X : Type 0} (Kept : X → Type 0) → ((x : X) → Kept x → (f : PrepareFault) → IsFirstPrepareFaultBy Says list s rs f → ⊥) → (r : Result X PrepareFault) → IfOk r Kept
+      → IfErr r (λ f. (f ≡ InPlan Memory) ⊎ IsFirstPrepareFaultBy Says list s rs f) → (f : PrepareFault) → IsFirstPrepareFaultBy Says list s rs f → (r ≡ Err f) ⊎ (r ≡ Err (InPlan Memory))
+  refused_by Kept none (Ok x) kept told f first = absurd (none x kept f first)
+  refused_by Kept none (Err g) kept (inl memory) f first = inr (ap Err memory)
+  refused_by Kept none (Err g) kept (inr here) f first = inl (ap Err (one_cause_by g f here first))
 
 pub one_cause : (list : List ℕ) (s : Limits) (rs : List Span) (f g : PrepareFault) → IsFirstPrepareFault list s rs f → IsFirstPrepareFault list s rs g → f ≡ g
-one_cause list s rs (InPlan f) (InPlan g) p q = ap InPlan (plan_faults_same list s f g p q)
-one_cause list s rs (InPlan f) (RegionWrap j) p q = absurd (refused_or_planned list s f q.0.0 p q.0.1)
-one_cause list s rs (InPlan f) (RegionOrder j) p q = absurd (refused_or_planned list s f q.0.0 p q.0.1)
-one_cause list s rs (InPlan f) (Outside j) p q = absurd (refused_or_planned list s f q.0.0 p q.0.1)
-one_cause list s rs (RegionWrap i) (InPlan g) p q = absurd (refused_or_planned list s g p.0.0 q p.0.1)
-one_cause list s rs (RegionWrap i) (RegionWrap j) p q = one_region_fault rs (RegionWrap i) (RegionWrap j) p.1 q.1
-one_cause list s rs (RegionWrap i) (RegionOrder j) p q = one_region_fault rs (RegionWrap i) (RegionOrder j) p.1 q.1
-one_cause list s rs (RegionWrap i) (Outside j) p q = absurd (no_region_fault rs (RegionWrap i) q.1 p.1)
-one_cause list s rs (RegionOrder i) (InPlan g) p q = absurd (refused_or_planned list s g p.0.0 q p.0.1)
-one_cause list s rs (RegionOrder i) (RegionWrap j) p q = one_region_fault rs (RegionOrder i) (RegionWrap j) p.1 q.1
-one_cause list s rs (RegionOrder i) (RegionOrder j) p q = one_region_fault rs (RegionOrder i) (RegionOrder j) p.1 q.1
-one_cause list s rs (RegionOrder i) (Outside j) p q = absurd (no_region_fault rs (RegionOrder i) q.1 p.1)
-one_cause list s rs (Outside i) (InPlan g) p q = absurd (refused_or_planned list s g p.0.0 q p.0.1)
-one_cause list s rs (Outside i) (RegionWrap j) p q = absurd (no_region_fault rs (RegionWrap j) p.1 q.1)
-one_cause list s rs (Outside i) (RegionOrder j) p q = absurd (no_region_fault rs (RegionOrder j) p.1 q.1)
-one_cause list s rs (Outside i) (Outside j) p q =
-    let same : q.2.0 ≡ p.2.0 = one_list list p.2.0 q.2.0 p.2.1 q.2.1 in
-    let here = subst (λ (xs : List Descriptor). IsFirstOutside rs s.greatest_transfer (map fields xs) j) same q.2.2 in
-    ap Outside (outside_same rs s.greatest_transfer (map fields p.2.0) i j p.2.2 here)
+one_cause list s rs = one_cause_by (Plans list s) (one_planned list s) list s rs
 
--- what is prepared has no cause
-pub no_cause : (list : List ℕ) (s : Limits) (rs : List Span) (ds : List Descriptor) (t : Template) (f : PrepareFault) → IsPreparedOf list s rs ds t → IsFirstPrepareFault list s rs f → ⊥
-no_cause list s rs ds t (InPlan f) h p = refused_or_planned list s f h.submission p (inr (ds, h.listed, h.planned))
-no_cause list s rs ds t (RegionWrap i) h p = no_region_fault rs (RegionWrap i) h.regions p.1
-no_cause list s rs ds t (RegionOrder i) h p = no_region_fault rs (RegionOrder i) h.regions p.1
-no_cause list s rs ds t (Outside i) h p =
-    let same : p.2.0 ≡ ds = one_list list ds p.2.0 h.listed p.2.1 in
-    let first = subst (λ (xs : List Descriptor). IsFirstOutside rs s.greatest_transfer (map fields xs) i) same p.2.2 in
-    first.outside (all_at (LiesWhole rs s.greatest_transfer) (map fields ds) i first.operation h.lie first.there)
+pub one_fenced_cause : (list : List ℕ) (s : Limits) (rs : List Span) (f g : PrepareFault) → IsFirstFencedFault list s rs f → IsFirstFencedFault list s rs g → f ≡ g
+one_fenced_cause list s rs = one_cause_by (PlansFenced list s) (one_fenced_plan list s) (unfenced_list list) s rs
 
--- ---- causes, as the code finds them
+pub no_cause : (list : List ℕ) (s : Limits) (rs : List Span) (ds : List Descriptor) (t : Template) (cost : ℕ) → IsCostedOf list s rs ds t cost → (f : PrepareFault) → IsFirstPrepareFault list s rs f → ⊥
+no_cause list s rs ds t cost (h, is) =
+    no_cause_by (Plans list s) (one_planned list s) list s rs ds h.submission (inr (ds, h.listed, h.planned)) h.listed h.regions h.lie
 
-pub region_first : (list : List ℕ) (s : Limits) (rs : List Span) (p : Submission) (f : PrepareFault) → Plans list s (Ok p) → IsRegionFault rs f → IsFirstPrepareFault list s rs f
-region_first list s rs p (InPlan f) planned h = absurd h
-region_first list s rs p (RegionWrap i) planned h = ((p, planned), h)
-region_first list s rs p (RegionOrder i) planned h = ((p, planned), h)
-region_first list s rs p (Outside i) planned h = absurd h
+pub no_fenced_cause : (list : List ℕ) (s : Limits) (rs : List Span) (ds : List Descriptor) (t : Template) (cost : ℕ) → IsFencedCostedOf list s rs ds t cost → (f : PrepareFault) → IsFirstFencedFault list s rs f → ⊥
+no_fenced_cause list s rs ds t cost (h, is) =
+    no_cause_by (PlansFenced list s) (one_fenced_plan list s) (unfenced_list list) s rs ds h.submission (inr (ds, h.listed, h.planned)) h.listed h.regions h.lie
 
-pub outside_first : (list : List ℕ) (s : Limits) (rs : List Span) (ds : List Descriptor) (p : Submission) (i : ℕ) → IsPlanOf list s ds p → AreRegions rs →
-    IsFirstOutside rs s.greatest_transfer (map fields ds) i → IsFirstPrepareFault list s rs (Outside i)
-outside_first list s rs ds p i h regions first = ((p, inr (ds, h.listed, h.planned)), regions, (ds, h.listed, first))
+-- ---- what is kept is prepared
+
+pub costed_of : (list : List ℕ) (s : Limits) (rs : List Span) (ds : List Descriptor) (p : Submission) (t : Template) (cost : ℕ) → IsListOf list ds → IsSubmissionOf s (map fields ds) p →
+    (cost ≡ p.cost) × IsKept s rs ds p t → IsCostedOf list s rs ds t cost
+costed_of list s rs ds p t cost listed planned h = (
+  record { limits = h.1.limits; listed = listed; submission = p; planned = planned; regions = h.1.regions; lie = h.1.lie; template = h.1.template },
+  h.0,
+)
+
+pub fenced_costed_of : (list : List ℕ) (s : Limits) (rs : List Span) (ds : List Descriptor) (marks : List Bool) (p : Submission) (t : Template) (cost : ℕ) → IsListOf (unfenced_list list) ds → marks ≡ fences_of list →
+    IsSubmissionWith marks s (map fields ds) p → (cost ≡ p.cost) × IsKept s rs ds p t → IsFencedCostedOf list s rs ds t cost
+fenced_costed_of list s rs ds marks p t cost listed is planned h = (
+  record {
+    limits = h.1.limits;
+    listed = listed;
+    submission = p;
+    planned = subst (λ (of : List Bool). IsSubmissionWith of s (map fields ds) p) is planned;
+    regions = h.1.regions;
+    lie = h.1.lie;
+    template = h.1.template;
+  },
+  h.0,
+)

@@ -111,7 +111,7 @@ clear_moves rs area ps apart clear lie q e there (b, inside, touch) =
     let touch' : Touches (relocated_fields (relocated rs) p.0) b = subst (λ (x : Fields). Touches x b) p.2 touch in
     clear b inside (touches_new rs p.0 b apart (all_at (LieInOne (map base_span rs)) ps q p.0 lie p.1) touch')
 
-split_moves : (rs : List Region) (staging : ℕ) (s : Limits) (fs : List Fields) → 0 < s.greatest_transfer → MayRelocate rs staging s fs → IsSplit s.greatest_transfer s.staging fs
+pub split_moves : (rs : List Region) (staging : ℕ) (s : Limits) (fs : List Fields) → 0 < s.greatest_transfer → MayRelocate rs staging s fs → IsSplit s.greatest_transfer s.staging fs
     → IsSplit s.greatest_transfer staging (map (relocated_fields (relocated rs)) fs)
 split_moves rs staging s fs pos may split =
     let g : ℕ = s.greatest_transfer in

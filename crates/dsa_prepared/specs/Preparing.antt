@@ -1,5 +1,5 @@
 -- When a list can be prepared, and why it is refused.
-use Rattle.std.specs.Prelude.{◌≡◌, ℕ, suc, ◌+◌, ◌<◌, ◌≤◌, List, [], ◌∷◌, length, map, slice_get, slice_index_or, Some, Ok, Err}
+use Rattle.std.specs.Prelude.{◌≡◌, ◌⊎◌, ℕ, suc, ◌+◌, ◌<◌, ◌≤◌, List, [], ◌∷◌, length, map, slice_get, slice_index_or, Some, Result, Ok, Err}
 use Rattle.std.specs.List.{AllByRecursion}
 use Rattle.dsa_descriptor.specs.declared.descriptor.Descriptor.{Descriptor}
 use Rattle.dsa_descriptor.specs.declared.span.Span.{Span}
@@ -7,6 +7,10 @@ use Rattle.dsa_descriptor.specs.Descriptors.{fields}
 use Rattle.dsa_descriptor.specs.Fields.{Fields}
 use Rattle.dsa_descriptor.specs.Spans.{span, IsAddressable}
 use Rattle.dsa_plan.specs.Settings.{Limits, AreInLimits}
+use Rattle.dsa_splitter.specs.Pieces.{all_pieces}
+use Rattle.dsa_splitter.specs.Rules.{IsSplit}
+use Rattle.dsa_calls.specs.declared.fault.PlanFault.{PlanFault}
+use Rattle.dsa_calls.specs.Fenced.{fences_of, unfenced_list, IsSubmissionWith, PlansFenced}
 use Rattle.dsa_calls.specs.Lists.{IsListOf}
 use Rattle.dsa_calls.specs.Planned.{Submission, IsSubmissionOf, Plans}
 use Rattle.dsa_prepared.specs.Regions.{Region, LiesWhole}
@@ -55,6 +59,20 @@ pub record IsPreparedOf (list : List ℕ) (s : Limits) (rs : List Span) (ds : Li
   pub lie : AllByRecursion (LiesWhole rs s.greatest_transfer) (map fields ds)
   pub template : t ≡ template_of rs (map fields ds) submission.plan (map fields submission.pieces)
 
+-- the same of a list in which a fence is a barrier
+pub record IsFencedPreparedOf (list : List ℕ) (s : Limits) (rs : List Span) (ds : List Descriptor) (t : Template) : Type 0 where
+  pub limits : AreInLimits s
+  pub listed : IsListOf (unfenced_list list) ds
+  pub submission : Submission
+  pub planned : IsSubmissionWith (fences_of list) s (map fields ds) submission
+  pub regions : AreRegions rs
+  pub lie : AllByRecursion (LiesWhole rs s.greatest_transfer) (map fields ds)
+  pub template : t ≡ template_of rs (map fields ds) submission.plan (map fields submission.pieces)
+
+-- and the plan costs this
+abbrev pub IsFencedCostedOf : List ℕ → Limits → List Span → List Descriptor → Template → ℕ → Type 0
+IsFencedCostedOf list s rs ds t cost = (prepared : IsFencedPreparedOf list s rs ds t) × (cost ≡ prepared.submission.cost)
+
 -- and the plan costs this
 abbrev pub IsCostedOf : List ℕ → Limits → List Span → List Descriptor → Template → ℕ → Type 0
 IsCostedOf list s rs ds t cost = (prepared : IsPreparedOf list s rs ds t) × (cost ≡ prepared.submission.cost)
@@ -69,10 +87,6 @@ IsRegionFault rs (RegionOrder i) =
     (i < length rs) × ((j : ℕ) → j < i → IsRegionAt rs j) × IsAddressable (region_at rs i) × ¬ FollowsAt rs i
 IsRegionFault rs (Outside i) = ⊥
 
--- planning answers a submission
-abbrev pub IsPlanned : List ℕ → Limits → Type 0
-IsPlanned list s = (p : Submission) × Plans list s (Ok p)
-
 -- the ranges of each operation before that number lie in one region each, and those of this one do not
 pub record IsFirstOutside (rs : List Span) (greatest : ℕ) (fs : List Fields) (i : ℕ) : Type 0 where
   pub operation : Fields
@@ -80,12 +94,41 @@ pub record IsFirstOutside (rs : List Span) (greatest : ℕ) (fs : List Fields) (
   pub outside : ¬ LiesWhole rs greatest operation
   pub before : (j : ℕ) (f : Fields) → j < i → slice_get fs j ≡ Some f → LiesWhole rs greatest f
 
--- The first cause why a list is not prepared, in this order: what planning refuses; for the least region that it goes past
--- 2^64, or else that it begins before the one before it has ended; the least operation of which a range, or the row of
--- records, lies in no one region.
+-- The first cause why a list is not prepared, of which planning says this and whose operations these bytes spell, in this
+-- order: what planning refuses; for the least region that it goes past 2^64, or else that it begins before the one before
+-- it has ended; the least operation of which a range, or the row of records, lies in no one region.
+abbrev pub IsFirstPrepareFaultBy : (Result Submission PlanFault → Type 0) → List ℕ → Limits → List Span → PrepareFault → Type 0
+IsFirstPrepareFaultBy Says list s rs (Plan fault) = Says (Err fault)
+IsFirstPrepareFaultBy Says list s rs (RegionWrap i) = ((p : Submission) × Says (Ok p)) × IsRegionFault rs (RegionWrap i)
+IsFirstPrepareFaultBy Says list s rs (RegionOrder i) = ((p : Submission) × Says (Ok p)) × IsRegionFault rs (RegionOrder i)
+IsFirstPrepareFaultBy Says list s rs (Outside i) =
+    ((p : Submission) × Says (Ok p)) × AreRegions rs
+    × ((ds : List Descriptor) × IsListOf list ds × IsFirstOutside rs s.greatest_transfer (map fields ds) i)
+
+-- that of a list without barriers
 abbrev pub IsFirstPrepareFault : List ℕ → Limits → List Span → PrepareFault → Type 0
-IsFirstPrepareFault list s rs (Plan fault) = Plans list s (Err fault)
-IsFirstPrepareFault list s rs (RegionWrap i) = IsPlanned list s × IsRegionFault rs (RegionWrap i)
-IsFirstPrepareFault list s rs (RegionOrder i) = IsPlanned list s × IsRegionFault rs (RegionOrder i)
-IsFirstPrepareFault list s rs (Outside i) =
-    IsPlanned list s × AreRegions rs × ((ds : List Descriptor) × IsListOf list ds × IsFirstOutside rs s.greatest_transfer (map fields ds) i)
+IsFirstPrepareFault list s rs fault = IsFirstPrepareFaultBy (Plans list s) list s rs fault
+
+-- that of a list in which a fence is a barrier
+abbrev pub IsFirstFencedFault : List ℕ → Limits → List Span → PrepareFault → Type 0
+IsFirstFencedFault list s rs fault = IsFirstPrepareFaultBy (PlansFenced list s) (unfenced_list list) s rs fault
+
+-- ---- for private clauses
+
+-- these are the pieces that the operations are split into
+pub record IsSplitInto (s : Limits) (ds pieces : List Descriptor) : Type 0 where
+  pub split : IsSplit s.greatest_transfer s.staging (map fields ds)
+  pub pieces_are : map fields pieces ≡ all_pieces (map fields ds) s.greatest_transfer
+
+-- this is the template of the submission of these operations, each range of which lies in one of the regions
+pub record IsKept (s : Limits) (rs : List Span) (ds : List Descriptor) (p : Submission) (t : Template) : Type 0 where
+  pub limits : AreInLimits s
+  pub regions : AreRegions rs
+  pub lie : AllByRecursion (LiesWhole rs s.greatest_transfer) (map fields ds)
+  pub template : t ≡ template_of rs (map fields ds) p.plan (map fields p.pieces)
+
+-- the first cause why planned operations are not kept
+abbrev pub IsPlaceFault : Limits → List Span → List Descriptor → PrepareFault → Type 0
+IsPlaceFault s rs ds fault =
+    IsRegionFault rs fault
+    ⊎ ((i : ℕ) × (fault ≡ Outside i) × AreRegions rs × IsFirstOutside rs s.greatest_transfer (map fields ds) i)

@@ -1,20 +1,24 @@
 //! Preparing a list: planning it, and keeping its submission with each address as a region and an offset.
 
-ghost use Rattle.std.specs.Prelude.{◌≡◌, ◌⊎◌, List, IfErr, IfOk, Err, map, ℕ};
+ghost use Rattle.std.specs.Prelude.{◌≡◌, ◌⊎◌, List, IfErr, IfOk, Err, length, map, ℕ};
 ghost use Rattle.dsa_descriptor.specs.declared.descriptor.Descriptor.{Descriptor};
 ghost use Rattle.dsa_descriptor.specs.Descriptors.{fields};
 ghost use Rattle.dsa_descriptor.specs.Lists.{HaveOneOwner};
+ghost use Rattle.dsa_plan.specs.Plan.{piece_count};
+ghost use Rattle.dsa_calls.specs.Fenced.{fences_of, unfenced_list};
 ghost use Rattle.dsa_calls.specs.Lists.{IsListOf};
+ghost use Rattle.dsa_calls.specs.Planned.{submission_of};
 ghost use Rattle.dsa_calls.specs.declared.fault.PlanFault.TheVariants.{Memory};
 ghost use Rattle.dsa_prepared.specs.declared.fault.PrepareFault.{PrepareFault};
 ghost use Rattle.dsa_prepared.specs.declared.fault.PrepareFault.TheVariants.{Plan};
-ghost use Rattle.dsa_prepared.specs.Preparing.{IsPreparedOf, IsCostedOf, IsFirstPrepareFault};
+ghost use Rattle.dsa_prepared.specs.Preparing.{IsPreparedOf, IsCostedOf, IsFencedCostedOf, IsFirstFencedFault, IsFirstPrepareFault, IsKept, IsPlaceFault, IsSplitInto};
+ghost use Rattle.dsa_prepared.specs.Sound.{AreNonempty};
 
 use crate::fault::PrepareFault;
 use crate::places::{first_outside, region_fault};
 use crate::prepared::Prepared;
 use crate::template::template_of;
-use dsa_calls::{PlanFault, plan_operations};
+use dsa_calls::{PlanFault, Planned, plan_operations, plan_operations_with, read_fenced_list};
 use dsa_descriptor::{Descriptor, Span, read_list};
 use dsa_plan::Settings;
 use std::alloc::Global;
@@ -26,6 +30,37 @@ pub struct Costed {
     pub prepared: Prepared,
     /// What the plan costs, in the unit of the settings' prices.
     pub cost: u64,
+}
+
+/// Keeps the submission of planned operations, with its cost.
+fn keep(
+    alloc: Global,
+    operations: &[Descriptor],
+    planned: &Planned,
+    settings: &Settings,
+    regions: &[Span],
+) -> Result<Costed, PrepareFault>
+    requires pieces { IsSplitInto settings.now operations.now planned.now.pieces.items }
+    requires covers { piece_count planned.now.plan ≡ length planned.now.pieces.items }
+    requires nonempty { AreNonempty planned.now.plan }
+    ensures kept { IfOk result (λ x. (x.cost ≡ planned.now.cost) × IsKept settings.now
+        regions.now operations.now (submission_of planned.now) x.prepared) }
+    ensures fault { IfErr result (λ fault. (fault ≡ Plan Memory) ⊎
+        IsPlaceFault settings.now regions.now operations.now fault) }
+{
+    if let Some(fault) = region_fault(regions) {
+        return Err(fault);
+    }
+    if let Some(i) = first_outside(operations, regions, settings.greatest_transfer()) {
+        return Err(PrepareFault::Outside(i));
+    }
+    match template_of(alloc, regions, operations, &planned.plan, &planned.pieces) {
+        Ok(prepared) => Ok(Costed {
+            prepared,
+            cost: planned.cost,
+        }),
+        Err(_) => Err(PrepareFault::Plan(PlanFault::Memory)),
+    }
 }
 
 /// Plans operations of one owner, and keeps their submission.
@@ -41,26 +76,32 @@ fn prepare_operations(
     ensures fault { (list : List ℕ) → IsListOf list operations.now →
         IfErr result (λ fault. (fault ≡ Plan Memory) ⊎
         IsFirstPrepareFault list settings.now regions.now fault) }
-    ensures refused { (list : List ℕ) → IsListOf list operations.now →
-        (fault : PrepareFault) → IsFirstPrepareFault list settings.now regions.now fault →
-        (result ≡ Err fault) ⊎ (result ≡ Err (Plan Memory)) }
 {
-    let planned = match plan_operations(alloc, operations, settings) {
-        Ok(planned) => planned,
-        Err(fault) => return Err(PrepareFault::Plan(fault)),
-    };
-    if let Some(fault) = region_fault(regions) {
-        return Err(fault);
+    match plan_operations(alloc, operations, settings) {
+        Ok(planned) => keep(alloc, operations, &planned, settings, regions),
+        Err(fault) => Err(PrepareFault::Plan(fault)),
     }
-    if let Some(i) = first_outside(operations, regions, settings.greatest_transfer()) {
-        return Err(PrepareFault::Outside(i));
-    }
-    match template_of(alloc, regions, operations, &planned.plan, &planned.pieces) {
-        Ok(prepared) => Ok(Costed {
-            prepared,
-            cost: planned.cost,
-        }),
-        Err(_) => Err(PrepareFault::Plan(PlanFault::Memory)),
+}
+
+/// Plans operations of one owner and their barriers, and keeps their submission.
+fn prepare_operations_with(
+    alloc: Global,
+    operations: &[Descriptor],
+    barriers: &[bool],
+    settings: &Settings,
+    regions: &[Span],
+) -> Result<Costed, PrepareFault>
+    requires { HaveOneOwner (map fields operations.now) }
+    ensures prepared { (list : List ℕ) → IsListOf (unfenced_list list) operations.now →
+        barriers.now ≡ fences_of list → IfOk result
+        (λ x. IsFencedCostedOf list settings.now regions.now operations.now x.prepared x.cost) }
+    ensures fault { (list : List ℕ) → IsListOf (unfenced_list list) operations.now →
+        barriers.now ≡ fences_of list → IfErr result (λ fault. (fault ≡ Plan Memory) ⊎
+        IsFirstFencedFault list settings.now regions.now fault) }
+{
+    match plan_operations_with(alloc, operations, barriers, settings) {
+        Ok(planned) => keep(alloc, operations, &planned, settings, regions),
+        Err(fault) => Err(PrepareFault::Plan(fault)),
     }
 }
 
@@ -118,5 +159,39 @@ pub fn prepare(
     match prepare_costed(alloc, list, settings, regions) {
         Ok(costed) => Ok(costed.prepared),
         Err(fault) => Err(fault),
+    }
+}
+
+/// Prepares a list in which a fence is a barrier, as [`plan_fenced_list`](dsa_calls::plan_fenced_list()) plans it:
+/// [`Prepared::fill`] writes what that answers for the list on the new buffers, with the fences that keep its barriers.
+///
+/// # Errors
+/// Those of [`prepare`], of the list without its fences.
+pub fn prepare_fenced(
+    alloc: Global,
+    list: &[u8],
+    settings: &Settings,
+    regions: &[Span],
+) -> Result<Costed, PrepareFault>
+    // What it answers is the template of the planned list, and the plan's cost.
+    ensures prepared { IfOk result (λ x. (ds : List Descriptor) ×
+        IsFencedCostedOf list.now settings.now regions.now ds x.prepared x.cost) }
+    // A refusal is the first cause, or that an allocation failed.
+    ensures fault { IfErr result (λ fault. (fault ≡ Plan Memory) ⊎
+        IsFirstFencedFault list.now settings.now regions.now fault) }
+    // The first cause is the answer, unless an allocation failed before it was found.
+    ensures refused { (fault : PrepareFault) →
+        IsFirstFencedFault list.now settings.now regions.now fault →
+        (result ≡ Err fault) ⊎ (result ≡ Err (Plan Memory)) }
+{
+    match read_fenced_list(alloc, list) {
+        Ok(read) => prepare_operations_with(
+            alloc,
+            &read.operations,
+            &read.fences,
+            settings,
+            regions,
+        ),
+        Err(fault) => Err(PrepareFault::Plan(PlanFault::from(fault))),
     }
 }

@@ -59,6 +59,7 @@ of_certificates n =
     if n == 63 then codes "one group from piece # on gives a lower price at $ (0 and 0: the first price is not 0)" else
     if n == 64 then codes "the last price is not the plan's cost" else
     if n == 65 then codes "the certificate is of another version than the settings" else
+    if n == 66 then codes "the submitted piece # is not the list's" else
     []
 
 -- of a run, or of a job

@@ -91,6 +91,7 @@ fn of_certificates(number: u64) -> &'static str
             "one group from piece # on gives a lower price at $ (0 and 0: the first price is not 0)",
         64 => "the last price is not the plan's cost",
         65 => "the certificate is of another version than the settings",
+        66 => "the submitted piece # is not the list's",
         _ => "",
     }
 }

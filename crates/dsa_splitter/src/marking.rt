@@ -1,10 +1,14 @@
 //! The barriers of the pieces of operations.
 
-ghost use Rattle.std.specs.Prelude.{◌≡◌, ◌-◌, ◌<◌, ◌≤◌, ◌++◌, ◌∷◌, false, replicate, slice_index_or, map, IfOk};
+ghost use Rattle.std.specs.Prelude.{◌≡◌, ◌-◌, ◌<◌, ◌≤◌, ◌++◌, ◌∷◌, false, replicate, slice_index_or, map, IfErr, IfOk};
 ghost use Rattle.dsa_descriptor.specs.Descriptors.{fields};
-ghost use Rattle.dsa_splitter.specs.Pieces.{piece_barriers};
+ghost use Rattle.dsa_splitter.specs.Pieces.{all_pieces, piece_barriers};
+ghost use Rattle.dsa_splitter.specs.Rules.{IsFirstSplitFault, IsSplit};
 
+use crate::fault::SplitFault;
+use crate::plain::is_split;
 use crate::rules::piece_count;
+use crate::splitting::pieces;
 use dsa_descriptor::Descriptor;
 use dsa_settings::Settings;
 use std::alloc::{AllocError, Global};
@@ -50,4 +54,67 @@ pub fn piece_barriers(
         )?;
     }
     Ok(found)
+}
+
+/// The pieces of operations, and their barriers.
+#[derive(Debug, Drop)]
+pub struct MarkedPieces {
+    /// The pieces, in the order in which they are submitted.
+    pub pieces: Vec<Descriptor>,
+    /// Whether each begins after a barrier.
+    pub barriers: Vec<bool>,
+}
+
+/// The pieces of operations, and their barriers from those of the operations.
+fn marked_pieces(
+    alloc: Global,
+    list: &[Descriptor],
+    barriers: &[bool],
+    settings: &Settings,
+) -> Result<MarkedPieces, SplitFault>
+    ensures found { IfOk result (λ found.
+        IsSplit settings.now.greatest_transfer settings.now.staging (map fields list.now) ×
+        (map fields found.pieces.items ≡
+        all_pieces (map fields list.now) settings.now.greatest_transfer)) }
+    ensures barriers { IfOk result (λ found. found.barriers.items ≡
+        piece_barriers settings.now.greatest_transfer (map fields list.now) barriers.now) }
+    ensures fault { IfErr result (IsFirstSplitFault
+        settings.now.greatest_transfer settings.now.staging (map fields list.now)) }
+{
+    let pieces = pieces(alloc, list, settings)?;
+    let barriers = piece_barriers(alloc, list, barriers, settings)?;
+    Ok(MarkedPieces { pieces, barriers })
+}
+
+/// The pieces of operations that the caller lets go of, as [`into_pieces`](crate::into_pieces) answers them, with their
+/// barriers from those of the operations. Where each operation is its own only piece and has its mark, both lists are
+/// answered as they are, and no memory is asked for.
+///
+/// # Errors
+/// As [`pieces`], and `Memory` where memory is asked for and there is none.
+pub fn into_marked_pieces(
+    alloc: Global,
+    list: Vec<Descriptor>,
+    barriers: Vec<bool>,
+    settings: &Settings,
+) -> Result<MarkedPieces, SplitFault>
+    ensures found { IfOk result (λ found.
+        IsSplit settings.now.greatest_transfer settings.now.staging (map fields list.items) ×
+        (map fields found.pieces.items ≡
+        all_pieces (map fields list.items) settings.now.greatest_transfer)) }
+    ensures barriers { IfOk result (λ found. found.barriers.items ≡
+        piece_barriers settings.now.greatest_transfer (map fields list.items) barriers.items) }
+    ensures fault { IfErr result (IsFirstSplitFault
+        settings.now.greatest_transfer settings.now.staging (map fields list.items)) }
+{
+    if barriers.len() != list.len() {
+        return marked_pieces(alloc, &list, &barriers, settings);
+    }
+    if is_split(&list, settings) {
+        return Ok(MarkedPieces {
+            pieces: list,
+            barriers,
+        });
+    }
+    marked_pieces(alloc, &list, &barriers, settings)
 }

@@ -5,10 +5,12 @@ use Rattle.dsa_descriptor.specs.Descriptors.{fields}
 use Rattle.dsa_descriptor.specs.Lists.{HaveOneOwner}
 use Rattle.dsa_calls.specs.declared.fault.PlanFault.{PlanFault}
 use Rattle.dsa_calls.specs.Lists.{IsListOf}
-use Rattle.dsa_calls.specs.Planned.{PlansOperations, Submission}
+use Rattle.dsa_calls.specs.Planned.{Plans, PlansOperations, Submission}
 use Rattle.dsa_calls.proofs.Over.{list_refused}
+use Rattle.dsa_calls.proofs.Submissions.{one_planned}
 use Rattle.dsa_prepared.specs.declared.fault.PrepareFault.TheVariants.{Plan as InPlan}
-use Rattle.dsa_prepared.proofs.Preparation.{one_cause}
+use Rattle.dsa_prepared.specs.Preparing.{IsCostedOf}
+use Rattle.dsa_prepared.proofs.Preparation.{no_cause, one_cause, refused_by}
 use Rattle.dsa_prepared.proofs.preparing.prepare_costed.Goals as goal
 
 pub prepare_operations-requires : goal.prepare_operations-requires
@@ -27,10 +29,15 @@ returns-in-Ok-clause-fault c =
     c.prepare_operations.ensures.fault c.args.list.now listed
 
 pub returns-in-Ok-clause-refused : goal.returns-in-Ok-clause-refused
-returns-in-Ok-clause-refused c = λ fault first.
+returns-in-Ok-clause-refused c =
+    let list = c.args.list.now in
+    let s = c.args.settings.now in
+    let rs = c.args.regions.now in
+    let ds = c.deref.result.now in
     let found = c.in-Ok.ensures.found in
-    let listed = subst (λ (ds : List Descriptor). IsListOf c.args.list.now ds) (sym c.deref.ensures.value) (record { spelled = found.0; owner = found.1 }) in
-    c.prepare_operations.ensures.refused c.args.list.now listed fault first
+    let listed = subst (λ (xs : List Descriptor). IsListOf list xs) (sym c.deref.ensures.value) (record { spelled = found.0; owner = found.1 }) in
+    refused_by (Plans list s) (one_planned list s) list s rs (λ x. IsCostedOf list s rs ds x.prepared x.cost) (λ x h. no_cause list s rs ds x.prepared x.cost h)
+    c.prepare_operations.result (c.prepare_operations.ensures.prepared list listed) (c.prepare_operations.ensures.fault list listed)
 
 pub returns-in-Err-clause-fault : goal.returns-in-Err-clause-fault
 returns-in-Err-clause-fault c =

@@ -1,0 +1,99 @@
+//! Checking bytes to submit, with a certificate, for a list in which a fence is a barrier.
+
+ghost use Rattle.std.specs.Prelude.{◌≡◌, ◌≢◌, ◌<◌, MatchResult};
+ghost use Rattle.dsa_c.specs.Certificates.{contents_of};
+ghost use Rattle.dsa_c.specs.FencedChecking.{IsFencedCost, RefusesFencedCheck, fenced_refusal_of};
+
+use crate::certificate::{RawPair, certificate_of};
+use crate::checking::RawCertificate;
+use crate::refusal::{RawRefusal, refusal, refusal_at};
+use crate::settings::{RawSettings, settings_of, settings_refusal};
+use dsa_calls::{FencedFault, PlanFault, check_fenced_list};
+use std::alloc::Global;
+
+/// The number of the refusal of a piece that is not the list's.
+pub const OTHER_PIECE: u32 = 66;
+
+/// The refusal of this cause.
+fn fenced_refusal(fault: FencedFault) -> RawRefusal
+    ensures value { result ≡ fenced_refusal_of fault }
+    ensures some { 0 < result.number }
+{
+    match fault {
+        FencedFault::Call(fault) => refusal(fault),
+        FencedFault::OtherPiece(piece) => refusal_at(OTHER_PIECE, piece as u64, 0),
+    }
+}
+
+/// The cost of the bytes for the list, if the certificate checks.
+fn check_fenced_for(
+    alloc: Global,
+    settings: &RawSettings,
+    table: &[u64],
+    list: &[u8],
+    portal: &[u8],
+    staging: &[u8],
+    given: &RawCertificate<'_>,
+) -> Result<u64, RawRefusal>
+    ensures { let s = settings.now in let t = table.now in
+        let c = contents_of given.now.version given.now.prices.now given.now.pairs.now in
+        MatchResult result
+        (λ cost. IsFencedCost s t list.now portal.now staging.now c cost)
+        (λ r. (0 < r.number)
+        × RefusesFencedCheck s t list.now portal.now staging.now c r) }
+{
+    let Ok(checked) = settings_of(settings, table) else {
+        return Err(settings_refusal(settings));
+    };
+    let Ok(certificate) = certificate_of(alloc, given.version, given.prices, given.pairs) else {
+        return Err(refusal(PlanFault::Memory));
+    };
+    match check_fenced_list(alloc, list, portal, staging, &checked, &certificate) {
+        Ok(cost) => Ok(cost),
+        Err(fault) => Err(fenced_refusal(fault)),
+    }
+}
+
+/// Checks the bytes of a portal and a staging area as [`dsa_check`](crate::dsa_check) does, for a list whose operations
+/// may have the flag 0x0001, fence: writes the cost of their plan to `cost` where they submit the pieces of the list, the
+/// plan keeps each barrier, and no legal plan that does costs less. It answers 0 then, and else the number of the
+/// refusal, and has written `refusal` alone.
+#[unsafe(no_mangle)]
+pub extern "C" fn dsa_check_fenced_list(
+    alloc: Global,
+    settings: &RawSettings,
+    table: &[u64],
+    list: &[u8],
+    portal: &[u8],
+    staging: &[u8],
+    version: u64,
+    prices: &[u64],
+    pairs: &[RawPair],
+    cost: &mut u64,
+    refusal: &mut RawRefusal,
+) -> u32
+    ensures checked { result ≡ 0 →
+        IsFencedCost settings.now table.now list.now portal.now staging.now
+        (contents_of version prices.now pairs.now) cost.new }
+    ensures unchanged { result ≢ 0 → cost.new ≡ cost.old }
+    ensures refused { result ≢ 0 → (result ≡ refusal.new.number)
+        × RefusesFencedCheck settings.now table.now list.now portal.now staging.now
+        (contents_of version prices.now pairs.now) refusal.new }
+    ensures quiet { result ≡ 0 → refusal.new ≡ refusal.old }
+{
+    let given = RawCertificate {
+        version,
+        prices,
+        pairs,
+    };
+    match check_fenced_for(alloc, settings, table, list, portal, staging, &given) {
+        Ok(found) => {
+            *cost = found;
+            0
+        }
+        Err(cause) => {
+            *refusal = cause;
+            cause.number
+        }
+    }
+}

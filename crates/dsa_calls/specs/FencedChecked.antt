@@ -1,0 +1,75 @@
+-- What checking says of an emission for a list in which a fence is a barrier.
+use Rattle.std.specs.Prelude.{◌≡◌, ◌≢◌, ◌⊎◌, ℕ, ◌<◌, List, length, map, slice_get, Result, Ok, Err}
+use Rattle.dsa_descriptor.specs.declared.descriptor.Descriptor.{Descriptor}
+use Rattle.dsa_descriptor.specs.Fields.{Fields}
+use Rattle.dsa_descriptor.specs.Descriptors.{fields}
+use Rattle.dsa_emission.specs.declared.emission_fault.EmissionFault.{EmissionFault}
+use Rattle.dsa_emission.specs.declared.emission_fault.EmissionFault.TheVariants.{Memory as EmissionMemory}
+use Rattle.dsa_plan.specs.Certificate.{Contents}
+use Rattle.dsa_plan.specs.EmissionFaults.{IsEmission, IsFirstEmissionFault}
+use Rattle.dsa_plan.specs.Legal.{IsLeast}
+use Rattle.dsa_plan.specs.Plan.{Plan, plan_cost}
+use Rattle.dsa_plan.specs.Settings.{Limits, tariff_of}
+use Rattle.dsa_splitter.specs.Pieces.{all_pieces}
+use Rattle.dsa_splitter.specs.Rules.{IsSplit}
+use Rattle.dsa_calls.specs.declared.fault.PlanFault.{PlanFault}
+use Rattle.dsa_calls.specs.declared.fault.PlanFault.TheVariants.{Emission}
+use Rattle.dsa_calls.specs.declared.fenced_checking.FencedFault.{FencedFault}
+use Rattle.dsa_calls.specs.declared.fenced_checking.FencedFault.TheVariants.{Call, OtherPiece}
+use Rattle.dsa_calls.specs.Checked.{ChecksPlanBy}
+use Rattle.dsa_calls.specs.Fenced.{fences_of, unfenced_list, PiecesConflict, PlansFenced}
+use Rattle.dsa_calls.specs.Lists.{IsListOf}
+use Rattle.dsa_calls.specs.Planned.{Submission}
+
+-- the lists agree before index i, and there they don't: the descriptors differ, or one list alone has one
+pub record IsFirstOther (submitted listed : List Fields) (i : ℕ) : Type 0 where
+  pub before : (j : ℕ) → j < i → slice_get submitted j ≡ slice_get listed j
+  pub other : slice_get submitted i ≢ slice_get listed i
+
+-- what checking a plan answers, as a call over a list answers it
+abbrev pub in_call : Result ℕ PlanFault → Result ℕ FencedFault
+in_call (Ok cost) = Ok cost
+in_call (Err fault) = Err (Call fault)
+
+-- The outcome of checking these bytes as an emission of these pieces, of which `C` says which conflict: their first fault as
+-- an emission; the first piece that they submit and that is another; or that of checking the plan that they are the
+-- emission of.
+abbrev pub ChecksPieces : (ℕ → ℕ → Type 0) → Limits → List Fields → List ℕ → List ℕ → Contents → Result ℕ FencedFault → Type 0
+ChecksPieces C s pieces portal staging c outcome =
+    ((fault : EmissionFault) × (fault ≢ EmissionMemory) × IsFirstEmissionFault s portal staging fault × (outcome ≡ Err (Call (Emission fault))))
+    ⊎ ((i : ℕ) × (plan : Plan) × (ds : List Descriptor) × IsEmission s portal staging plan ds × IsFirstOther (map fields ds) pieces i × (outcome ≡ Err (OtherPiece i)))
+    ⊎ ((o : Result ℕ PlanFault) × (plan : Plan) × (ds : List Descriptor) × IsEmission s portal staging plan ds × (map fields ds ≡ pieces) × ChecksPlanBy C s (length pieces) plan c o
+    × (outcome ≡ in_call o))
+
+-- The outcome of checking these bytes as an emission for a list: what planning the list with its fences as barriers refuses;
+-- or that of checking them as an emission of the list's pieces, with its barriers.
+abbrev pub ChecksFenced : List ℕ → List ℕ → List ℕ → Limits → Contents → Result ℕ FencedFault → Type 0
+ChecksFenced bytes portal staging s c outcome =
+    ((fault : PlanFault) × PlansFenced bytes s (Err fault) × (outcome ≡ Err (Call fault)))
+    ⊎ ((operations : List Descriptor) × IsListOf (unfenced_list bytes) operations × IsSplit s.greatest_transfer s.staging (map fields operations)
+    × ChecksPieces (PiecesConflict s (map fields operations) (fences_of bytes) (all_pieces (map fields operations) s.greatest_transfer))
+    s (all_pieces (map fields operations) s.greatest_transfer) portal staging c outcome)
+
+-- the bytes submit a plan of this cost for the pieces of the list; it keeps each barrier, and no legal plan that does costs
+-- less
+pub record IsLeastEmission (bytes portal staging : List ℕ) (s : Limits) (cost : ℕ) : Type 0 where
+  pub operations : List Descriptor
+  pub listed : IsListOf (unfenced_list bytes) operations
+  pub plan : Plan
+  pub pieces : List Descriptor
+  pub emission : IsEmission s portal staging plan pieces
+  pub pieces_are : map fields pieces ≡ all_pieces (map fields operations) s.greatest_transfer
+  pub least :
+      IsLeast (PiecesConflict s (map fields operations) (fences_of bytes) (map fields pieces))
+      s.greatest_batch (tariff_of s) (length pieces) plan
+  pub is_cost : cost ≡ plan_cost (tariff_of s) plan
+
+-- bytes, settings and a certificate have one outcome at most of checking for a list
+abbrev pub OneFencedCheck : Type 0
+OneFencedCheck = (bytes portal staging : List ℕ) (s : Limits) (c : Contents) (outcome other : Result ℕ FencedFault) →
+    ChecksFenced bytes portal staging s c outcome → ChecksFenced bytes portal staging s c other → outcome ≡ other
+
+-- if planning with fences answers, checking what it submits, with its certificate, answers its cost
+abbrev pub FencedPlanIsChecked : Type 0
+FencedPlanIsChecked = (bytes : List ℕ) (s : Limits) (p : Submission) →
+    PlansFenced bytes s (Ok p) → ChecksFenced bytes p.portal p.staging s p.certificate (Ok p.cost)

@@ -1,0 +1,120 @@
+//! Checking the bytes that submit a plan, for a list in which a fence is a barrier.
+
+ghost use Rattle.std.specs.Prelude.{◌≡◌, ◌⊎◌, ℕ, ◌≤◌, length, map, Err, IfOk, MatchOption, Result};
+ghost use Rattle.dsa_descriptor.specs.Descriptors.{fields};
+ghost use Rattle.dsa_descriptor.specs.Pieces.{most_pieces};
+ghost use Rattle.dsa_ranges.specs.Ranges.{ConflictAt};
+ghost use Rattle.dsa_plan.specs.Barriers.{WithBarriers};
+ghost use Rattle.dsa_plan.specs.Certificate.{contents};
+ghost use Rattle.dsa_calls.specs.declared.fault.PlanFault.TheVariants.{Memory};
+ghost use Rattle.dsa_calls.specs.declared.fenced_checking.FencedFault.{FencedFault};
+ghost use Rattle.dsa_calls.specs.declared.fenced_checking.FencedFault.TheVariants.{Call};
+ghost use Rattle.dsa_calls.specs.FencedChecked.{ChecksFenced, ChecksPieces, IsFirstOther, IsLeastEmission};
+
+use crate::checking::check_plan_with;
+use crate::fault::PlanFault;
+use crate::fenced::fenced_pieces;
+use dsa_descriptor::Descriptor;
+use dsa_image::same_descriptor;
+use dsa_plan::{Certificate, Settings, read_emission};
+use std::alloc::Global;
+
+/// Why bytes are refused as an emission of least cost for a list in which a fence is a barrier.
+#[derive(Clone, Copy, Debug, PartialEq, Eq)]
+pub enum FencedFault {
+    /// What planning the list, reading the emission, or checking its plan refuses.
+    Call(PlanFault),
+    /// The submitted piece of this index is not the list's, or one of the two has no piece there.
+    OtherPiece(usize),
+}
+
+/// The index of the first piece that is not the same in both lists.
+fn first_other(submitted: &[Descriptor], listed: &[Descriptor]) -> Option<usize>
+    ensures { MatchOption result (map fields submitted.now ≡ map fields listed.now)
+        (IsFirstOther (map fields submitted.now) (map fields listed.now)) }
+{
+    let both = submitted.len().min(listed.len());
+    for index in 0..both {
+        if !same_descriptor(&submitted[index], &listed[index]) {
+            return Some(index);
+        }
+    }
+    if submitted.len() == listed.len() {
+        None
+    } else {
+        Some(both)
+    }
+}
+
+/// The cost of the plan that the bytes submit for these pieces and their barriers.
+fn check_pieces(
+    alloc: Global,
+    pieces: &[Descriptor],
+    barriers: &[bool],
+    portal: &[u8],
+    staging: &[u8],
+    settings: &Settings,
+    certificate: &Certificate,
+) -> Result<u64, FencedFault>
+    requires { length pieces.now ≤ most_pieces }
+    ensures { (result ≡ Err (Call Memory)) ⊎
+        ChecksPieces (WithBarriers (ConflictAt (map fields pieces.now)) barriers.now)
+        settings.now (map fields pieces.now) portal.now staging.now
+        (contents certificate.now) result }
+{
+    let (plan, submitted) = match read_emission(alloc, portal, staging, settings) {
+        Ok(read) => read,
+        Err(fault) => return Err(FencedFault::Call(PlanFault::from(fault))),
+    };
+    if let Some(index) = first_other(&submitted, pieces) {
+        return Err(FencedFault::OtherPiece(index));
+    }
+    match check_plan_with(pieces, barriers, settings, &plan, certificate) {
+        Ok(cost) => Ok(cost),
+        Err(fault) => Err(FencedFault::Call(fault)),
+    }
+}
+
+/// The cost of the plan that the bytes of a portal and a staging area submit for a list, as
+/// [`plan_fenced_list`](crate::plan_fenced_list) reads it: the plan is legal for the pieces of the list and keeps its
+/// barriers, and the certificate shows that no such plan costs less. The list says where barriers are: not each fence
+/// that is submitted is one.
+///
+/// # Errors
+/// What planning the list refuses, as [`plan_fenced_list`](crate::plan_fenced_list) reports it; else the first fault of
+/// the bytes as an emission, as [`read_emission`] does; else [`FencedFault::OtherPiece`] with the least index; else the
+/// first fault of the plan or the certificate, as [`check_plan_with`] does; [`PlanFault::Memory`] where an allocation
+/// fails.
+pub fn check_fenced_list(
+    alloc: Global,
+    list: &[u8],
+    portal: &[u8],
+    staging: &[u8],
+    settings: &Settings,
+    certificate: &Certificate,
+) -> Result<u64, FencedFault>
+    ensures answer { (result ≡ Err (Call Memory)) ⊎
+        ChecksFenced list.now portal.now staging.now settings.now
+        (contents certificate.now) result }
+    // What it answers is the one outcome, but for an allocation failure.
+    ensures only { (outcome : Result ℕ FencedFault) →
+        ChecksFenced list.now portal.now staging.now settings.now
+        (contents certificate.now) outcome → (result ≡ Err (Call Memory)) ⊎ (result ≡ outcome) }
+    // The bytes submit the list's pieces, by a plan that keeps the barriers; no such plan costs less, whoever wrote the
+    // certificate.
+    ensures least { IfOk result (IsLeastEmission list.now portal.now staging.now settings.now) }
+{
+    let marked = match fenced_pieces(alloc, list, settings) {
+        Ok(marked) => marked,
+        Err(fault) => return Err(FencedFault::Call(fault)),
+    };
+    check_pieces(
+        alloc,
+        &marked.pieces,
+        &marked.barriers,
+        portal,
+        staging,
+        settings,
+        certificate,
+    )
+}

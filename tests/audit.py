@@ -955,11 +955,20 @@ def listed_line(it, owner, number, count):
     return operation_line(it, number)
 
 
+def kept_fences(recording):
+    """Of each entry whose fence guards or signals, by the report in JSON, which; other parts judge that report."""
+    kinds = ("guarding", "signalling", "guarding and signalling")
+    found = [(it["entry"], it["what"]["kind"]) for it in audited(recording)[0]["findings"]]
+    return {number: kind for number, kind in found if kind in kinds}
+
+
 def wanted_list(recording):
-    """The list of a recording, a line for each entry but those of batches."""
+    """The list of a recording: a line for each entry but those of batches, and one before each fence that is kept."""
     entries = [recording[at : at + 64] for at in range(0, len(recording), 64)]
-    lines, left, head = [], 0, b""
+    lines, left, head, kept = [], 0, b"", kept_fences(recording)
     for number, it in enumerate(entries):
+        if number in kept:
+            lines.append(f"barrier # {kept[number]} fence of entry {number}")
         if left == 0 and it[7] == 1:
             left, head = struct.unpack_from("<I", it, 32)[0], it
             continue

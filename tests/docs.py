@@ -72,11 +72,11 @@ def USING():
     """The commands that audit a recording and check a batch, and the lines of Python that do."""
     checking = "## Checking other software's batches"
     session(block_after("docs/USING.md", "One command reads the recording"))
-    # the list has nine operations that one batch holds, and three of them wait for the one before
+    # the list has nine operations that one batch holds; three wait for the one before, and two come after a barrier
     with tempfile.TemporaryDirectory() as folder:
         list_of = "dsa_text audit --list examples/audit/engine.xxd"
         got = printed(f"{list_of} > {folder}/list.txt && dsa_text explain --greatest-transfer 2048M {folder}/list.txt")
-        wanted = "cost 23; 9 lone submissions cost 90, saved 67\n"
+        wanted = "cost 29; 9 lone submissions cost 90, saved 61\n"
         expect(got.endswith(wanted), f"docs/USING.md: the list of the recording is explained as {got!r}")
     noted(block_after("docs/USING.md", checking, "sh"))
     code = block_after("docs/USING.md", checking, "python")

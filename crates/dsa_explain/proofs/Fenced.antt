@@ -1,10 +1,12 @@
 -- The fences of a plan, as they are found group by group.
 use Rattle.std.proofs.Common.{◌≡◌, ℕ, suc, ◌+◌, ◌-◌, ◌<◌, Bool, true, false, cond, List, [], ◌∷◌, ◌++◌, length, get_or, drop, Some, refl, sym, ap, ◌∙◌, subst, append_assoc, arith}
+use Rattle.std.specs.Prelude.{◌↔◌, IsTrue}
 use Rattle.std.proofs.lemmas.List.{drop_more, map-append}
 use Rattle.std.proofs.lemmas.Option.{slice_get-get_or}
 use Rattle.std.proofs.lemmas.List.Elements.{All-append, All-cons, All-nil}
 use Rattle.dsa_descriptor.specs.Fields.{Fields}
 use Rattle.dsa_plan.specs.Plan.{Group, Plan}
+use Rattle.dsa_plan.specs.Barriers.{IsBarrier}
 use Rattle.dsa_plan.specs.Legal.{IsFenced}
 use Rattle.dsa_explain.specs.declared.fences.Fence.{Fence}
 use Rattle.dsa_explain.specs.declared.fences.Detail.{Detail}
@@ -42,19 +44,21 @@ pub is_fenced : (start i : ℕ) (g : Group) → i < length g → get_or g i fals
 is_fenced start i g within fenced =
     let e : (start + i) - start ≡ i = omega arith in (omega arith, rw e (slice_get-get_or g i false within ∙ ap Some fenced))
 
-pub explained_pushed : (detail : Detail) (fs : List Fields) (start : ℕ) (g : Group) (before fences : List Fence) (fence : Fence) → IsFenced start g fence.piece
-    → HasReasons detail fs start g fence → AddsExplained detail fs start g before fences → AddsExplained detail fs start g before (fences ++ fence ∷ [])
-explained_pushed detail fs start g before fences fence fenced reasons adds plan number there begins all =
-    All-append (IsExplained detail fs plan) fences (fence ∷ []) (adds plan number there begins all)
-    (All-cons (IsExplained detail fs plan) fence []
+pub explained_pushed : (detail : Detail) (fs : List Fields) (bs : List Bool) (start : ℕ) (g : Group) (before fences : List Fence) (fence : Fence) → IsFenced start g fence.piece
+    → HasReasons detail fs start g fence → IsTrue fence.barrier ↔ IsBarrier bs fence.piece → AddsExplained detail fs bs start g before fences
+    → AddsExplained detail fs bs start g before (fences ++ fence ∷ [])
+explained_pushed detail fs bs start g before fences fence fenced reasons barrier adds plan number there begins all =
+    All-append (IsExplained detail fs bs plan) fences (fence ∷ []) (adds plan number there begins all)
+    (All-cons (IsExplained detail fs bs plan) fence []
     (record {
       number = number;
       group = g;
       is_group = there;
       fenced = subst (λ (s : ℕ). IsFenced s g fence.piece) begins fenced;
       reasons = subst (λ (s : ℕ). HasReasons detail fs s g fence) begins reasons;
+      barrier = barrier;
     })
-    (All-nil (IsExplained detail fs plan)))
+    (All-nil (IsExplained detail fs bs plan)))
 
 -- ---- the loop over a plan
 

@@ -1,15 +1,16 @@
 -- The document of an explanation has no float.
-use Rattle.std.proofs.Common.{◌≡◌, ℕ, List, [], ◌∷◌, map, false, refl}
-use Rattle.std.specs.Prelude.{Option, Some, None}
+use Rattle.std.proofs.Common.{◌≡◌, ℕ, Bool, List, [], ◌∷◌, ◌++◌, map, true, false, refl}
+use Rattle.std.specs.Prelude.{Option, Some, None, codes}
 use Rattle.serde_json.specs.Data.{Data}
 use Rattle.serde_json.specs.View.{items_of}
 use Rattle.serde_json.specs.Written.{has_float, items_have_float}
+use Rattle.dsa_cert.specs.Spelled.{array_of, object_of, whole}
 use Rattle.dsa_descriptor.specs.declared.descriptor.Descriptor.{Descriptor}
 use Rattle.dsa_explain.specs.declared.explanation.Explanation.{Explanation}
 use Rattle.dsa_explain.specs.declared.fences.Fence.{Fence}
 use Rattle.dsa_explain.specs.declared.reason.Reason.{Reason}
 use Rattle.dsa_explain.specs.declared.words.Origin.{Origin}
-use Rattle.dsa_explain.specs.Document.{optional_value, group_value, reason_value, fence_value, piece_value, origin_value, explanation_value}
+use Rattle.dsa_explain.specs.Document.{optional_value, group_value, reason_value, barrier_members, fence_value, piece_value, origin_value, explanation_value}
 use Rattle.dsa_explain.specs.Words.{record_of}
 
 -- an array has none where no item has
@@ -24,8 +25,13 @@ optional (Some n) = refl
 reason : (pieces : List Descriptor) (r : Reason) → has_float (reason_value pieces r) ≡ false
 reason pieces r = rw (optional (record_of pieces r)) refl
 
+fence_with : (barrier : Bool) (pieces : List Descriptor) (f : Fence)
+    → has_float (object_of (barrier_members barrier ++ (codes "before", whole f.piece) ∷ (codes "conflicts", array_of (map (reason_value pieces) f.named.items)) ∷ [])) ≡ false
+fence_with true pieces f = rw (items (reason_value pieces) f.named.items (reason pieces)) refl
+fence_with false pieces f = rw (items (reason_value pieces) f.named.items (reason pieces)) refl
+
 fence : (pieces : List Descriptor) (f : Fence) → has_float (fence_value pieces f) ≡ false
-fence pieces f = rw (items (reason_value pieces) f.named.items (reason pieces)) refl
+fence pieces f = fence_with f.barrier pieces f
 
 pub explained : (e : Explanation) (pieces : List Descriptor) (origins : List Origin) (least : Option ℕ) → has_float (explanation_value e pieces origins least) ≡ false
 explained e pieces origins least =

@@ -1,6 +1,6 @@
 -- The document of an explanation, as a JSON value (this project's choice).
-use Rattle.std.specs.Prelude.{ℕ, List, [], ◌∷◌, ◌++◌, codes, map, Option, Some, None}
-use Rattle.serde_json.specs.Data.{Data, null, string}
+use Rattle.std.specs.Prelude.{ℕ, Bool, true, List, [], ◌∷◌, ◌++◌, codes, map, Option, Some, None, if◌then◌else◌}
+use Rattle.serde_json.specs.Data.{Data, boolean, null, string}
 use Rattle.serde_json.specs.Written.{compact_text}
 use Rattle.dsa_cert.specs.Spelled.{whole, array_of, object_of}
 use Rattle.dsa_descriptor.specs.declared.descriptor.Descriptor.{Descriptor}
@@ -34,11 +34,16 @@ reason_value pieces r =
     ∷ (codes "record_of", optional_value (record_of pieces r))
     ∷ [])
 
--- a fence: the piece that it stands before, and the conflicts that it alone separates
+-- that a barrier needs a fence, if one does
+abbrev pub barrier_members : Bool → List (List ℕ × Data)
+barrier_members barrier = if barrier then (codes "barrier", boolean true) ∷ [] else []
+
+-- a fence: whether a barrier needs it, the piece that it stands before, and the conflicts that it alone separates
 abbrev pub fence_value : List Descriptor → Fence → Data
 fence_value pieces fence =
     object_of (
-    (codes "before", whole fence.piece)
+    barrier_members fence.barrier
+    ++ (codes "before", whole fence.piece)
     ∷ (codes "conflicts", array_of (map (reason_value pieces) fence.named.items))
     ∷ [])
 

@@ -1,9 +1,10 @@
 -- What explaining a plan answers.
-use Rattle.std.specs.Prelude.{◌≡◌, ◌<◌, ◌≤◌, List, length, map, Result, Ok, Err}
+use Rattle.std.specs.Prelude.{◌≡◌, ◌<◌, ◌≤◌, Bool, List, length, map, Result, Ok, Err}
 use Rattle.dsa_descriptor.specs.declared.descriptor.Descriptor.{Descriptor}
 use Rattle.dsa_descriptor.specs.Descriptors.{fields}
 use Rattle.dsa_descriptor.specs.Pieces.{most_pieces}
 use Rattle.dsa_ranges.specs.Ranges.{ConflictAt}
+use Rattle.dsa_plan.specs.Barriers.{WithBarriers}
 use Rattle.dsa_plan.specs.Plan.{Plan}
 use Rattle.dsa_plan.specs.Settings.{Limits}
 use Rattle.dsa_plan.specs.Legal.{IsLegal}
@@ -17,22 +18,22 @@ use Rattle.dsa_explain.specs.declared.explanation.ExplainFault.{ExplainFault}
 use Rattle.dsa_explain.specs.declared.explanation.ExplainFault.TheVariants.{TooManyPieces, Legal, Memory}
 
 -- the plan's costs, its fences and its cells
-pub record IsExplanationOf (s : Limits) (detail : Detail) (pieces : List Descriptor) (plan : Plan) (e : Explanation) : Type 0 where
+pub record IsExplanationOf (s : Limits) (detail : Detail) (pieces : List Descriptor) (barriers : List Bool) (plan : Plan) (e : Explanation) : Type 0 where
   pub costs : AreCosts s (length pieces) plan e.costs
-  pub fences : AreFencesOf detail (map fields pieces) plan e.fences.items
+  pub fences : AreFencesOf detail (map fields pieces) barriers plan e.fences.items
   pub cells : e.cells.items ≡ cells_from 0 plan
 
--- the plan is legal, of pieces that are not too many
-pub record CanBeExplained (s : Limits) (pieces : List Descriptor) (plan : Plan) : Type 0 where
+-- the plan is legal with these barriers, of pieces that are not too many
+pub record CanBeExplained (s : Limits) (pieces : List Descriptor) (barriers : List Bool) (plan : Plan) : Type 0 where
   pub few : length pieces ≤ most_pieces
-  pub legal : IsLegal (ConflictAt (map fields pieces)) s.greatest_batch (length pieces) plan
+  pub legal : IsLegal (WithBarriers (ConflictAt (map fields pieces)) barriers) s.greatest_batch (length pieces) plan
 
 -- Of a plan that can be explained, and of no other, its explanation, or that memory ran out. Else
 -- that the pieces are too many; else the plan's first fault.
-abbrev pub Explains : Limits → Detail → List Descriptor → Plan → Result Explanation ExplainFault → Type 0
-Explains s detail pieces plan (Ok e) = CanBeExplained s pieces plan × IsExplanationOf s detail pieces plan e
-Explains s detail pieces plan (Err Memory) = CanBeExplained s pieces plan
-Explains s detail pieces plan (Err TooManyPieces) = most_pieces < length pieces
-Explains s detail pieces plan (Err (Legal fault)) =
+abbrev pub Explains : Limits → Detail → List Descriptor → List Bool → Plan → Result Explanation ExplainFault → Type 0
+Explains s detail pieces barriers plan (Ok e) = CanBeExplained s pieces barriers plan × IsExplanationOf s detail pieces barriers plan e
+Explains s detail pieces barriers plan (Err Memory) = CanBeExplained s pieces barriers plan
+Explains s detail pieces barriers plan (Err TooManyPieces) = most_pieces < length pieces
+Explains s detail pieces barriers plan (Err (Legal fault)) =
     (length pieces ≤ most_pieces)
-    × IsFirstLegalFault (ConflictAt (map fields pieces)) s.greatest_batch (length pieces) plan fault
+    × IsFirstLegalFault (WithBarriers (ConflictAt (map fields pieces)) barriers) s.greatest_batch (length pieces) plan fault

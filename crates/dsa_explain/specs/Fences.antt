@@ -1,7 +1,8 @@
 -- The fences of a plan, and what each is for.
-use Rattle.std.specs.Prelude.{◌≡◌, ℕ, suc, ◌+◌, ◌-◌, All, List, [], ◌∷◌, ◌++◌, length, map, slice_get, take, Some, if◌then◌else◌}
+use Rattle.std.specs.Prelude.{◌≡◌, ◌↔◌, ℕ, suc, ◌+◌, ◌-◌, All, Bool, IsTrue, List, [], ◌∷◌, ◌++◌, length, map, slice_get, take, Some, if◌then◌else◌}
 use Rattle.dsa_descriptor.specs.Fields.{Fields}
 use Rattle.dsa_plan.specs.Plan.{Group, Plan, start_of}
+use Rattle.dsa_plan.specs.Barriers.{IsBarrier}
 use Rattle.dsa_plan.specs.Legal.{IsFenced}
 use Rattle.dsa_explain.specs.declared.reason.Reason.{Reason}
 use Rattle.dsa_explain.specs.Reasons.{AreReasonsFor}
@@ -33,27 +34,28 @@ pub record HasReasons (detail : Detail) (pieces : List Fields) (start : ℕ) (gr
   pub named : fence.named.items ≡ named_of detail reasons
   pub more : fence.more ≡ length reasons - length fence.named.items
 
--- the fence stands in some group of the plan, and its reasons are what needs it there
-pub record IsExplained (detail : Detail) (pieces : List Fields) (plan : Plan) (fence : Fence) : Type 0 where
+-- the fence stands in some group of the plan, and its reasons, and the barrier if it is at one, are what needs it there
+pub record IsExplained (detail : Detail) (pieces : List Fields) (barriers : List Bool) (plan : Plan) (fence : Fence) : Type 0 where
   pub number : ℕ
   pub group : Group
   pub is_group : slice_get plan number ≡ Some group
   pub fenced : IsFenced (start_of plan number) group fence.piece
   pub reasons : HasReasons detail pieces (start_of plan number) group fence
+  pub barrier : IsTrue fence.barrier ↔ IsBarrier barriers fence.piece
 
 -- the pieces that fences stand before
 abbrev pub fence_places : List Fence → List ℕ
 fence_places fences = map (λ fence. fence.piece) fences
 
 -- one fence before each fenced piece of the plan, in order, and each with its reasons
-pub record AreFencesOf (detail : Detail) (pieces : List Fields) (plan : Plan) (fences : List Fence) : Type 0 where
+pub record AreFencesOf (detail : Detail) (pieces : List Fields) (barriers : List Bool) (plan : Plan) (fences : List Fence) : Type 0 where
   pub places : fence_places fences ≡ fenced_pieces 0 plan
-  pub reasons : All (IsExplained detail pieces plan) fences
+  pub reasons : All (IsExplained detail pieces barriers plan) fences
 
 -- ---- for private clauses
 
 -- fences of the group of that number are added to explained ones, and then all are explained
-abbrev pub AddsExplained : Detail → List Fields → ℕ → Group → List Fence → List Fence → Type 0
-AddsExplained detail pieces start group before after =
+abbrev pub AddsExplained : Detail → List Fields → List Bool → ℕ → Group → List Fence → List Fence → Type 0
+AddsExplained detail pieces barriers start group before after =
     (plan : Plan) (number : ℕ) → slice_get plan number ≡ Some group → start ≡ start_of plan number →
-    All (IsExplained detail pieces plan) before → All (IsExplained detail pieces plan) after
+    All (IsExplained detail pieces barriers plan) before → All (IsExplained detail pieces barriers plan) after

@@ -1,5 +1,5 @@
 -- The words of an explanation (this project's choice).
-use Rattle.std.specs.Prelude.{ℕ, suc, ◌+◌, ◌-◌, ◌==◌, ◌&&◌, nat_le, nat_lt, Bool, false, List, [], ◌∷◌, ◌++◌, codes, decimal, drop, length, slice_get, Option, Some, None, if◌then◌else◌}
+use Rattle.std.specs.Prelude.{ℕ, suc, ◌+◌, ◌-◌, ◌==◌, ◌&&◌, nat_le, nat_lt, Bool, true, false, List, [], ◌∷◌, ◌++◌, codes, decimal, drop, length, slice_get, Option, Some, None, if◌then◌else◌}
 use Rattle.std.specs.List.{flat_map}
 use Rattle.dsa_descriptor.specs.declared.descriptor.Descriptor.{Descriptor}
 use Rattle.dsa_ranges.specs.declared.hazards.HazardKind.{HazardKind}
@@ -80,18 +80,21 @@ record_words (Some piece) = codes " (record of " ++ (decimal piece ++ codes ")")
 abbrev pub reason_words : List Descriptor → Reason → List ℕ
 reason_words pieces r = conflict_words r ++ record_words (record_of pieces r)
 
--- the first of the conflicts that are named
-abbrev pub first_words : List Descriptor → Option Reason → List ℕ
-first_words pieces None = codes "no conflict needs it alone"
-first_words pieces (Some r) = reason_words pieces r
+-- what needs a fence: a barrier, the first of the conflicts that are named, or both
+abbrev pub need_words : List Descriptor → Bool → Option Reason → List ℕ
+need_words pieces false None = codes "no conflict needs it alone"
+need_words pieces false (Some r) = reason_words pieces r
+need_words pieces true None = codes "a barrier"
+need_words pieces true (Some r) = codes "a barrier, and " ++ reason_words pieces r
 
 -- how many more conflicts a fence alone separates, where there are any
 abbrev pub more_words : ℕ → List ℕ
 more_words more = if more == 0 then [] else codes ", and " ++ (decimal more ++ codes " more")
 
--- a fence: the first conflict that it alone separates, and how many more there are that are not named
+-- a fence: a barrier that needs it, the first conflict that it alone separates, and how many more there are that are not
+-- named
 abbrev pub fence_words : List Descriptor → Fence → List ℕ
-fence_words pieces fence = first_words pieces (slice_get fence.named.items 0) ++ more_words fence.more
+fence_words pieces fence = need_words pieces fence.barrier (slice_get fence.named.items 0) ++ more_words fence.more
 
 -- the line of each further conflict that is named
 abbrev pub further_lines : List Descriptor → List Reason → List ℕ

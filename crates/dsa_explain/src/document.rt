@@ -93,6 +93,9 @@ fn fence_json(alloc: Global, pieces: &[Descriptor], fence: &Fence) -> Result<Val
 {
     let before = fence.piece as u64;
     let conflicts = reasons_json(alloc, pieces, &fence.named)?;
+    if fence.barrier {
+        return json!(in alloc; {"barrier": true, "before": before, "conflicts": conflicts});
+    }
     json!(in alloc; {"before": before, "conflicts": conflicts})
 }
 

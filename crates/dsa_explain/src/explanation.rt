@@ -7,7 +7,7 @@ ghost use Rattle.dsa_explain.specs.Explained.{Explains};
 use crate::cells::{Cell, lay_out};
 use crate::fences::{Detail, Fence, fences_of};
 use dsa_descriptor::{Descriptor, MOST_PIECES};
-use dsa_plan::{Costs, LegalFault, Plan, Settings, is_legal, plan_costs};
+use dsa_plan::{Costs, LegalFault, Plan, Settings, is_legal_with, plan_costs};
 use std::alloc::{AllocError, Global};
 
 /// What a plan costs, why its fences stand, and where its pieces stand in a picture.
@@ -15,7 +15,7 @@ use std::alloc::{AllocError, Global};
 pub struct Explanation {
     /// What its groups cost, and what its pieces cost one by one.
     pub costs: Costs,
-    /// Its fences, in order, each with conflicts that it alone separates.
+    /// Its fences, in order, each with what needs it.
     pub fences: Vec<Fence>,
     /// Where its pieces and fences stand in a picture.
     pub cells: Vec<Cell>,
@@ -40,29 +40,31 @@ impl From<AllocError> for ExplainFault {
     }
 }
 
-/// The explanation of a legal plan of the pieces, in which each fence has the first of its conflicts, or all.
+/// The explanation of a legal plan of the pieces and their barriers, in which each fence has the
+/// first of its conflicts, or all. The mark of a piece says whether it begins after a barrier.
 ///
 /// # Errors
 /// [`ExplainFault::TooManyPieces`] where there are more than [`MOST_PIECES`]; else
-/// [`ExplainFault::Legal`] with the first fault of the plan, as [`is_legal`] reports it;
+/// [`ExplainFault::Legal`] with the first fault of the plan, as [`is_legal_with`] reports it;
 /// [`ExplainFault::Memory`] at the first allocation that fails.
 pub fn explain(
     alloc: Global,
     plan: &Plan,
     pieces: &[Descriptor],
+    barriers: &[bool],
     settings: &Settings,
     detail: Detail,
 ) -> Result<Explanation, ExplainFault>
-    ensures { Explains settings.now detail pieces.now plan.now result }
+    ensures { Explains settings.now detail pieces.now barriers.now plan.now result }
 {
     if pieces.len() > MOST_PIECES {
         return Err(ExplainFault::TooManyPieces);
     }
-    if let Err(fault) = is_legal(plan, pieces, settings) {
+    if let Err(fault) = is_legal_with(plan, pieces, barriers, settings) {
         return Err(ExplainFault::Legal(fault));
     }
     let costs = plan_costs(alloc, plan, pieces.len(), settings)?;
-    let fences = fences_of(alloc, plan, pieces, detail)?;
+    let fences = fences_of(alloc, plan, pieces, barriers, detail)?;
     let cells = lay_out(alloc, plan)?;
     Ok(Explanation {
         costs,

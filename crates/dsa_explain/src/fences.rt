@@ -1,15 +1,16 @@
 //! The fences of a plan, each with the conflicts that it alone separates.
 
-ghost use Rattle.std.specs.Prelude.{◌≡◌, ◌+◌, ◌≤◌, ◌++◌, IfOk, OnOk, length, map};
+ghost use Rattle.std.specs.Prelude.{◌≡◌, ◌+◌, ◌≤◌, ◌++◌, ◌↔◌, IfOk, IsTrue, OnOk, length, map};
 ghost use Rattle.dsa_descriptor.specs.Descriptors.{fields};
 ghost use Rattle.dsa_descriptor.specs.Pieces.{most_pieces};
+ghost use Rattle.dsa_plan.specs.Barriers.{IsBarrier};
 ghost use Rattle.dsa_plan.specs.Legal.{IsFenced};
 ghost use Rattle.dsa_plan.specs.Plan.{piece_count};
 ghost use Rattle.dsa_explain.specs.Fences.{AddsExplained, AreFencesOf, HasReasons, fence_places, fenced_in, named_of};
 
 use crate::reason::{Reason, reasons_of};
 use dsa_descriptor::Descriptor;
-use dsa_plan::{Group, Plan};
+use dsa_plan::{Group, Plan, is_barrier};
 use std::alloc::{AllocError, Global};
 
 /// How many of the conflicts that a fence separates an explanation names.
@@ -26,6 +27,8 @@ pub enum Detail {
 pub struct Fence {
     /// The piece that it stands before.
     pub piece: usize,
+    /// Whether a barrier is before that piece, and so needs the fence.
+    pub barrier: bool,
     /// The first of the conflicts that it alone separates, or all; none where no conflict needs it alone.
     pub named: Vec<Reason>,
     /// How many more conflicts it alone separates.
@@ -51,6 +54,7 @@ fn fence_of(
     alloc: Global,
     flags: &[bool],
     pieces: &[Descriptor],
+    barriers: &[bool],
     start: usize,
     piece: usize,
     detail: Detail,
@@ -59,13 +63,20 @@ fn fence_of(
     requires few { length pieces.now ≤ most_pieces }
     requires fenced { IsFenced start flags.now piece }
     ensures piece { IfOk result (λ fence. fence.piece ≡ piece) }
+    ensures barrier { IfOk result (λ fence. IsTrue fence.barrier ↔ IsBarrier barriers.now piece) }
     ensures reasons { IfOk result (HasReasons detail (map fields pieces.now) start flags.now) }
 {
     let reasons = reasons_of(alloc, flags, pieces, start, piece)?;
     let count = reasons.len();
     let named = named_of(alloc, detail, reasons)?;
     let more = count.saturating_sub(named.len());
-    Ok(Fence { piece, named, more })
+    let barrier = is_barrier(barriers, piece);
+    Ok(Fence {
+        piece,
+        barrier,
+        named,
+        more,
+    })
 }
 
 /// Writes the fences of a group at the end.
@@ -74,6 +85,7 @@ fn push_fences(
     fences: &mut Vec<Fence>,
     group: &Group,
     pieces: &[Descriptor],
+    barriers: &[bool],
     start: usize,
     detail: Detail,
 ) -> Result<(), AllocError>
@@ -82,33 +94,36 @@ fn push_fences(
     ensures places { OnOk result (fence_places fences.new.items ≡
         fence_places fences.old.items ++ fenced_in start group.now) }
     ensures explained { OnOk result (AddsExplained detail (map fields pieces.now)
-        start group.now fences.old.items fences.new.items) }
+        barriers.now start group.now fences.old.items fences.new.items) }
 {
     let flags = group.fences();
     for (column, fenced) in flags.iter().enumerate() {
         if *fenced {
-            fences.push(fence_of(alloc, flags, pieces, start, start + column, detail)?)?;
+            let piece = start + column;
+            fences.push(fence_of(alloc, flags, pieces, barriers, start, piece, detail)?)?;
         }
     }
     Ok(())
 }
 
-/// The fences of a plan, in order.
+/// The fences of a plan of pieces and their barriers, in order. The mark of a piece says whether it
+/// begins after a barrier.
 pub fn fences_of(
     alloc: Global,
     plan: &Plan,
     pieces: &[Descriptor],
+    barriers: &[bool],
     detail: Detail,
 ) -> Result<Vec<Fence>, AllocError>
     requires all { piece_count plan.now ≡ length pieces.now }
     requires few { length pieces.now ≤ most_pieces }
     ensures { IfOk result
-        (λ fences. AreFencesOf detail (map fields pieces.now) plan.now fences.items) }
+        (λ fences. AreFencesOf detail (map fields pieces.now) barriers.now plan.now fences.items) }
 {
     let mut fences = Vec::new(alloc);
     let mut start: usize = 0;
     for group in plan.groups() {
-        push_fences(alloc, &mut fences, group, pieces, start, detail)?;
+        push_fences(alloc, &mut fences, group, pieces, barriers, start, detail)?;
         start += group.len();
     }
     Ok(fences)

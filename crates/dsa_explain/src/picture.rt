@@ -7,7 +7,6 @@ ghost use Rattle.dsa_drawing.specs.Pictures.{IsPicture};
 use crate::cells::Cell;
 use crate::explanation::Explanation;
 use crate::fences::Fence;
-use crate::reason::Reason;
 use crate::words::{Origin, cost_text, fence_text, group_text, piece_text};
 use dsa_descriptor::Descriptor;
 use dsa_drawing::{
@@ -145,16 +144,22 @@ fn push_row(
     svg.push_str("</g>\n")
 }
 
-/// Writes the reason of a fence under its bar: the later piece and the earlier, and why the later waits.
+/// Writes what needs a fence under its bar: the later piece and the earlier of its first conflict,
+/// and why the later waits; else that a barrier does, or nothing alone.
 fn push_reason(
     alloc: Global,
     svg: &mut String,
-    reason: Option<&Reason>,
+    fence: &Fence,
     more: usize,
     middle: Spot,
 ) -> Result<(), AllocError> {
-    let Some(reason) = reason else {
-        return push_text(alloc, svg, middle.below(51), 50, "none alone");
+    let Some(reason) = fence.named.first() else {
+        let words = if fence.barrier {
+            "barrier"
+        } else {
+            "none alone"
+        };
+        return push_text(alloc, svg, middle.below(51), 50, words);
     };
     let pair = (reason.later, reason.earlier);
     push_conflict(alloc, svg, middle, pair, reason.hazard.kind, more)
@@ -184,7 +189,7 @@ fn push_fence(
     let front = format!(in alloc; "<g text-anchor=\"middle\"><title>fence: {words}</title>")?;
     svg.push_str(&front)?;
     push_bar(alloc, svg, bar, 40)?;
-    push_reason(alloc, svg, fence.named.first(), more, bar.behind(2))?;
+    push_reason(alloc, svg, fence, more, bar.behind(2))?;
     svg.push_str("</g>\n")
 }
 

@@ -1,7 +1,7 @@
 //! The words of an explanation.
 
-ghost use Rattle.std.specs.Prelude.{◌≡◌, ◌++◌, IfOk, OnOk, Some, codes, decimal, drop, slice_get, string_bytes};
-ghost use Rattle.dsa_explain.specs.Words.{batch_words, cell_lines, conflict_words, cost_words, explanation_words, fence_line, fence_words, fences_left, fences_words, first_words, full_words, further_lines, group_line, group_words, is_in_record, kind_words, line_of_fence, lone_words, more_words, origin_words, piece_line, piece_words, pieces_words, plural, reason_words, record_of, record_words, saved_words};
+ghost use Rattle.std.specs.Prelude.{◌≡◌, ◌++◌, [], IfOk, OnOk, Some, codes, decimal, drop, slice_get, string_bytes, if◌then◌else◌};
+ghost use Rattle.dsa_explain.specs.Words.{batch_words, cell_lines, conflict_words, cost_words, explanation_words, fence_line, fence_words, fences_left, fences_words, full_words, further_lines, group_line, group_words, is_in_record, kind_words, line_of_fence, lone_words, more_words, need_words, origin_words, piece_line, piece_words, pieces_words, plural, reason_words, record_of, record_words, saved_words};
 
 use crate::cells::Cell;
 use crate::explanation::Explanation;
@@ -163,15 +163,41 @@ fn reason_text(alloc: Global, pieces: &[Descriptor], reason: &Reason) -> Result<
     Ok(text)
 }
 
-/// The words of the first of the conflicts that are named, if there is one.
-fn first_text(alloc: Global, pieces: &[Descriptor], named: &[Reason]) -> Result<String, AllocError>
-    ensures { IfOk result
-        (λ s. string_bytes s ≡ first_words pieces.now (slice_get named.now 0)) }
+/// What needs a fence before its first conflict.
+fn barrier_text(barrier: bool) -> &'static str
+    ensures { result.now ≡ if barrier then codes "a barrier, and " else [] }
 {
-    match named.get(0) {
-        Some(reason) => reason_text(alloc, pieces, reason),
-        None => String::from_str(alloc, "no conflict needs it alone"),
+    if barrier { "a barrier, and " } else { "" }
+}
+
+/// What needs a fence that separates no conflict alone.
+fn alone_text(barrier: bool) -> &'static str
+    ensures { result.now ≡ if barrier then codes "a barrier" else codes "no conflict needs it alone" }
+{
+    if barrier {
+        "a barrier"
+    } else {
+        "no conflict needs it alone"
     }
+}
+
+/// The words of what needs a fence: a barrier, the first of the conflicts that are named, or both.
+fn need_text(
+    alloc: Global,
+    pieces: &[Descriptor],
+    barrier: bool,
+    named: &[Reason],
+) -> Result<String, AllocError>
+    ensures { IfOk result
+        (λ s. string_bytes s ≡ need_words pieces.now barrier (slice_get named.now 0)) }
+{
+    let Some(reason) = named.get(0) else {
+        return String::from_str(alloc, alone_text(barrier));
+    };
+    let words = reason_text(alloc, pieces, reason)?;
+    let mut text = String::from_str(alloc, barrier_text(barrier))?;
+    text.push_str(&words)?;
+    Ok(text)
 }
 
 /// Writes how many more conflicts a fence alone separates, where there are any.
@@ -185,11 +211,12 @@ fn push_more(alloc: Global, text: &mut String, more: usize) -> Result<(), AllocE
     text.push_str(&words)
 }
 
-/// The words of a fence: the first conflict that it alone separates, and how many more there are that are not named.
+/// The words of a fence: a barrier that needs it, the first conflict that it alone separates, and
+/// how many more there are that are not named.
 pub fn fence_text(alloc: Global, pieces: &[Descriptor], fence: &Fence) -> Result<String, AllocError>
     ensures { IfOk result (λ s. string_bytes s ≡ fence_words pieces.now fence.now) }
 {
-    let mut text = first_text(alloc, pieces, &fence.named)?;
+    let mut text = need_text(alloc, pieces, fence.barrier, &fence.named)?;
     push_more(alloc, &mut text, fence.more)?;
     Ok(text)
 }

@@ -16,3 +16,4 @@ pub mod StagingAnswers
 pub mod EmittedTexts
 pub mod ReadAgain
 pub mod RecordedAgain
+pub mod Marks

@@ -11,18 +11,18 @@ use Rattle.dsa_descriptor.specs.Lists.{list_spelling, HaveOneOwner}
 use Rattle.dsa_descriptor.specs.Spelling.{spelling}
 use Rattle.dsa_lines.specs.Words.{Word, words_of}
 use Rattle.dsa_lines.specs.Grammar.{fields_of, ◌>>=◌}
-use Rattle.dsa_lines.specs.Recordings.{batch_at}
+use Rattle.dsa_lines.specs.Recordings.{at_end, batch_at}
 use Rattle.dsa_lines.proofs.OneLine.{Fit, listed_fit, one_spelling, spelling_stands, words_fit}
 use Rattle.dsa_lines.specs.Assembled.{IsListing}
 use Rattle.dsa_lines.specs.Texts.{all_fields, line_fields, lines_of, with_fields, TextSpells}
 
 -- ---- the operations of lines fit their places
 
-bound : {A B : Type 0} (o : Option A) (f : A → Option B) (y : B) → option_and_then f o ≡ Some y → (x : A) × (o ≡ Some x) × (f x ≡ Some y)
+pub bound : {A B : Type 0} (o : Option A) (f : A → Option B) (y : B) → option_and_then f o ≡ Some y → (x : A) × (o ≡ Some x) × (f x ≡ Some y)
 bound None f y e = absurd cc
 bound (Some x) f y e = (x, refl, e)
 
-more_fields : (here fs : List Fields) (rest : Option (List Fields)) → with_fields here rest ≡ Some fs → (more : List Fields) × (rest ≡ Some more) × (here ++ more ≡ fs)
+pub more_fields : (here fs : List Fields) (rest : Option (List Fields)) → with_fields here rest ≡ Some fs → (more : List Fields) × (rest ≡ Some more) × (here ++ more ≡ fs)
 more_fields here fs None e = absurd cc
 more_fields here fs (Some more) e = (more, refl, same_Some (here ++ more) fs e)
 
@@ -35,19 +35,24 @@ fields_fit words here e =
     let f = bound (fields_of words) _ here e in
     subst (AllByRecursion Fit) (same_Some (f.0 ∷ []) here f.2) (words_fit words f.0 f.1, tt)
 
-line_fits_by : (batch fence : Bool) (w : Word) (ws : List Word) (here : List Fields)
-    → (if batch then (batch_at ws >>= λ b. Some []) else if fence then (fields_of ws >>= λ f. Some (f ∷ [])) else (fields_of (w ∷ ws) >>= λ f. Some (f ∷ []))) ≡ Some here
+no_fields_fit : (ws : List Word) (here : List Fields) → at_end [] ws ≡ Some here → AllByRecursion Fit here
+no_fields_fit [] here e = subst (AllByRecursion Fit) (same_Some [] here e) tt
+no_fields_fit (w ∷ ws) here e = absurd cc
+
+line_fits_by : (batch barrier fence : Bool) (w : Word) (ws : List Word) (here : List Fields)
+    → (if batch then (batch_at ws >>= λ b. Some []) else if barrier then at_end [] ws else if fence then (fields_of ws >>= λ f. Some (f ∷ [])) else (fields_of (w ∷ ws) >>= λ f. Some (f ∷ []))) ≡ Some here
     → AllByRecursion Fit here
-line_fits_by true fence w ws here e =
+line_fits_by true barrier fence w ws here e =
     let b = bound (batch_at ws) _ here e in
     subst (AllByRecursion Fit) (same_Some [] here b.2) tt
-line_fits_by false true w ws here e = fields_fit ws here e
-line_fits_by false false w ws here e = fields_fit (w ∷ ws) here e
+line_fits_by false true fence w ws here e = no_fields_fit ws here e
+line_fits_by false false true w ws here e = fields_fit ws here e
+line_fits_by false false false w ws here e = fields_fit (w ∷ ws) here e
 
 line_fits : (words : List Word) (here : List Fields) → line_fields words ≡ Some here → AllByRecursion Fit here
 unfolding line_fields
 line_fits [] here e = subst (AllByRecursion Fit) (same_Some [] here e) tt
-line_fits (w ∷ ws) here e = line_fits_by (bytes_eq w (codes "batch")) (bytes_eq w (codes "fence")) w ws here e
+line_fits (w ∷ ws) here e = line_fits_by (bytes_eq w (codes "batch")) (bytes_eq w (codes "barrier")) (bytes_eq w (codes "fence")) w ws here e
 
 lines_fit : (lines : List (List ℕ)) (fs : List Fields) → all_fields lines ≡ Some fs → AllByRecursion Fit fs
 unfolding all_fields
@@ -63,7 +68,7 @@ all_fit (d ∷ ds) = (listed_fit (fields d) d.listed, all_fit ds)
 
 -- ---- lists of one spelling
 
-front : (a b c d : List ℕ) → length a ≡ length c → a ++ b ≡ c ++ d → (a ≡ c) × (b ≡ d)
+pub front : (a b c d : List ℕ) → length a ≡ length c → a ++ b ≡ c ++ d → (a ≡ c) × (b ≡ d)
 front [] b [] d n e = (refl, e)
 front [] b (y ∷ ys) d n e = absurd (omega arith)
 front (x ∷ xs) b [] d n e = absurd (omega arith)

@@ -68,17 +68,22 @@ pub fence_spells_none : (w : Word) (ws : List Word) (f : Fields) → w ≡ codes
 unfolding fields_of op_at
 fence_spells_none w ws f same e = let no : None ≡ Some f = rw same at e in absurd cc
 
-line_by_word : (batch fence : Bool) (w : Word) (ws : List Word) (f : Fields) → bytes_eq w (codes "batch") ≡ batch → bytes_eq w (codes "fence") ≡ fence
-    → fields_of (w ∷ ws) ≡ Some f → line_fields (w ∷ ws) ≡ Some (f ∷ [])
+pub barrier_spells_none : (w : Word) (ws : List Word) (f : Fields) → w ≡ codes "barrier" → fields_of (w ∷ ws) ≡ Some f → ⊥
+unfolding fields_of op_at
+barrier_spells_none w ws f same e = let no : None ≡ Some f = rw same at e in absurd cc
+
+line_by_word : (batch barrier fence : Bool) (w : Word) (ws : List Word) (f : Fields) → bytes_eq w (codes "batch") ≡ batch → bytes_eq w (codes "barrier") ≡ barrier
+    → bytes_eq w (codes "fence") ≡ fence → fields_of (w ∷ ws) ≡ Some f → line_fields (w ∷ ws) ≡ Some (f ∷ [])
 unfolding line_fields
-line_by_word true fence w ws f p q e = absurd (batch_spells_none w ws f (same_word w (codes "batch") p) e)
-line_by_word false true w ws f p q e = absurd (fence_spells_none w ws f (same_word w (codes "fence") q) e)
-line_by_word false false w ws f p q e = rw (p, q, e) refl
+line_by_word true barrier fence w ws f p b q e = absurd (batch_spells_none w ws f (same_word w (codes "batch") p) e)
+line_by_word false true fence w ws f p b q e = absurd (barrier_spells_none w ws f (same_word w (codes "barrier") b) e)
+line_by_word false false true w ws f p b q e = absurd (fence_spells_none w ws f (same_word w (codes "fence") q) e)
+line_by_word false false false w ws f p b q e = rw (p, b, q, e) refl
 
 pub spelt_line : (words : List Word) (f : Fields) → fields_of words ≡ Some f → line_fields words ≡ Some (f ∷ [])
 unfolding fields_of op_at
 spelt_line [] f e = absurd cc
-spelt_line (w ∷ ws) f e = line_by_word (bytes_eq w (codes "batch")) (bytes_eq w (codes "fence")) w ws f refl refl e
+spelt_line (w ∷ ws) f e = line_by_word (bytes_eq w (codes "batch")) (bytes_eq w (codes "barrier")) (bytes_eq w (codes "fence")) w ws f refl refl refl e
 
 next_line : (f : Fields) (fs : List Fields) → IsListed f → all_fields (lines_of (list_text fs)) ≡ Some fs
     → all_fields (lines_of (line_text f ++ (10 ∷ list_text fs))) ≡ Some (f ∷ fs)

@@ -12,3 +12,4 @@ pub mod Portals
 pub mod Stagings
 pub mod EmittedTexts
 pub mod ReadAgain
+pub mod Barriers

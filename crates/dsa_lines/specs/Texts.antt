@@ -5,7 +5,7 @@ use Rattle.dsa_descriptor.specs.Fields.{Fields}
 use Rattle.dsa_lines.specs.Words.{Word, words_of}
 use Rattle.dsa_lines.specs.Grammar.{fields_of, ◌>>=◌}
 use Rattle.dsa_lines.specs.Text.{line_text}
-use Rattle.dsa_lines.specs.Recordings.{batch_at}
+use Rattle.dsa_lines.specs.Recordings.{at_end, batch_at}
 
 -- the lines with a byte before the first of them
 abbrev pub with_byte : ℕ → List (List ℕ) → List (List ℕ)
@@ -17,12 +17,13 @@ unfoldable pub lines_of : List ℕ → List (List ℕ)
 lines_of [] = [] ∷ []
 lines_of (c ∷ cs) = if c == 10 then [] ∷ lines_of cs else with_byte c (lines_of cs)
 
--- the operation of a line: of one without words or of a batch none, else the one that it spells, behind `fence` where that
--- stands first. A plan has batches and fences of its own, so those of the text are passed over
+-- the operation of a line: of one without words, of a batch or of a barrier none, else the one that it spells, behind
+-- `fence` where that stands first. A plan has batches and fences of its own, so those of the text are passed over
 unfoldable pub line_fields : List Word → Option (List Fields)
 line_fields [] = Some []
 line_fields (w ∷ ws) =
     if bytes_eq w (codes "batch") then (batch_at ws >>= λ b. Some []) else
+    if bytes_eq w (codes "barrier") then at_end [] ws else
     if bytes_eq w (codes "fence") then (fields_of ws >>= λ f. Some (f ∷ [])) else
     (fields_of (w ∷ ws) >>= λ f. Some (f ∷ []))
 

@@ -13,7 +13,7 @@ use dsa_descriptor::{Descriptor, ListFault, read_list};
 use std::alloc::{AllocError, Global};
 
 /// Writes the canonical line of a descriptor and a newline.
-fn push_line(alloc: Global, text: &mut String, d: &Descriptor) -> Result<(), AllocError>
+pub(crate) fn push_line(alloc: Global, text: &mut String, d: &Descriptor) -> Result<(), AllocError>
     ensures { OnOk result (string_bytes text.new ≡ string_bytes text.old ++
         text_line (fields d.now)) }
 {

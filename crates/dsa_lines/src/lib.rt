@@ -3,9 +3,11 @@
 #![tactic(auto)]
 
 mod assembling;
+mod barriers;
 mod disassembling;
 mod emitted_laws;
 mod fault;
+mod fenced;
 mod laws;
 mod line;
 mod lines;
@@ -23,9 +25,13 @@ mod words;
 mod writing;
 
 pub use assembling::{assemble, parse_operations};
+pub use barriers::text_barriers;
 pub use disassembling::disassemble;
 pub use emitted_laws::emissions_have_texts;
 pub use fault::{EmittedFault, Expected, LineFault, TextFault};
+pub use fenced::{
+    assemble_fenced, marked_text_spells, one_mark_each, one_marked_spelling, text_with_barriers,
+};
 pub use laws::{
     canonical_line_spells, canonical_text_spells, one_line_no_newline, one_line_one_descriptor,
     one_text_one_list, spells_one, text_spells_one,

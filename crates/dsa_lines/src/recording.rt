@@ -1,6 +1,7 @@
 //! The bytes of a recording, from its lines; and those of an operation that a line of a list names.
 
-ghost use Rattle.std.specs.Prelude.{◌≡◌, ◌<◌, ◌^◌, ◌++◌, take, true, false, MatchResult};
+ghost use Rattle.std.specs.Prelude.{◌≡◌, [], ◌<◌, ◌^◌, ◌++◌, List, Some, None, take, true, false, MatchResult};
+ghost use Rattle.dsa_descriptor.specs.Fields.{Fields};
 ghost use Rattle.dsa_lines.specs.Answers.{HasOperation};
 ghost use Rattle.dsa_lines.specs.Words.{words_of};
 ghost use Rattle.dsa_lines.specs.Grammar.{Gives};
@@ -100,7 +101,20 @@ fn recorded_at(text: &[u8]) -> Result<Recorded, Stop>
     Ok(Recorded::Entry(entry))
 }
 
-/// The operation that a line names, in bytes; none of a line without words, and of a batch.
+/// Nothing, if the text has no word.
+fn nothing_in(text: &[u8]) -> Result<(), Stop>
+    ensures { MatchResult result
+        (λ _. at_end {A = List Fields} [] (words_of text.now) ≡ Some [])
+        (λ _. at_end {A = List Fields} [] (words_of text.now) ≡ None) }
+{
+    match next_word(text) {
+        None => Ok(()),
+        Some(_) => Err(Stop::at(text, Expected::End)),
+    }
+}
+
+/// The operation that a line names, in bytes; none of a line without words, of a batch, and of a
+/// barrier.
 #[tactic(auto, unfolding(crate::specs::Texts::line_fields))]
 fn operation_at(text: &[u8]) -> Result<Option<[u8; 64]>, Stop>
     ensures { HasOperation (words_of text.now) result }
@@ -112,6 +126,10 @@ fn operation_at(text: &[u8]) -> Result<Option<[u8; 64]>, Stop>
         batch_at(rest)?;
         return Ok(None);
     }
+    if word == b"barrier".as_slice() {
+        nothing_in(rest)?;
+        return Ok(None);
+    }
     if word == b"fence".as_slice() {
         let line = read_line(rest)?;
         return Ok(Some(line.bytes()));
@@ -120,8 +138,9 @@ fn operation_at(text: &[u8]) -> Result<Option<[u8; 64]>, Stop>
     Ok(Some(line.bytes()))
 }
 
-/// The 64 bytes of the operation that a line of a list names, which may be no listed descriptor. A line without words has
-/// none, nor has the line of a batch; `fence` before an operation is passed over. A text with a newline is no line.
+/// The 64 bytes of the operation that a line of a list names, which may be no listed descriptor. A
+/// line without words has none, nor has that of a batch or a barrier; `fence` before an operation
+/// is passed over. A text with a newline is no line.
 ///
 /// # Errors
 /// The column, from 1 on, where the line leaves the grammar, and what was expected there.

@@ -1,5 +1,5 @@
 -- The lines of submissions, one after another.
-use Rattle.std.proofs.Common.{◌≡◌, ℕ, zero, suc, ◌+◌, ◌<◌, ◌≤◌, List, [], ◌∷◌, ◌++◌, length, get_or, take, refl, sym, ap, subst, ◌∙◌, arith}
+use Rattle.std.proofs.Common.{◌≡◌, ℕ, zero, suc, ◌+◌, ◌<◌, ◌≤◌, List, [], ◌∷◌, ◌++◌, length, get_or, drop, take, refl, sym, ap, subst, ◌∙◌, arith}
 use Rattle.std.proofs.lemmas.List.{append_assoc, append-nil}
 use Rattle.std.specs.List.{AllByRecursion}
 use Rattle.dsa_descriptor.specs.Lists.{entries}
@@ -11,26 +11,40 @@ use Rattle.dsa_recording.specs.Submissions.{IsWithin, IsAudited, AreAudited}
 use Rattle.dsa_recording.specs.Reports.{IsReport}
 use Rattle.std.specs.Prelude.{slice_index_or}
 use Rattle.dsa_audit.specs.declared.member.Member.{Member}
-use Rattle.dsa_recording.specs.Listings.{member_line, member_lines, listing_text, AreEntries}
+use Rattle.dsa_audit.specs.declared.needless.FenceUse.{FenceUse}
+use Rattle.dsa_audit.specs.declared.needless.FenceUse.TheVariants.{NoFence}
+use Rattle.dsa_recording.specs.Listings.{fence_line, member_line, member_lines, listing_text, AreEntries}
 use Rattle.dsa_recording.proofs.Within.{each_within}
 use Rattle.dsa_recording.proofs.Found.{entry_within}
 
--- the line of one member more
-pub lines_more : (es : List (List ℕ)) (first : ℕ) (ms : List Member) (k : ℕ) (m : Member) → k < length ms
-    → member_lines es first (take (suc k) ms)
-    ≡ member_lines es first (take k ms) ++ (member_line (length es) (first + k) (slice_index_or es (first + k) []) (get_or ms k m) ++ 10 ∷ [])
+dropped : (uses : List FenceUse) (k : ℕ) → get_or (drop 1 uses) k NoFence ≡ get_or uses (suc k) NoFence
+dropped [] k = refl
+dropped (u ∷ us) k = refl
+
+-- the lines of one member
+abbrev pub one_member : List (List ℕ) → ℕ → Member → FenceUse → List ℕ
+one_member es at m u = fence_line at u ++ (member_line (length es) at (slice_index_or es at []) m ++ 10 ∷ [])
+
+-- the lines of one member more
+pub lines_more : (es : List (List ℕ)) (first : ℕ) (ms : List Member) (uses : List FenceUse) (k : ℕ) (m : Member) → k < length ms
+    → member_lines es first (take (suc k) ms) uses
+    ≡ member_lines es first (take k ms) uses ++ one_member es (first + k) (get_or ms k m) (get_or uses k NoFence)
 unfolding member_lines
-lines_more es first [] k m lt = absurd (omega (arith, lt))
-lines_more es first (x ∷ ms) zero m lt =
+lines_more es first [] uses k m lt = absurd (omega (arith, lt))
+lines_more es first (x ∷ ms) uses zero m lt =
     let at : first + 0 ≡ first = omega arith in
-    append-nil (member_line (length es) first (slice_index_or es first []) x ++ 10 ∷ [])
-    ∙ ap (λ (n : ℕ). member_line (length es) n (slice_index_or es n []) x ++ 10 ∷ []) (sym at)
-lines_more es first (x ∷ ms) (suc k) m lt =
+    ap (λ (l : List ℕ). fence_line first (get_or uses 0 NoFence) ++ l) (append-nil (member_line (length es) first (slice_index_or es first []) x ++ 10 ∷ []))
+    ∙ ap (λ (n : ℕ). one_member es n x (get_or uses 0 NoFence)) (sym at)
+lines_more es first (x ∷ ms) uses (suc k) m lt =
+    let fence : List ℕ = fence_line first (get_or uses 0 NoFence) in
     let here : List ℕ = member_line (length es) first (slice_index_or es first []) x ++ 10 ∷ [] in
+    let rest : List ℕ = member_lines es (suc first) (take k ms) (drop 1 uses) in
+    let next : List ℕ = one_member es (suc first + k) (get_or ms k m) (get_or (drop 1 uses) k NoFence) in
     let at : suc first + k ≡ first + suc k = omega arith in
-    ap (λ (l : List ℕ). here ++ l) (lines_more es (suc first) ms k m (omega (arith, lt)))
-    ∙ sym (append_assoc here (member_lines es (suc first) (take k ms)) (member_line (length es) (suc first + k) (slice_index_or es (suc first + k) []) (get_or ms k m) ++ 10 ∷ []))
-    ∙ ap (λ (n : ℕ). (here ++ member_lines es (suc first) (take k ms)) ++ (member_line (length es) n (slice_index_or es n []) (get_or ms k m) ++ 10 ∷ [])) at
+    ap (λ (l : List ℕ). fence ++ (here ++ l)) (lines_more es (suc first) ms (drop 1 uses) k m (omega (arith, lt)))
+    ∙ ap (λ (l : List ℕ). fence ++ l) (sym (append_assoc here rest next))
+    ∙ sym (append_assoc fence (here ++ rest) next)
+    ∙ (λ i. (fence ++ (here ++ rest)) ++ one_member es (at i) (get_or ms k m) (dropped uses k i))
 
 -- there are as many submissions as audits
 pub same_count : (es : List (List ℕ)) (ss : List Submission) (audits : List Audited) → AreEntries es ss audits → length ss ≡ length audits
@@ -52,13 +66,13 @@ within_at es (t ∷ ss) [] k s a all lt = absurd all
 pub listing_more : (es : List (List ℕ)) (ss : List Submission) (audits : List Audited) (k : ℕ) (s : Submission) (a : Audited) → AreEntries es ss audits
     → k < length audits
     → listing_text es (take (suc k) ss) (take (suc k) audits)
-    ≡ listing_text es (take k ss) (take k audits) ++ member_lines es (get_or ss k s).first (get_or audits k a).members.items
+    ≡ listing_text es (take k ss) (take k audits) ++ member_lines es (get_or ss k s).first (get_or audits k a).members.items (get_or audits k a).audit.reduced.uses.items
 unfolding listing_text
 listing_more es [] [] k s a all lt = absurd (omega (arith, lt))
-listing_more es (t ∷ ss) (b ∷ audits) zero s a all lt = append-nil (member_lines es t.first b.members.items)
+listing_more es (t ∷ ss) (b ∷ audits) zero s a all lt = append-nil (member_lines es t.first b.members.items b.audit.reduced.uses.items)
 listing_more es (t ∷ ss) (b ∷ audits) (suc k) s a all lt =
-    ap (λ (l : List ℕ). member_lines es t.first b.members.items ++ l) (listing_more es ss audits k s a all.1 (omega (arith, lt)))
-    ∙ sym (append_assoc (member_lines es t.first b.members.items) (listing_text es (take k ss) (take k audits)) (member_lines es (get_or ss k s).first (get_or audits k a).members.items))
+    ap (λ (l : List ℕ). member_lines es t.first b.members.items b.audit.reduced.uses.items ++ l) (listing_more es ss audits k s a all.1 (omega (arith, lt)))
+    ∙ sym (append_assoc (member_lines es t.first b.members.items b.audit.reduced.uses.items) (listing_text es (take k ss) (take k audits)) (member_lines es (get_or ss k s).first (get_or audits k a).members.items (get_or audits k a).audit.reduced.uses.items))
 listing_more es [] (b ∷ audits) k s a all lt = absurd all
 listing_more es (t ∷ ss) [] k s a all lt = absurd all
 

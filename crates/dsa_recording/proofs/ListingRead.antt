@@ -1,10 +1,12 @@
 -- The list of a recording spells its operations.
-use Rattle.std.proofs.Common.{◌≡◌, ℕ, suc, Bool, true, false, cond, Option, Some, None, List, [], ◌∷◌, ◌++◌, length, refl, sym, ap, subst, ◌∙◌, append_assoc, arith}
+use Rattle.std.proofs.Common.{◌≡◌, ℕ, suc, Bool, true, false, cond, Option, Some, None, List, [], ◌∷◌, ◌++◌, drop, length, refl, sym, ap, subst, ◌∙◌, append_assoc, arith}
 use Rattle.std.specs.Prelude.{◌==◌, codes, decimal, map, slice_index_or}
 use Rattle.std.specs.Fmt.{digits}
 use Rattle.std.specs.List.{AllByRecursion}
 use Rattle.dsa_audit.specs.declared.member.Member.{Member}
 use Rattle.dsa_audit.specs.declared.member.Member.TheVariants.{Known, Unknown}
+use Rattle.dsa_audit.specs.declared.needless.FenceUse.{FenceUse}
+use Rattle.dsa_audit.specs.declared.needless.FenceUse.TheVariants.{NoFence, Needed, Guarding, Signalling, GuardingAndSignalling, Needless}
 use Rattle.dsa_audit.specs.declared.member.Unseen.{Unseen}
 use Rattle.dsa_audit.specs.declared.member.Unseen.TheVariants.{Blank, Operation, Nested, Owner, Empty, Wrap}
 use Rattle.dsa_descriptor.specs.declared.descriptor.Descriptor.{Descriptor}
@@ -17,12 +19,13 @@ use Rattle.dsa_lines.specs.Text.{line_text}
 use Rattle.dsa_lines.specs.Texts.{lines_of, line_fields, all_fields, TextSpells}
 use Rattle.dsa_lines.specs.Words.{words_of}
 use Rattle.dsa_lines.proofs.LineLemmas.{is_line, line_append, canonical_is_line}
-use Rattle.dsa_lines.proofs.ReadAgain.{line_before, nothing, digits_line, comment_read, commented_read}
+use Rattle.dsa_lines.proofs.Marks.{barrier_spells}
+use Rattle.dsa_lines.proofs.ReadAgain.{line_before, nothing, digits_line, comment_behind, comment_read, commented_read}
 use Rattle.dsa_lines.proofs.TextLemmas.{all_listed}
 use Rattle.dsa_ranges.specs.declared.span.Touched.{Touched}
 use Rattle.dsa_recording.specs.declared.stream.Submission.{Submission}
 use Rattle.dsa_recording.specs.declared.submission.Audited.{Audited}
-use Rattle.dsa_recording.specs.Listings.{stand_in, is_apart_from_added, left_out, operation_line, plain_words, known_line, member_line, member_lines, listing_text, known_operation, member_operation, member_operations, listed_operations}
+use Rattle.dsa_recording.specs.Listings.{stand_in, barrier_for, fence_line, is_apart_from_added, left_out, operation_line, plain_words, known_line, member_line, member_lines, listing_text, known_operation, member_operation, member_operations, listed_operations}
 use Rattle.dsa_recording.specs.Furthers.{code_name}
 use Rattle.dsa_recording.specs.EntryWords.{in_brackets, operation_words}
 use Rattle.dsa_recording.specs.Words.{unseen_words}
@@ -118,20 +121,46 @@ listed_parts : (fs gs : List Fields) → AllByRecursion IsListed (fs ++ gs) → 
 listed_parts [] gs all = (tt, all)
 listed_parts (f ∷ fs) gs all = let rest = listed_parts fs gs all.1 in ((all.0, rest.0), rest.1)
 
+-- the line of a barrier for a fence
+barrier_reads : (kind : List ℕ) (number : ℕ) → is_line kind ≡ true → Reads (barrier_for kind number) []
+barrier_reads kind number e =
+    let behind : is_line (codes " fence of entry " ++ decimal number) ≡ true = line_append (codes " fence of entry ") (decimal number) refl (decimal_line number) in
+    let comment : is_line (32 ∷ (kind ++ (codes " fence of entry " ++ decimal number))) ≡ true = line_append (32 ∷ []) (kind ++ (codes " fence of entry " ++ decimal number)) refl (line_append kind (codes " fence of entry " ++ decimal number) e behind) in
+    record {
+      is = line_append (codes "barrier") (codes " # " ++ (kind ++ (codes " fence of entry " ++ decimal number))) refl comment;
+      spells = ap line_fields (comment_behind (codes "barrier") (32 ∷ (kind ++ (codes " fence of entry " ++ decimal number))) comment) ∙ barrier_spells;
+    }
+
+kind_read : (kind : List ℕ) (number : ℕ) (rest : List ℕ) (more : List Fields) → is_line kind ≡ true → TextSpells rest more → TextSpells ((barrier_for kind number ++ 10 ∷ []) ++ rest) more
+kind_read kind number rest more e spells =
+    let reads : Reads (barrier_for kind number) [] = barrier_reads kind number e in
+    line_before (barrier_for kind number) rest [] more reads.is reads.spells spells
+
+fence_reads : (number : ℕ) (used : FenceUse) (rest : List ℕ) (more : List Fields) → TextSpells rest more → TextSpells (fence_line number used ++ rest) more
+fence_reads number NoFence rest more e = e
+fence_reads number (Needed earlier later) rest more e = e
+fence_reads number (Guarding earlier) rest more e = kind_read (codes "guarding") number rest more refl e
+fence_reads number (Signalling awaited) rest more e = kind_read (codes "signalling") number rest more refl e
+fence_reads number (GuardingAndSignalling earlier awaited) rest more e = kind_read (codes "guarding and signalling") number rest more refl e
+fence_reads number Needless rest more e = e
+
 -- the lines of members are before others
-members_read : (es : List (List ℕ)) (at : ℕ) (ms : List Member) (rest : List ℕ) (more : List Fields) → AllByRecursion IsListed (member_operations es at ms)
-    → TextSpells rest more → TextSpells (member_lines es at ms ++ rest) (member_operations es at ms ++ more)
+members_read : (es : List (List ℕ)) (at : ℕ) (ms : List Member) (uses : List FenceUse) (rest : List ℕ) (more : List Fields) → AllByRecursion IsListed (member_operations es at ms)
+    → TextSpells rest more → TextSpells (member_lines es at ms uses ++ rest) (member_operations es at ms ++ more)
 unfolding member_lines member_operations
-members_read es at [] rest more all e = e
-members_read es at (m ∷ ms) rest more all e =
+members_read es at [] uses rest more all e = e
+members_read es at (m ∷ ms) uses rest more all e =
     let entry : List ℕ = slice_index_or es at [] in
     let line : List ℕ = member_line (length es) at entry m in
     let here : List Fields = member_operation (length es) at entry m in
     let parts = listed_parts here (member_operations es (suc at) ms) all in
     let reads : Reads line here = member_reads (length es) at entry m parts.0 in
-    ap (λ (t : List ℕ). all_fields (lines_of t)) (append_assoc (line ++ 10 ∷ []) (member_lines es (suc at) ms) rest)
-    ∙ line_before line (member_lines es (suc at) ms ++ rest) here (member_operations es (suc at) ms ++ more) reads.is reads.spells
-    (members_read es (suc at) ms rest more parts.1 e)
+    let fence : List ℕ = fence_line at (slice_index_or uses 0 NoFence) in
+    let lines : List ℕ = member_lines es (suc at) ms (drop 1 uses) in
+    ap (λ (t : List ℕ). all_fields (lines_of t)) (append_assoc fence ((line ++ 10 ∷ []) ++ lines) rest ∙ ap (λ (t : List ℕ). fence ++ t) (append_assoc (line ++ 10 ∷ []) lines rest))
+    ∙ fence_reads at (slice_index_or uses 0 NoFence) ((line ++ 10 ∷ []) ++ (lines ++ rest)) (here ++ (member_operations es (suc at) ms ++ more))
+    (line_before line (lines ++ rest) here (member_operations es (suc at) ms ++ more) reads.is reads.spells
+    (members_read es (suc at) ms (drop 1 uses) rest more parts.1 e))
     ∙ ap Some (sym (append_assoc here (member_operations es (suc at) ms) more))
 
 listed_reads : (es : List (List ℕ)) (ss : List Submission) (audits : List Audited) → AllByRecursion IsListed (listed_operations es ss audits)
@@ -141,7 +170,7 @@ listed_reads es [] audits all = nothing
 listed_reads es (s ∷ ss) [] all = nothing
 listed_reads es (s ∷ ss) (a ∷ audits) all =
     let parts = listed_parts (member_operations es s.first a.members.items) (listed_operations es ss audits) all in
-    members_read es s.first a.members.items (listing_text es ss audits) (listed_operations es ss audits) parts.0 (listed_reads es ss audits parts.1)
+    members_read es s.first a.members.items a.audit.reduced.uses.items (listing_text es ss audits) (listed_operations es ss audits) parts.0 (listed_reads es ss audits parts.1)
 
 pub listing_is_read : (es : List (List ℕ)) (ss : List Submission) (audits : List Audited) (ds : List Descriptor) → listed_operations es ss audits ≡ map fields ds
     → TextSpells (listing_text es ss audits) (listed_operations es ss audits)

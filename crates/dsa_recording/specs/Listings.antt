@@ -1,5 +1,5 @@
 -- A recording as a list of operations to plan (this project's choice): a line for each member, in the order of the entries.
-use Rattle.std.specs.Prelude.{ℕ, suc, ◌≡◌, ◌≢◌, ◌+◌, ◌*◌, ◌^◌, ◌<◌, ◌≤◌, ◌&&◌, ◌||◌, ◌==◌, ◌↔◌, nat_le, bit_and, Bool, true, List, [], ◌∷◌, ◌++◌, length, slice_index_or, codes, decimal, map, Option, Some, None, if◌then◌else◌}
+use Rattle.std.specs.Prelude.{ℕ, suc, ◌≡◌, ◌≢◌, ◌+◌, ◌*◌, ◌^◌, ◌<◌, ◌≤◌, ◌&&◌, ◌||◌, ◌==◌, ◌↔◌, nat_le, bit_and, Bool, true, List, [], ◌∷◌, ◌++◌, drop, length, slice_index_or, codes, decimal, map, Option, Some, None, if◌then◌else◌}
 use Rattle.std.specs.List.{list_all}
 use Rattle.dsa_descriptor.specs.declared.op.Op.{Op}
 use Rattle.dsa_descriptor.specs.declared.op.Op.TheVariants.{Move, Fill, Compare, ComparePattern, ApplyDelta, Dualcast}
@@ -14,6 +14,8 @@ use Rattle.dsa_ranges.specs.declared.span.Touched.{Touched}
 use Rattle.dsa_ranges.specs.Ranges.{Conflicts}
 use Rattle.dsa_audit.specs.declared.member.Member.{Member}
 use Rattle.dsa_audit.specs.declared.member.Member.TheVariants.{Known, Unknown}
+use Rattle.dsa_audit.specs.declared.needless.FenceUse.{FenceUse}
+use Rattle.dsa_audit.specs.declared.needless.FenceUse.TheVariants as fence_use
 use Rattle.dsa_audit.specs.Members.{TouchedConflict}
 use Rattle.dsa_lines.specs.Text.{line_text}
 use Rattle.dsa_lines.specs.Texts.{TextSpells}
@@ -95,16 +97,31 @@ member_line count number e (Unknown why) = left_out number (unseen_words why (co
 
 -- ---- the list
 
--- the lines of members, of which the first is entry `at`
-unfoldable pub member_lines : List (List ℕ) → ℕ → List Member → List ℕ
-member_lines es at [] = []
-member_lines es at (m ∷ ms) = (member_line (length es) at (slice_index_or es at []) m ++ 10 ∷ []) ++ member_lines es (suc at) ms
+-- the line of a barrier for a fence of this kind
+abbrev pub barrier_for : List ℕ → ℕ → List ℕ
+barrier_for kind number = codes "barrier" ++ (codes " # " ++ (kind ++ (codes " fence of entry " ++ decimal number)))
+
+-- a fence that guards or signals is a barrier before the line of its entry, so that a plan of the list keeps it
+abbrev pub fence_line : ℕ → FenceUse → List ℕ
+fence_line number fence_use.NoFence = []
+fence_line number (fence_use.Needed earlier later) = []
+fence_line number (fence_use.Guarding earlier) = barrier_for (codes "guarding") number ++ 10 ∷ []
+fence_line number (fence_use.Signalling awaited) = barrier_for (codes "signalling") number ++ 10 ∷ []
+fence_line number (fence_use.GuardingAndSignalling earlier awaited) = barrier_for (codes "guarding and signalling") number ++ 10 ∷ []
+fence_line number fence_use.Needless = []
+
+-- the lines of members, of which the first is entry `at`, and of what their fences are for
+unfoldable pub member_lines : List (List ℕ) → ℕ → List Member → List FenceUse → List ℕ
+member_lines es at [] uses = []
+member_lines es at (m ∷ ms) uses =
+    fence_line at (slice_index_or uses 0 fence_use.NoFence)
+    ++ ((member_line (length es) at (slice_index_or es at []) m ++ 10 ∷ []) ++ member_lines es (suc at) ms (drop 1 uses))
 
 -- those of all submissions
 unfoldable pub listing_text : List (List ℕ) → List Submission → List Audited → List ℕ
 listing_text es [] audits = []
 listing_text es (s ∷ ss) [] = []
-listing_text es (s ∷ ss) (a ∷ audits) = member_lines es s.first a.members.items ++ listing_text es ss audits
+listing_text es (s ∷ ss) (a ∷ audits) = member_lines es s.first a.members.items a.audit.reduced.uses.items ++ listing_text es ss audits
 
 -- ---- its operations
 

@@ -1,15 +1,16 @@
 //! A recording as a list of operations to plan.
 
-ghost use Rattle.std.specs.Prelude.{◌≡◌, ◌≤◌, ◌<◌, ◌^◌, ◌+◌, ◌*◌, ◌++◌, ◌∷◌, [], length, IfOk, OnOk, codes, decimal, string_bytes};
+ghost use Rattle.std.specs.Prelude.{ℕ, ◌≡◌, ◌≤◌, ◌<◌, ◌^◌, ◌+◌, ◌*◌, ◌++◌, ◌∷◌, [], length, slice_index_or, IfOk, MatchOption, OnOk, codes, decimal, string_bytes};
+ghost use Rattle.dsa_audit.specs.declared.needless.FenceUse.TheVariants.{NoFence};
 ghost use Rattle.std.specs.List.{list_all};
 ghost use Rattle.dsa_descriptor.specs.Places.{code_at, op_at, pasid_at, privileged_at};
 ghost use Rattle.dsa_lines.specs.Text.{line_text};
-ghost use Rattle.dsa_recording.specs.Listings.{record_in_list, stand_in, is_clear, expecting_zero, is_apart_from_added, left_out, operation_line, plain_words, known_line, member_line, member_lines, listing_text, AreEntries, StandInsConflict, ListingIsRead};
+ghost use Rattle.dsa_recording.specs.Listings.{record_in_list, stand_in, is_clear, expecting_zero, is_apart_from_added, left_out, operation_line, plain_words, barrier_for, fence_line, known_line, member_line, member_lines, listing_text, AreEntries, StandInsConflict, ListingIsRead};
 
 use crate::entry_words::operation_text;
 use crate::report::Report;
 use crate::words::unseen_text;
-use dsa_audit::Member;
+use dsa_audit::{FenceUse, Member};
 use dsa_descriptor::{Op, Span, op_at, u32_at, u64_at};
 use dsa_ranges::Touched;
 use std::alloc::{AllocError, Global};
@@ -185,21 +186,73 @@ fn member_line(
     }
 }
 
-/// Writes the lines of members, of which the first is entry `first`.
+/// The line of a barrier for a fence of this kind.
+fn barrier_for(alloc: Global, kind: &str, number: usize) -> Result<String, AllocError>
+    ensures { IfOk result (λ line. string_bytes line ≡ barrier_for kind.now number) }
+{
+    format!(in alloc; "barrier # {kind} fence of entry {number}")
+}
+
+/// What a fence is kept for that no conflict needs.
+fn kept_for(fence: FenceUse) -> Option<&'static str>
+    ensures { MatchOption result ((number : ℕ) → fence_line number fence ≡ [])
+        (λ kind. (number : ℕ) → fence_line number fence ≡ barrier_for kind.now number ++ 10 ∷ []) }
+{
+    match fence {
+        FenceUse::NoFence | FenceUse::Needed(_, _) | FenceUse::Needless => None,
+        FenceUse::Guarding(_) => Some("guarding"),
+        FenceUse::Signalling(_) => Some("signalling"),
+        FenceUse::GuardingAndSignalling(_, _) => Some("guarding and signalling"),
+    }
+}
+
+/// Writes the line of a barrier before an entry whose fence guards or signals.
+fn push_fence(
+    alloc: Global,
+    text: &mut String,
+    number: usize,
+    fence: FenceUse,
+) -> Result<(), AllocError>
+    ensures { OnOk result (string_bytes text.new ≡
+        string_bytes text.old ++ fence_line number fence) }
+{
+    let Some(kind) = kept_for(fence) else {
+        return Ok(());
+    };
+    let line = barrier_for(alloc, kind, number)?;
+    text.push_str(&line)?;
+    text.push_str("\n")
+}
+
+/// What the fence of a member is for.
+fn use_at(uses: &[FenceUse], member: usize) -> FenceUse
+    ensures { result ≡ slice_index_or uses.now member NoFence }
+{
+    if member < uses.len() {
+        uses[member]
+    } else {
+        FenceUse::NoFence
+    }
+}
+
+/// Writes the lines of members, of which the first is entry `first`, and of what their fences are
+/// for.
 fn push_members(
     alloc: Global,
     text: &mut String,
     all: &[[u8; 64]],
     first: usize,
     members: &[Member],
+    uses: &[FenceUse],
 ) -> Result<(), AllocError>
     requires within { first + length members.now ≤ length all.now }
     requires few { length all.now ≤ 2 ^ 58 }
     ensures { OnOk result (string_bytes text.new ≡
-        string_bytes text.old ++ member_lines all.now first members.now) }
+        string_bytes text.old ++ member_lines all.now first members.now uses.now) }
 {
     for member in 0..members.len() {
         let number = first + member;
+        push_fence(alloc, text, number, use_at(uses, member))?;
         let line = member_line(alloc, all.len(), number, &all[number], &members[member])?;
         text.push_str(&line)?;
         text.push_str("\n")?;
@@ -207,7 +260,8 @@ fn push_members(
     Ok(())
 }
 
-/// The operations of a report on these entries, as a list to plan.
+/// The operations of a report on these entries, as a list to plan, with a barrier for each fence
+/// that guards or signals.
 pub(crate) fn listing_text(
     alloc: Global,
     all: &[[u8; 64]],
@@ -221,7 +275,9 @@ pub(crate) fn listing_text(
     let mut text = String::new(alloc);
     for number in 0..report.audits.len() {
         let first = report.submissions[number].first;
-        push_members(alloc, &mut text, all, first, &report.audits[number].members)?;
+        let audited = &report.audits[number];
+        let uses = &audited.audit.reduced.uses;
+        push_members(alloc, &mut text, all, first, &audited.members, uses)?;
     }
     Ok(text)
 }

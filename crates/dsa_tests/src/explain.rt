@@ -41,7 +41,14 @@ fn explained(
 ) -> Result<Result<Explanation, ExplainFault>, Fail> {
     let pieces = moves(alloc, list)?;
     let plan = plan_of(alloc, groups)?;
-    Ok(explain(alloc, &plan, &pieces, &settings()?, Detail::First))
+    Ok(explain(
+        alloc,
+        &plan,
+        &pieces,
+        [].as_slice(),
+        &settings()?,
+        Detail::First,
+    ))
 }
 
 /// What an explanation has of a fence: its piece, the first conflict that it alone separates, and how many more.

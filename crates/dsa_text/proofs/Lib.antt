@@ -2,3 +2,4 @@ pub mod PlannedNeeded
 pub mod Refused
 pub mod Answered
 pub mod Spelled
+pub mod Fenced

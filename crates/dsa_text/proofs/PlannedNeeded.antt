@@ -9,7 +9,8 @@ use Rattle.dsa_plan.specs.Settings.{Limits}
 use Rattle.dsa_calls.specs.Planned.{Submission, IsSubmissionOf}
 use Rattle.dsa_explain.specs.Reasons.{NeedsFence}
 use Rattle.dsa_explain.proofs.Needed.{chain_needed}
-use Rattle.dsa_text.specs.Laws.{PlannedFencesAreNeeded}
+use Rattle.dsa_calls.specs.Fenced.{PiecesConflict}
+use Rattle.dsa_text.specs.Laws.{MarkedFencesAreNeeded, PlannedFencesAreNeeded}
 
 submission_needed : (s : Limits) (p : Submission) (fs : _) → IsSubmissionOf s fs p → (number : ℕ) (group : Group) (k : ℕ)
     → slice_get p.plan number ≡ Some group → IsFenced (start_of p.plan number) group k
@@ -24,3 +25,9 @@ planned_needed bytes s p plans number group k there fenced =
       | inl (fault, other, first, e) ↦ absurd cc
       | inr (ds, listed, says) ↦ submission_needed s p (map fields ds) says number group k there fenced
     ]
+
+pub marked_needed : MarkedFencesAreNeeded
+marked_needed barriers s fs p is number group k there fenced =
+    let chosen = is.of_pieces.chosen in
+    chain_needed (PiecesConflict s fs barriers (map fields p.pieces)) s.greatest_batch (length p.pieces) p.certificate.pairs (start_of p.plan number) group k
+    chosen.has_pairs (chosen.has_plan.groups number group there).fences fenced

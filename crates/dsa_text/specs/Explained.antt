@@ -1,5 +1,5 @@
 -- What explaining a text, a list, a plan of one's own or the bytes of an emission answers (this project's choice).
-use Rattle.std.specs.Prelude.{◌≡◌, ◌⊎◌, ◌-◌, ◌==◌, ℕ, List, [], ◌++◌, codes, decimal, map, string_bytes, Option, Some, None, Ok, Err, if◌then◌else◌}
+use Rattle.std.specs.Prelude.{◌≡◌, ◌⊎◌, ◌-◌, ◌==◌, ℕ, Bool, List, [], ◌∷◌, ◌++◌, codes, decimal, map, string_bytes, Option, Some, None, Result, Ok, Err, if◌then◌else◌}
 use Rattle.dsa_descriptor.specs.declared.descriptor.Descriptor.{Descriptor}
 use Rattle.dsa_descriptor.specs.Fields.{Fields}
 use Rattle.dsa_descriptor.specs.Descriptors.{fields}
@@ -8,14 +8,17 @@ use Rattle.dsa_plan.specs.Settings.{Limits}
 use Rattle.dsa_plan.specs.EmissionFaults.{IsEmission}
 use Rattle.dsa_plan.specs.Certificate.{Contents}
 use Rattle.dsa_lines.specs.declared.fault.TextFault.{TextFault}
+use Rattle.dsa_lines.specs.Barriers.{barriers_of}
 use Rattle.dsa_lines.specs.Texts.{lines_of}
 use Rattle.dsa_lines.specs.Assembled.{Assembles, IsListing}
 use Rattle.dsa_calls.specs.declared.fault.PlanFault.{PlanFault}
 use Rattle.dsa_calls.specs.declared.fault.PlanFault.TheVariants.{Memory}
 use Rattle.dsa_calls.specs.Checked.{Checks, IsShownLeast}
+use Rattle.dsa_calls.specs.Fenced.{PlansWith}
 use Rattle.dsa_calls.specs.Judge.{Judges, JudgesPieces}
 use Rattle.dsa_calls.specs.Lists.{IsListOf}
-use Rattle.dsa_calls.specs.Planned.{Submission, Plans, PlansOperations, IsSubmissionOf}
+use Rattle.dsa_calls.specs.Planned.{Submission, Plans, PlansOperations}
+use Rattle.dsa_splitter.specs.Pieces.{piece_barriers}
 use Rattle.dsa_explain.specs.declared.fences.Detail.{Detail}
 use Rattle.dsa_explain.specs.declared.explanation.ExplainFault.{ExplainFault}
 use Rattle.dsa_explain.specs.Explained.{Explains}
@@ -32,17 +35,29 @@ MemoryOr Cause fault = (fault ≡ Memory) ⊎ Cause fault
 
 -- ---- the plan of least cost
 
--- refused where `plan_list` refuses the list, for its cause; else the plan that it answers, and which
--- piece is of which operation
-pub data ExplainsList (list : List ℕ) (s : Limits) (form : Form) (a : Answer) : Type 0 where
-  is_refused_list : (fault : PlanFault) → MemoryOr (λ f. Plans list s (Err f)) fault → IsRefusal fault a → ExplainsList list s form a
-  is_planned : (ds : List Descriptor) (p : Submission) → IsListOf list ds → IsSubmissionOf s (map fields ds) p
-      → AnswersPlan s p.plan p.pieces (origins_from s.greatest_transfer 0 (map fields ds)) (Some p.cost) form a → ExplainsList list s form a
+-- the outcome of planning operations, with their barriers if they have any
+abbrev pub PlansMarked : List Bool → Limits → List Fields → Result Submission PlanFault → Type 0
+PlansMarked [] s fs outcome = PlansOperations s fs outcome
+PlansMarked (mark ∷ marks) s fs outcome = PlansWith (mark ∷ marks) s fs outcome
 
--- refused where the text spells no list; else that of the list that it spells
-pub data ExplainsText (text : List ℕ) (s : Limits) (form : Form) (a : Answer) : Type 0 where
-  is_refused_text : (fault : TextFault) → Assembles (λ bytes. bytes) (lines_of text) (Err fault) → RefusesText fault a → ExplainsText text s form a
-  is_assembled : (list : List ℕ) → IsListing (lines_of text) list → ExplainsList list s form a → ExplainsText text s form a
+-- the barriers of their pieces, if they have any
+abbrev pub marks_of_pieces : Limits → List Fields → List Bool → List Bool
+marks_of_pieces s fs [] = []
+marks_of_pieces s fs (mark ∷ marks) = piece_barriers s.greatest_transfer fs (mark ∷ marks)
+
+-- refused where `plan_list` refuses the list, for its cause; else the plan of the list and its barriers, and which piece is
+-- of which operation
+pub data ExplainsList (list : List ℕ) (barriers : List Bool) (s : Limits) (form : Form) (a : Answer) : Type 0 where
+  is_refused_list : (fault : PlanFault) → MemoryOr (λ f. Plans list s (Err f)) fault → IsRefusal fault a → ExplainsList list barriers s form a
+  is_planned : (ds : List Descriptor) (p : Submission) → IsListOf list ds → PlansMarked barriers s (map fields ds) (Ok p)
+      → AnswersPlan s p.plan p.pieces (marks_of_pieces s (map fields ds) barriers) (origins_from s.greatest_transfer 0 (map fields ds)) (Some p.cost) form a
+      → ExplainsList list barriers s form a
+
+-- refused where the text spells no list; else that of the list and the barriers that it spells
+pub data ExplainsText (text : List ℕ) (keep_fences : Bool) (s : Limits) (form : Form) (a : Answer) : Type 0 where
+  is_refused_text : (fault : TextFault) → Assembles (λ bytes. bytes) (lines_of text) (Err fault) → RefusesText fault a → ExplainsText text keep_fences s form a
+  is_assembled : (list : List ℕ) → IsListing (lines_of text) list → ExplainsList list (barriers_of keep_fences (lines_of text)) s form a
+      → ExplainsText text keep_fences s form a
 
 -- ---- the plan that bytes submit
 
@@ -51,7 +66,7 @@ pub data ExplainsText (text : List ℕ) (s : Limits) (form : Form) (a : Answer) 
 pub data ExplainsChecked (portal staging : List ℕ) (s : Limits) (c : Contents) (form : Form) (a : Answer) : Type 0 where
   is_refused_check : (fault : PlanFault) → MemoryOr (λ f. Checks portal staging s c (Err f)) fault → IsRefusal fault a → ExplainsChecked portal staging s c form a
   is_checked : (cost : ℕ) (plan : Plan) (ds : List Descriptor) → IsEmission s portal staging plan ds → IsShownLeast s (map fields ds) plan c cost
-      → AnswersPlan s plan ds [] (Some cost) form a → ExplainsChecked portal staging s c form a
+      → AnswersPlan s plan ds [] [] (Some cost) form a → ExplainsChecked portal staging s c form a
 
 -- ---- a plan of one's own
 
@@ -73,18 +88,18 @@ IsLeastCost s fs (Some least) = (p : Submission) × PlansOperations s fs (Ok p) 
 pub record TellsJudged (s : Limits) (detail : Detail) (plan : Plan) (pieces : List Descriptor) (cost : ℕ) (text : List ℕ) : Type 0 where
   pub words : List ℕ
   pub least : Option ℕ
-  pub tells : TellsPlan s detail plan pieces [] words
+  pub tells : TellsPlan s detail plan pieces [] [] words
   pub is_least : IsLeastCost s (map fields pieces) least
   pub text_is : text ≡ words ++ least_words cost least
 
 -- a judged plan as a picture, as JSON or in words, with the least cost, or by its waits; or refused for the cause that
 -- `explain` finds, which can only be an allocation failure
 pub data AnswersJudged (s : Limits) (plan : Plan) (pieces : List Descriptor) (cost : ℕ) (form : Form) (a : Answer) : Type 0 where
-  is_drawn : (least : Option ℕ) → form ≡ Picture → IsLeastCost s (map fields pieces) least → AnswersPlan s plan pieces [] least form a → AnswersJudged s plan pieces cost form a
-  is_spelled : (least : Option ℕ) → form ≡ Json → IsLeastCost s (map fields pieces) least → AnswersPlan s plan pieces [] least form a → AnswersJudged s plan pieces cost form a
-  is_waiting : form ≡ Waits → AnswersPlan s plan pieces [] None form a → AnswersJudged s plan pieces cost form a
+  is_drawn : (least : Option ℕ) → form ≡ Picture → IsLeastCost s (map fields pieces) least → AnswersPlan s plan pieces [] [] least form a → AnswersJudged s plan pieces cost form a
+  is_spelled : (least : Option ℕ) → form ≡ Json → IsLeastCost s (map fields pieces) least → AnswersPlan s plan pieces [] [] least form a → AnswersJudged s plan pieces cost form a
+  is_waiting : form ≡ Waits → AnswersPlan s plan pieces [] [] None form a → AnswersJudged s plan pieces cost form a
   is_told : (detail : Detail) → form ≡ Words detail → a.status ≡ 0 → TellsJudged s detail plan pieces cost (string_bytes a.text) → AnswersJudged s plan pieces cost form a
-  is_untold : (detail : Detail) → form ≡ Words detail → (fault : ExplainFault) → Explains s detail pieces plan (Err fault) → IsRefusal (explain_cause fault) a → AnswersJudged s plan pieces cost form a
+  is_untold : (detail : Detail) → form ≡ Words detail → (fault : ExplainFault) → Explains s detail pieces [] plan (Err fault) → IsRefusal (explain_cause fault) a → AnswersJudged s plan pieces cost form a
 
 -- refused where `judge` refuses the list or the plan, for its cause; else the plan with the cost that
 -- `judge` answers

@@ -29,10 +29,12 @@ pub data ExplainsWithOptions (m : ArgMatches) (text : List ℕ) (form : Form) (a
   has_none : ¬ AreSettingsGiven m → ExplainsJobText text form a → ExplainsWithOptions m text form a
 
 -- operations are refused where the options spell no settings; else they are explained with those that
--- they spell
+-- they spell, and their fences are kept as barriers if the flag for that is set
 pub data ExplainsOperations (m : ArgMatches) (text : List ℕ) (form : Form) (a : Answer) : Type 0 where
   spells_none : (w : SettingsWords) → AreWords m w → GivesSettings w None → IsRefusal Outside a → ExplainsOperations m text form a
-  spells_settings : (w : SettingsWords) (s : Limits) → AreWords m w → GivesSettings w (Some s) → ExplainsText text s form a → ExplainsOperations m text form a
+  spells_settings :
+      (w : SettingsWords) (s : Limits) (keep : Bool) → AreWords m w → GivesSettings w (Some s) → IsFlag m (codes "keep-fences") keep →
+      ExplainsText text keep s form a → ExplainsOperations m text form a
 
 abbrev pub ExplainsAs : Bool → ArgMatches → List ℕ → Form → Answer → Type 0
 ExplainsAs true m text form a = ExplainsWithOptions m text form a

@@ -1,10 +1,12 @@
 -- What the explanation of a planned list promises.
-use Rattle.std.specs.Prelude.{ℕ, ◌≡◌, List, map, slice_get, Some, Ok}
+use Rattle.std.specs.Prelude.{ℕ, ◌≡◌, Bool, List, map, slice_get, Some, Ok}
 use Rattle.dsa_descriptor.specs.Descriptors.{fields}
+use Rattle.dsa_descriptor.specs.Fields.{Fields}
 use Rattle.dsa_ranges.specs.Ranges.{ConflictAt}
 use Rattle.dsa_plan.specs.Settings.{Limits}
 use Rattle.dsa_plan.specs.Plan.{Group, start_of}
 use Rattle.dsa_plan.specs.Legal.{IsFenced}
+use Rattle.dsa_calls.specs.Fenced.{PiecesConflict, PlansWith}
 use Rattle.dsa_calls.specs.Planned.{Submission, Plans}
 use Rattle.dsa_explain.specs.Reasons.{NeedsFence}
 
@@ -14,3 +16,11 @@ PlannedFencesAreNeeded =
     (bytes : List ℕ) (s : Limits) (p : Submission) → Plans bytes s (Ok p) →
     (number : ℕ) (group : Group) (k : ℕ) → slice_get p.plan number ≡ Some group → IsFenced (start_of p.plan number) group k →
     (a : ℕ) × NeedsFence (ConflictAt (map fields p.pieces)) (start_of p.plan number) group k a k
+
+-- of a plan of operations and their barriers, each fence is needed by the fenced piece and an earlier one: they conflict, or
+-- a barrier is between them
+abbrev pub MarkedFencesAreNeeded : Type 0
+MarkedFencesAreNeeded =
+    (barriers : List Bool) (s : Limits) (fs : List Fields) (p : Submission) → PlansWith barriers s fs (Ok p) →
+    (number : ℕ) (group : Group) (k : ℕ) → slice_get p.plan number ≡ Some group → IsFenced (start_of p.plan number) group k →
+    (a : ℕ) × NeedsFence (PiecesConflict s fs barriers (map fields p.pieces)) (start_of p.plan number) group k a k

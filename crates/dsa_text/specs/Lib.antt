@@ -10,3 +10,4 @@ pub mod Inputs
 pub mod Audited
 pub mod Laws
 pub mod Traced
+pub mod Disassembled

@@ -19,6 +19,7 @@ use Rattle.dsa_tracker.specs.declared.fault.TrackFault.{TrackFault}
 use Rattle.dsa_tracker.specs.declared.slots.Slots.{Slots}
 use Rattle.dsa_tracker.specs.Causes.{track_name, track_number}
 use Rattle.dsa_text.specs.declared.answer.Answer.{Answer}
+use Rattle.dsa_text.specs.declared.shown.Subject.{Subject}
 use Rattle.dsa_text.specs.declared.form.Form.{Form}
 use Rattle.dsa_text.specs.declared.form.Form.TheVariants.{Words, Picture, Json, Waits}
 use Rattle.dsa_text.specs.Refusals.{IsRefusal, explain_cause}
@@ -44,39 +45,39 @@ abbrev pub most_rows : ℕ
 most_rows = 1024
 
 -- the text is the explanation of the plan in words, and the plan can be explained
-pub record TellsPlan (s : Limits) (detail : Detail) (plan : Plan) (pieces : List Descriptor) (origins : List Origin) (text : List ℕ) : Type 0 where
-  pub can : CanBeExplained s pieces plan
+pub record TellsPlan (s : Limits) (detail : Detail) (plan : Plan) (pieces : List Descriptor) (barriers : List Bool) (origins : List Origin) (text : List ℕ) : Type 0 where
+  pub can : CanBeExplained s pieces barriers plan
   pub explanation : Explanation
-  pub is : IsExplanationOf s detail pieces plan explanation
+  pub is : IsExplanationOf s detail pieces barriers plan explanation
   pub words : text ≡ explanation_words s explanation pieces origins
 
 -- the text is the line of the explanation in JSON, with all conflicts and what the least plan costs, where that is known
-pub record SpellsPlan (s : Limits) (plan : Plan) (pieces : List Descriptor) (origins : List Origin) (least : Option ℕ) (text : List ℕ) : Type 0 where
-  pub can : CanBeExplained s pieces plan
+pub record SpellsPlan (s : Limits) (plan : Plan) (pieces : List Descriptor) (barriers : List Bool) (origins : List Origin) (least : Option ℕ) (text : List ℕ) : Type 0 where
+  pub can : CanBeExplained s pieces barriers plan
   pub explanation : Explanation
-  pub is : IsExplanationOf s Every pieces plan explanation
+  pub is : IsExplanationOf s Every pieces barriers plan explanation
   pub line : text ≡ explanation_line explanation pieces origins least
 
 -- the text is a picture, and the plan can be explained and has few groups
-pub record DrawsPlan (s : Limits) (plan : Plan) (pieces : List Descriptor) (text : List ℕ) : Type 0 where
-  pub can : CanBeExplained s pieces plan
+pub record DrawsPlan (s : Limits) (plan : Plan) (pieces : List Descriptor) (barriers : List Bool) (text : List ℕ) : Type 0 where
+  pub can : CanBeExplained s pieces barriers plan
   pub few : length plan ≤ most_rows
   pub picture : IsPicture text
 
 -- the text says what each group waits for, and the plan can be explained
-pub record TellsWaits (s : Limits) (plan : Plan) (pieces : List Descriptor) (text : List ℕ) : Type 0 where
-  pub can : CanBeExplained s pieces plan
+pub record TellsWaits (s : Limits) (plan : Plan) (pieces : List Descriptor) (barriers : List Bool) (text : List ℕ) : Type 0 where
+  pub can : CanBeExplained s pieces barriers plan
   pub slots : List ℕ
   pub sets : List Slots
   pub are : AreWaits s.staging plan (map fields pieces) slots sets
   pub words : text ≡ waits_words slots sets
 
 -- the plan in a form
-abbrev pub ShowsPlan : Form → Limits → Plan → List Descriptor → List Origin → Option ℕ → List ℕ → Type 0
-ShowsPlan (Words detail) s plan pieces origins least text = TellsPlan s detail plan pieces origins text
-ShowsPlan Picture s plan pieces origins least text = DrawsPlan s plan pieces text
-ShowsPlan Json s plan pieces origins least text = SpellsPlan s plan pieces origins least text
-ShowsPlan Waits s plan pieces origins least text = TellsWaits s plan pieces text
+abbrev pub ShowsPlan : Form → Limits → Plan → List Descriptor → List Bool → List Origin → Option ℕ → List ℕ → Type 0
+ShowsPlan (Words detail) s plan pieces barriers origins least text = TellsPlan s detail plan pieces barriers origins text
+ShowsPlan Picture s plan pieces barriers origins least text = DrawsPlan s plan pieces barriers text
+ShowsPlan Json s plan pieces barriers origins least text = SpellsPlan s plan pieces barriers origins least text
+ShowsPlan Waits s plan pieces barriers origins least text = TellsWaits s plan pieces barriers text
 
 -- the message where a plan has too many groups to draw
 abbrev pub too_many_groups : ℕ → List ℕ
@@ -90,10 +91,14 @@ untracked fault =
 
 -- A plan that can be explained has status 0, and is shown. Refused is one that can't be, for the cause
 -- that `explain` finds, one with too many groups to draw, and one of which a tracker refuses the groups.
-pub data AnswersPlan (s : Limits) (plan : Plan) (pieces : List Descriptor) (origins : List Origin) (least : Option ℕ) (form : Form) (a : Answer) : Type 0 where
-  is_shown : a.status ≡ 0 → ShowsPlan form s plan pieces origins least (string_bytes a.text) → AnswersPlan s plan pieces origins least form a
-  is_unfit : (fault : ExplainFault) → Explains s (detail_of form) pieces plan (Err fault) → IsRefusal (explain_cause fault) a → AnswersPlan s plan pieces origins least form a
-  is_too_large : form ≡ Picture → CanBeExplained s pieces plan → most_rows < length plan → a.status ≡ 1
-      → string_bytes a.text ≡ too_many_groups (length plan) → AnswersPlan s plan pieces origins least form a
-  is_untracked : (fault : TrackFault) → form ≡ Waits → CanBeExplained s pieces plan → RefusesWaits s.staging plan (map fields pieces) (Track fault)
-      → a.status ≡ 1 → string_bytes a.text ≡ untracked fault → AnswersPlan s plan pieces origins least form a
+pub data AnswersPlan (s : Limits) (plan : Plan) (pieces : List Descriptor) (barriers : List Bool) (origins : List Origin) (least : Option ℕ) (form : Form) (a : Answer) : Type 0 where
+  is_shown : a.status ≡ 0 → ShowsPlan form s plan pieces barriers origins least (string_bytes a.text) → AnswersPlan s plan pieces barriers origins least form a
+  is_unfit : (fault : ExplainFault) → Explains s (detail_of form) pieces barriers plan (Err fault) → IsRefusal (explain_cause fault) a → AnswersPlan s plan pieces barriers origins least form a
+  is_too_large : form ≡ Picture → CanBeExplained s pieces barriers plan → most_rows < length plan → a.status ≡ 1
+      → string_bytes a.text ≡ too_many_groups (length plan) → AnswersPlan s plan pieces barriers origins least form a
+  is_untracked : (fault : TrackFault) → form ≡ Waits → CanBeExplained s pieces barriers plan → RefusesWaits s.staging plan (map fields pieces) (Track fault)
+      → a.status ≡ 1 → string_bytes a.text ≡ untracked fault → AnswersPlan s plan pieces barriers origins least form a
+
+-- the plan that is shown in a form
+abbrev pub AnswersSubject : Limits → Subject → Form → Answer → Type 0
+AnswersSubject s x form a = AnswersPlan s x.plan.now x.pieces.now x.barriers.now x.origins.now x.least form a

@@ -1,25 +1,42 @@
 //! `assemble`: a text as the bytes of its list, or as a job.
 
 use crate::answer::Answer;
+use crate::kept::{fence_lines, fenced_in};
 use crate::settings::push_settings;
 use crate::unplanned::{Source, unplanned};
+use crate::words::line_of_operation;
 use dsa_calls::PlanFault;
-use dsa_descriptor::read_list;
-use dsa_lines::assemble;
+use dsa_descriptor::{FieldFault, ListFault, read_list};
+use dsa_lines::{assemble, assemble_fenced, text_barriers};
 use dsa_plan::Settings;
 use dsa_splitter::pieces;
 use std::alloc::{AllocError, Global};
 
-/// The list of a text in hexadecimal.
-pub fn assemble_list(alloc: Global, text: &[u8]) -> Result<Answer, AllocError> {
-    match assemble(alloc, text) {
+/// The list of a text in hexadecimal, in which an operation after a barrier has the flag fence.
+/// `fence` in a line is a barrier if fences are kept.
+pub fn assemble_list(alloc: Global, text: &[u8], keep_fences: bool) -> Result<Answer, AllocError> {
+    match assemble_fenced(alloc, text, keep_fences) {
         Ok(bytes) => {
             let mut list = hex::encode(alloc, bytes)?;
             list.push_str("\n")?;
-            Ok(Answer::done(list))
+            let notes = passed_over(alloc, text, keep_fences)?;
+            Ok(Answer::done(list).with_warnings(notes))
         }
         Err(fault) => Answer::text_fault(alloc, text, fault),
     }
+}
+
+/// A line for each fence of a text that its list does not have.
+fn passed_over(
+    alloc: Global,
+    text: &[u8],
+    keep_fences: bool,
+) -> Result<Option<String>, AllocError> {
+    if keep_fences {
+        return Ok(None);
+    }
+    let fenced = fenced_in(alloc, text)?;
+    fence_lines(alloc, text, &fenced, "this fence is passed over")
 }
 
 /// The job to plan the list of these bytes.
@@ -55,10 +72,33 @@ fn job_of_text(
     }
 }
 
-/// The job to plan the list of a text. A list that can't be planned is refused here, where its lines are known.
-pub fn assemble_job(alloc: Global, text: &[u8], settings: &Settings) -> Result<Answer, AllocError> {
-    match assemble(alloc, text) {
-        Ok(list) => job_of_text(alloc, text, &list, settings),
-        Err(fault) => Answer::text_fault(alloc, text, fault),
+/// The refusal of a job whose list would have a barrier before this operation.
+fn barrier_in_job(alloc: Global, text: &[u8], operation: usize) -> Result<Answer, AllocError> {
+    let line = line_of_operation(text, operation);
+    let place = format!(in alloc; "line {line}, operation {operation}: ")?;
+    let mut words = String::from_str(alloc, &place)?;
+    words.push_str("a job takes no barrier before an operation")?;
+    let fault = ListFault::Field(operation, FieldFault::FlagBits);
+    Answer::fault_with(alloc, PlanFault::from(fault), &words)
+}
+
+/// The job to plan the list of a text. A list that can't be planned, or has barriers, is refused
+/// here, where its lines are known.
+pub fn assemble_job(
+    alloc: Global,
+    text: &[u8],
+    keep_fences: bool,
+    settings: &Settings,
+) -> Result<Answer, AllocError> {
+    let list = match assemble(alloc, text) {
+        Ok(list) => list,
+        Err(fault) => return Answer::text_fault(alloc, text, fault),
+    };
+    let marks = text_barriers(alloc, text, keep_fences)?;
+    if let Some(operation) = marks.iter().position(|mark| *mark) {
+        return barrier_in_job(alloc, text, operation);
     }
+    let answer = job_of_text(alloc, text, &list, settings)?;
+    let notes = passed_over(alloc, text, keep_fences)?;
+    Ok(answer.with_warnings(notes))
 }

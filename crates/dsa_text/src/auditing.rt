@@ -40,7 +40,8 @@ at the batch's list address. --staging may be given more than once.
 
 With --list it writes the operations of the recording as lines that explain reads, which says what their least plan costs:
   dsa_text audit --list recording.bin > list.txt && dsa_text explain --greatest-transfer 2048M list.txt
-A member without a line is named in a comment: the plan knows nothing of it. The list is for prices, not for submission.
+A member without a line is named in a comment: the plan knows nothing of it. A fence that guards or
+signals is a line barrier, which the plan keeps. The list is for prices, not for submission.
 
 No conflict needs a fence that guards or signals. A guarding one is the first after a member that can fail. A signalling one
 is waited for by a member that software can see to have ended, and who sees that knows that all before the fence have

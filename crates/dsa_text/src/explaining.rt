@@ -1,6 +1,6 @@
 //! `explain`: what the plan of a text or a job does and why.
 
-ghost use Rattle.std.specs.Prelude.{◌⊎◌, ◌≤◌, IfOk, List, Some, Err, length, map, ℕ};
+ghost use Rattle.std.specs.Prelude.{◌≡◌, ◌⊎◌, ◌≤◌, [], IfOk, List, Some, Err, length, map, ℕ};
 ghost use Rattle.dsa_descriptor.specs.Descriptors.{fields};
 ghost use Rattle.dsa_descriptor.specs.Lists.{HaveOneOwner};
 ghost use Rattle.dsa_descriptor.specs.Pieces.{most_pieces};
@@ -9,64 +9,128 @@ ghost use Rattle.dsa_plan.specs.Certificate.{contents};
 ghost use Rattle.dsa_calls.specs.declared.fault.PlanFault.{PlanFault};
 ghost use Rattle.dsa_calls.specs.declared.fault.PlanFault.TheVariants.{Memory};
 ghost use Rattle.dsa_calls.specs.Checked.{Checks, ChecksPlan};
-ghost use Rattle.dsa_calls.specs.Lists.{IsListOf};
-ghost use Rattle.dsa_text.specs.Explained.{ExplainsChecked, ExplainsList, ExplainsText};
+ghost use Rattle.dsa_calls.specs.Lists.{IsListOf, OrMemory};
+ghost use Rattle.dsa_calls.specs.Planned.{submission_of};
+ghost use Rattle.dsa_text.specs.Explained.{ExplainsChecked, ExplainsList, ExplainsText, PlansMarked, marks_of_pieces};
 ghost use Rattle.dsa_text.specs.Origins.{origins_from};
 ghost use Rattle.dsa_text.specs.Refusals.{IsRefusal};
 ghost use Rattle.dsa_text.specs.Shown.{AnswersPlan};
 
 use crate::answer::Answer;
 use crate::form::Form;
+use crate::kept::{barrier_notes, joined, unkept_notes};
 use crate::origins::origins_of;
 use crate::rows::warnings_of;
-use crate::shown::answer_plan;
+use crate::shown::{Subject, answer_plan, plain};
 use crate::unplanned::{Source, unplanned};
-use dsa_calls::{PlanFault, Planned, check_plan, plan_operations};
+use dsa_calls::{PlanFault, Planned, check_plan, plan_operations, plan_operations_with};
 use dsa_descriptor::{Descriptor, read_list};
-use dsa_lines::parse_operations;
+use dsa_lines::{parse_operations, text_barriers};
 use dsa_plan::{Certificate, Plan, Settings, read_emission};
+use dsa_splitter::piece_barriers;
 use std::alloc::{AllocError, Global};
 
-/// The answer of planned operations.
+/// The plan of least cost of these operations, with their barriers if they have any.
+fn plan_marked(
+    alloc: Global,
+    operations: &[Descriptor],
+    marks: &[bool],
+    settings: &Settings,
+) -> Result<Planned, PlanFault>
+    requires { HaveOneOwner (map fields operations.now) }
+    ensures { OrMemory submission_of
+        (PlansMarked marks.now settings.now (map fields operations.now)) result }
+{
+    if marks.is_empty() {
+        plan_operations(alloc, operations, settings)
+    } else {
+        plan_operations_with(alloc, operations, marks, settings)
+    }
+}
+
+/// The barriers of the pieces of these operations, if they have any.
+fn marks_of_pieces(
+    alloc: Global,
+    operations: &[Descriptor],
+    marks: &[bool],
+    settings: &Settings,
+) -> Result<Vec<bool>, AllocError>
+    ensures { IfOk result (λ found. found.items ≡
+        marks_of_pieces settings.now (map fields operations.now) marks.now) }
+{
+    if marks.is_empty() {
+        return Ok(Vec::new(alloc));
+    }
+    piece_barriers(alloc, operations, marks, settings)
+}
+
+/// The answer of planned operations with these barriers.
 fn answer_planned(
     alloc: Global,
     operations: &[Descriptor],
+    marks: &[bool],
     planned: &Planned,
     settings: &Settings,
     form: Form,
 ) -> Result<Answer, AllocError>
     ensures { IfOk result (AnswersPlan settings.now planned.now.plan planned.now.pieces.items
+        (marks_of_pieces settings.now (map fields operations.now) marks.now)
         (origins_from settings.now.greatest_transfer 0 (map fields operations.now))
         (Some planned.now.cost) form) }
 {
+    let barriers = marks_of_pieces(alloc, operations, marks, settings)?;
     let origins = origins_of(alloc, operations, settings)?;
-    let answer = answer_plan(
-        alloc,
-        &planned.plan,
-        &planned.pieces,
-        &origins,
-        settings,
-        Some(planned.cost),
-        form,
-    )?;
-    let warnings = warnings_of(alloc, operations, settings)?;
+    let subject = Subject {
+        plan: &planned.plan,
+        pieces: &planned.pieces,
+        barriers: &barriers,
+        origins: &origins,
+        least: Some(planned.cost),
+    };
+    answer_plan(alloc, &subject, settings, form)
+}
+
+/// The same, with what is said of records, of fences that the plan does not keep, and of barriers
+/// that a tracker does not see.
+fn answer_with_warnings(
+    alloc: Global,
+    operations: &[Descriptor],
+    marks: &[bool],
+    planned: &Planned,
+    settings: &Settings,
+    form: Form,
+    source: Source<'_>,
+) -> Result<Answer, AllocError>
+    ensures { IfOk result (AnswersPlan settings.now planned.now.plan planned.now.pieces.items
+        (marks_of_pieces settings.now (map fields operations.now) marks.now)
+        (origins_from settings.now.greatest_transfer 0 (map fields operations.now))
+        (Some planned.now.cost) form) }
+{
+    let answer = answer_planned(alloc, operations, marks, planned, settings, form)?;
+    let records = warnings_of(alloc, operations, settings)?;
+    let barriers = barrier_notes(alloc, source, marks, form)?;
+    let fences = unkept_notes(alloc, source, operations, &planned.plan, settings)?;
+    let warnings = joined(joined(records, barriers)?, fences)?;
     Ok(answer.with_warnings(warnings))
 }
 
-/// What the plan of least cost of these operations does and why.
+/// What the plan of least cost of these operations and barriers does and why.
 fn explain_operations(
     alloc: Global,
     operations: &[Descriptor],
+    marks: &[bool],
     settings: &Settings,
     form: Form,
     source: Source<'_>,
 ) -> Result<Answer, AllocError>
     requires { HaveOneOwner (map fields operations.now) }
     ensures { (list : List ℕ) → IsListOf list operations.now →
-        IfOk result (ExplainsList list settings.now form) }
+        IfOk result (ExplainsList list marks.now settings.now form) }
 {
-    match plan_operations(alloc, operations, settings) {
-        Ok(planned) => answer_planned(alloc, operations, &planned, settings, form),
+    match plan_marked(alloc, operations, marks, settings) {
+        Ok(planned) => {
+            answer_with_warnings(alloc, operations, marks, &planned, settings, form, source)
+        }
         Err(fault) => unplanned(alloc, operations, settings, source, fault),
     }
 }
@@ -78,26 +142,38 @@ pub fn explain_list(
     settings: &Settings,
     form: Form,
 ) -> Result<Answer, AllocError>
-    ensures { IfOk result (ExplainsList list.now settings.now form) }
+    ensures { IfOk result (ExplainsList list.now [] settings.now form) }
 {
     match read_list(alloc, list) {
-        Ok(operations) => explain_operations(alloc, &operations, settings, form, Source::Job),
+        Ok(operations) => {
+            let none = [].as_slice();
+            explain_operations(alloc, &operations, none, settings, form, Source::Job)
+        }
         Err(fault) => Answer::fault(alloc, PlanFault::from(fault)),
     }
 }
 
-/// What the plan of least cost of a text of operations does and why.
+/// What the plan of least cost of a text of operations and barriers does and why.
 pub fn explain_text(
     alloc: Global,
     text: &[u8],
+    keep_fences: bool,
     settings: &Settings,
     form: Form,
 ) -> Result<Answer, AllocError>
-    ensures { IfOk result (ExplainsText text.now settings.now form) }
+    ensures { IfOk result (ExplainsText text.now keep_fences settings.now form) }
 {
     match parse_operations(alloc, text) {
         Ok(operations) => {
-            explain_operations(alloc, &operations, settings, form, Source::Text(text))
+            let marks = text_barriers(alloc, text, keep_fences)?;
+            explain_operations(
+                alloc,
+                &operations,
+                &marks,
+                settings,
+                form,
+                Source::Text(text),
+            )
         }
         Err(fault) => Answer::text_fault(alloc, text, fault),
     }
@@ -122,17 +198,7 @@ fn explain_emission(
         IfOk result (IsRefusal fault) }
 {
     match check_plan(pieces, settings, plan, certificate) {
-        Ok(cost) => {
-            answer_plan(
-                alloc,
-                plan,
-                pieces,
-                [].as_slice(),
-                settings,
-                Some(cost),
-                form,
-            )
-        }
+        Ok(cost) => answer_plan(alloc, &plain(plan, pieces, Some(cost)), settings, form),
         Err(fault) => Answer::fault(alloc, fault),
     }
 }

@@ -73,8 +73,9 @@ fn explain_operations(
     ensures { IfOk result (ExplainsOperations matches.now text.now form) }
 {
     let words = settings_words(matches);
+    let keep_fences = matches.get_flag("keep-fences");
     match settings_of(alloc, &words)? {
-        Some(settings) => explain_text(alloc, text, &settings, form),
+        Some(settings) => explain_text(alloc, text, keep_fences, &settings, form),
         None => refused_settings(alloc, &words),
     }
 }

@@ -15,7 +15,7 @@ use crate::answer::Answer;
 use crate::form::Form;
 use crate::judged::missing_message;
 use crate::rows::warnings_of;
-use crate::shown::{answer_plan, plan_words};
+use crate::shown::{answer_plan, plain, plan_words};
 use dsa_calls::{PlanFault, judge_pieces, plan_operations};
 use dsa_descriptor::{Descriptor, read_list};
 use dsa_explain::Detail;
@@ -81,7 +81,7 @@ fn judged_words(
     ensures { IfOk result
         (AnswersJudged settings.now plan.now pieces.now cost (Words detail)) }
 {
-    let mut text = match plan_words(alloc, plan, pieces, [].as_slice(), settings, detail) {
+    let mut text = match plan_words(alloc, &plain(plan, pieces, None), settings, detail) {
         Ok(text) => text,
         Err(fault) => return Answer::explain_fault(alloc, fault),
     };
@@ -102,8 +102,7 @@ fn judged_picture(
     ensures { IfOk result (AnswersJudged settings.now plan.now pieces.now cost Picture) }
 {
     let least = least_cost(alloc, pieces, settings)?;
-    let none = [].as_slice();
-    answer_plan(alloc, plan, pieces, none, settings, least, Form::Picture)
+    answer_plan(alloc, &plain(plan, pieces, least), settings, Form::Picture)
 }
 
 /// A judged plan as JSON, with what the least plan costs.
@@ -118,8 +117,7 @@ fn judged_json(
     ensures { IfOk result (AnswersJudged settings.now plan.now pieces.now cost Json) }
 {
     let least = least_cost(alloc, pieces, settings)?;
-    let none = [].as_slice();
-    answer_plan(alloc, plan, pieces, none, settings, least, Form::Json)
+    answer_plan(alloc, &plain(plan, pieces, least), settings, Form::Json)
 }
 
 /// A judged plan by what its groups wait for.
@@ -132,8 +130,7 @@ fn judged_waits(
 ) -> Result<Answer, AllocError>
     ensures { IfOk result (AnswersJudged settings.now plan.now pieces.now cost Waits) }
 {
-    let none = [].as_slice();
-    answer_plan(alloc, plan, pieces, none, settings, None, Form::Waits)
+    answer_plan(alloc, &plain(plan, pieces, None), settings, Form::Waits)
 }
 
 /// The answer of a judged plan in a form.

@@ -1,9 +1,16 @@
 //! Laws of the explanation of a planned list.
 
-ghost use Rattle.dsa_text.specs.Laws.{PlannedFencesAreNeeded};
+ghost use Rattle.dsa_text.specs.Laws.{MarkedFencesAreNeeded, PlannedFencesAreNeeded};
 
 /// Each fence of a plan that planning answers separates a conflict of the fenced piece with an earlier one, which no
 /// other fence separates.
 pub fn planned_fences_are_needed()
     ensures { PlannedFencesAreNeeded }
+{}
+
+/// Each fence of a plan of operations and their barriers separates the fenced piece from an earlier
+/// one, with which it conflicts or a barrier is between, and no other fence does.
+#[tactic(auto, using(crate::proofs::PlannedNeeded::marked_needed))]
+pub fn marked_fences_are_needed()
+    ensures { MarkedFencesAreNeeded }
 {}

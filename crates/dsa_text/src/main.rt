@@ -15,6 +15,7 @@ mod inputs;
 mod jobs;
 mod judged;
 mod judging;
+mod kept;
 pub mod laws;
 mod messages;
 mod numbers;
@@ -31,7 +32,9 @@ use crate::answer::Answer;
 use crate::assembling::{assemble_job, assemble_list};
 use crate::auditing::{Given, audit_command, audit_input};
 use crate::bytes::bytes_or_refusal;
-use crate::disassembling::{disassemble_list, disassemble_portal, disassemble_staging};
+use crate::disassembling::{
+    disassemble_fenced, disassemble_list, disassemble_portal, disassemble_staging,
+};
 use crate::dumps::dumps_in;
 use crate::inputs::{explain, refused_settings};
 use crate::messages::message_of;
@@ -78,8 +81,10 @@ const EXPLAINED: &str = "The input is lines of operations, as docs/FORMATS.md ha
   fill 0x1000 with 0102030405060708, 64 bytes, record 0x8000
   compare 0x1000 with 0x2000, 64 bytes, expect 0, record 0x8000, check
 
-with lines that disassemble writes of a portal and a staging area, of which batches and fences are passed over, since a plan
-sets them anew; or a job, which begins with a brace and has settings of its own, so that the options from --greatest-batch on are refused:
+with a line \"barrier\" where the next operation begins only after all before it have succeeded, and
+with lines that disassemble writes of a portal and a staging area. Batches and fences in these are passed
+over, since a plan sets them anew; --keep-fences takes each fence for a barrier. Or the input is a job,
+which begins with a brace and has settings of its own, so that the options from --greatest-batch on are refused:
 
   {\"do\":\"plan\",\"list\":..,\"settings\":..}               the plan of least cost
   {\"do\":\"judge\",\"list\":..,\"plan\":..,\"settings\":..}    a plan of one's own, and what the least plan costs
@@ -97,6 +102,10 @@ const LINES: &str = "A line is an operation, as docs/FORMATS.md has them:
   move 0x1000 -> 0x2000, 64 bytes, record 0x8000
   fill 0x1000 with 0102030405060708, 64 bytes, record 0x8000
   compare 0x1000 with 0x2000, 64 bytes, expect 0, record 0x8000, check
+
+A line \"barrier\" says that the next operation begins only after all before it have succeeded. The
+descriptor after it has the flag 0x0001: dsa_plan_fenced_list reads such a list, dsa_plan_list and jobs
+refuse it (3 FlagBits).
 
 Lines that disassemble writes of a portal and a staging area are read too, with the members of a batch behind its line. The
 lines of batches and the word fence are passed over, since a plan sets batches and fences anew.
@@ -140,6 +149,15 @@ pub(crate) fn batches<'a>(alloc: Global) -> Result<Arg<'a>, AllocError> {
         .conflicts_with("batch")
 }
 
+/// The flag that keeps fences of lines as barriers.
+fn keep_fences<'a>(alloc: Global) -> Arg<'a> {
+    flag(
+        alloc,
+        "keep-fences",
+        "take the fence of a line for a barrier before it",
+    )
+}
+
 /// The options of the settings.
 fn settings_options<'a>(alloc: Global) -> Result<Vec<Arg<'a>>, AllocError> {
     let batches = batches(alloc)?;
@@ -177,6 +195,7 @@ fn assemble_command<'a>(alloc: Global) -> Result<Command<'a>, AllocError> {
         .after_help(LINES)
         .arg(file(alloc))?
         .arg(flag(alloc, "job", "write a whole job to plan the list"))?
+        .arg(keep_fences(alloc))?
         .args(options)
 }
 
@@ -204,6 +223,12 @@ fn disassemble_command<'a>(alloc: Global) -> Result<Command<'a>, AllocError> {
     );
     options.push(staging.conflicts_with("portal")?)?;
     options.push(at(alloc)?)?;
+    let keep = flag(
+        alloc,
+        "keep-fences",
+        "write a barrier before each descriptor of a list that has the flag fence",
+    );
+    options.push(keep.conflicts_with("portal")?.conflicts_with("staging")?)?;
     Command::new(alloc, "disassemble")
         .about("Reads a list in hexadecimal or as bytes, and writes its lines")
         .after_help(BYTES)
@@ -233,6 +258,7 @@ fn explain_command<'a>(alloc: Global) -> Result<Command<'a>, AllocError> {
                 .conflicts_with("json")?
                 .conflicts_with("all")?,
         )?
+        .arg(keep_fences(alloc))?
         .args(options)
 }
 
@@ -263,10 +289,11 @@ fn assemble(alloc: Global, matches: &ArgMatches<'_>, text: &[u8]) -> Result<Answ
     let Some(settings) = settings_of(alloc, &words)? else {
         return refused_settings(alloc, &words);
     };
+    let keep_fences = matches.get_flag("keep-fences");
     if matches.get_flag("job") {
-        assemble_job(alloc, text, &settings)
+        assemble_job(alloc, text, keep_fences, &settings)
     } else {
-        assemble_list(alloc, text)
+        assemble_list(alloc, text, keep_fences)
     }
 }
 
@@ -281,6 +308,8 @@ fn lines_of(
         disassemble_portal(alloc, bytes)
     } else if matches.get_flag("staging") {
         disassemble_staging(alloc, bytes, at)
+    } else if matches.get_flag("keep-fences") {
+        disassemble_fenced(alloc, bytes)
     } else {
         disassemble_list(alloc, bytes)
     }

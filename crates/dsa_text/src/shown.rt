@@ -1,10 +1,10 @@
 //! A plan of pieces, explained in words, as a picture or as JSON.
 
-ghost use Rattle.std.specs.Prelude.{◌≡◌, IfOk, MatchResult, Err, string_bytes};
+ghost use Rattle.std.specs.Prelude.{◌≡◌, [], IfOk, MatchResult, Err, string_bytes};
 ghost use Rattle.dsa_explain.specs.Explained.{Explains};
 ghost use Rattle.dsa_explain.specs.declared.fences.Detail.TheVariants.{All as Every};
 ghost use Rattle.dsa_text.specs.declared.form.Form.TheVariants.{Json, Picture, Waits, Words};
-ghost use Rattle.dsa_text.specs.Shown.{AnswersPlan, SpellsPlan, TellsPlan, too_many_groups, untracked};
+ghost use Rattle.dsa_text.specs.Shown.{AnswersSubject, SpellsPlan, TellsPlan, too_many_groups, untracked};
 
 use crate::answer::Answer;
 use crate::form::Form;
@@ -17,20 +17,55 @@ use dsa_plan::{Plan, Settings};
 use dsa_tracker::TrackFault;
 use std::alloc::{AllocError, Global};
 
+/// What is shown: a plan of pieces and their barriers, of which operation each piece is, and what
+/// the least plan costs, where that is known.
+#[derive(Clone, Copy, Debug)]
+pub(crate) struct Subject<'a> {
+    pub(crate) plan: &'a Plan,
+    pub(crate) pieces: &'a [Descriptor],
+    pub(crate) barriers: &'a [bool],
+    pub(crate) origins: &'a [Origin],
+    pub(crate) least: Option<u64>,
+}
+
+/// A plan of pieces that have no barriers, and of which no operations are known.
+pub(crate) fn plain<'a>(plan: &'a Plan, pieces: &'a [Descriptor], least: Option<u64>) -> Subject<'a>
+    ensures plan { result.plan.now ≡ plan.now }
+    ensures pieces { result.pieces.now ≡ pieces.now }
+    ensures barriers { result.barriers.now ≡ [] }
+    ensures origins { result.origins.now ≡ [] }
+    ensures least { result.least ≡ least }
+{
+    Subject {
+        plan,
+        pieces,
+        barriers: [].as_slice(),
+        origins: [].as_slice(),
+        least,
+    }
+}
+
 /// What a plan of pieces does and why, in words.
 pub(crate) fn plan_words(
     alloc: Global,
-    plan: &Plan,
-    pieces: &[Descriptor],
-    origins: &[Origin],
+    subject: &Subject<'_>,
     settings: &Settings,
     detail: Detail,
 ) -> Result<String, ExplainFault>
     ensures { MatchResult result
-        (λ s. TellsPlan settings.now detail plan.now pieces.now origins.now (string_bytes s))
-        (λ fault. Explains settings.now detail pieces.now plan.now (Err fault)) }
+        (λ s. TellsPlan settings.now detail subject.now.plan.now subject.now.pieces.now
+        subject.now.barriers.now subject.now.origins.now (string_bytes s))
+        (λ fault. Explains settings.now detail subject.now.pieces.now subject.now.barriers.now
+        subject.now.plan.now (Err fault)) }
 {
-    let explanation = explain(alloc, plan, pieces, settings, detail)?;
+    let Subject {
+        plan,
+        pieces,
+        barriers,
+        origins,
+        ..
+    } = *subject;
+    let explanation = explain(alloc, plan, pieces, barriers, settings, detail)?;
     match explanation_text(alloc, &explanation, pieces, origins, settings) {
         Ok(text) => Ok(text),
         Err(_) => Err(ExplainFault::Memory),
@@ -40,17 +75,13 @@ pub(crate) fn plan_words(
 /// The answer of a plan of pieces in words.
 fn answer_words(
     alloc: Global,
-    plan: &Plan,
-    pieces: &[Descriptor],
-    origins: &[Origin],
+    subject: &Subject<'_>,
     settings: &Settings,
-    least: Option<u64>,
     detail: Detail,
 ) -> Result<Answer, AllocError>
-    ensures { IfOk result
-        (AnswersPlan settings.now plan.now pieces.now origins.now least (Words detail)) }
+    ensures { IfOk result (AnswersSubject settings.now subject.now (Words detail)) }
 {
-    match plan_words(alloc, plan, pieces, origins, settings, detail) {
+    match plan_words(alloc, subject, settings, detail) {
         Ok(text) => Ok(Answer::done(text)),
         Err(fault) => Answer::explain_fault(alloc, fault),
     }
@@ -59,17 +90,23 @@ fn answer_words(
 /// What a plan of pieces does and why, as JSON.
 fn plan_line(
     alloc: Global,
-    plan: &Plan,
-    pieces: &[Descriptor],
-    origins: &[Origin],
+    subject: &Subject<'_>,
     settings: &Settings,
-    least: Option<u64>,
 ) -> Result<String, ExplainFault>
     ensures { MatchResult result
-        (λ s. SpellsPlan settings.now plan.now pieces.now origins.now least (string_bytes s))
-        (λ fault. Explains settings.now Every pieces.now plan.now (Err fault)) }
+        (λ s. SpellsPlan settings.now subject.now.plan.now subject.now.pieces.now
+        subject.now.barriers.now subject.now.origins.now subject.now.least (string_bytes s))
+        (λ fault. Explains settings.now Every subject.now.pieces.now subject.now.barriers.now
+        subject.now.plan.now (Err fault)) }
 {
-    let explanation = explain(alloc, plan, pieces, settings, Detail::All)?;
+    let Subject {
+        plan,
+        pieces,
+        barriers,
+        origins,
+        least,
+    } = *subject;
+    let explanation = explain(alloc, plan, pieces, barriers, settings, Detail::All)?;
     match explanation_line(alloc, &explanation, pieces, origins, least) {
         Ok(line) => Ok(line),
         Err(_) => Err(ExplainFault::Memory),
@@ -79,16 +116,12 @@ fn plan_line(
 /// The answer of a plan of pieces as JSON.
 fn answer_json(
     alloc: Global,
-    plan: &Plan,
-    pieces: &[Descriptor],
-    origins: &[Origin],
+    subject: &Subject<'_>,
     settings: &Settings,
-    least: Option<u64>,
 ) -> Result<Answer, AllocError>
-    ensures { IfOk result
-        (AnswersPlan settings.now plan.now pieces.now origins.now least Json) }
+    ensures { IfOk result (AnswersSubject settings.now subject.now Json) }
 {
-    match plan_line(alloc, plan, pieces, origins, settings, least) {
+    match plan_line(alloc, subject, settings) {
         Ok(line) => Ok(Answer::done(line)),
         Err(fault) => Answer::explain_fault(alloc, fault),
     }
@@ -107,16 +140,19 @@ fn too_many_groups(alloc: Global, groups: usize) -> Result<Answer, AllocError>
 /// The answer of a plan of pieces as a picture.
 fn answer_picture(
     alloc: Global,
-    plan: &Plan,
-    pieces: &[Descriptor],
-    origins: &[Origin],
+    subject: &Subject<'_>,
     settings: &Settings,
-    least: Option<u64>,
 ) -> Result<Answer, AllocError>
-    ensures { IfOk result
-        (AnswersPlan settings.now plan.now pieces.now origins.now least Picture) }
+    ensures { IfOk result (AnswersSubject settings.now subject.now Picture) }
 {
-    let explanation = match explain(alloc, plan, pieces, settings, Detail::First) {
+    let Subject {
+        plan,
+        pieces,
+        barriers,
+        origins,
+        least,
+    } = *subject;
+    let explanation = match explain(alloc, plan, pieces, barriers, settings, Detail::First) {
         Ok(explanation) => explanation,
         Err(fault) => return Answer::explain_fault(alloc, fault),
     };
@@ -143,16 +179,18 @@ fn untracked(alloc: Global, fault: TrackFault) -> Result<Answer, AllocError>
 /// The answer of a plan of pieces by what its groups wait for.
 fn answer_waits(
     alloc: Global,
-    plan: &Plan,
-    pieces: &[Descriptor],
-    origins: &[Origin],
+    subject: &Subject<'_>,
     settings: &Settings,
-    least: Option<u64>,
 ) -> Result<Answer, AllocError>
-    ensures { IfOk result
-        (AnswersPlan settings.now plan.now pieces.now origins.now least Waits) }
+    ensures { IfOk result (AnswersSubject settings.now subject.now Waits) }
 {
-    if let Err(fault) = explain(alloc, plan, pieces, settings, Detail::First) {
+    let Subject {
+        plan,
+        pieces,
+        barriers,
+        ..
+    } = *subject;
+    if let Err(fault) = explain(alloc, plan, pieces, barriers, settings, Detail::First) {
         return Answer::explain_fault(alloc, fault);
     }
     match group_waits(alloc, plan, pieces, settings.staging()) {
@@ -162,25 +200,19 @@ fn answer_waits(
     }
 }
 
-/// The answer of a plan of pieces in a form; `least` is what the least plan costs, where that is known.
+/// The answer of a plan of pieces in a form.
 pub(crate) fn answer_plan(
     alloc: Global,
-    plan: &Plan,
-    pieces: &[Descriptor],
-    origins: &[Origin],
+    subject: &Subject<'_>,
     settings: &Settings,
-    least: Option<u64>,
     form: Form,
 ) -> Result<Answer, AllocError>
-    ensures { IfOk result
-        (AnswersPlan settings.now plan.now pieces.now origins.now least form) }
+    ensures { IfOk result (AnswersSubject settings.now subject.now form) }
 {
     match form {
-        Form::Words(detail) => {
-            answer_words(alloc, plan, pieces, origins, settings, least, detail)
-        }
-        Form::Picture => answer_picture(alloc, plan, pieces, origins, settings, least),
-        Form::Json => answer_json(alloc, plan, pieces, origins, settings, least),
-        Form::Waits => answer_waits(alloc, plan, pieces, origins, settings, least),
+        Form::Words(detail) => answer_words(alloc, subject, settings, detail),
+        Form::Picture => answer_picture(alloc, subject, settings),
+        Form::Json => answer_json(alloc, subject, settings),
+        Form::Waits => answer_waits(alloc, subject, settings),
     }
 }

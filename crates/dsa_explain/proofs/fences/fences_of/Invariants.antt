@@ -9,5 +9,5 @@ abbrev pub invariant-loop-group : goal.invariant-loop-group
 invariant-loop-group l = record {
   start : l.start ≡ start_of l.group-items l.group-index;
   places : fence_places l.fences.items ++ fenced_pieces l.start (drop l.group-index l.group-items) ≡ fenced_pieces 0 l.group-items;
-  explained : All (IsExplained l.detail (map fields l.pieces) l.group-items) l.fences.items;
+  explained : All (IsExplained l.detail (map fields l.pieces) l.barriers l.group-items) l.fences.items;
 }

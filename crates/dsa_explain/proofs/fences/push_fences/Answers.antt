@@ -21,8 +21,8 @@ loop-column-preserved c =
           let reasons : HasReasons c.args.detail (map fields c.args.pieces.now) c.args.start g fence = subst (λ (h : Group). HasReasons c.args.detail (map fields c.args.pieces.now) c.args.start h fence) same w.in_ok-fence_of.ensures.reasons in
           rw (w.fences-is, w.in_ok-push.ensures.items) (record {
             places = fence_pushed c.loop-column.fences.items fence c.args.start c.loop-column.column g (fence_places c.args.fences.now.items ++ fenced_in c.args.start g) w.in_ok-fence_of.ensures.piece within fenced i.places;
-            explained = explained_pushed c.args.detail (map fields c.args.pieces.now) c.args.start g c.args.fences.now.items c.loop-column.fences.items fence
-                (rw w.in_ok-fence_of.ensures.piece (is_fenced c.args.start c.loop-column.column g within fenced)) reasons i.explained;
+            explained = explained_pushed c.args.detail (map fields c.args.pieces.now) c.args.barriers.now c.args.start g c.args.fences.now.items c.loop-column.fences.items fence
+                (rw w.in_ok-fence_of.ensures.piece (is_fenced c.args.start c.loop-column.column g within fenced)) reasons (rw w.in_ok-fence_of.ensures.piece w.in_ok-fence_of.ensures.barrier) i.explained;
           })
       | else-fenced w ↦
           let unfenced : get_or g c.loop-column.column false ≡ false = subst (λ (h : Group). get_or h c.loop-column.column false ≡ false) same w.if-fenced.false in

@@ -7,5 +7,5 @@ use Rattle.dsa_explain.proofs.fences.push_fences.Given as goal
 abbrev pub invariant-loop-column : goal.invariant-loop-column
 invariant-loop-column l = record {
   places : fence_places l.fences.items ++ fenced_in (l.start + l.column) (drop l.column l.group) ≡ fence_places l.fn.fences.items ++ fenced_in l.start l.group;
-  explained : AddsExplained l.detail (map fields l.pieces) l.start l.group l.fn.fences.items l.fences.items;
+  explained : AddsExplained l.detail (map fields l.pieces) l.barriers l.start l.group l.fn.fences.items l.fences.items;
 }

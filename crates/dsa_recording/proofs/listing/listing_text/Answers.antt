@@ -31,25 +31,26 @@ there es ss audits k s a n one other count within =
 
 pub push_members-requires-clause-within : goal.push_members-requires-clause-within
 push_members-requires-clause-within c =
-    there c.args.all.now c.args.report.now.submissions.items c.args.report.now.audits.items c.loop-number.number c.index.result.now c.index-in-loop-number.result.now (length c.deref.result.now)
-    c.index.ensures c.index-in-loop-number.ensures (ap length c.deref.ensures.value)
-    (within_at c.args.all.now c.args.report.now.submissions.items c.args.report.now.audits.items c.loop-number.number c.index.result.now c.index-in-loop-number.result.now c.requires.entries
+    there c.args.all.now c.args.report.now.submissions.items c.args.report.now.audits.items c.loop-number.number c.index.result.now c.index-audited.result.now (length c.deref.result.now)
+    c.index.ensures c.index-audited.ensures (ap length c.deref.ensures.value)
+    (within_at c.args.all.now c.args.report.now.submissions.items c.args.report.now.audits.items c.loop-number.number c.index.result.now c.index-audited.result.now c.requires.entries
     (omega (arith, c.loop-number-test.true, c.len-number-end.ensures)))
 
 more : (es : List (List ℕ)) (ss : List Submission) (audits : List Audited) (k : ℕ) (s : Submission) (a : Audited) (old new : List ℕ) → AreEntries es ss audits → k < length audits
-    → s ≡ get_or ss k s → a ≡ get_or audits k a → old ≡ listing_text es (take k ss) (take k audits) → new ≡ old ++ member_lines es s.first a.members.items
+    → s ≡ get_or ss k s → a ≡ get_or audits k a → old ≡ listing_text es (take k ss) (take k audits) → new ≡ old ++ member_lines es s.first a.members.items a.audit.reduced.uses.items
     → new ≡ listing_text es (take (k + 1) ss) (take (k + 1) audits)
 more es ss audits k s a old new entries lt one other so_far here =
-    here ∙ (λ i. so_far i ++ member_lines es (one i).first (other i).members.items)
+    here ∙ (λ i. so_far i ++ member_lines es (one i).first (other i).members.items (other i).audit.reduced.uses.items)
     ∙ sym (listing_more es ss audits k s a entries lt)
     ∙ ap (λ (n : ℕ). listing_text es (take n ss) (take n audits)) (sym (add-one k))
 
 pub loop-number-preserved : goal.loop-number-preserved
 loop-number-preserved c =
-    more c.args.all.now c.args.report.now.submissions.items c.args.report.now.audits.items c.loop-number.number c.index.result.now c.index-in-loop-number.result.now
+    more c.args.all.now c.args.report.now.submissions.items c.args.report.now.audits.items c.loop-number.number c.index.result.now c.index-audited.result.now
     (string_bytes c.loop-number.text) (string_bytes c.push_members.new.text) c.requires.entries (omega (arith, c.loop-number-test.true, c.len-number-end.ensures))
-    c.index.ensures c.index-in-loop-number.ensures c.loop-number.invariant
-    (c.in_ok-push_members.ensures ∙ ap (λ (ms : List Member). string_bytes c.loop-number.text ++ member_lines c.args.all.now c.index.result.now.first ms) c.deref.ensures.value)
+    c.index.ensures c.index-audited.ensures c.loop-number.invariant
+    (c.in_ok-push_members.ensures
+    ∙ (λ i. string_bytes c.loop-number.text ++ member_lines c.args.all.now c.index.result.now.first (c.deref.ensures.value i) (c.deref-in-loop-number.ensures.value i)))
 
 pub returns : goal.returns
 returns c =

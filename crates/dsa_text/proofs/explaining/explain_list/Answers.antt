@@ -1,4 +1,4 @@
-use Rattle.std.proofs.Common.{List, map, sym, subst}
+use Rattle.std.proofs.Common.{Bool, IfOk, List, map, sym, subst}
 use Rattle.std.proofs.lemmas.Result.{IfOk-weaker}
 use Rattle.dsa_descriptor.specs.declared.descriptor.Descriptor.{Descriptor}
 use Rattle.dsa_descriptor.specs.Descriptors.{fields}
@@ -6,7 +6,7 @@ use Rattle.dsa_descriptor.specs.Lists.{HaveOneOwner}
 use Rattle.dsa_calls.specs.Lists.{IsListOf}
 use Rattle.dsa_calls.specs.Planned.{PlansOperations, Submission}
 use Rattle.dsa_calls.proofs.Over.{list_refused}
-use Rattle.dsa_text.specs.Explained.{is_refused_list}
+use Rattle.dsa_text.specs.Explained.{ExplainsList, is_refused_list}
 use Rattle.dsa_text.proofs.explaining.explain_list.Goals as goal
 
 pub explain_operations-requires : goal.explain_operations-requires
@@ -16,7 +16,8 @@ pub returns-in-Ok : goal.returns-in-Ok
 returns-in-Ok c =
     let found = c.in-Ok.ensures.found in
     let listed = subst (λ (ds : List Descriptor). IsListOf c.args.list.now ds) (sym c.deref.ensures.value) (record { spelled = found.0; owner = found.1 }) in
-    c.explain_operations.ensures c.args.list.now listed
+    subst (λ (bs : List Bool). IfOk c.explain_operations.result (ExplainsList c.args.list.now bs c.args.settings.now c.args.form)) c.as_slice-none.ensures
+    (c.explain_operations.ensures c.args.list.now listed)
 
 pub returns-in-Err : goal.returns-in-Err
 returns-in-Err c =

@@ -5,7 +5,10 @@ use Rattle.dsa_text.proofs.inputs.explain_operations.Goals as goal
 pub returns-in-Some : goal.returns-in-Some
 returns-in-Some c =
     let given = rw c.in-Some.is at c.in_ok-settings.ensures in
-    IfOk-weaker c.explain_text.result _ _ (λ a h. spells_settings c.settings_words-words.result c.in-Some.settings c.settings_words-words.ensures given h) c.explain_text.ensures
+    let keep = c.get_flag-keep_fences.ensures in
+    IfOk-weaker c.explain_text.result _ _ (λ a h.
+    spells_settings c.settings_words-words.result c.in-Some.settings c.get_flag-keep_fences.result c.settings_words-words.ensures given
+    (record { set = keep.value; clear = keep.other; absent = keep.none }) h) c.explain_text.ensures
 
 pub returns-in-None : goal.returns-in-None
 returns-in-None c =

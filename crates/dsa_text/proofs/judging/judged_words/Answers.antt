@@ -1,13 +1,15 @@
-use Rattle.std.proofs.Common.{◌≡◌, ◌++◌, ◌∙◌, List, refl, ap, subst}
+use Rattle.std.proofs.Common.{◌≡◌, ◌++◌, ◌∙◌, [], refl, ap}
 use Rattle.std.specs.Prelude.{string_bytes}
 use Rattle.std.proofs.lemmas.Result.{IfOk-weaker}
-use Rattle.dsa_explain.specs.declared.words.Origin.{Origin}
 use Rattle.dsa_text.specs.Explained.{is_told, is_untold, least_words}
-use Rattle.dsa_text.specs.Shown.{TellsPlan}
+use Rattle.dsa_text.proofs.Answered.{subject_told, subject_untold}
 use Rattle.dsa_text.proofs.judging.judged_words.Goals as goal
 
 pub returns-in-Err : goal.returns-in-Err
-returns-in-Err c = IfOk-weaker c.explain_fault.result _ _ (λ a h. is_untold c.args.detail refl c.in-Err.fault c.in-Err.ensures h) c.explain_fault.ensures
+returns-in-Err c =
+    let untold = subject_untold c.args.settings.now c.args.detail c.plain.result c.args.plan.now c.args.pieces.now [] c.in-Err.fault
+    c.plain.ensures.plan c.plain.ensures.pieces c.plain.ensures.barriers c.in-Err.ensures in
+    IfOk-weaker c.explain_fault.result _ _ (λ a h. is_untold c.args.detail refl c.in-Err.fault untold h) c.explain_fault.ensures
 
 pub returns : goal.returns
 returns c =
@@ -17,7 +19,8 @@ returns c =
     is_told c.args.detail refl c.done.ensures.status (record {
       words = words;
       least = c.in_ok-least.least;
-      tells = subst (λ (os : List Origin). TellsPlan c.args.settings.now c.args.detail c.args.plan.now c.args.pieces.now os words) c.as_slice.ensures c.in-Ok.ensures;
+      tells = subject_told c.args.settings.now c.args.detail c.plain.result c.args.plan.now c.args.pieces.now [] [] words
+          c.plain.ensures.plan c.plain.ensures.pieces c.plain.ensures.barriers c.plain.ensures.origins c.in-Ok.ensures;
       is_least = c.in_ok-least.ensures;
       text_is = ap string_bytes c.done.ensures.text ∙ told;
     })

@@ -1,0 +1,266 @@
+-- The barriers of a text, and lists with barriers.
+use Rattle.std.proofs.Common.{◌≡◌, ℕ, zero, suc, ◌+◌, ◌<◌, Bool, true, false, Some, List, [], ◌∷◌, ◌++◌, length, take, drop, get_or, map, refl, sym, ap, ◌∙◌, append_assoc, length-append, arith}
+use Rattle.std.specs.Prelude.{codes, slice_get, if◌then◌else◌}
+use Rattle.std.specs.List.{AllByRecursion}
+use Rattle.std.specs.Str.{bytes_eq}
+use Rattle.std.proofs.lemmas.List.{append-nil}
+use Rattle.std.proofs.lemmas.Option.{same_Some}
+use Rattle.dsa_descriptor.specs.declared.descriptor.Descriptor.{Descriptor}
+use Rattle.dsa_descriptor.specs.Descriptors.{fields}
+use Rattle.dsa_descriptor.specs.Fields.{Fields}
+use Rattle.dsa_descriptor.specs.Lists.{list_spelling, HaveOneOwner}
+use Rattle.dsa_descriptor.specs.Profile.{IsListed}
+use Rattle.dsa_descriptor.specs.Spelling.{spelling}
+use Rattle.dsa_emission.specs.Emission.{with_fence}
+use Rattle.dsa_emission.proofs.Told.{length-fenced_one, one_fenced}
+use Rattle.dsa_lines.specs.declared.barriers.LineKind.{LineKind}
+use Rattle.dsa_lines.specs.declared.barriers.LineKind.TheVariants.{Other, Barrier, Fenced, Operation}
+use Rattle.dsa_lines.specs.Assembled.{IsListing}
+use Rattle.dsa_lines.specs.Words.{Word, words_in, words_of}
+use Rattle.dsa_lines.specs.Grammar.{fields_of, op_at, ◌>>=◌}
+use Rattle.dsa_lines.specs.Recordings.{at_end, batch_at}
+use Rattle.dsa_lines.specs.Text.{line_text}
+use Rattle.dsa_lines.specs.Texts.{all_fields, line_fields, lines_of, text_line, TextSpells}
+use Rattle.dsa_lines.specs.Barriers.{barrier_line, barriers_of, IsMarkedListing, line_kind, line_marks, marked_spelling, marked_text, marks_from, pending_after, OneMarkEach, OneMarkedSpelling, MarkedTextSpells}
+use Rattle.dsa_lines.proofs.LineLemmas.{canonical_is_line}
+use Rattle.dsa_lines.proofs.OneText.{bound, front, more_fields, spelled_list}
+use Rattle.dsa_lines.proofs.ReadAgain.{line_before, nothing}
+use Rattle.dsa_lines.proofs.RoundTrip.{line_spells}
+use Rattle.dsa_lines.proofs.TextLemmas.{barrier_spells_none, batch_spells_none, fence_spells_none, line_first, same_word, spelt_line}
+
+-- ---- the marks of lines, one line after another
+
+pub marks_next : (keep pending : Bool) (line : List ℕ) (lines : List (List ℕ))
+    → marks_from keep pending (line ∷ lines) ≡ line_marks keep pending (line_kind (words_of line)) ++ marks_from keep (pending_after pending (line_kind (words_of line))) lines
+unfolding marks_from
+marks_next keep pending line lines = refl
+
+no_marks : (keep pending : Bool) → marks_from keep pending [] ≡ []
+unfolding marks_from
+no_marks keep pending = refl
+
+pub marks_step : (keep pending next : Bool) (before after whole : List Bool) (line : List ℕ) (all lines : List (List ℕ)) (kind : LineKind) → all ≡ line ∷ lines
+    → kind ≡ line_kind (words_of line) → next ≡ pending_after pending kind → after ≡ before ++ line_marks keep pending kind → before ++ marks_from keep pending all ≡ whole
+    → after ++ marks_from keep next lines ≡ whole
+marks_step keep pending next before after whole line all lines kind is e follows pushed so_far =
+    let here : line_marks keep pending kind ++ marks_from keep (pending_after pending kind) lines ≡ marks_from keep pending (line ∷ lines) =
+    ap (λ (k : LineKind). line_marks keep pending k ++ marks_from keep (pending_after pending k) lines) e ∙ sym (marks_next keep pending line lines) in
+    ap (λ (ms : List Bool). ms ++ marks_from keep next lines) pushed
+    ∙ append_assoc before (line_marks keep pending kind) (marks_from keep next lines)
+    ∙ ap (λ (p : Bool). before ++ (line_marks keep pending kind ++ marks_from keep p lines)) follows
+    ∙ ap (λ (ms : List Bool). before ++ ms) (here ∙ ap (marks_from keep pending) (sym is))
+    ∙ so_far
+
+pub marks_end : (keep pending : Bool) (before after whole : List Bool) (line : List ℕ) (all : List (List ℕ)) (kind : LineKind) → all ≡ line ∷ []
+    → kind ≡ line_kind (words_of line) → after ≡ before ++ line_marks keep pending kind → before ++ marks_from keep pending all ≡ whole → after ≡ whole
+marks_end keep pending before after whole line all kind is e pushed so_far =
+    sym (append-nil after)
+    ∙ ap (λ (ms : List Bool). after ++ ms) (sym (no_marks keep (pending_after pending kind)))
+    ∙ marks_step keep pending (pending_after pending kind) before after whole line all [] kind is e refl pushed so_far
+
+-- ---- the bytes of one operation more
+
+dropped : (bs : List Bool) (i : ℕ) → get_or (drop 1 bs) i false ≡ get_or bs (suc i) false
+dropped [] i = refl
+dropped (b ∷ bs) i = refl
+
+pub marked_more : (fs : List Fields) (bs : List Bool) (i : ℕ) (f : Fields) → slice_get fs i ≡ Some f
+    → marked_spelling (take (i + 1) fs) bs ≡ marked_spelling (take i fs) bs ++ spelling (with_fence (get_or bs i false) f)
+unfolding marked_spelling
+marked_more [] bs i f h = cc
+marked_more (x ∷ xs) bs zero f h =
+    append-nil (spelling (with_fence (get_or bs 0 false) x)) ∙ ap (λ (z : Fields). spelling (with_fence (get_or bs 0 false) z)) (same_Some x f h)
+marked_more (x ∷ xs) bs (suc i) f h =
+    let next : suc i + 1 ≡ suc (i + 1) = omega arith in
+    let first : List ℕ = spelling (with_fence (get_or bs 0 false) x) in
+    ap (λ (n : ℕ). marked_spelling (take n (x ∷ xs)) bs) next
+    ∙ ap (λ (bytes : List ℕ). first ++ bytes) (marked_more xs (drop 1 bs) i f h)
+    ∙ sym (append_assoc first (marked_spelling (take i xs) (drop 1 bs)) (spelling (with_fence (get_or (drop 1 bs) i false) f)))
+    ∙ ap (λ (m : Bool). (first ++ marked_spelling (take i xs) (drop 1 bs)) ++ spelling (with_fence m f)) (dropped bs i)
+
+pub text_more : (fs : List Fields) (bs : List Bool) (i : ℕ) (f : Fields) → slice_get fs i ≡ Some f
+    → marked_text (take (i + 1) fs) bs ≡ marked_text (take i fs) bs ++ (barrier_line (get_or bs i false) ++ text_line f)
+unfolding marked_text
+text_more [] bs i f h = cc
+text_more (x ∷ xs) bs zero f h =
+    ap (λ (t : List ℕ). barrier_line (get_or bs 0 false) ++ t) (append-nil (text_line x))
+    ∙ ap (λ (z : Fields). barrier_line (get_or bs 0 false) ++ text_line z) (same_Some x f h)
+text_more (x ∷ xs) bs (suc i) f h =
+    let next : suc i + 1 ≡ suc (i + 1) = omega arith in
+    let barrier : List ℕ = barrier_line (get_or bs 0 false) in
+    let rest : List ℕ = marked_text (take i xs) (drop 1 bs) in
+    let last : List ℕ = barrier_line (get_or (drop 1 bs) i false) ++ text_line f in
+    ap (λ (n : ℕ). marked_text (take n (x ∷ xs)) bs) next
+    ∙ ap (λ (t : List ℕ). barrier ++ (text_line x ++ t)) (text_more xs (drop 1 bs) i f h)
+    ∙ ap (λ (t : List ℕ). barrier ++ t) (sym (append_assoc (text_line x) rest last))
+    ∙ sym (append_assoc barrier (text_line x ++ rest) last)
+    ∙ ap (λ (m : Bool). (barrier ++ (text_line x ++ rest)) ++ (barrier_line m ++ text_line f)) (dropped bs i)
+
+pub none_written : (bs : List Bool) → marked_text [] bs ≡ []
+unfolding marked_text
+none_written bs = refl
+
+pub none_marked : (bs : List Bool) → marked_spelling [] bs ≡ []
+unfolding marked_spelling
+none_marked bs = refl
+
+pub field_at : (ds : List Descriptor) (i : ℕ) (d : Descriptor) → i < length ds → d ≡ get_or ds i d → slice_get (map fields ds) i ≡ Some (fields d)
+field_at [] i d lt is = absurd (omega arith)
+field_at (x ∷ xs) zero d lt is = ap (λ (y : Descriptor). Some (fields y)) (sym is)
+field_at (x ∷ xs) (suc i) d lt is = field_at xs i d (omega arith) is
+
+-- ---- what assembling a list with barriers answers
+
+pub marked_listing : (keep : Bool) (lines : List (List ℕ)) (ds : List Descriptor) (marks : List Bool) (bytes : List ℕ) → IsListing lines (list_spelling (map fields ds)) → HaveOneOwner (map fields ds)
+    → marks ≡ barriers_of keep lines → bytes ≡ marked_spelling (map fields ds) marks → IsMarkedListing keep lines bytes
+marked_listing keep lines ds marks bytes listing owner are e =
+    record {
+      operations = ds;
+      spelled = listing.spelled ∙ ap Some (spelled_list lines (map fields listing.operations) ds listing.spelled (sym listing.bytes_are));
+      one_owner = owner;
+      bytes_are = e ∙ ap (marked_spelling (map fields ds)) are;
+    }
+
+-- ---- a mark for each operation
+
+no_fields : (ws : List Word) (here : List Fields) → at_end [] ws ≡ Some here → 0 ≡ length here
+no_fields [] here e = ap length (same_Some [] here e)
+no_fields (w ∷ ws) here e = absurd cc
+
+one_field : (ws : List Word) (here : List Fields) → (fields_of ws >>= λ f. Some (f ∷ [])) ≡ Some here → 1 ≡ length here
+one_field ws here e =
+    let f = bound (fields_of ws) _ here e in
+    ap length (same_Some (f.0 ∷ []) here f.2)
+
+count_by : (batch barrier fence keep pending : Bool) (w : Word) (ws : List Word) (here : List Fields)
+    → (if batch then (batch_at ws >>= λ b. Some []) else if barrier then at_end [] ws else if fence then (fields_of ws >>= λ f. Some (f ∷ [])) else (fields_of (w ∷ ws) >>= λ f. Some (f ∷ []))) ≡ Some here
+    → length (line_marks keep pending (if batch then Other else if barrier then Barrier else if fence then Fenced else Operation)) ≡ length here
+count_by true barrier fence keep pending w ws here e =
+    let b = bound (batch_at ws) _ here e in
+    ap length (same_Some [] here b.2)
+count_by false true fence keep pending w ws here e = no_fields ws here e
+count_by false false true keep pending w ws here e = one_field ws here e
+count_by false false false keep pending w ws here e = one_field (w ∷ ws) here e
+
+line_count : (keep pending : Bool) (words : List Word) (here : List Fields) → line_fields words ≡ Some here → length (line_marks keep pending (line_kind words)) ≡ length here
+unfolding line_fields line_kind
+line_count keep pending [] here e = ap length (same_Some [] here e)
+line_count keep pending (w ∷ ws) here e =
+    count_by (bytes_eq w (codes "batch")) (bytes_eq w (codes "barrier")) (bytes_eq w (codes "fence")) keep pending w ws here e
+
+lines_count : (keep pending : Bool) (lines : List (List ℕ)) (fs : List Fields) → all_fields lines ≡ Some fs → length (marks_from keep pending lines) ≡ length fs
+unfolding all_fields marks_from
+lines_count keep pending [] fs e = ap length (same_Some [] fs e)
+lines_count keep pending (line ∷ lines) fs e =
+    let here = bound (line_fields (words_of line)) _ fs e in
+    let more = more_fields here.0 fs (all_fields lines) here.2 in
+    let kind : LineKind = line_kind (words_of line) in
+    let first = line_count keep pending (words_of line) here.0 here.1 in
+    let rest = lines_count keep (pending_after pending kind) lines more.0 more.1 in
+    let both : length fs ≡ length here.0 + length more.0 = ap length (sym more.2) ∙ length-append here.0 more.0 in
+    omega (arith, first, rest, both, length-append (line_marks keep pending kind) (marks_from keep (pending_after pending kind) lines))
+
+pub one_mark_each : OneMarkEach
+one_mark_each keep text fs e = lines_count keep false (lines_of text) fs e
+
+-- ---- the canonical text of a list with barriers
+
+kind_by : (batch barrier fence : Bool) (w : Word) (ws : List Word) (f : Fields) → bytes_eq w (codes "batch") ≡ batch → bytes_eq w (codes "barrier") ≡ barrier
+    → bytes_eq w (codes "fence") ≡ fence → fields_of (w ∷ ws) ≡ Some f → line_kind (w ∷ ws) ≡ Operation
+unfolding line_kind
+kind_by true barrier fence w ws f p b q e = absurd (batch_spells_none w ws f (same_word w (codes "batch") p) e)
+kind_by false true fence w ws f p b q e = absurd (barrier_spells_none w ws f (same_word w (codes "barrier") b) e)
+kind_by false false true w ws f p b q e = absurd (fence_spells_none w ws f (same_word w (codes "fence") q) e)
+kind_by false false false w ws f p b q e = rw (p, b, q) refl
+
+operation_kind : (words : List Word) (f : Fields) → fields_of words ≡ Some f → line_kind words ≡ Operation
+unfolding fields_of op_at
+operation_kind [] f e = absurd cc
+operation_kind (w ∷ ws) f e = kind_by (bytes_eq w (codes "batch")) (bytes_eq w (codes "barrier")) (bytes_eq w (codes "fence")) w ws f refl refl refl e
+
+pub barrier_spells : line_fields (words_of (codes "barrier")) ≡ Some []
+unfolding words_in line_fields
+barrier_spells = refl
+
+barrier_kind : line_kind (words_of (codes "barrier")) ≡ Barrier
+unfolding words_in line_kind
+barrier_kind = refl
+
+empty_kind : line_kind (words_of []) ≡ Other
+unfolding words_in line_kind
+empty_kind = refl
+
+no_lines : lines_of [] ≡ [] ∷ []
+unfolding lines_of
+no_lines = refl
+
+spells_marked : (m : Bool) (rest : List ℕ) (fs : List Fields) → TextSpells rest fs → TextSpells (barrier_line m ++ rest) fs
+spells_marked false rest fs e = e
+spells_marked true rest fs e = line_before (codes "barrier") rest [] fs refl barrier_spells e
+
+marked_spells : (fs : List Fields) (marks : List Bool) → AllByRecursion IsListed fs → TextSpells (marked_text fs marks) fs
+unfolding marked_text
+marked_spells [] marks all = nothing
+marked_spells (f ∷ fs) marks all =
+    spells_marked (get_or marks 0 false) (text_line f ++ marked_text fs (drop 1 marks)) (f ∷ fs)
+    (line_before (line_text f) (marked_text fs (drop 1 marks)) (f ∷ []) fs (canonical_is_line f all.0)
+    (spelt_line (words_of (line_text f)) f (line_spells f all.0)) (marked_spells fs (drop 1 marks) all.1))
+
+-- the mark of an operation whose line is before others
+operation_marks : (keep pending : Bool) (f : Fields) (rest : List ℕ) → IsListed f
+    → marks_from keep pending (lines_of (text_line f ++ rest)) ≡ pending ∷ marks_from keep false (lines_of rest)
+operation_marks keep pending f rest listed =
+    let kind : line_kind (words_of (line_text f)) ≡ Operation = operation_kind (words_of (line_text f)) f (line_spells f listed) in
+    ap (λ (t : List ℕ). marks_from keep pending (lines_of t)) (append_assoc (line_text f) (10 ∷ []) rest)
+    ∙ ap (marks_from keep pending) (line_first (line_text f) rest (canonical_is_line f listed))
+    ∙ marks_next keep pending (line_text f) (lines_of rest)
+    ∙ ap (λ (k : LineKind). line_marks keep pending k ++ marks_from keep (pending_after pending k) (lines_of rest)) kind
+
+-- a barrier before it, if it is marked
+marked_first : (keep m : Bool) (f : Fields) (rest : List ℕ) → IsListed f
+    → marks_from keep false (lines_of (barrier_line m ++ (text_line f ++ rest))) ≡ m ∷ marks_from keep false (lines_of rest)
+marked_first keep false f rest listed = operation_marks keep false f rest listed
+marked_first keep true f rest listed =
+    ap (marks_from keep false) (line_first (codes "barrier") (text_line f ++ rest) refl)
+    ∙ marks_next keep false (codes "barrier") (lines_of (text_line f ++ rest))
+    ∙ ap (λ (k : LineKind). line_marks keep false k ++ marks_from keep (pending_after false k) (lines_of (text_line f ++ rest))) barrier_kind
+    ∙ operation_marks keep true f rest listed
+
+marks_again : (keep : Bool) (fs : List Fields) (marks : List Bool) → AllByRecursion IsListed fs → length marks ≡ length fs
+    → marks_from keep false (lines_of (marked_text fs marks)) ≡ marks
+unfolding marked_text
+marks_again keep [] [] all e =
+    ap (marks_from keep false) no_lines ∙ marks_next keep false [] []
+    ∙ ap (λ (k : LineKind). line_marks keep false k ++ marks_from keep (pending_after false k) []) empty_kind ∙ no_marks keep false
+marks_again keep [] (m ∷ ms) all e = absurd (omega arith)
+marks_again keep (f ∷ fs) [] all e = absurd (omega arith)
+marks_again keep (f ∷ fs) (m ∷ ms) all e =
+    marked_first keep m f (marked_text fs ms) all.0 ∙ ap (λ (bs : List Bool). m ∷ bs) (marks_again keep fs ms all.1 (omega arith))
+
+pub marked_text_spells : MarkedTextSpells
+marked_text_spells keep fs marks all e = (marked_spells fs marks all, marks_again keep fs marks all e)
+
+-- ---- the bytes of a list with barriers are those of no other
+
+first_of : (d : Descriptor) (m : Bool) (rest : List ℕ) → spelling (with_fence m (fields d)) ++ rest ≡ [] → ⊥
+first_of d m rest e = absurd (omega (arith, ap length e, length-append (spelling (with_fence m (fields d))) rest, length-fenced_one (fields d) m d.listed))
+
+pub one_marked_spelling : OneMarkedSpelling
+unfolding marked_spelling
+one_marked_spelling [] [] [] [] a b e = (refl, refl)
+one_marked_spelling [] [] (m ∷ ms) others a b e = absurd (omega arith)
+one_marked_spelling [] [] [] (n ∷ ns) a b e = absurd (omega arith)
+one_marked_spelling [] (x ∷ xs) marks others a b e = absurd (first_of x (get_or others 0 false) (marked_spelling (map fields xs) (drop 1 others)) (sym e))
+one_marked_spelling (d ∷ ds) [] marks others a b e = absurd (first_of d (get_or marks 0 false) (marked_spelling (map fields ds) (drop 1 marks)) e)
+one_marked_spelling (d ∷ ds) (x ∷ xs) [] others a b e = absurd (omega arith)
+one_marked_spelling (d ∷ ds) (x ∷ xs) (m ∷ ms) [] a b e = absurd (omega arith)
+one_marked_spelling (d ∷ ds) (x ∷ xs) (m ∷ ms) (n ∷ ns) a b e =
+    let long = length-fenced_one (fields d) m d.listed ∙ sym (length-fenced_one (fields x) n x.listed) in
+    let parts = front (spelling (with_fence m (fields d))) (marked_spelling (map fields ds) ms) (spelling (with_fence n (fields x))) (marked_spelling (map fields xs) ns) long e in
+    let first = one_fenced d x m n parts.0 in
+    let rest = one_marked_spelling ds xs ms ns (omega arith) (omega arith) parts.1 in
+    let mark : m ≡ n = first.0 in
+    let operation : d ≡ x = first.1 in
+    let operations : ds ≡ xs = rest.0 in
+    let marks : ms ≡ ns = rest.1 in
+    ((λ i. operation i ∷ operations i), (λ i. mark i ∷ marks i))

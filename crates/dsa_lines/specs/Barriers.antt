@@ -1,0 +1,108 @@
+-- The barriers of a list as text: a line `barrier` before an operation, or, if fences are kept, the word `fence` before it
+-- in its line. In bytes the operation after a barrier has the flag 0x0001, fence (specification 341204). That lists have
+-- barriers is this project's choice.
+use Rattle.std.specs.Prelude.{◌≡◌, ℕ, ◌||◌, Bool, true, false, List, [], ◌∷◌, ◌++◌, drop, length, map, slice_index_or, codes, Some, Result, Ok, Err, if◌then◌else◌}
+use Rattle.std.specs.List.{AllByRecursion, list_any}
+use Rattle.std.specs.Str.{bytes_eq}
+use Rattle.dsa_descriptor.specs.declared.descriptor.Descriptor.{Descriptor}
+use Rattle.dsa_descriptor.specs.Descriptors.{fields}
+use Rattle.dsa_descriptor.specs.Fields.{Fields}
+use Rattle.dsa_descriptor.specs.Lists.{HaveOneOwner}
+use Rattle.dsa_descriptor.specs.Profile.{IsListed}
+use Rattle.dsa_descriptor.specs.Spelling.{spelling}
+use Rattle.dsa_emission.specs.Emission.{with_fence}
+use Rattle.dsa_lines.specs.declared.barriers.LineKind.{LineKind}
+use Rattle.dsa_lines.specs.declared.barriers.LineKind.TheVariants.{Other, Barrier, Fenced, Operation}
+use Rattle.dsa_lines.specs.declared.fault.TextFault.{TextFault}
+use Rattle.dsa_lines.specs.Words.{Word, words_of}
+use Rattle.dsa_lines.specs.Texts.{all_fields, lines_of, text_line, TextSpells}
+use Rattle.dsa_lines.specs.Assembled.{Assembles}
+
+-- what a line of the grammar has, by its first word: a barrier, a fenced operation, an operation, or none of these
+unfoldable pub line_kind : List Word → LineKind
+line_kind [] = Other
+line_kind (w ∷ ws) =
+    if bytes_eq w (codes "batch") then Other else
+    if bytes_eq w (codes "barrier") then Barrier else
+    if bytes_eq w (codes "fence") then Fenced else Operation
+
+-- the mark of the line's operation, if it has one: whether a barrier is before it
+abbrev pub line_marks : Bool → Bool → LineKind → List Bool
+line_marks keep pending Other = []
+line_marks keep pending Barrier = []
+line_marks keep pending Fenced = (pending || keep) ∷ []
+line_marks keep pending Operation = pending ∷ []
+
+-- whether a barrier is before the next operation after the line
+abbrev pub pending_after : Bool → LineKind → Bool
+pending_after pending Other = pending
+pending_after pending Barrier = true
+pending_after pending Fenced = false
+pending_after pending Operation = false
+
+-- the mark of each operation of the lines, if fences are kept or not
+unfoldable pub marks_from : Bool → Bool → List (List ℕ) → List Bool
+marks_from keep pending [] = []
+marks_from keep pending (line ∷ lines) =
+    line_marks keep pending (line_kind (words_of line)) ++ marks_from keep (pending_after pending (line_kind (words_of line))) lines
+
+-- a barrier before the first operation says nothing
+abbrev pub after_first : List Bool → List Bool
+after_first [] = []
+after_first (mark ∷ marks) = false ∷ marks
+
+-- the marks, if one of them is set; else none
+abbrev pub set_marks : List Bool → List Bool
+set_marks marks = if list_any (λ mark. mark) marks then marks else []
+
+-- the barriers of lines: a mark for each operation, if there is a barrier
+abbrev pub barriers_of : Bool → List (List ℕ) → List Bool
+barriers_of keep lines = set_marks (after_first (marks_from keep false lines))
+
+-- ---- a list with barriers
+
+-- its bytes: the flag fence of each operation after a barrier is set
+unfoldable pub marked_spelling : List Fields → List Bool → List ℕ
+marked_spelling [] marks = []
+marked_spelling (f ∷ fs) marks = spelling (with_fence (slice_index_or marks 0 false) f) ++ marked_spelling fs (drop 1 marks)
+
+-- the line of a barrier
+abbrev pub barrier_line : Bool → List ℕ
+barrier_line mark = if mark then codes "barrier\n" else []
+
+-- its canonical text
+unfoldable pub marked_text : List Fields → List Bool → List ℕ
+marked_text [] marks = []
+marked_text (f ∷ fs) marks = barrier_line (slice_index_or marks 0 false) ++ (text_line f ++ marked_text fs (drop 1 marks))
+
+-- the lines spell a list, and these are its bytes with the barriers
+pub record IsMarkedListing (keep : Bool) (lines : List (List ℕ)) (bytes : List ℕ) : Type 0 where
+  pub operations : List Descriptor
+  pub spelled : all_fields lines ≡ Some (map fields operations)
+  pub one_owner : HaveOneOwner (map fields operations)
+  pub bytes_are : bytes ≡ marked_spelling (map fields operations) (barriers_of keep lines)
+
+-- of lines that spell a list, its bytes with the barriers; of others what assembling the list without them refuses
+abbrev pub AssemblesMarked : {X : Type 0} → (X → List ℕ) → Bool → List (List ℕ) → Result X TextFault → Type 0
+AssemblesMarked shown keep lines (Ok bytes) = IsMarkedListing keep lines (shown bytes)
+AssemblesMarked shown keep lines (Err fault) = Assembles {X = List ℕ} (λ bytes. bytes) lines (Err fault)
+
+-- ---- laws
+
+-- a text that spells operations has a mark for each
+abbrev pub OneMarkEach : Type 0
+OneMarkEach =
+    (keep : Bool) (text : List ℕ) (fs : List Fields) → TextSpells text fs →
+    length (marks_from keep false (lines_of text)) ≡ length fs
+
+-- the canonical text of listed fields and their marks spells both
+abbrev pub MarkedTextSpells : Type 0
+MarkedTextSpells =
+    (keep : Bool) (fs : List Fields) (marks : List Bool) → AllByRecursion IsListed fs → length marks ≡ length fs →
+    TextSpells (marked_text fs marks) fs × (marks_from keep false (lines_of (marked_text fs marks)) ≡ marks)
+
+-- the bytes of listed fields and their marks are those of no others
+abbrev pub OneMarkedSpelling : Type 0
+OneMarkedSpelling =
+    (ds es : List Descriptor) (marks others : List Bool) → length marks ≡ length ds → length others ≡ length es →
+    marked_spelling (map fields ds) marks ≡ marked_spelling (map fields es) others → (ds ≡ es) × (marks ≡ others)

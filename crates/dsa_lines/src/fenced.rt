@@ -1,0 +1,118 @@
+//! The bytes of a list with barriers, from its text, and the text of one.
+
+ghost use Rattle.std.specs.Prelude.{◌≡◌, ◌++◌, false, slice_index_or, map, string_bytes, IfOk, OnOk};
+ghost use Rattle.dsa_descriptor.specs.Descriptors.{fields};
+ghost use Rattle.dsa_descriptor.specs.Spelling.{spelling};
+ghost use Rattle.dsa_emission.specs.Emission.{with_fence};
+ghost use Rattle.dsa_lines.specs.Texts.{lines_of, text_line};
+ghost use Rattle.dsa_lines.specs.Barriers.{AssemblesMarked, MarkedTextSpells, OneMarkEach, OneMarkedSpelling, barrier_line, marked_spelling, marked_text};
+
+use crate::assembling::parse_operations;
+use crate::barriers::text_barriers;
+use crate::disassembling::push_line;
+use crate::fault::TextFault;
+use dsa_descriptor::Descriptor;
+use std::alloc::{AllocError, Global};
+
+/// The mark of an operation; one that has no mark has no barrier.
+fn mark_at(marks: &[bool], index: usize) -> bool
+    ensures { result ≡ slice_index_or marks.now index false }
+{
+    index < marks.len() && marks[index]
+}
+
+/// The bytes of an operation, fenced or not.
+fn fenced_bytes(operation: &Descriptor, fence: bool) -> [u8; 64]
+    ensures { result ≡ spelling (with_fence fence (fields operation.now)) }
+{
+    let mut bytes = operation.write();
+    if fence {
+        bytes[4] |= 1;
+    }
+    bytes
+}
+
+/// The bytes of operations, in which each that is marked has the flag fence.
+fn marked_bytes(
+    alloc: Global,
+    operations: &[Descriptor],
+    marks: &[bool],
+) -> Result<Vec<u8>, AllocError>
+    ensures { IfOk result (λ bytes. bytes.items ≡
+        marked_spelling (map fields operations.now) marks.now) }
+{
+    let mut bytes = Vec::new(alloc);
+    for index in 0..operations.len() {
+        let entry = fenced_bytes(&operations[index], mark_at(marks, index));
+        bytes.extend_from_slice(&entry)?;
+    }
+    Ok(bytes)
+}
+
+/// The bytes of the list that a text spells, as [`assemble`](crate::assemble) answers them, in
+/// which each operation after a barrier has the flag 0x0001, fence. `fence` before an operation is
+/// a barrier if fences are kept; else it is passed over.
+///
+/// # Errors
+/// Those of [`assemble`](crate::assemble).
+pub fn assemble_fenced(alloc: Global, text: &[u8], keep_fences: bool) -> Result<Vec<u8>, TextFault>
+    ensures { AssemblesMarked (λ bytes. bytes.items) keep_fences (lines_of text.now) result }
+{
+    let operations = parse_operations(alloc, text)?;
+    let Ok(marks) = text_barriers(alloc, text, keep_fences) else {
+        return Err(TextFault::Memory);
+    };
+    match marked_bytes(alloc, &operations, &marks) {
+        Ok(bytes) => Ok(bytes),
+        Err(_) => Err(TextFault::Memory),
+    }
+}
+
+/// Writes the line of an operation, after that of a barrier if it is marked.
+fn push_marked(
+    alloc: Global,
+    text: &mut String,
+    operation: &Descriptor,
+    mark: bool,
+) -> Result<(), AllocError>
+    ensures { OnOk result (string_bytes text.new ≡ string_bytes text.old ++
+        (barrier_line mark ++ text_line (fields operation.now))) }
+{
+    if mark {
+        text.push_str("barrier\n")?;
+    }
+    push_line(alloc, text, operation)
+}
+
+/// The canonical lines of operations, with a line `barrier` before each that is marked.
+pub fn text_with_barriers(
+    alloc: Global,
+    operations: &[Descriptor],
+    marks: &[bool],
+) -> Result<String, AllocError>
+    ensures { IfOk result (λ text. string_bytes text ≡
+        marked_text (map fields operations.now) marks.now) }
+{
+    let mut text = String::new(alloc);
+    for index in 0..operations.len() {
+        push_marked(alloc, &mut text, &operations[index], mark_at(marks, index))?;
+    }
+    Ok(text)
+}
+
+/// A text that spells operations has a mark for each.
+#[tactic(auto, using(crate::proofs::Marks::one_mark_each))]
+pub fn one_mark_each()
+    ensures { OneMarkEach }
+{}
+
+/// The canonical text of listed fields and their marks spells both.
+pub fn marked_text_spells()
+    ensures { MarkedTextSpells }
+{}
+
+/// The bytes of descriptors and their marks are those of no others.
+#[tactic(auto, using(crate::proofs::Marks::one_marked_spelling))]
+pub fn one_marked_spelling()
+    ensures { OneMarkedSpelling }
+{}

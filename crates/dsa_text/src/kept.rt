@@ -1,0 +1,143 @@
+//! What is said of the fences and the barriers of a text: which fences a plan does not keep, and
+//! that a tracker sees no barriers.
+
+use crate::form::Form;
+use crate::origins::count_of;
+use crate::unplanned::Source;
+use crate::words::line_of_operation;
+use dsa_descriptor::Descriptor;
+use dsa_lines::text_barriers;
+use dsa_plan::{Plan, Settings};
+use std::alloc::{AllocError, Global};
+
+/// The most fences that are named.
+const MOST_NAMED: usize = 20;
+
+/// The one text and the other after it.
+pub(crate) fn joined(
+    first: Option<String>,
+    second: Option<String>,
+) -> Result<Option<String>, AllocError> {
+    let Some(mut text) = first else {
+        return Ok(second);
+    };
+    if let Some(more) = second {
+        text.push_str(&more)?;
+    }
+    Ok(Some(text))
+}
+
+/// That a tracker sees no barriers, if what is asked of a list with barriers is what groups wait
+/// for.
+pub(crate) fn barrier_notes(
+    alloc: Global,
+    source: Source<'_>,
+    marks: &[bool],
+    form: Form,
+) -> Result<Option<String>, AllocError> {
+    match (source, form) {
+        (Source::Text(_), Form::Waits) if !marks.is_empty() => Ok(Some(String::from_str(
+            alloc,
+            "warning: a tracker does not see barriers: let each group wait for all before it\n",
+        )?)),
+        (Source::Text(_) | Source::Job, _) => Ok(None),
+    }
+}
+
+/// For each piece of a plan whether it is fenced, or its group begins with it.
+fn cuts_of(alloc: Global, plan: &Plan) -> Result<Vec<bool>, AllocError> {
+    let mut cuts = Vec::new(alloc);
+    for group in plan.groups() {
+        for (column, fenced) in group.fences().iter().enumerate() {
+            cuts.push(column == 0 || *fenced)?;
+        }
+    }
+    Ok(cuts)
+}
+
+/// The operations that have `fence` in their lines, and no barrier before them.
+pub(crate) fn fenced_in(alloc: Global, text: &[u8]) -> Result<Vec<usize>, AllocError> {
+    let kept = text_barriers(alloc, text, true)?;
+    let plain = text_barriers(alloc, text, false)?;
+    let mut fenced = Vec::new(alloc);
+    for (operation, mark) in kept.iter().enumerate() {
+        if *mark && !plain.get(operation).copied().unwrap_or(false) {
+            fenced.push(operation)?;
+        }
+    }
+    Ok(fenced)
+}
+
+/// Those of the operations before whose first piece the plan has neither a fence nor the start of a
+/// group.
+fn unkept_in(
+    alloc: Global,
+    fenced: &[usize],
+    operations: &[Descriptor],
+    plan: &Plan,
+    settings: &Settings,
+) -> Result<Vec<usize>, AllocError> {
+    let cuts = cuts_of(alloc, plan)?;
+    let mut unkept = Vec::new(alloc);
+    let mut rest = fenced;
+    let mut first: usize = 0;
+    for (operation, d) in operations.iter().enumerate() {
+        let [next, behind @ ..] = rest else {
+            break;
+        };
+        if *next == operation {
+            if cuts.get(first).copied() == Some(false) {
+                unkept.push(operation)?;
+            }
+            rest = behind;
+        }
+        first = first.saturating_add(count_of(d, settings));
+    }
+    Ok(unkept)
+}
+
+/// A line for each of these operations, with the place of its fence.
+pub(crate) fn fence_lines(
+    alloc: Global,
+    text: &[u8],
+    operations: &[usize],
+    why: &str,
+) -> Result<Option<String>, AllocError> {
+    if operations.is_empty() {
+        return Ok(None);
+    }
+    let mut lines = String::new(alloc);
+    for operation in operations.iter().take(MOST_NAMED) {
+        let line = line_of_operation(text, *operation);
+        lines.push_str(&format!(in alloc; "note: line {line}, operation {operation}: ")?)?;
+        lines.push_str(why)?;
+        lines.push_str("; --keep-fences makes it a barrier\n")?;
+    }
+    if let Some(more) = operations
+        .len()
+        .checked_sub(MOST_NAMED)
+        .filter(|more| *more > 0)
+    {
+        lines.push_str(&format!(in alloc; "note: and {more} more fences\n")?)?;
+    }
+    Ok(Some(lines))
+}
+
+/// A line for each fence of a text that the plan of its operations does not keep.
+pub(crate) fn unkept_notes(
+    alloc: Global,
+    source: Source<'_>,
+    operations: &[Descriptor],
+    plan: &Plan,
+    settings: &Settings,
+) -> Result<Option<String>, AllocError> {
+    let Source::Text(text) = source else {
+        return Ok(None);
+    };
+    let fenced = fenced_in(alloc, text)?;
+    if fenced.is_empty() {
+        return Ok(None);
+    }
+    let unkept = unkept_in(alloc, &fenced, operations, plan, settings)?;
+    fence_lines(alloc, text, &unkept, "the plan does not keep this fence")
+}

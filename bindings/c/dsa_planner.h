@@ -37,9 +37,10 @@
  *   - each pointer is aligned and not NULL, and points to as many items as its length says, which can be read (const) or
  *     written (not const). With length 0 it is not read, and any aligned non-null address will do.
  *   - no output of a call overlaps another output or an input of that call. Outputs need not be initialised.
- *   - the calling thread has 256 KiB of stack free for dsa_check, dsa_check_fenced_list and dsa_judge, and 64 KiB for the
- *     other calls (measured: 166,088 bytes for dsa_check). Main threads and those of glibc have 8 MiB if no limit is set
- *     lower. A thread of musl has 128 KiB, too little for these three, unless pthread_attr_setstacksize gives it more.
+ *   - the calling thread has 256 KiB of stack free for dsa_check, dsa_check_fenced_list and dsa_judge, and 64 KiB for
+ *     the other calls (measured: 166,088 bytes for dsa_check). Main threads and those of glibc have 8 MiB if no limit
+ *     is set lower. A thread of musl has 128 KiB, too little for these three, unless pthread_attr_setstacksize gives it
+ *     more.
  *   - its rattle_alloc, rattle_realloc and rattle_dealloc, where it has its own, return, and may be called by several
  *     threads at once where calls are.
  *   - nothing else writes to inputs or outputs, or reads outputs, during the call.
@@ -311,10 +312,10 @@ uint32_t dsa_check(const struct dsa_settings *settings,
 
 /*
  * The same for a list as dsa_plan_fenced_list takes it, which says where the barriers are: not each fence that is
- * submitted is one. Returns 0 if the bytes submit the pieces of the list, the plan keeps each barrier, and no legal plan
- * that does costs less. Else the first refusal, in this order: of the list and its pieces, as of dsa_plan_fenced_list; of
- * the bytes; DSA_OTHER_PIECE, the first submitted piece that is not the list's; of the plan and the certificate. A
- * barrier that is not kept is DSA_UNFENCED, with the pieces just before and just after it.
+ * submitted is one. Returns 0 if the bytes submit the pieces of the list, the plan keeps each barrier, and no legal
+ * plan that does costs less. Else the first refusal, in this order: of the list and its pieces, as of
+ * dsa_plan_fenced_list; of the bytes; DSA_OTHER_PIECE, the first submitted piece that is not the list's; of the plan
+ * and the certificate. A barrier that is not kept is an inner DSA_UNFENCED, with the pieces just before and just after it.
  */
 uint32_t dsa_check_fenced_list(const struct dsa_settings *settings,
                                const uint64_t *table, size_t table_len,
@@ -388,9 +389,9 @@ uint32_t dsa_prepare(const struct dsa_settings *settings,
                      struct dsa_refusal *refusal);
 
 /*
- * The same, but an operation of the list may have the flag 0x0001, fence, as of dsa_plan_fenced_list: each barrier is kept
- * by what dsa_fill writes, the bytes that dsa_plan_fenced_list answers for the list at its new addresses. Refusals are
- * those of the list without the flags, but for DSA_NO_ROOM_FOR_ROWS.
+ * The same, but an operation of the list may have the flag 0x0001, fence, as of dsa_plan_fenced_list: each barrier is
+ * kept by what dsa_fill writes, the bytes that dsa_plan_fenced_list answers for the list at its new addresses. Refusals
+ * are those of the list without the flags, but for DSA_NO_ROOM_FOR_ROWS.
  */
 uint32_t dsa_prepare_fenced(const struct dsa_settings *settings,
                             const uint64_t *table, size_t table_len,

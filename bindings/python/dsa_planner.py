@@ -156,7 +156,7 @@ def _declare(library: ctypes.CDLL) -> None:
         "dsa_plan_fenced_list": (ctypes.c_uint32, [*listed, *rooms, planned, refusal]),
         "dsa_plan_list_certified": (ctypes.c_uint32, [*listed, *rooms, *certificate, byte, size, planned, refusal]),
         "dsa_check": (ctypes.c_uint32, [*listed, byte, size, ctypes.c_uint64, *certificate, word, refusal]),
-        "dsa_check_fenced_list": (ctypes.c_uint32, [*listed, *[byte, size] * 2, ctypes.c_uint64, *certificate, word, refusal]),
+        "dsa_check_fenced_list": (number, [*listed, *[byte, size] * 2, ctypes.c_uint64, *certificate, word, refusal]),
         "dsa_judge": (ctypes.c_uint32, [*listed, byte, size, word, refusal]),
         "dsa_prepare": (ctypes.c_uint32, [*listed, regions, size, rows, size, info, refusal]),
         "dsa_prepare_fenced": (ctypes.c_uint32, [*listed, regions, size, rows, size, info, refusal]),
@@ -547,8 +547,9 @@ def check(settings: Settings, portal: Bytes, staging: Bytes, certificate: Certif
 def check_fenced_list(
     settings: Settings, operations: Bytes, portal: Bytes, staging: Bytes, certificate: Certificate
 ) -> int:
-    """The same for a list as `plan_fenced_list` takes it, which says where the barriers are: the bytes submit the pieces of
-    the list, the plan keeps each barrier, and the certificate shows that no legal plan that does costs less."""
+    """The same for a list as `plan_fenced_list` takes it, which says where the barriers are: the bytes submit the
+    pieces of the list, the plan keeps each barrier, and the certificate shows that no legal plan that does costs
+    less."""
     given = [_given("operations", operations), _given("portal", portal), _given("staging", staging)]
     return _checked(_library.dsa_check_fenced_list, settings, given, certificate)
 
@@ -619,8 +620,8 @@ def prepare(settings: Settings, operations: Bytes, regions: Sequence[Tuple[int, 
 
 
 def prepare_fenced(settings: Settings, operations: Bytes, regions: Sequence[Tuple[int, int]]) -> Prepared:
-    """The same, but an operation may have the flag `BARRIER`, as for `plan_fenced_list`: each filled submission keeps its
-    barrier."""
+    """The same, but an operation may have the flag `BARRIER`, as for `plan_fenced_list`: each filled submission keeps
+    its barrier."""
     return _prepared(_library.dsa_prepare_fenced, settings, operations, regions)
 
 

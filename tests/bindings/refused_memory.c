@@ -109,7 +109,8 @@ static uint32_t call(int which, struct dsa_refusal *r)
         return dsa_check_fenced_list(&settings, &settings.batch, 0, list, sizeof list, portal_in, planned_in.portal_len,
                                      staging_in, planned_in.staging_len, 1, prices_in, N + 1, pairs_in, N, &o->cost, r);
     case 9:
-        return dsa_prepare_fenced(&settings, &settings.batch, 0, list, sizeof list, regions, 2, o->rows, ROWS, &o->info, r);
+        return dsa_prepare_fenced(&settings, &settings.batch, 0, list, sizeof list, regions, 2, o->rows, ROWS, &o->info,
+                                  r);
     default:
         return track(which, r);
     }

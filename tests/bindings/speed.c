@@ -78,8 +78,8 @@ static void copy_list(uint64_t n)
     __asm__ volatile("" : : "r"(staging) : "memory");
 }
 
-typedef uint32_t planner(const struct dsa_settings *, const uint64_t *, size_t, const uint8_t *, size_t, uint8_t *, size_t,
-                         uint8_t *, size_t, struct dsa_planned *, struct dsa_refusal *);
+typedef uint32_t planner(const struct dsa_settings *, const uint64_t *, size_t, const uint8_t *, size_t, uint8_t *,
+                         size_t, uint8_t *, size_t, struct dsa_planned *, struct dsa_refusal *);
 
 /* Plans the list `repeat` times: nanoseconds for each move. */
 static double planned_in(planner *call, uint64_t n, uint64_t repeat, struct dsa_planned *planned)
@@ -122,8 +122,8 @@ static void measure(const char *kind, uint64_t n, int rounds)
             copy_list(n);
         copy = least(copy, (now() - start) / (double)(repeat * n));
     }
-    printf("%-9s %6" PRIu64 " moves: plan %6.1f ns an operation, as a list with fences %6.1f, with a barrier at each fourth"
-           " %6.1f, copy %5.1f; cost %" PRIu64 ", one by one %" PRIu64 "\n",
+    printf("%-9s %6" PRIu64 " moves: plan %6.1f ns an operation, as a list with fences %6.1f, with a barrier at each"
+           " fourth %6.1f, copy %5.1f; cost %" PRIu64 ", one by one %" PRIu64 "\n",
            kind, n, plan, unfenced, fenced, copy, p.cost, 10 * n);
 }
 

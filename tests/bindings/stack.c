@@ -79,12 +79,12 @@ static void *call(void *which)
         code = dsa_track_complete(words, sizeof words / sizeof *words, slot, &waited, &ready, &refusal);
         break;
     case 10:
-        code = dsa_plan_fenced_list(s, &s->batch, 0, list, len, portal, sizeof portal, staging, sizeof staging, &planned,
-                                    &refusal);
+        code = dsa_plan_fenced_list(s, &s->batch, 0, list, len, portal, sizeof portal, staging, sizeof staging,
+                                    &planned, &refusal);
         break;
     case 11:
-        code = dsa_check_fenced_list(s, &s->batch, 0, list, len, portal, planned.portal_len, staging, planned.staging_len,
-                                     1, prices, n + 1, pairs, n, &cost, &refusal);
+        code = dsa_check_fenced_list(s, &s->batch, 0, list, len, portal, planned.portal_len, staging,
+                                     planned.staging_len, 1, prices, n + 1, pairs, n, &cost, &refusal);
         break;
     case 12:
         code = dsa_prepare_fenced(s, &s->batch, 0, list, len, regions, 2, rows, DSA_PREPARED_ROOM(2, MOST), &prepared,

@@ -19,8 +19,8 @@
 //! ```
 //!
 //! **Threads.** No call keeps state, takes a lock or starts a thread; calls may run at the same time. All types are plain
-//! data: they are `Send` and `Sync`. [`check`], [`check_fenced_list`] and [`judge`] need 256 KiB of stack, the other calls
-//! 64 KiB; a thread that `std` starts has 2 MiB.
+//! data: they are `Send` and `Sync`. [`check`], [`check_fenced_list`] and [`judge`] need 256 KiB of stack, the other
+//! calls 64 KiB; a thread that `std` starts has 2 MiB.
 //!
 //! **Memory.** The library takes its memory from the program's global allocator and has given it back when a call returns.
 //! Where the allocator fails within the library, the answer is [`Cause::Memory`].
@@ -474,12 +474,12 @@ fn raw_pairs(certificate: &Certificate) -> Vec<raw::Pair> {
     certificate.pairs.iter().map(pair_of).collect()
 }
 
-/// The same for a list as [`plan_fenced_into`] takes it, which says where the barriers are: the bytes submit the pieces of
-/// the list, the plan keeps each barrier, and no legal plan that does costs less. It needs 256 KiB of stack.
+/// The same for a list as [`plan_fenced_into`] takes it, which says where the barriers are: the bytes submit the pieces
+/// of the list, the plan keeps each barrier, and no legal plan that does costs less. It needs 256 KiB of stack.
 ///
 /// # Errors
-/// The first fault of the settings, the list and its pieces, or the bytes; [`Cause::OtherPiece`]; then that of the plan or
-/// the certificate. A barrier that is not kept is [`Cause::Unfenced`].
+/// The first fault of the settings, the list and its pieces, or the bytes; [`Cause::OtherPiece`]; then that of the plan
+/// or the certificate. A barrier that is not kept is an inner [`Cause::Unfenced`].
 ///
 /// ```
 /// # use dsa_planner::{check_fenced_list, list_of, plan_fenced_into, BatchPrice, Certificate, Descriptor, Settings};
@@ -503,7 +503,7 @@ pub fn check_fenced_list(
     let (raw, table) = settings.raw();
     let pairs = raw_pairs(certificate);
     let (mut cost, mut refusal) = (0, raw::Refusal::default());
-    // SAFETY: each pointer and length are those of one slice, or of one struct, and no output overlaps another argument.
+    // SAFETY: each pointer and length are those of one slice, or of one struct, and no output overlaps an argument.
     let code = unsafe {
         raw::dsa_check_fenced_list(
             &raw,

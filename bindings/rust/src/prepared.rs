@@ -64,7 +64,11 @@ pub fn prepare(settings: &Settings, list: &[u8], regions: &[Region]) -> Result<P
 ///
 /// # Errors
 /// The same, of the list without the flags.
-pub fn prepare_fenced(settings: &Settings, list: &[u8], regions: &[Region]) -> Result<Prepared, Refusal> {
+pub fn prepare_fenced(
+    settings: &Settings,
+    list: &[u8],
+    regions: &[Region],
+) -> Result<Prepared, Refusal> {
     prepared_by(raw::dsa_prepare_fenced, settings, list, regions)
 }
 

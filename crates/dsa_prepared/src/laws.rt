@@ -17,7 +17,7 @@ pub fn filled_is_planned()
     ensures { FilledIsPlanned }
 {}
 
-/// What is filled of a prepared list in which a fence is a barrier is what planning the list on the new buffers answers.
+/// What is filled of a prepared list in which a fence is a barrier is what planning it on the new buffers answers.
 pub fn filled_is_fenced_plan()
     ensures { FilledIsFencedPlan }
 {}

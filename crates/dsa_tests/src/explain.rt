@@ -246,12 +246,12 @@ fn at_most_65536_pieces(rt: HostRuntime) -> Result<(), Fail> {
     let plan = plan_of(alloc, &[])?;
     let most = copies(alloc, MOST_PIECES)?;
     assert_eq!(rt;
-        explain(alloc, &plan, &most, &settings, Detail::First).err(),
+        explain(alloc, &plan, &most, [].as_slice(), &settings, Detail::First).err(),
         Some(ExplainFault::Legal(LegalFault::Count))
     );
     let more = copies(alloc, MOST_PIECES + 1)?;
     assert_eq!(rt;
-        explain(alloc, &plan, &more, &settings, Detail::First).err(),
+        explain(alloc, &plan, &more, [].as_slice(), &settings, Detail::First).err(),
         Some(ExplainFault::TooManyPieces)
     );
     Ok(())

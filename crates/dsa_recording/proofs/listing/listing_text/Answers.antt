@@ -3,7 +3,6 @@ use Rattle.std.specs.Prelude.{string_bytes}
 use Rattle.std.proofs.lemmas.List.{take_all}
 use Rattle.dsa_recording.specs.declared.stream.Submission.{Submission}
 use Rattle.dsa_recording.specs.declared.submission.Audited.{Audited}
-use Rattle.dsa_audit.specs.declared.member.Member.{Member}
 use Rattle.dsa_recording.specs.Listings.{AreEntries, member_lines, listing_text}
 use Rattle.dsa_recording.proofs.ListingLines.{same_count, within_at, listing_more}
 use Rattle.dsa_recording.proofs.listing.listing_text.Goals as goal

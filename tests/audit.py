@@ -167,7 +167,8 @@ def operands_of(it):
 def shares_record(one, other):
     """The record of one meets the record of the other or data that it writes, or is read by it and no checksum's."""
     (reads, writes, record), (reads2, writes2, record2) = parts_of(one), parts_of(other)
-    status, status2 = (held if it[7] not in (CRC, COPY_CRC) else set() for it, held in ((one, record), (other, record2)))
+    status = record if one[7] not in (CRC, COPY_CRC) else set()
+    status2 = record2 if other[7] not in (CRC, COPY_CRC) else set()
     return bool(record & (writes2 | record2) or record2 & writes or status & reads2 or status2 & reads)
 
 

@@ -190,8 +190,8 @@ def recorder():
 
 
 def sentences_of_the_page():
-    """What docs/FORMATS.md says of each cause of a call from C, by number, with its places as fields to fill in, and of each
-    setting by its number."""
+    """What docs/FORMATS.md says of each cause of a call from C, by number, with its places as fields to fill in, and of
+    each setting by its number."""
     page, said = Path("docs/FORMATS.md").read_text(), {}
     for number, places, cause in re.findall(r"^\| (\d+) \| [A-Z]\w+([^|]*) \| (.*) \|$", page, re.M):
         sentence = re.sub("^(preparing|filling|tracking|from C): ", "", cause)
@@ -204,7 +204,7 @@ def sentences_of_the_page():
 
 
 def texts():
-    """The text of each refusal is the sentence that docs/FORMATS.md has, whatever the room for it; no cause has none."""
+    """The text of each refusal is the sentence that docs/FORMATS.md has, whatever the room; no cause has none."""
     (said, settings), most, wanted, asked = sentences_of_the_page(), 2**64 - 1, [], []
     within = [(47, inner) for inner in (2, 10, 12, 13, 33, 37)] + [(60, inner) for inner in (40, 41, 42, 43)]
     numbers = [(number, 0) for number in said] + within + [(0, 0), (14, 0), (129, 0), (2**32 - 1, 0), (0, 43), (60, 14)]

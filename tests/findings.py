@@ -1,7 +1,7 @@
-"""What `dsa_text audit` says of each finding of random recordings, typed from docs/FORMATS.md: the entries that it is of and
-what they do, how many bytes conflict, its key; that a text has the first finding of each key, and with --all each; and that
---write-accept names the errors, and --accept those that are known. A number is how many recordings are judged, 200
-without one."""
+"""What `dsa_text audit` says of each finding of random recordings, typed from docs/FORMATS.md: the entries that it is of
+and what they do, how many bytes conflict, its key; that a text has the first finding of each key, and with --all each;
+and that --write-accept names the errors, and --accept those that are known. A number is how many recordings are judged,
+200 without one."""
 
 import json
 import struct
@@ -13,8 +13,8 @@ from pathlib import Path
 import audit
 import common
 from audit import (
-    CHECK, COMPARE, COPY_CRC, CRC, CREATE, DELTA, DRAIN, DUALCAST, FETCH, FILL, FLUSH, INSERT, MOVE, PATTERN, STRIP, UPDATE,
-    Maker, data_of, further_data,
+    CHECK, COMPARE, COPY_CRC, CRC, CREATE, DELTA, DRAIN, DUALCAST, FETCH, FILL, FLUSH, INSERT, MOVE, PATTERN, STRIP,
+    UPDATE, Maker, data_of, further_data,
 )
 from common import named, program, run_test
 
@@ -26,8 +26,8 @@ NAMES = {
     0x17: "DIX generate", FLUSH: "cache flush",
 }
 KINDS = {"guarding": "guarding fence", "signalling": "signalling fence", "needless": "needless fence"}
-KINDS |= {"guarding and signalling": "guarding and signalling fence", "data over record": "data over its own completion record"}
-KINDS |= {"overwrites batch": "overwrites its batch"}
+KINDS |= {"guarding and signalling": "guarding and signalling fence", "overwrites batch": "overwrites its batch"}
+KINDS |= {"data over record": "data over its own completion record"}
 WHY = audit.WHY
 
 
@@ -60,7 +60,8 @@ def operation(it):
     if further_data(it) is None:
         return code_words(code)
     return {
-        DRAIN: "drain", FETCH: "translation fetch", CREATE: f"create delta {first:#x} with {second:#x} -> {own:#x}, {size} bytes",
+        DRAIN: "drain", FETCH: "translation fetch",
+        CREATE: f"create delta {first:#x} with {second:#x} -> {own:#x}, {size} bytes",
         CRC: f"CRC {first:#x}, {size} bytes{at_seed}", COPY_CRC: f"copy with CRC {copy}{at_seed}",
         CHECK: f"DIF check {first:#x}, {size} bytes", INSERT: f"DIF insert {copy}", STRIP: f"DIF strip {copy}",
         UPDATE: f"DIF update {copy}", FLUSH: f"cache flush {second:#x}, {size} bytes",
@@ -77,7 +78,8 @@ def overlap(earlier, later, hazard, address):
     """How many bytes from the address on are in both: of each the first span that has the address counts."""
     (reads, writes), (reads2, writes2) = operands(earlier), operands(later)
     one, other = {
-        "read after write": (writes, reads2), "write after read": (reads, writes2), "write after write": (writes, writes2),
+        "read after write": (writes, reads2), "write after read": (reads, writes2),
+        "write after write": (writes, writes2),
     }[hazard]
     ends = [next(it.stop for it in spans if address in it) for spans in (one, other)]
     return min(ends) - address
@@ -158,7 +160,9 @@ def told(text):
 
 def texts(recording, keys, name):
     """Of findings with one key the first is written, and how many more there are; with --all each is."""
-    lines = [[f"  entry {it['entry']}, byte {it['offset']}: {it['operation']}" for it in entries] for _, _, entries in keys]
+    lines = [
+        [f"  entry {it['entry']}, byte {it['offset']}: {it['operation']}" for it in entries] for _, _, entries in keys
+    ]
     every = told(run(recording, "--all")[1])
     common.expect([entries for _, entries, _ in every] == lines, f"{name}: with --all {every}")
     common.expect(not any(more for *_, more in every), f"{name}: with --all some are left out")
@@ -179,7 +183,8 @@ def accepting(recording, keys, folder, name):
         status, text = run(recording, "--json", "--accept", str(path))
         wanted = ["accepted" if it == "error" and key in known else it for key, it, _ in keys]
         severities = [finding["severity"] for finding in json.loads(text)["findings"]]
-        common.expect((severities, status) == (wanted, int("error" in wanted)), f"{name}, accepting {known}: {severities}, {status}")
+        right = (severities, status) == (wanted, int("error" in wanted))
+        common.expect(right, f"{name}, accepting {known}: {severities}, {status}")
         left = run(recording, "--write-accept", "--accept", str(path))[1]
         common.expect(left.splitlines() == [key for key in errors if key not in known], f"{name}: left are {left}")
 
@@ -207,7 +212,8 @@ def unread():
                 path.write_bytes(bad)
             ran = subprocess.run([TEXT, "audit", "--accept", path], input=b"", capture_output=True, text=True)
             said = "is no text in UTF-8" if bad else "can't be opened: there is no such file"
-            common.expect((ran.returncode, ran.stdout, ran.stderr) == (2, "", f"error: {path} {said}\n"), f"{bad}: {ran}")
+            wanted = (2, "", f"error: {path} {said}\n")
+            common.expect((ran.returncode, ran.stdout, ran.stderr) == wanted, f"{bad}: {ran}")
 
 
 def main(words):

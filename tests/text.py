@@ -234,8 +234,8 @@ def texts():
 
 
 def sentences():
-    """The sentences of dsa_sentences are those of docs/FORMATS.md, word for word, and there is no other cause; the Rust crate
-    and the Python module name the causes that a caller can meet."""
+    """The sentences of dsa_sentences are those of docs/FORMATS.md, word for word, and there is no other cause; the Rust
+    crate and the Python module name the causes that a caller can meet."""
     source = Path("crates/dsa_sentences/src/sentences.rt").read_text()
     of_causes, of_settings = source[: source.index("fn of_settings")], source[source.index("fn of_settings") :]
     pattern = r'^ *(\d+) =>\s*"([^"]*)"'
@@ -258,7 +258,8 @@ def sentences():
     rust, python = Path("bindings/rust/src/cause.rs").read_text(), Path("bindings/python/dsa_planner.py").read_text()
     of_rust = {int(number): name for name, number in re.findall(r"^    (\w+) = (\d+),", rust, re.M)}
     of_python = {int(number): name for number, name in re.findall(r'^    (\d+): "(\w+)",', python, re.M)}
-    common.expect(of_rust == of_python and wanted == {*of_rust}, f"the bindings have other causes: {wanted ^ {*of_rust}}")
+    right = of_rust == of_python and wanted == {*of_rust}
+    common.expect(right, f"the bindings have other causes: {wanted ^ {*of_rust}}")
 
 
 def pieces_of(moves):

@@ -185,7 +185,8 @@ def judged(seed):
         later, earlier = int(shown[1]), int(shown[5])
         found[later] = earlier
         named = [int(shown[k]) for k in range(9, 13)]
-        if KINDS.get((shown[4], shown[7])) != shown[3] or named != [later, 64 * later, earlier, 64 * earlier] or shown[8] == "0":
+        right = KINDS.get((shown[4], shown[7])) == shown[3] and shown[8] != "0"
+        if not right or named != [later, 64 * later, earlier, 64 * earlier]:
             common.expect(False, f"seed {seed}: {shown[0]}")
     wanted = f"{len(waits)} missing waits, "
     right = found == waits and wanted in out and (status == 1 or not waits) and status < 2

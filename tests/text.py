@@ -653,12 +653,13 @@ def keeps(plan, marks):
 
 
 def barriers():
-    """Random lists with barriers: the plan is legal and keeps them, no such plan costs less, and each fence says whether a
-    barrier needs it. The word fence, if it is kept, says what the line `barrier` does."""
+    """Random lists with barriers: the plan is legal and keeps them, none that does costs less, and each fence says if
+    a barrier needs it. The word fence, if it is kept, says what the line `barrier` does."""
     options = "--greatest-batch 4 --greatest-transfer 4096 --lone 10 --batch 14 --fence 3 --staging 0x10000".split()
     for seed in range(80):
         choose = random.Random(seed)
-        moves = [move(*(0x20000 + 0x1000 * choose.randrange(5) for _ in range(2)), record_at=0x8000 + 32 * k) for k in range(5)]
+        ends = [[0x20000 + 0x1000 * choose.randrange(5) for _ in range(2)] for _ in range(5)]
+        moves = [move(*it, record_at=0x8000 + 32 * k) for k, it in enumerate(ends)]
         marks = [choose.random() < 0.4 for _ in moves]
         rows = [f"move {it.first:#x} -> {it.second:#x}, {it.size} bytes, record {it.record_at:#x}" for it in moves]
         lines = "".join("barrier\n" * mark + row + "\n" for mark, row in zip(marks, rows))
@@ -673,7 +674,8 @@ def barriers():
         said = [it["before"] for it in found["fences"] if it.get("barrier")]
         common.expect(said == [k for k in sorted(fenced) if marks[k]], f"{lines}: barriers are said of {said}")
         words = "".join("fence " * mark + row + "\n" for mark, row in zip(marks, rows))
-        kept = subprocess.run([TEXT, "explain", "--json", "--keep-fences", *options], input=words, capture_output=True, text=True)
+        command = [TEXT, "explain", "--json", "--keep-fences", *options]
+        kept = subprocess.run(command, input=words, capture_output=True, text=True)
         common.expect((kept.stdout, kept.stderr) == (ran.stdout, ran.stderr), f"{words}: {kept}")
 
 

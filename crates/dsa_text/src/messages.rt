@@ -35,7 +35,8 @@ fn without_place(said: &str) -> &str {
 /// Writes the sentence of a cause with its indices. Which descriptor it is about is written before, as the place.
 fn push_sentence(text: &mut String, number: u64, indices: Indices) -> Result<(), AllocError> {
     let (first, second) = numbers_of(indices);
-    let said = refusal_text(number as u32, 0, first, second);
+    let number = u32::try_from(number).unwrap_or(0);
+    let said = refusal_text(number, 0, first, second);
     match str::from_utf8(said.as_slice()) {
         Ok(said) => text.push_str(without_place(said)),
         Err(_) => Ok(()),

@@ -89,6 +89,11 @@ pub(crate) fn column_at_fault(text: &[u8], line: usize, fault: ListFault) -> Opt
     }
 }
 
+/// Whether a word that is this text is printed as it is: a short one of signs that can be seen.
+fn is_shown(word: &[u8], shown: &str) -> bool {
+    word.len() <= MOST_SHOWN && !word.starts_with(&MARK) && !shown.chars().any(char::is_control)
+}
+
 /// Writes what was found at a place, in quotes: a text as it is, up to 40 bytes, other bytes by their numbers.
 pub(crate) fn push_found(alloc: Global, text: &mut String, word: &[u8]) -> Result<(), AllocError> {
     if word.is_empty() {
@@ -96,9 +101,7 @@ pub(crate) fn push_found(alloc: Global, text: &mut String, word: &[u8]) -> Resul
     }
     text.push_str("'")?;
     match str::from_utf8(word) {
-        Ok(shown) if word.len() <= MOST_SHOWN && !shown.chars().any(char::is_control) => {
-            text.push_str(shown)?;
-        }
+        Ok(shown) if is_shown(word, shown) => text.push_str(shown)?,
         Ok(_) | Err(_) => push_bytes(alloc, text, word)?,
     }
     text.push_str(if word.len() > MOST_SHOWN { "..'" } else { "'" })

@@ -50,10 +50,13 @@ def batch(*members, flags=0x0C, owner=0, at=0x10000):
 
 
 def audited(recording, words=""):
-    """The report on a recording as JSON, and the status."""
+    """The report on a recording as JSON, and the status. What it says of entries, and keys, are judged by findings.py."""
     ran = subprocess.run([TEXT, "audit", "--json", *words.split()], input=recording, capture_output=True)
     common.expect(ran.returncode in (0, 1) and not ran.stderr, f"audit ends with {ran.returncode}: {ran.stderr[:300]}")
-    return json.loads(ran.stdout or "{}"), ran.returncode
+    report = json.loads(ran.stdout or "{}")
+    for finding in report.get("findings", []):
+        del finding["entries"], finding["key"]
+    return report, ran.returncode
 
 
 def is_foreign(head, it):

@@ -214,17 +214,30 @@ class Clause:
     cited: frozenset
 
 
-def functions(name):
-    """Each function of this name in the code: its file, and where its head begins and ends there. The name may have
-    that of its type before it, as Room::take."""
+# What comes after the types of a function: its clauses, its body, or nothing, if a trait declares it.
+REST = re.compile(r"^ *(?:(?:ensures|requires)\b|\{)|(?:\{|;)$", re.M)
+BODY = re.compile(r"^ *\{.*?$", re.M)
+
+
+def head_end(text, begin):
+    """Where the head of a function ends, which begins there: before its body."""
+    rest = REST.search(text, begin)
+    has_clauses = rest and rest[0].strip() in ("ensures", "requires")
+    body = BODY.search(text, rest.end()) if has_clauses else rest
+    return body.start() if body else len(text)
+
+
+def functions(name, crate=""):
+    """Each function of this name in the code, or in that of a crate: its file, and where its head begins and ends there.
+    The name may have that of its type before it, as Room::take."""
     kind, _, call = name.rpartition("::")
-    for path in sorted(ROOT.glob("crates/*/src/**/*.rt")):
+    for path in sorted(ROOT.glob(f"crates/{crate or '*'}/src/**/*.rt")):
         text = path.read_text()
-        for head in re.finditer(rf"^ *(?:pub(?:\(crate\))? )?fn {re.escape(call)}\b", text, re.M):
+        head_of = rf'^ *(?:pub(?:\(crate\))? )?(?:extern "C" )?fn {re.escape(call)}\b'
+        for head in re.finditer(head_of, text, re.M):
             owner = re.findall(r"^impl\b[^{]*?(\w+)(?:<[^{]*>)? *\{?$", text[: head.start()], re.M)
             if not kind or (owner and owner[-1] == kind):
-                body = re.compile(r"^ *\{.*?$", re.M).search(text, head.end())
-                yield path, head.start(), body.start()
+                yield path, head.start(), head_end(text, head.end())
 
 
 def clauses_in(path, begin, end):
@@ -253,8 +266,8 @@ def parts_of(words):
 def clauses(words):
     """The clauses of these words: `plan_list:least`, or all of `plan_list`, perhaps after a crate, as `dsa_calls/`."""
     crate, name, part = parts_of(words)
-    found = [it for function in functions(name) for it in clauses_in(*function)]
-    return [it for label, it in found if part in ("", label) and crate in ("", it.crate)]
+    found = [it for function in functions(name, crate) for it in clauses_in(*function)]
+    return [it for label, it in found if part in ("", label)]
 
 
 def definitions_named(words):

@@ -210,7 +210,7 @@ def unread():
         for bad in (None, b"\xff\xfe"):
             if bad:
                 path.write_bytes(bad)
-            ran = subprocess.run([TEXT, "audit", "--accept", path], input=b"", capture_output=True, text=True)
+            ran = subprocess.run([TEXT, "audit", "--accept", path], input="", capture_output=True, text=True)
             said = "is no text in UTF-8" if bad else "can't be opened: there is no such file"
             wanted = (2, "", f"error: {path} {said}\n")
             common.expect((ran.returncode, ran.stdout, ran.stderr) == wanted, f"{bad}: {ran}")

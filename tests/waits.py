@@ -188,7 +188,7 @@ def judged(seed):
         right = KINDS.get((shown[4], shown[7])) == shown[3] and shown[8] != "0"
         if not right or named != [later, 64 * later, earlier, 64 * earlier]:
             common.expect(False, f"seed {seed}: {shown[0]}")
-    wanted = f"{len(waits)} missing waits, "
+    wanted = f"\n{len(waits)} missing wait{'s' * (len(waits) != 1)}, "
     right = found == waits and wanted in out and (status == 1 or not waits) and status < 2
     common.expect(right, f"seed {seed}: wanted {waits}, found {found}, status {status} {err}")
 
@@ -207,7 +207,7 @@ def by_hand():
     wait = (
         "entry 1 (submission 1): error: missing wait, read after write: reads what entry 0 (submission 0) writes,"
         " in flight, at 0x2010 (8 bytes)\n  entry 1, byte 64: move 0x2010 -> 0x3000, 8 bytes\n"
-        "  entry 0, byte 0: move 0x1000 -> 0x2000, 64 bytes\n1 missing waits, 2 submissions\n"
+        "  entry 0, byte 0: move 0x1000 -> 0x2000, 64 bytes\n1 missing wait, 2 submissions\n"
     )
     status, out, _ = audited(first + second, made[0] + made[1] + "C 0 1\nC 1 1\n")
     common.expect(status == 1 and wait in out, f"no wait: status {status}, {out}")

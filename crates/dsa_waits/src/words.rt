@@ -81,6 +81,11 @@ fn some_known(events: &[Event]) -> bool {
 const ALL_KNOWN: &str =
     "no event says when the program looked at a record (K): it is taken to know of an end at once\n";
 
+/// An s, but for one.
+fn plural(count: usize) -> &'static str {
+    if count == 1 { "" } else { "s" }
+}
+
 /// The lines of all missing waits, and how many there are.
 pub(crate) fn waits_text(
     alloc: Global,
@@ -96,7 +101,10 @@ pub(crate) fn waits_text(
         }
     }
     let submissions = found.course.made.len();
-    text.push_str(&format!(in alloc; "{missing} missing waits, {submissions} submissions\n")?)?;
+    let (waits, made) = (plural(missing), plural(submissions));
+    text.push_str(&format!(in alloc;
+        "{missing} missing wait{waits}, {submissions} submission{made}\n"
+    )?)?;
     if !some_known(&found.course.events) {
         text.push_str(ALL_KNOWN)?;
     }

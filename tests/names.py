@@ -130,9 +130,22 @@ def look_at_counts(page):
             expect(right, f"{page}: {words} prints {len(names)} of {crate} {file}: {', '.join(names)}")
 
 
+def look_at_promises():
+    """Each clause of the promises of docs/PROOF.md is one that tests/words prints."""
+    table = Path("docs/PROOF.md").read_text().split("## What is promised")[1].split("## The example")[0]
+    for row in re.findall(r"^\| .*? \| (.*) \|$", table, re.M)[1:]:
+        for said in row.split("; "):
+            names, _, clauses = said.partition(": ")
+            wanted = re.findall(r"`([\w:]+)`", clauses) or [""]
+            calls = re.findall(r"`([\w:]+)`", names) if not said.endswith((" of the calls", " to C")) else []
+            for call, clause in ((call, clause) for call in calls for clause in wanted):
+                unknown = definitions.found_by([f"{call}:{clause}".rstrip(":")])[2]
+                expect(not unknown, f"docs/PROOF.md: tests/words knows no clause {call}: {clause}")
+
+
 def look_at_halves():
     """README.md says on how many definitions each half of the headline rests, as docs/PROOF.md and docs/MODEL.md do."""
-    said = re.search(r"the first half rests on (\d+) definitions, all of it on (\d+);", Path("README.md").read_text())
+    said = re.search(r"the first rests on (\d+) definitions, both together on (\d+);", Path("README.md").read_text())
     pages = [Path(f"docs/{name}.md").read_text() for name in ("PROOF", "MODEL")]
     counted = [re.search(r"prints (\d+) definitions", page) for page in pages]
     expect(said and all(counted) and said.groups() == tuple(it[1] for it in counted), "README.md has other counts")
@@ -167,6 +180,7 @@ def main(words):
         for crate in crates():
             look_at_crate(crate)
         look_at_halves()
+        look_at_promises()
         look_for_unsafe()
 
 

@@ -214,7 +214,7 @@ def by_hand():
     status, out, _ = audited(first + second, made[0] + "C 0 1\n" + made[1] + "C 1 1\n")
     common.expect(status == 0 and "\n0 missing waits, 2 submissions\n" in out, f"a wait: status {status}, {out}")
     status, out, _ = audited(first + second, made[0] + "W 0\nC 0 1\n" + made[1] + "K 0\n")
-    common.expect(status == 1 and wait in out and "(K)" not in out, f"a lucky wait: status {status}, {out}")
+    common.expect(status == 1 and wait in out and "(W, K)" not in out, f"a lucky wait: status {status}, {out}")
 
 
 def refusals():

@@ -1,7 +1,6 @@
 -- What a finding says of its entry.
 use Rattle.std.specs.Prelude.{ℕ, ◌≡◌, ◌+◌, ◌-◌, ◌<◌, ◌≤◌, ◌&&◌, ◌==◌, nat_le, nat_lt, bit_and, Bool, false, List, [], ◌∷◌, length, slice_get, slice_index_or, Option, Some, None}
 use Rattle.dsa_descriptor.specs.Places.{u32_at, u64_at, flags_at, code_at}
-use Rattle.dsa_descriptor.specs.Profile.{required_flags}
 use Rattle.dsa_audit.specs.declared.member.Member.{Member as KnownMember}
 use Rattle.dsa_audit.specs.declared.missing.FencePlace.{FencePlace}
 use Rattle.dsa_audit.specs.declared.missing.FencePlace.TheVariants as fence_place
@@ -122,10 +121,10 @@ abbrev pub IsCause : List KnownMember → Place → FindingKind → Cause → Ty
 IsCause ms Head kind c = IsHeadCause kind c
 IsCause ms (Member k) kind c = IsMemberCause ms k kind c
 
--- the entry requests a completion record that has the address
+-- the entry may write a completion record that has the address
 abbrev pub is_in_record : ℕ → List ℕ → Bool
 is_in_record a e =
-    bit_and (flags_at e) required_flags == required_flags && (nat_le (u64_at 8 e) a && nat_lt (a - u64_at 8 e) 32)
+    bit_and (flags_at e) 0x04 == 0x04 && (nat_le (u64_at 8 e) a && nat_lt (a - u64_at 8 e) 32)
 
 -- of a missing fence, whose completion record has the address: member 0 is entry `first`, and the later member entry `at`
 abbrev pub shared_records : List (List ℕ) → ℕ → ℕ → Cause → Records

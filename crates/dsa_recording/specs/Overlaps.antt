@@ -27,6 +27,6 @@ later_side ReadAfterWrite m = reads_of m
 later_side WriteAfterRead m = writes_of m
 later_side WriteAfterWrite m = writes_of m
 
--- how many bytes of both there are from the address on
+-- how many bytes there are from the address on of the first span of each that has it
 abbrev pub overlap : HazardKind → ℕ → Member → Member → ℕ
 overlap kind a earlier later = min (bytes_from a (earlier_side kind earlier)) (bytes_from a (later_side kind later))

@@ -4,7 +4,10 @@ ghost use Rattle.dsa_recording.specs.declared.answer.AuditFormat.TheVariants.{Pi
 ghost use Rattle.std.specs.Prelude.{◌≡◌, ◌≢◌, ◌≤◌, ◌^◌, ◌↔◌, All, length, IfOk, IsTrue};
 ghost use Rattle.dsa_recording.specs.declared.stream.StreamFault.TheVariants.{Memory};
 ghost use Rattle.dsa_recording.specs.Answers.{is_harmless, AnswersFormat, AnswersRecording, AnswersReport, AreNoErrors, ArePlaced, IsNoError, IsStatusOf};
+ghost use Rattle.dsa_recording.specs.Accepted.{has_key};
 ghost use Rattle.dsa_recording.specs.Details.{IsPlaced};
+ghost use Rattle.dsa_recording.specs.Keys.{key_words};
+ghost use Rattle.dsa_recording.specs.Words.{severity_of, severity_with};
 ghost use Rattle.dsa_recording.specs.Listings.{AreEntries};
 ghost use Rattle.dsa_recording.specs.Submissions.{IsWithin};
 ghost use Rattle.dsa_recording.specs.Totals.{HasSums};
@@ -142,7 +145,11 @@ pub(crate) fn severity_in(
     options: AuditOptions<'_>,
     all: &[[u8; 64]],
     detail: &Detail,
-) -> Result<Severity, AllocError> {
+) -> Result<Severity, AllocError>
+    ensures { IfOk result (λ severity. severity ≡
+        severity_with (has_key options.entry.accepted.now (key_words all.now detail.now))
+        (severity_of options.entry.denied detail.now.cause)) }
+{
     let key = key_text(alloc, all, detail)?;
     let severity = severity_of(options.denied, detail.cause);
     Ok(severity_with(options.accepted.has(&key), severity))
@@ -157,7 +164,7 @@ fn push_findings(
     options: AuditOptions<'_>,
 ) -> Result<(), AllocError> {
     let complete = completeness(alloc, report)?;
-    let folded = folded_of(alloc, all, report, options.every)?;
+    let folded = folded_of(alloc, all, report, &complete, options.every)?;
     for (finding, alike) in report.findings.iter().zip(folded.iter()) {
         if *alike == 0 {
             continue;

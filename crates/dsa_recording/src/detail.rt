@@ -193,11 +193,11 @@ fn head_cause(kind: FindingKind) -> Option<Cause>
     }
 }
 
-/// Whether the entry requests a completion record that has the address.
+/// Whether the entry may write a completion record that has the address.
 fn is_in_record(entry: &[u8; 64], address: u64) -> bool
     ensures { result ≡ is_in_record address entry.now }
 {
-    if u32_at(entry, 4) % (1 << 24) & 0x0c != 0x0c {
+    if u32_at(entry, 4) % (1 << 24) & 0x04 != 0x04 {
         return false;
     }
     let record = u64_at(entry, 8);

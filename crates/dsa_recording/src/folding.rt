@@ -1,18 +1,34 @@
-//! Findings of one key, told once.
+//! Findings that say the same, told once.
 
-use crate::answer::{AuditOptions, severity_in};
-use crate::detail::detail_of;
+use crate::answer::{AuditOptions, is_complete, severity_in};
+use crate::detail::{Cause, Detail, detail_of};
 use crate::keys::key_text;
 use crate::report::Report;
 use crate::words::Severity;
 use std::alloc::{AllocError, Global};
-use std::collections::BTreeMap;
+use std::collections::{BTreeMap, BTreeSet};
 
-/// For each finding how many have its key, if it is the first that has it, else 0; where each is told, 1 for each.
+/// What findings that are told once have in common: their key, and if a fence is needless, whether that is so at once;
+/// `complete`: no fence of the submission is missing.
+fn said_text(
+    alloc: Global,
+    all: &[[u8; 64]],
+    detail: &Detail,
+    complete: bool,
+) -> Result<String, AllocError> {
+    let mut said = key_text(alloc, all, detail)?;
+    if !complete && detail.cause == Cause::NeedlessFence {
+        said.push_str(", once the missing fences are set")?;
+    }
+    Ok(said)
+}
+
+/// For each finding how many say the same, if it is the first of them, else 0; if each is told, 1 for each.
 pub(crate) fn folded_of(
     alloc: Global,
     all: &[[u8; 64]],
     report: &Report,
+    complete: &[bool],
     every: bool,
 ) -> Result<Vec<usize>, AllocError> {
     let mut alike = Vec::with_capacity(alloc, report.findings.len())?;
@@ -23,9 +39,9 @@ pub(crate) fn folded_of(
             continue;
         }
         if let Some(detail) = detail_of(all, report, *finding) {
-            let first = *firsts
-                .entry(key_text(alloc, all, &detail)?)?
-                .or_insert(index);
+            let known = is_complete(complete, detail.submission);
+            let said = said_text(alloc, all, &detail, known)?;
+            let first = *firsts.entry(said)?.or_insert(index);
             if first < index {
                 count_in(&mut alike, first, index);
             }
@@ -34,7 +50,7 @@ pub(crate) fn folded_of(
     Ok(alike)
 }
 
-/// Counts the last of these findings at the first that has its key.
+/// Counts the last of these findings at the first that says the same.
 fn count_in(alike: &mut [usize], first: usize, last: usize) {
     if let Some(count) = alike.get_mut(first) {
         *count = count.saturating_add(1);
@@ -44,7 +60,7 @@ fn count_in(alike: &mut [usize], first: usize, last: usize) {
     }
 }
 
-/// Writes how many more findings have the key of one.
+/// Writes how many more findings say the same as one.
 pub(crate) fn push_alike(alloc: Global, text: &mut String, alike: usize) -> Result<(), AllocError> {
     if alike <= 1 {
         return Ok(());
@@ -61,15 +77,15 @@ pub(crate) fn keys_text(
     options: AuditOptions<'_>,
 ) -> Result<String, AllocError> {
     let mut text = String::new(alloc);
-    let folded = folded_of(alloc, all, report, false)?;
-    for (finding, alike) in report.findings.iter().zip(folded.iter()) {
-        if *alike == 0 {
-            continue;
-        }
+    let mut written = BTreeSet::new(alloc);
+    for finding in &report.findings {
         if let Some(detail) = detail_of(all, report, *finding) {
-            if severity_in(alloc, options, all, &detail)? == Severity::Error {
-                text.push_str(&key_text(alloc, all, &detail)?)?;
+            let key = key_text(alloc, all, &detail)?;
+            let severity = severity_in(alloc, options, all, &detail)?;
+            if severity == Severity::Error && !written.contains(key.as_str()) {
+                text.push_str(&key)?;
                 text.push_str("\n")?;
+                written.insert(key)?;
             }
         }
     }

@@ -50,7 +50,7 @@ fn later_side(kind: HazardKind, member: &Member) -> &[Span]
     }
 }
 
-/// How many bytes of both members there are from the address of the hazard on.
+/// How many bytes there are from the address of the hazard on of the first span of each member that has it.
 pub fn overlap(hazard: Hazard, earlier: &Member, later: &Member) -> u64
     ensures { result ≡ overlap hazard.kind hazard.address earlier.now later.now }
 {

@@ -14,7 +14,7 @@ pub struct Queue {
 pub enum Event {
     /// The next submission is made.
     Submitted,
-    /// From now on it is seen whether the program looks at the completion record of this submission.
+    /// It is seen whether the program looks at the completion record of this submission.
     Watched(usize),
     /// The member of the submission has ended: first the submission, then the member.
     MemberEnded(usize, usize),

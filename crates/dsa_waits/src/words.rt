@@ -67,10 +67,10 @@ fn wait_text(
     Ok(text)
 }
 
-/// Whether some event says that the program has looked at a record.
+/// Whether some event says that the program looks at a record, or that this is seen.
 fn some_known(events: &[Event]) -> bool {
     for event in events {
-        if let Event::Known(_) = *event {
+        if let Event::Known(_) | Event::Watched(_) = *event {
             return true;
         }
     }
@@ -79,7 +79,7 @@ fn some_known(events: &[Event]) -> bool {
 
 /// What a report without looks at records rests on.
 const ALL_KNOWN: &str =
-    "no event says when the program looked at a record (K): it is taken to know of an end at once\n";
+    "no event says when the program looked at a record (W, K): it is taken to know of an end at once\n";
 
 /// An s, but for one.
 fn plural(count: usize) -> &'static str {

@@ -241,8 +241,8 @@ def owner_of(entry):
 
 
 def has_record(entry, address):
-    """Whether the entry asks for a completion record that has the address."""
-    return entry[4] & 0x0C == 0x0C and 0 <= address - struct.unpack_from("<Q", entry, 8)[0] < 32
+    """Whether the entry has a completion record, requested or on errors alone, that has the address."""
+    return entry[4] & 0x04 > 0 and 0 <= address - struct.unpack_from("<Q", entry, 8)[0] < 32
 
 
 class Batch:

@@ -141,7 +141,7 @@ def judge(recording, name):
             common.expect(what["bytes"] == count, f"{name}: {finding} conflicts in {count} bytes")
         key = key_of(what, entries, place, first, size)
         common.expect(finding["key"] == key, f"{name}: {finding} has the key {key!r}")
-        keys.append((key, finding["severity"], wanted))
+        keys.append((key, finding["severity"], wanted, what.get("once_corrected")))
     return keys
 
 
@@ -159,29 +159,30 @@ def told(text):
 
 
 def texts(recording, keys, name):
-    """Of findings with one key the first is written, and how many more there are; with --all each is."""
+    """Of findings with one key, and of needless fences with one condition, the first is written, and how many more there
+    are; with --all each is."""
     lines = [
-        [f"  entry {it['entry']}, byte {it['offset']}: {it['operation']}" for it in entries] for _, _, entries in keys
+        [f"  entry {it['entry']}, byte {it['offset']}: {it['operation']}" for it in entries] for _, _, entries, _ in keys
     ]
+    kinds = [(key, condition) for key, _, _, condition in keys]
     every = told(run(recording, "--all")[1])
     common.expect([entries for _, entries, _ in every] == lines, f"{name}: with --all {every}")
     common.expect(not any(more for *_, more in every), f"{name}: with --all some are left out")
-    count = Counter(key for key, *_ in keys)
-    firsts = {key: k for k, (key, *_) in reversed([*enumerate(keys)])}
-    wanted = [[every[k][0], lines[k], count[key] - 1] for k, (key, *_) in enumerate(keys) if firsts[key] == k]
+    count, firsts = Counter(kinds), {kind: k for k, kind in reversed([*enumerate(kinds)])}
+    wanted = [[every[k][0], lines[k], count[kind] - 1] for k, kind in enumerate(kinds) if firsts[kind] == k]
     common.expect(told(run(recording)[1]) == wanted, f"{name}: folded {run(recording)[1]}")
 
 
 def accepting(recording, keys, folder, name):
     """The keys of the errors are written, and errors with a key that is accepted are none."""
-    errors = [*dict.fromkeys(key for key, severity, _ in keys if severity == "error")]
+    errors = [*dict.fromkeys(key for key, severity, *_ in keys if severity == "error")]
     status, text = run(recording, "--write-accept")
     common.expect((status, text) == (0, "".join(f"{key}\n" for key in errors)), f"{name}: the errors are {text}")
     for known in (errors, errors[:-1], errors[1:], ["# of last week", "", *errors[::2]]):
         path = Path(folder, "known.txt")
         path.write_text("\n".join(known) + "\n" * (len(known) % 2))
         status, text = run(recording, "--json", "--accept", str(path))
-        wanted = ["accepted" if it == "error" and key in known else it for key, it, _ in keys]
+        wanted = ["accepted" if it == "error" and key in known else it for key, it, *_ in keys]
         severities = [finding["severity"] for finding in json.loads(text)["findings"]]
         right = (severities, status) == (wanted, int("error" in wanted))
         common.expect(right, f"{name}, accepting {known}: {severities}, {status}")

@@ -316,6 +316,8 @@ uint32_t dsa_check(const struct dsa_settings *settings,
  * plan that does costs less. Else the first refusal, in this order: of the list and its pieces, as of
  * dsa_plan_fenced_list; of the bytes; DSA_OTHER_PIECE, the first submitted piece that is not the list's; of the plan
  * and the certificate. A barrier that is not kept is an inner DSA_UNFENCED, with the pieces just before and just after it.
+ *
+ * The certificate comes from whoever planned: no call here writes one for a list with barriers yet.
  */
 uint32_t dsa_check_fenced_list(const struct dsa_settings *settings,
                                const uint64_t *table, size_t table_len,

@@ -35,7 +35,7 @@ BEGINS = 1
 FENCED = 2
 """The mark of a piece that carries the fence; it is added to `BEGINS`."""
 BARRIER = 0x0001
-"""The flag of an operation that begins after a barrier, for `plan_fenced_list` alone."""
+"""The flag of an operation that begins after a barrier, for the calls that take barriers alone."""
 BLOCK_ON_FAULT = 0x0002
 """The flag that has the device wait for pages that are absent, if its queue allows that."""
 

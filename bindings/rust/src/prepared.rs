@@ -60,7 +60,7 @@ pub fn prepare(settings: &Settings, list: &[u8], regions: &[Region]) -> Result<P
 }
 
 /// The same, but an operation may have the flag 0x0001, as [`plan_fenced_into`](crate::plan_fenced_into) takes it: each
-/// filled submission keeps its barrier.
+/// filled submission keeps its barriers.
 ///
 /// # Errors
 /// The same, of the list without the flags.

@@ -159,11 +159,10 @@ def told(text):
 
 
 def texts(recording, keys, name):
-    """Of findings with one key, and of needless fences with one condition, the first is written, and how many more there
-    are; with --all each is."""
-    lines = [
-        [f"  entry {it['entry']}, byte {it['offset']}: {it['operation']}" for it in entries] for _, _, entries, _ in keys
-    ]
+    """Of findings with one key, and of needless fences with one condition, the first is written, and how many more
+    there are; with --all each is."""
+    shown = [entries for _, _, entries, _ in keys]
+    lines = [[f"  entry {it['entry']}, byte {it['offset']}: {it['operation']}" for it in entries] for entries in shown]
     kinds = [(key, condition) for key, _, _, condition in keys]
     every = told(run(recording, "--all")[1])
     common.expect([entries for _, entries, _ in every] == lines, f"{name}: with --all {every}")

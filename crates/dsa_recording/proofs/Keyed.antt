@@ -1,5 +1,5 @@
 -- A finding has one key.
-use Rattle.std.proofs.Common.{◌≡◌, ℕ, Bool, true, false, List, [], ◌∷◌, ◌++◌, Option, Some, None, slice_get, sym, ap, subst, refl, ◌∙◌}
+use Rattle.std.proofs.Common.{◌≡◌, ℕ, Bool, true, false, List, [], ◌∷◌, ◌++◌, Option, Some, None, sym, ap, subst, refl, ◌∙◌}
 use Rattle.std.specs.Prelude.{slice_index_or}
 use Rattle.dsa_descriptor.specs.Places.{code_at}
 use Rattle.dsa_descriptor.specs.declared.span.Span.{Span}
@@ -8,7 +8,6 @@ use Rattle.dsa_ranges.specs.declared.hazards.HazardKind.{HazardKind}
 use Rattle.dsa_ranges.specs.declared.hazards.HazardKind.TheVariants.{ReadAfterWrite, WriteAfterRead, WriteAfterWrite}
 use Rattle.dsa_ranges.specs.Hazards.{IsHazard}
 use Rattle.dsa_audit.specs.declared.member.Member.{Member as KnownMember}
-use Rattle.dsa_audit.specs.declared.member.Member.TheVariants.{Known}
 use Rattle.dsa_audit.specs.Members.{IsHazardBetween}
 use Rattle.dsa_recording.specs.declared.detail.Cause.{Cause}
 use Rattle.dsa_recording.specs.declared.detail.Cause.TheVariants as cause

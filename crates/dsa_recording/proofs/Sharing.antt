@@ -1,5 +1,5 @@
 -- The last conflict by either of two relations.
-use Rattle.std.proofs.Common.{◌≡◌, ℕ, ◌<◌, ◌⊎◌, inl, inr, List, length, get_or, slice_get, Option, Some, None, sym, subst, ◌∙◌, arith}
+use Rattle.std.proofs.Common.{◌≡◌, ℕ, ◌<◌, ◌⊎◌, inl, inr, List, length, get_or, Option, Some, None, sym, subst, ◌∙◌, arith}
 use Rattle.std.proofs.lemmas.Option.{slice_get-get_or, slice_get_within}
 use Rattle.dsa_conflicts.specs.Access.{IsGreatest, later}
 use Rattle.dsa_conflicts.proofs.Greatest.{greatest_either, greatest_same}

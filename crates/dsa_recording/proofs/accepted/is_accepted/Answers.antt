@@ -1,4 +1,4 @@
-use Rattle.std.proofs.Common.{◌≡◌, true, false, ap, sym, string_bytes, ◌∙◌}
+use Rattle.std.proofs.Common.{◌≡◌, ap, sym, ◌∙◌}
 use Rattle.dsa_recording.specs.Accepted.{has_key}
 use Rattle.dsa_recording.specs.Keys.{key_words}
 use Rattle.dsa_recording.proofs.Keyed.{one_key}

@@ -1,5 +1,4 @@
 use Rattle.std.proofs.Common.{◌≡◌, List, Option, ℕ, length, sym, subst}
-use Rattle.dsa_audit.specs.declared.member.Member.{Member}
 use Rattle.dsa_audit.specs.Members.{KnownConflict}
 use Rattle.dsa_audit.specs.Steps.{AreLasts}
 use Rattle.dsa_recording.specs.Submissions.{AreRecords, AreStatuses}

@@ -98,9 +98,9 @@ def causes():
     """The crate and the Python module name each cause as the header and docs/FORMATS.md do."""
     header = dict(re.findall(r"^    DSA_(\w+) = (\d+)", Path("bindings/c/dsa_planner.h").read_text(), re.M))
     header = {int(number): name.title().replace("_", "") for name, number in header.items() if number != "0"}
-    rust = dict(re.findall(r"^    (\w+) = (\d+): \"", Path("bindings/rust/src/cause.rs").read_text(), re.M))
+    rust = dict(re.findall(r"^    (\w+) = (\d+),$", Path("bindings/rust/src/cause.rs").read_text(), re.M))
     rust = {int(number): name for name, number in rust.items()}
-    python = re.findall(r'^    (\d+): \("(\w+)", ', Path("bindings/python/dsa_planner.py").read_text(), re.M)
+    python = re.findall(r'^    (\d+): "(\w+)",$', Path("bindings/python/dsa_planner.py").read_text(), re.M)
     python = {int(number): name for number, name in python}
     expect(header == rust == python, f"the causes differ: {header.items() ^ rust.items() ^ python.items()}")
     formats = Path("docs/FORMATS.md").read_text()

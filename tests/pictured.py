@@ -33,7 +33,7 @@ def drawn_fence(words, x, y):
     """The bar of a fence before the box at this place, with its reason."""
     found = REASON.fullmatch(words)
     bar = f'<rect x="{x - 7}" y="{y}" width="4" height="40"/>'
-    under = lettered(x - 5, y + 51, 50, "none alone")
+    under = lettered(x - 5, y + 51, 50, "barrier" if words == "a barrier" else "none alone")
     if found:
         more = f" +{found[4]}" if found[4] else ""
         under = lettered(x - 5, y + 51, 60, f"{found[1]}←{found[2]}") + lettered(x - 5, y + 62, 50, KINDS[found[3]] + more)

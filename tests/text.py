@@ -497,8 +497,9 @@ def pictures():
         for case in golden.cases(path):
             if case.words.startswith("explain") and "--svg" in case.words and case.output:
                 asked.append((case.place, shlex.split(case.words), case.text, case.output.decode()))
-    for path in sorted(Path("examples/text").glob("*.svg")):
-        words = ["explain", "--svg", *path.with_suffix(".args").read_text().split()]
+    for path in sorted(Path("examples").glob("*/*.svg")):
+        options = path.with_suffix(".args")
+        words = ["explain", "--svg", *(options.read_text().split() if options.exists() else [])]
         asked.append((path, words, path.with_suffix(".txt").read_bytes(), path.read_text()))
     chance = random.Random(5)
     for count in (2, 7, 16, 17, 100, 1024):

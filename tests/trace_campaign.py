@@ -20,7 +20,7 @@ from pathlib import Path
 
 import model
 from campaign import Case
-from common import ROOT, expect, run_test, stop
+from common import ROOT, block_after, expect, run_test, stop
 from model import COMPARE, DELTA, DUALCAST, FILL, MOVE, replace
 
 BASE = 0x200000000
@@ -141,12 +141,24 @@ def published(folder, count):
             expect(right, f"{kind}, seed {seed}: status {ran.returncode}, {ran.stdout}")
 
 
+def example(folder):
+    """examples/barrier/publish.c prints what docs/USING.md says, under each of 20 seeds."""
+    parts = block_after("docs/USING.md", "`examples/barrier` has").split("$ dsa_trace -- ./publish ")[1:]
+    for part in parts:
+        outcome, _, wanted = part.partition("\n")
+        command = [f"{folder}/dsa_trace", "--seeds", "20", "--", f"{folder}/publish", outcome]
+        ran = subprocess.run(command, capture_output=True, text=True, timeout=600)
+        expect(ran.stdout == 20 * wanted and ran.returncode == 0, f"publish {outcome}: {ran.returncode}, {ran.stdout}")
+    expect(len(parts) == 2, f"docs/USING.md shows {len(parts)} runs of publish.c")
+
+
 def build(folder):
     """The device, and the clients over the library."""
     commands = [["make", "-C", "trace", "CC=gcc", f"OUT={folder}"]]
-    for name in ("planned", "published"):
-        sources = [f"tests/trace/{name}.c", "bindings/c/memory.c", ARCHIVE]
-        commands.append(["gcc", *STRICT, "-O2", "-I", "bindings/c", "-o", f"{folder}/{name}", *sources])
+    for path in ("tests/trace/planned.c", "tests/trace/published.c", "examples/barrier/publish.c"):
+        sources = [path, "bindings/c/memory.c", ARCHIVE]
+        words = ["-O2", "-mmovdir64b", "-I", "bindings/c", "-o", f"{folder}/{Path(path).stem}"]
+        commands.append(["gcc", *STRICT, *words, *sources])
     for command in commands:
         ran = subprocess.run(command, capture_output=True, text=True)
         if ran.returncode:
@@ -169,6 +181,7 @@ def main(words):
         whole(folder, lists, names)
         without_fence(folder, lists, names)
         published(folder, count)
+        example(folder)
 
 
 if __name__ == "__main__":

@@ -238,9 +238,10 @@ def examples(to):
     """Examples of the calls, of jobs, of operations as text and of recordings, and rows for tests of a caller's own, with three readers."""
     for name in ("two_moves.c", "own_memory.c", "submit.c", "in_flight.c"):
         shutil.copy(ROOT / "bindings/c" / name, to)
-    for path in [*(ROOT / "examples").glob("*.job"), ROOT / "examples/trace/copy_twice.c"]:
-        shutil.copy(path, to)
-    for folder, names in (("text", "*.txt"), ("audit", "*.xxd")):
+    for names in ("*.job", "trace/*.c", "barrier/*.c"):
+        for path in (ROOT / "examples").glob(names):
+            shutil.copy(path, to)
+    for folder, names in (("text", "*.txt"), ("barrier", "*.txt"), ("audit", "*.xxd")):
         (to / folder).mkdir()
         for path in (ROOT / "examples" / folder).glob(names):
             shutil.copy(path, to / folder)

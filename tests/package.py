@@ -451,6 +451,16 @@ except Refusal as refusal:
     print(sum(same), "batches as planned, then", refusal.number)
 """
 
+# two moves with a barrier between: a batch of cost 14 with a fence of cost 3, where one of them alone costs 10
+BARRIERS = """
+from dsa_planner import BARRIER, Settings, check_fenced_list, move, plan_fenced_list_certified
+settings = Settings(4, 4096, 10, 14, 3, 65536)
+operations = move(0x1000, 0x2000, 64, 0x8000) + move(0x3000, 0x4000, 64, 0x8020, flags=BARRIER)
+planned = plan_fenced_list_certified(settings, operations)
+cost = check_fenced_list(settings, operations, planned.portal, planned.staging, planned.certificate)
+print(cost, planned.cost, planned.certificate.prices, planned.certificate.pairs, planned.marks.hex())
+"""
+
 
 def python():
     """The module of the package, and what it says of bad libraries and of arguments that C would take otherwise."""
@@ -464,6 +474,8 @@ def python():
     tried("the Python lines of docs/USING.md", "python3", "-B", "readme.py", printed="cost 10\n", PYTHONPATH=module)
     printed = "2 batches as planned, then 109\n"
     tried("a list prepared in Python", "python3", "-B", "-c", FILLED, printed=printed, PYTHONPATH=module)
+    printed = "17 17 [0, 10, 17] [(0, 1), None] 0102\n"
+    tried("a list with a barrier in Python", "python3", "-B", "-c", BARRIERS, printed=printed, PYTHONPATH=module)
     Path(FOLDER, "none.c").write_text("int nothing;\n")
     Path(FOLDER, "old.c").write_text("unsigned dsa_planner_version(void) { return 901; }\n")
     Path(FOLDER, "next.c").write_text("unsigned dsa_planner_version(void) { return 20000; }\n")

@@ -294,6 +294,21 @@ uint32_t dsa_plan_list_certified(const struct dsa_settings *settings,
                                  struct dsa_refusal *refusal);
 
 /*
+ * The same of dsa_plan_fenced_list: the certificate is for dsa_check_fenced_list, and says that no legal plan that
+ * keeps the barriers costs less.
+ */
+uint32_t dsa_plan_fenced_list_certified(const struct dsa_settings *settings,
+                                        const uint64_t *table, size_t table_len,
+                                        const uint8_t *list, size_t list_len,
+                                        uint8_t *portal, size_t portal_capacity,
+                                        uint8_t *staging, size_t staging_capacity,
+                                        uint64_t *prices, size_t prices_capacity,
+                                        struct dsa_pair *pairs, size_t pairs_capacity,
+                                        uint8_t *marks, size_t marks_capacity,
+                                        struct dsa_planned *planned,
+                                        struct dsa_refusal *refusal);
+
+/*
  * Checks bytes to submit, whoever made them, with a certificate of this version, whoever wrote it. The lengths are those
  * of the plan, not of buffers: portal_len and staging_len of struct dsa_planned, n + 1 prices and n pairs for n pieces.
  *
@@ -316,8 +331,6 @@ uint32_t dsa_check(const struct dsa_settings *settings,
  * plan that does costs less. Else the first refusal, in this order: of the list and its pieces, as of
  * dsa_plan_fenced_list; of the bytes; DSA_OTHER_PIECE, the first submitted piece that is not the list's; of the plan
  * and the certificate. A barrier that is not kept is an inner DSA_UNFENCED, with the pieces just before and just after it.
- *
- * The certificate comes from whoever planned: no call here writes one for a list with barriers yet.
  */
 uint32_t dsa_check_fenced_list(const struct dsa_settings *settings,
                                const uint64_t *table, size_t table_len,

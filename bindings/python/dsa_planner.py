@@ -24,7 +24,7 @@ __all__ = [
     "BARRIER", "BEGINS", "BLOCK_ON_FAULT", "CAUSES", "FENCED", "MOST_PIECES", "Certificate", "Group", "Planned",
     "Prepared", "Refusal", "Retired", "Settings", "Submitted", "Summary", "Tracker", "apply_delta", "check",
     "check_fenced_list", "compare", "compare_pattern", "count_pieces", "dualcast", "fill", "groups", "judge",
-    "library_version", "move", "plan_fenced_list", "plan_list", "plan_list_certified",
+    "library_version", "move", "plan_fenced_list", "plan_fenced_list_certified", "plan_list", "plan_list_certified",
     "prepare", "prepare_fenced",
 ]
 
@@ -154,7 +154,8 @@ def _declare(library: ctypes.CDLL) -> None:
         "dsa_count_pieces": (ctypes.c_uint64, listed),
         "dsa_plan_list": (ctypes.c_uint32, [*listed, *rooms, planned, refusal]),
         "dsa_plan_fenced_list": (ctypes.c_uint32, [*listed, *rooms, planned, refusal]),
-        "dsa_plan_list_certified": (ctypes.c_uint32, [*listed, *rooms, *certificate, byte, size, planned, refusal]),
+        "dsa_plan_list_certified": (number, [*listed, *rooms, *certificate, byte, size, planned, refusal]),
+        "dsa_plan_fenced_list_certified": (number, [*listed, *rooms, *certificate, byte, size, planned, refusal]),
         "dsa_check": (ctypes.c_uint32, [*listed, byte, size, ctypes.c_uint64, *certificate, word, refusal]),
         "dsa_check_fenced_list": (number, [*listed, *[byte, size] * 2, ctypes.c_uint64, *certificate, word, refusal]),
         "dsa_judge": (ctypes.c_uint32, [*listed, byte, size, word, refusal]),
@@ -520,6 +521,16 @@ def plan_fenced_list(settings: Settings, operations: Bytes) -> Summary:
 
 def plan_list_certified(settings: Settings, operations: Bytes) -> Planned:
     """Plans a list, with the marks of its pieces and the certificate of the plan. Raises `Refusal`."""
+    return _certified(_library.dsa_plan_list_certified, settings, operations)
+
+
+def plan_fenced_list_certified(settings: Settings, operations: Bytes) -> Planned:
+    """The same of a list with barriers, as `plan_fenced_list` takes it. The certificate is for `check_fenced_list`."""
+    return _certified(_library.dsa_plan_fenced_list_certified, settings, operations)
+
+
+def _certified(call, settings: Settings, operations: Bytes) -> Planned:
+    """What a call that plans a list with its certificate answers."""
     raw, table, entries = settings._raw()
     listed, size = _given("operations", operations)
     pieces = min(int(_library.dsa_count_pieces(raw, table, entries, listed, size)), MOST_PIECES)
@@ -528,8 +539,7 @@ def plan_list_certified(settings: Settings, operations: Bytes) -> Planned:
     planned, refusal = _Planned(), _Refusal()
     rooms = portal, 64 * pieces, staging, 80 * pieces
     certified = prices, pieces + 1, pairs, pieces, marks, pieces
-    code = _library.dsa_plan_list_certified(raw, table, entries, listed, size, *rooms, *certified, planned, refusal)
-    _answered(code, refusal)
+    _answered(call(raw, table, entries, listed, size, *rooms, *certified, planned, refusal), refusal)
     count = planned.pieces
     couples = [(pair.first, pair.second) for pair in pairs[:count]]
     found: List[Pair] = [None if couple == (_NONE, _NONE) else couple for couple in couples]

@@ -4,7 +4,8 @@
  * that begin a group or set a fence at each barrier are legal; the least cost of these is the answer, and what is
  * submitted keeps each barrier. Without barriers the bytes are those of dsa_plan_list, and what that refuses of the
  * list without fences is refused. With the certificate of these costs dsa_check_fenced_list accepts the bytes of those
- * plans alone that are legal, keep the barriers and cost the least, and no bytes of other pieces. */
+ * plans alone that are legal, keep the barriers and cost the least, and no bytes of other pieces; and with its own
+ * certificate what dsa_plan_fenced_list_certified writes, which is what dsa_plan_fenced_list does. */
 #include <inttypes.h>
 #include <stdio.h>
 #include <stdlib.h>
@@ -292,6 +293,35 @@ static void try_others(struct list *l, const struct certificate *c)
         fail(l, "a piece fewer", fewer, l->count - 1);
 }
 
+/* Planning with a certificate writes the same bytes, the marks of their plan, and a certificate that is accepted. */
+static void try_certified(const struct list *l, const struct bytes *b, const struct dsa_planned *planned)
+{
+    struct certificate c;
+    struct bytes own = {{0}, {0}, planned->portal_len, planned->staging_len};
+    struct dsa_planned summary = {0};
+    struct dsa_refusal r = {0};
+    uint8_t marks[MOST] = {0};
+    uint64_t cost = 0;
+    const size_t n = l->count;
+    const uint32_t narrow = dsa_plan_fenced_list_certified(
+        &l->settings, l->table, l->entries, l->bytes, 64 * n, own.portal, ROOM, own.staging, STAGED, c.prices, n + 1,
+        c.pairs, n, marks, n - 1, &summary, &r);
+    if (narrow != DSA_NO_ROOM_FOR_CERTIFICATE || r.first != n || summary.pieces)
+        fail(l, "a certificate without room", narrow, n);
+    const uint32_t code = dsa_plan_fenced_list_certified(
+        &l->settings, l->table, l->entries, l->bytes, 64 * n, own.portal, ROOM, own.staging, STAGED, c.prices, n + 1,
+        c.pairs, n, marks, n, &summary, &r);
+    const struct bytes spelled = emitted(l, marks);
+    if (code || memcmp(&summary, planned, sizeof summary) || memcmp(own.portal, b->portal, own.portal_len)
+        || memcmp(own.staging, b->staging, own.staging_len))
+        fail(l, "planned with a certificate", code, 0);
+    if (spelled.portal_len != own.portal_len || memcmp(spelled.portal, own.portal, own.portal_len)
+        || memcmp(spelled.staging, own.staging, own.staging_len))
+        fail(l, "the marks are of another plan", 0, 0);
+    if (checked(l, &own, &c, &cost, &r) || cost != planned->cost)
+        fail(l, "its own certificate is not accepted", r.number, cost);
+}
+
 /* What is checked of the list: its plans, other pieces, and what planning answers. */
 static void try_checks(struct list *l)
 {
@@ -310,6 +340,7 @@ static void try_checks(struct list *l)
     b.staging_len = planned.staging_len;
     if (checked(l, &b, &c, &cost, &r) || cost != planned.cost)
         fail(l, "what is planned is not accepted", r.number, cost);
+    try_certified(l, &b, &planned);
 }
 
 /* What is filled of the prepared list is what planning it at its new addresses answers. */

@@ -8,7 +8,7 @@
 
 #include <dsa_planner.h>
 
-enum { MOST = DSA_MOST_PIECES, STACK = 1 << 20, CALLS = 13 };
+enum { MOST = DSA_MOST_PIECES, STACK = 1 << 20, CALLS = 14 };
 
 static const struct dsa_settings settings = {1, 1024, 4096, 10, 14, 3, UINT64_C(1) << 40};
 static uint8_t list[64 * MOST], portal[64 * MOST], staging[80 * MOST], marks[MOST];
@@ -90,6 +90,11 @@ static void *call(void *which)
         code = dsa_prepare_fenced(s, &s->batch, 0, list, len, regions, 2, rows, DSA_PREPARED_ROOM(2, MOST), &prepared,
                                   &refusal);
         break;
+    case 13:
+        code = dsa_plan_fenced_list_certified(s, &s->batch, 0, list, len, portal, sizeof portal, staging,
+                                              sizeof staging, prices, MOST + 1, pairs, MOST, marks, MOST, &planned,
+                                              &refusal);
+        break;
     default: /* large groups, and many, are refused once they are read */
         code = dsa_track_begin(words, sizeof words / sizeof *words, 64, 1024, 13, 12, &refusal);
         if (code == DSA_OK)
@@ -130,7 +135,8 @@ int main(int argc, char **argv)
 {
     static const char *const names[CALLS] = {"count_pieces", "plan_list", "plan_list_certified", "check", "judge",
                                              "prepare", "fill", "track_list", "track_complete", "track_groups",
-                                             "plan_fenced_list", "check_fenced_list", "prepare_fenced"};
+                                             "plan_fenced_list", "check_fenced_list", "prepare_fenced",
+                                             "plan_fenced_list_certified"};
     static const uint64_t lengths[] = {2, 63, 65, 3000, MOST};
     size_t greatest[CALLS] = {0}, limits[2] = {0, 0};
     if (argc != 3)

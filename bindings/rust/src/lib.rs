@@ -371,6 +371,35 @@ fn written_by(
 /// # Ok::<(), dsa_planner::Refusal>(())
 /// ```
 pub fn plan_list(settings: &Settings, list: &[u8]) -> Result<Planned, Refusal> {
+    certified_by(raw::dsa_plan_list_certified, settings, list)
+}
+
+/// The same of a list with barriers, as [`plan_fenced_into`] takes it. The certificate is for [`check_fenced_list`].
+///
+/// # Errors
+/// The first fault of the list, without the flags, or the settings; [`Cause::Memory`].
+///
+/// ```
+/// # use dsa_planner::{check_fenced_list, list_of, plan_fenced_list, BatchPrice, Descriptor, Settings};
+/// # let (lone, batch, fence) = (10, BatchPrice::Flat(14), 3);
+/// # let settings = Settings { greatest_batch: 4, greatest_transfer: 4096, lone, batch, fence, staging: 0x10000 };
+/// let checked = Descriptor::compare(0x1000, 0x2000, 64, 0x8000).expecting(false);
+/// let list = list_of(&[checked, Descriptor::memory_move(0x3000, 0x4000, 64, 0x8020).after_barrier()]);
+/// let planned = plan_fenced_list(&settings, &list)?;
+/// let cost = check_fenced_list(&settings, &list, &planned.portal, &planned.staging, &planned.certificate)?;
+/// assert_eq!((cost, planned.cost), (17, 17));
+/// # Ok::<(), dsa_planner::Refusal>(())
+/// ```
+pub fn plan_fenced_list(settings: &Settings, list: &[u8]) -> Result<Planned, Refusal> {
+    certified_by(raw::dsa_plan_fenced_list_certified, settings, list)
+}
+
+// What a call of the library that plans a list with its certificate answers.
+fn certified_by(
+    call: raw::PlanCertified,
+    settings: &Settings,
+    list: &[u8],
+) -> Result<Planned, Refusal> {
     let (raw, table) = settings.raw();
     let pieces = usize::try_from(count_pieces(settings, list)).map_or(0, |n| n.min(MOST_PIECES));
     let (mut portal, mut staging) = (vec![0; 64 * pieces], vec![0; 80 * pieces]);
@@ -379,7 +408,7 @@ pub fn plan_list(settings: &Settings, list: &[u8]) -> Result<Planned, Refusal> {
     let (mut summary, mut refusal) = (Summary::default(), raw::Refusal::default());
     // SAFETY: each pointer and length are those of one slice, or of one struct, and no output overlaps another argument.
     let code = unsafe {
-        raw::dsa_plan_list_certified(
+        call(
             &raw,
             table.as_ptr(),
             table.len(),

@@ -54,6 +54,27 @@ pub(crate) type PlanInto = unsafe extern "C" fn(
     refusal: &mut Refusal,
 ) -> u32;
 
+// A call that plans a list into buffers, with its certificate and marks.
+pub(crate) type PlanCertified = unsafe extern "C" fn(
+    settings: &Settings,
+    table: *const u64,
+    table_len: usize,
+    list: *const u8,
+    list_len: usize,
+    portal: *mut u8,
+    portal_capacity: usize,
+    staging: *mut u8,
+    staging_capacity: usize,
+    prices: *mut u64,
+    prices_capacity: usize,
+    pairs: *mut Pair,
+    pairs_capacity: usize,
+    marks: *mut u8,
+    marks_capacity: usize,
+    planned: &mut Summary,
+    refusal: &mut Refusal,
+) -> u32;
+
 // A call that prepares a list.
 pub(crate) type PrepareInto = unsafe extern "C" fn(
     settings: &Settings,
@@ -111,6 +132,26 @@ extern "C" {
     ) -> u32;
 
     pub fn dsa_plan_list_certified(
+        settings: &Settings,
+        table: *const u64,
+        table_len: usize,
+        list: *const u8,
+        list_len: usize,
+        portal: *mut u8,
+        portal_capacity: usize,
+        staging: *mut u8,
+        staging_capacity: usize,
+        prices: *mut u64,
+        prices_capacity: usize,
+        pairs: *mut Pair,
+        pairs_capacity: usize,
+        marks: *mut u8,
+        marks_capacity: usize,
+        planned: &mut Summary,
+        refusal: &mut Refusal,
+    ) -> u32;
+
+    pub fn dsa_plan_fenced_list_certified(
         settings: &Settings,
         table: *const u64,
         table_len: usize,

@@ -70,10 +70,10 @@ Refuses s table list portal staging r =
 abbrev pub CertificateFitsIn : Submission → ℕ → ℕ → ℕ → Type 0
 CertificateFitsIn p prices pairs marks = (length p.pieces + 1 ≤ prices) × (length p.pieces ≤ pairs) × (length p.pieces ≤ marks)
 
--- the same as IsWritten, with the certificate and the marks of the groups and fences at the front of their arrays
-pub record IsCertifiedWritten (s : RawSettings) (table list portal new_portal staging new_staging prices new_prices : List ℕ) (pairs new_pairs : List RawPair) (marks new_marks : List ℕ) (summary : RawPlanned) : Type 0 where
+-- the same as IsWrittenOf, with the certificate and the marks of the groups and fences at the front of their arrays
+pub record IsCertifiedWrittenOf (Answers : Submission → Type 0) (portal new_portal staging new_staging prices new_prices : List ℕ) (pairs new_pairs : List RawPair) (marks new_marks : List ℕ) (summary : RawPlanned) : Type 0 where
   pub submission : Submission
-  pub planned : IsPlannedFor s table list submission
+  pub planned : Answers submission
   pub fits : FitsIn submission (length portal) (length staging)
   pub certificate_fits : CertificateFitsIn submission (length prices) (length pairs) (length marks)
   pub portal_is : new_portal ≡ written submission.portal portal
@@ -83,9 +83,19 @@ pub record IsCertifiedWritten (s : RawSettings) (table list portal new_portal st
   pub marks_is : new_marks ≡ written (marks_of submission.plan) marks
   pub summary_is : summary ≡ summary_of submission
 
+-- that of the planned list
+abbrev pub IsCertifiedWritten : RawSettings → List ℕ → List ℕ → List ℕ → List ℕ → List ℕ → List ℕ → List ℕ → List ℕ → List RawPair → List RawPair → List ℕ → List ℕ → RawPlanned → Type 0
+IsCertifiedWritten s table list portal new_portal staging new_staging prices new_prices pairs new_pairs marks new_marks summary =
+    IsCertifiedWrittenOf (IsPlannedFor s table list) portal new_portal staging new_staging prices new_prices pairs new_pairs
+    marks new_marks summary
+
+-- the bytes of what is answered fit, but not the certificate or the marks, and this is how many pieces there are
+abbrev pub LacksRoomOf : (Submission → Type 0) → ℕ → ℕ → ℕ → ℕ → ℕ → RawRefusal → Type 0
+LacksRoomOf Answers portal staging prices pairs marks r =
+    (p : Submission) × Answers p × FitsIn p portal staging × (¬ CertificateFitsIn p prices pairs marks)
+    × (r ≡ no_room_for_certificate (length p.pieces))
+
 -- why nothing is written: as for planning alone; or the bytes fit, but not the certificate or the marks
 abbrev pub RefusesCertified : RawSettings → List ℕ → List ℕ → ℕ → ℕ → ℕ → ℕ → ℕ → RawRefusal → Type 0
 RefusesCertified s table list portal staging prices pairs marks r =
-    Refuses s table list portal staging r
-    ⊎ ((p : Submission) × IsPlannedFor s table list p × FitsIn p portal staging × (¬ CertificateFitsIn p prices pairs marks)
-    × (r ≡ no_room_for_certificate (length p.pieces)))
+    Refuses s table list portal staging r ⊎ LacksRoomOf (IsPlannedFor s table list) portal staging prices pairs marks r

@@ -16,19 +16,19 @@ use std::alloc::Global;
 
 /// A planned list, and the marks of its pieces.
 #[derive(Drop)]
-struct Certified {
-    planned: Planned,
-    marks: Vec<u8>,
+pub(crate) struct Certified {
+    pub(crate) planned: Planned,
+    pub(crate) marks: Vec<u8>,
 }
 
 /// How many items each of the caller's arrays has room for.
 #[derive(Clone, Copy)]
-struct Rooms {
-    portal: usize,
-    staging: usize,
-    prices: usize,
-    pairs: usize,
-    marks: usize,
+pub(crate) struct Rooms {
+    pub(crate) portal: usize,
+    pub(crate) staging: usize,
+    pub(crate) prices: usize,
+    pub(crate) pairs: usize,
+    pub(crate) marks: usize,
 }
 
 /// The planned list, where it is planned and all fits.

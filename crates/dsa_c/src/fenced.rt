@@ -96,7 +96,7 @@ fn plan_fenced_at_one_price(
 }
 
 /// The planned list, if it is planned and its bytes fit.
-fn plan_fenced_for(
+pub(crate) fn plan_fenced_for(
     alloc: Global,
     settings: &RawSettings,
     table: &[u64],

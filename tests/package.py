@@ -280,7 +280,7 @@ def device():
     refused("a missing fence", ["missing fence, read after write"], trace, "--audit", "--", "./ordered", "fence")
     tried("the build of the example", "cc", "-O2", "-mmovdir64b", EXAMPLES / "copy_twice.c", "-o", "copy_twice")
     refused("the example", ["missing fence, read after write"], trace, "--audit", "--seeds", 20, "--", "./copy_twice")
-    words = ["cc", "-O2", "-mmovdir64b", EXAMPLES / "publish.c", *linking("dsa_planner"), "-o", "publish"]
+    words = ["cc", "-O2", "-mmovdir64b", EXAMPLES / "publish.c", *linking("dsa_planner_static"), "-o", "publish"]
     tried("the build of the example with a barrier", *words)
     tried("a list that publishes", trace, "--", "./publish", "right", printed="published\n")
     refused("a missing wait", ["missing wait, read after write"], trace, "--audit", "--", "./ordered", "wait")

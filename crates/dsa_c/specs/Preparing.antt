@@ -60,8 +60,8 @@ pub record IsFencedPreparedFor (s : RawSettings) (table list : List ℕ) (region
   pub operations : List Descriptor
   pub prepared : IsFencedCostedOf list (limits_of s table) regions operations t cost
 
--- the rows of a list that is prepared for this stand at the front of the array, whose rest is left; what is read of them is
--- the template, and they can be filled
+-- the rows of a list that is prepared for this are at the front of the array, whose rest is unchanged; reading them gives the
+-- template, and they can be filled
 pub record IsPreparedIntoBy (For : Template → ℕ → Type 0) (rows new_rows : List Row) (info : RawInfo) : Type 0 where
   pub template : Template
   pub cost : ℕ

@@ -34,7 +34,7 @@ pub record HasReasons (detail : Detail) (pieces : List Fields) (start : ℕ) (gr
   pub named : fence.named.items ≡ named_of detail reasons
   pub more : fence.more ≡ length reasons - length fence.named.items
 
--- the fence stands in some group of the plan, and its reasons, and the barrier if it is at one, are what needs it there
+-- the fence is in a group of the plan; what needs it there are its reasons, and a barrier if there is one before its piece
 pub record IsExplained (detail : Detail) (pieces : List Fields) (barriers : List Bool) (plan : Plan) (fence : Fence) : Type 0 where
   pub number : ℕ
   pub group : Group

@@ -172,7 +172,8 @@ fn barrier_text(barrier: bool) -> &'static str
 
 /// What needs a fence that separates no conflict alone.
 fn alone_text(barrier: bool) -> &'static str
-    ensures { result.now ≡ if barrier then codes "a barrier" else codes "no conflict needs it alone" }
+    ensures { result.now ≡
+        if barrier then codes "a barrier" else codes "no conflict needs it alone" }
 {
     if barrier {
         "a barrier"

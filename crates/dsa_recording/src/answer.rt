@@ -211,7 +211,8 @@ fn written(
 ) -> Result<AuditAnswer, AllocError>
     requires { ArePlaced all.now report.now }
     ensures text { IfOk result (λ answer. answer.text ≡ text) }
-    ensures status { IfOk result (λ answer. IsStatusOf options.entry all.now report.now answer.status) }
+    ensures status { IfOk result
+        (λ answer. IsStatusOf options.entry all.now report.now answer.status) }
 {
     let status = status_of(alloc, options, all, report)?;
     Ok(AuditAnswer { text, status })

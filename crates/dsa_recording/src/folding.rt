@@ -1,4 +1,4 @@
-//! Findings that say the same, told once.
+//! Findings that say the same, written once.
 
 use crate::answer::{AuditOptions, is_complete, severity_in};
 use crate::detail::{Cause, Detail, detail_of};
@@ -8,8 +8,8 @@ use crate::words::Severity;
 use std::alloc::{AllocError, Global};
 use std::collections::{BTreeMap, BTreeSet};
 
-/// What findings that are told once have in common: their key, and if a fence is needless, whether that is so at once;
-/// `complete`: no fence of the submission is missing.
+/// What findings have in common of which only the first is written: their key, and of needless fences, whether they are
+/// needless before the missing ones are set. `complete`: no fence of the submission is missing.
 fn said_text(
     alloc: Global,
     all: &[[u8; 64]],
@@ -23,7 +23,7 @@ fn said_text(
     Ok(said)
 }
 
-/// For each finding how many say the same, if it is the first of them, else 0; if each is told, 1 for each.
+/// For each finding how many say the same, if it is the first of them, else 0; with `every`, 1 for each.
 pub(crate) fn folded_of(
     alloc: Global,
     all: &[[u8; 64]],

@@ -1,8 +1,10 @@
 //! Planning a list, with the certificate of the plan and the marks of its groups and fences.
 
-ghost use Rattle.std.specs.Prelude.{◌≡◌, ◌≢◌, ◌<◌, length, MatchResult};
+ghost use Rattle.std.specs.Prelude.{◌≡◌, ◌≢◌, ◌⊎◌, ◌<◌, length, MatchResult};
 ghost use Rattle.dsa_c.specs.Marks.{marks_of};
+ghost use Rattle.dsa_calls.specs.declared.fault.PlanFault.TheVariants.{Memory};
 ghost use Rattle.dsa_calls.specs.Planned.{submission_of};
+ghost use Rattle.dsa_c.specs.Raw.{no_room_for_certificate, refusal_of};
 ghost use Rattle.dsa_c.specs.Planning.{IsPlannedFor, FitsIn, CertificateFitsIn, IsCertifiedWritten, RefusesCertified};
 
 use crate::buffer::put;
@@ -31,7 +33,32 @@ pub(crate) struct Rooms {
     pub(crate) marks: usize,
 }
 
-/// The planned list, where it is planned and all fits.
+/// What is planned with the marks of its pieces, if these and the certificate fit.
+pub(crate) fn certified_of(
+    alloc: Global,
+    planned: Planned,
+    rooms: Rooms,
+) -> Result<Certified, RawRefusal>
+    ensures { MatchResult result
+        (λ x. (x.planned ≡ planned)
+        × CertificateFitsIn (submission_of planned) rooms.prices rooms.pairs rooms.marks
+        × (x.marks.items ≡ marks_of planned.plan))
+        (λ r. (0 < r.number)
+        × ((r ≡ refusal_of Memory)
+        ⊎ ((¬ CertificateFitsIn (submission_of planned) rooms.prices rooms.pairs rooms.marks)
+        × (r ≡ no_room_for_certificate (length (submission_of planned).pieces))))) }
+{
+    let pieces = planned.pieces.len();
+    if rooms.prices <= pieces || rooms.pairs < pieces || rooms.marks < pieces {
+        return Err(no_room_for_certificate(pieces));
+    }
+    let Ok(marks) = marks_of(alloc, &planned.plan) else {
+        return Err(refusal(PlanFault::Memory));
+    };
+    Ok(Certified { planned, marks })
+}
+
+/// The planned list, if it is planned and all fits.
 fn certified_for(
     alloc: Global,
     settings: &RawSettings,
@@ -48,18 +75,13 @@ fn certified_for(
         × RefusesCertified settings.now table.now list.now
         rooms.portal rooms.staging rooms.prices rooms.pairs rooms.marks r) }
 {
-    let planned = match plan_for(alloc, settings, table, list, rooms.portal, rooms.staging) {
-        Ok(planned) => planned,
-        Err(cause) => return Err(cause),
-    };
-    let pieces = planned.pieces.len();
-    if rooms.prices <= pieces || rooms.pairs < pieces || rooms.marks < pieces {
-        return Err(no_room_for_certificate(pieces));
+    match plan_for(alloc, settings, table, list, rooms.portal, rooms.staging) {
+        Ok(planned) => match certified_of(alloc, planned, rooms) {
+            Ok(certified) => Ok(certified),
+            Err(short) => Err(short),
+        },
+        Err(cause) => Err(cause),
     }
-    let Ok(marks) = marks_of(alloc, &planned.plan) else {
-        return Err(refusal(PlanFault::Memory));
-    };
-    Ok(Certified { planned, marks })
 }
 
 /// Plans a list as [`dsa_plan_list`](crate::dsa_plan_list) does, and writes the plan's certificate too, to `prices` and

@@ -8,13 +8,11 @@ ghost use Rattle.dsa_c.specs.Fenced.{IsFencedFor, IsFencedCertified, RefusesFenc
 
 use crate::buffer::put;
 use crate::certificate::{RawPair, put_pairs};
-use crate::certified::{Certified, Rooms};
+use crate::certified::{Certified, Rooms, certified_of};
 use crate::fenced::plan_fenced_for;
-use crate::marks::marks_of;
 use crate::planning::{RawPlanned, summary};
-use crate::refusal::{RawRefusal, no_room_for_certificate, refusal};
+use crate::refusal::RawRefusal;
 use crate::settings::RawSettings;
-use dsa_calls::PlanFault;
 use std::alloc::Global;
 
 /// The planned list, if it is planned and all fits.
@@ -34,18 +32,13 @@ fn fenced_certified_for(
         × RefusesFencedCertified settings.now table.now list.now
         rooms.portal rooms.staging rooms.prices rooms.pairs rooms.marks r) }
 {
-    let planned = match plan_fenced_for(alloc, settings, table, list, rooms.portal, rooms.staging) {
-        Ok(planned) => planned,
-        Err(cause) => return Err(cause),
-    };
-    let pieces = planned.pieces.len();
-    if rooms.prices <= pieces || rooms.pairs < pieces || rooms.marks < pieces {
-        return Err(no_room_for_certificate(pieces));
+    match plan_fenced_for(alloc, settings, table, list, rooms.portal, rooms.staging) {
+        Ok(planned) => match certified_of(alloc, planned, rooms) {
+            Ok(certified) => Ok(certified),
+            Err(short) => Err(short),
+        },
+        Err(cause) => Err(cause),
     }
-    let Ok(marks) = marks_of(alloc, &planned.plan) else {
-        return Err(refusal(PlanFault::Memory));
-    };
-    Ok(Certified { planned, marks })
 }
 
 /// Plans a list as [`dsa_plan_fenced_list`](crate::dsa_plan_fenced_list) does, and writes the plan's certificate too,

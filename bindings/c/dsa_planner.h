@@ -37,10 +37,10 @@
  *   - each pointer is aligned and not NULL, and points to as many items as its length says, which can be read (const) or
  *     written (not const). With length 0 it is not read, and any aligned non-null address will do.
  *   - no output of a call overlaps another output or an input of that call. Outputs need not be initialised.
- *   - the calling thread has 256 KiB of stack free for dsa_check, dsa_check_fenced_list and dsa_judge, and 64 KiB for
- *     the other calls (measured: 166,088 bytes for dsa_check). Main threads and those of glibc have 8 MiB if no limit
- *     is set lower. A thread of musl has 128 KiB, too little for these three, unless pthread_attr_setstacksize gives it
- *     more.
+ *   - the calling thread has 256 KiB of stack free for dsa_check, dsa_check_fenced_list, dsa_judge and
+ *     dsa_judge_fenced_list, and 64 KiB for the other calls (measured: 166,088 bytes for dsa_check). Main threads and
+ *     those of glibc have 8 MiB if no limit is set lower. A thread of musl has 128 KiB, too little for these four,
+ *     unless pthread_attr_setstacksize gives it more.
  *   - its rattle_alloc, rattle_realloc and rattle_dealloc, where it has its own, return, and may be called by several
  *     threads at once where calls are.
  *   - nothing else writes to inputs or outputs, or reads outputs, during the call.
@@ -357,6 +357,18 @@ uint32_t dsa_judge(const struct dsa_settings *settings,
                    const uint8_t *marks, size_t marks_len,
                    uint64_t *cost,
                    struct dsa_refusal *refusal);
+
+/*
+ * The same for a list as dsa_plan_fenced_list takes it. Returns 0 if the plan also keeps each barrier: by a fence of the
+ * descriptor after it, or by a group that begins there. A barrier that is not kept is DSA_UNFENCED, with the pieces just
+ * before and just after it.
+ */
+uint32_t dsa_judge_fenced_list(const struct dsa_settings *settings,
+                               const uint64_t *table, size_t table_len,
+                               const uint8_t *list, size_t list_len,
+                               const uint8_t *marks, size_t marks_len,
+                               uint64_t *cost,
+                               struct dsa_refusal *refusal);
 
 /* A buffer with which a list was made: addresses first to first + len - 1. */
 struct dsa_region {

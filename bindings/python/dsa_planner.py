@@ -24,8 +24,8 @@ __all__ = [
     "BARRIER", "BEGINS", "BLOCK_ON_FAULT", "CAUSES", "FENCED", "MOST_PIECES", "Certificate", "Group", "Planned",
     "Prepared", "Refusal", "Retired", "Settings", "Submitted", "Summary", "Tracker", "apply_delta", "check",
     "check_fenced_list", "compare", "compare_pattern", "count_pieces", "dualcast", "fill", "groups", "judge",
-    "library_version", "move", "plan_fenced_list", "plan_fenced_list_certified", "plan_list", "plan_list_certified",
-    "prepare", "prepare_fenced",
+    "judge_fenced_list", "library_version", "move", "plan_fenced_list", "plan_fenced_list_certified", "plan_list",
+    "plan_list_certified", "prepare", "prepare_fenced",
 ]
 
 MOST_PIECES = 65_536
@@ -159,6 +159,7 @@ def _declare(library: ctypes.CDLL) -> None:
         "dsa_check": (ctypes.c_uint32, [*listed, byte, size, ctypes.c_uint64, *certificate, word, refusal]),
         "dsa_check_fenced_list": (number, [*listed, *[byte, size] * 2, ctypes.c_uint64, *certificate, word, refusal]),
         "dsa_judge": (ctypes.c_uint32, [*listed, byte, size, word, refusal]),
+        "dsa_judge_fenced_list": (number, [*listed, byte, size, word, refusal]),
         "dsa_prepare": (ctypes.c_uint32, [*listed, regions, size, rows, size, info, refusal]),
         "dsa_prepare_fenced": (ctypes.c_uint32, [*listed, regions, size, rows, size, info, refusal]),
         "dsa_fill": (ctypes.c_uint32, [rows, size, word, size, ctypes.c_uint64, *rooms, refusal]),
@@ -583,10 +584,20 @@ def _checked(call, settings: Settings, given: Sequence, certificate: Certificate
 def judge(settings: Settings, operations: Bytes, marks: Bytes) -> int:
     """What a plan of the caller's costs, a mark for each descriptor of the list, where it is within the limits and each
     conflict within a batch has its fence. No descriptor is split. Raises `Refusal`. It needs 256 KiB of stack."""
+    return _judged(_library.dsa_judge, settings, operations, marks)
+
+
+def judge_fenced_list(settings: Settings, operations: Bytes, marks: Bytes) -> int:
+    """The same for a list as `plan_fenced_list` takes it: the plan keeps each barrier, too."""
+    return _judged(_library.dsa_judge_fenced_list, settings, operations, marks)
+
+
+def _judged(call, settings: Settings, operations: Bytes, marks: Bytes) -> int:
+    """The cost that a call answers of a list and the marks of a plan."""
     raw, table, entries = settings._raw()
     cost, refusal = ctypes.c_uint64(), _Refusal()
     listed, marked = _given("operations", operations), _given("marks", marks)
-    _answered(_library.dsa_judge(raw, table, entries, *listed, *marked, cost, refusal), refusal)
+    _answered(call(raw, table, entries, *listed, *marked, cost, refusal), refusal)
     return cost.value
 
 

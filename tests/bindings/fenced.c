@@ -3,9 +3,10 @@
  * Random lists of up to seven moves over a few pages, with random barriers. Of all plans those that dsa_judge takes and
  * that begin a group or set a fence at each barrier are legal; the least cost of these is the answer, and what is
  * submitted keeps each barrier. Without barriers the bytes are those of dsa_plan_list, and what that refuses of the
- * list without fences is refused. With the certificate of these costs dsa_check_fenced_list accepts the bytes of those
- * plans alone that are legal, keep the barriers and cost the least, and no bytes of other pieces; and with its own
- * certificate what dsa_plan_fenced_list_certified writes, which is what dsa_plan_fenced_list does. */
+ * list without fences is refused. Of each plan dsa_judge_fenced_list says what it costs, or which barrier it does not
+ * keep. With the certificate of these costs dsa_check_fenced_list accepts the bytes of those plans alone that are legal,
+ * keep the barriers and cost the least, and no bytes of other pieces; and with its own certificate what
+ * dsa_plan_fenced_list_certified writes, which is what dsa_plan_fenced_list does. */
 #include <inttypes.h>
 #include <stdio.h>
 #include <stdlib.h>
@@ -243,6 +244,25 @@ static uint32_t checked(const struct list *l, const struct bytes *b, const struc
                                  l->count, cost, r);
 }
 
+/* A plan that is legal without barriers, and costs this, is judged so exactly if it keeps them; else the first that it does
+ * not keep is named, by the pieces around it. A plan that is not legal is refused. */
+static void try_judging(const struct list *l, const uint8_t *marks, uint64_t own)
+{
+    struct dsa_refusal r = {0};
+    uint64_t cost = 7;
+    size_t passed_at = 0;
+    for (size_t k = l->count; k-- > 1;)
+        passed_at = l->is_barrier[k] && !marks[k] ? k : passed_at;
+    const uint32_t code = dsa_judge_fenced_list(&l->settings, l->table, l->entries, l->bytes, 64 * l->count, marks,
+                                                l->count, &cost, &r);
+    if (own == UINT64_MAX ? code == DSA_OK : code != (passed_at ? DSA_UNFENCED : DSA_OK))
+        fail(l, "judging a plan", code, passed_at);
+    if (code ? cost != 7 : cost != own)
+        fail(l, "the cost of a plan", cost, own);
+    if (own != UINT64_MAX && passed_at && (r.first != passed_at - 1 || r.second != passed_at))
+        fail(l, "the barrier that a plan does not keep", r.second, passed_at);
+}
+
 /* Each plan is accepted exactly if it is legal, keeps the barriers and costs the least. */
 static void try_plans(const struct list *l, const struct certificate *c, uint8_t *marks, size_t next)
 {
@@ -260,6 +280,7 @@ static void try_plans(const struct list *l, const struct certificate *c, uint8_t
     for (size_t k = 1; k < l->count; k++)
         want = l->is_barrier[k] && !marks[k] ? DSA_PLAN : want;
     const uint64_t own = judged(l, marks);
+    try_judging(l, marks, own);
     if (own == UINT64_MAX)
         want = DSA_PLAN;
     else if (want == DSA_OK && own != c->prices[l->count])

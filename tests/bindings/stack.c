@@ -8,7 +8,7 @@
 
 #include <dsa_planner.h>
 
-enum { MOST = DSA_MOST_PIECES, STACK = 1 << 20, CALLS = 14 };
+enum { MOST = DSA_MOST_PIECES, STACK = 1 << 20, CALLS = 15 };
 
 static const struct dsa_settings settings = {1, 1024, 4096, 10, 14, 3, UINT64_C(1) << 40};
 static uint8_t list[64 * MOST], portal[64 * MOST], staging[80 * MOST], marks[MOST];
@@ -95,6 +95,9 @@ static void *call(void *which)
                                               sizeof staging, prices, MOST + 1, pairs, MOST, marks, MOST, &planned,
                                               &refusal);
         break;
+    case 14:
+        code = dsa_judge_fenced_list(s, &s->batch, 0, list, len, marks, n, &cost, &refusal);
+        break;
     default: /* large groups, and many, are refused once they are read */
         code = dsa_track_begin(words, sizeof words / sizeof *words, 64, 1024, 13, 12, &refusal);
         if (code == DSA_OK)
@@ -136,7 +139,7 @@ int main(int argc, char **argv)
     static const char *const names[CALLS] = {"count_pieces", "plan_list", "plan_list_certified", "check", "judge",
                                              "prepare", "fill", "track_list", "track_complete", "track_groups",
                                              "plan_fenced_list", "check_fenced_list", "prepare_fenced",
-                                             "plan_fenced_list_certified"};
+                                             "plan_fenced_list_certified", "judge_fenced_list"};
     static const uint64_t lengths[] = {2, 63, 65, 3000, MOST};
     size_t greatest[CALLS] = {0}, limits[2] = {0, 0};
     if (argc != 3)
@@ -154,7 +157,7 @@ int main(int argc, char **argv)
     int is_over = 0;
     for (int which = 0; which < CALLS; which++) {
         printf("%s: %zu bytes of stack\n", names[which], greatest[which]);
-        is_over |= greatest[which] > limits[which == 3 || which == 4 || which == 11];
+        is_over |= greatest[which] > limits[which == 3 || which == 4 || which == 11 || which == 14];
     }
     return is_over;
 }

@@ -19,8 +19,8 @@
 //! ```
 //!
 //! **Threads.** No call keeps state, takes a lock or starts a thread; calls may run at the same time. All types are plain
-//! data: they are `Send` and `Sync`. [`check`], [`check_fenced_list`] and [`judge`] need 256 KiB of stack, the other
-//! calls 64 KiB; a thread that `std` starts has 2 MiB.
+//! data: they are `Send` and `Sync`. [`check`], [`check_fenced_list`], [`judge`] and [`judge_fenced_list`] need 256 KiB
+//! of stack, the other calls 64 KiB; a thread that `std` starts has 2 MiB.
 //!
 //! **Memory.** The library takes its memory from the program's global allocator and has given it back when a call returns.
 //! Where the allocator fails within the library, the answer is [`Cause::Memory`].
@@ -572,11 +572,46 @@ pub fn check_fenced_list(
 /// # Ok::<(), dsa_planner::Refusal>(())
 /// ```
 pub fn judge(settings: &Settings, list: &[u8], marks: &[u8]) -> Result<u64, Refusal> {
+    judged_by(raw::dsa_judge, settings, list, marks)
+}
+
+/// The same for a list as [`plan_fenced_into`] takes it: the plan keeps each barrier, too. It needs 256 KiB of stack.
+///
+/// # Errors
+/// The first fault of the settings, the list without the flags, or the plan. A barrier that is not kept is
+/// [`Cause::Unfenced`], with the pieces just before and just after it.
+///
+/// ```
+/// # use dsa_planner::{judge_fenced_list, list_of, BatchPrice, Cause, Descriptor, Settings, BEGINS, FENCED};
+/// # let (lone, batch, fence) = (10, BatchPrice::Flat(14), 3);
+/// # let settings = Settings { greatest_batch: 4, greatest_transfer: 4096, lone, batch, fence, staging: 0x10000 };
+/// let checked = Descriptor::compare(0x1000, 0x2000, 64, 0x8000).expecting(false);
+/// let list = list_of(&[checked, Descriptor::memory_move(0x3000, 0x4000, 64, 0x8020).after_barrier()]);
+/// assert_eq!(judge_fenced_list(&settings, &list, &[BEGINS, FENCED])?, 17);
+/// let refusal = judge_fenced_list(&settings, &list, &[BEGINS, 0]).unwrap_err();
+/// assert_eq!((refusal.cause, refusal.first, refusal.second), (Cause::Unfenced, 0, 1));
+/// # Ok::<(), dsa_planner::Refusal>(())
+/// ```
+pub fn judge_fenced_list(
+    settings: &Settings,
+    list: &[u8],
+    marks: &[u8],
+) -> Result<u64, Refusal> {
+    judged_by(raw::dsa_judge_fenced_list, settings, list, marks)
+}
+
+// What a call of the library that judges a plan answers.
+fn judged_by(
+    call: raw::Judge,
+    settings: &Settings,
+    list: &[u8],
+    marks: &[u8],
+) -> Result<u64, Refusal> {
     let (raw, table) = settings.raw();
     let (mut cost, mut refusal) = (0, raw::Refusal::default());
     // SAFETY: each pointer and length are those of one slice, or of one struct, and no output overlaps another argument.
     let code = unsafe {
-        raw::dsa_judge(
+        call(
             &raw,
             table.as_ptr(),
             table.len(),

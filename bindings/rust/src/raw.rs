@@ -75,6 +75,19 @@ pub(crate) type PlanCertified = unsafe extern "C" fn(
     refusal: &mut Refusal,
 ) -> u32;
 
+// A call that judges a plan.
+pub(crate) type Judge = unsafe extern "C" fn(
+    settings: &Settings,
+    table: *const u64,
+    table_len: usize,
+    list: *const u8,
+    list_len: usize,
+    marks: *const u8,
+    marks_len: usize,
+    cost: &mut u64,
+    refusal: &mut Refusal,
+) -> u32;
+
 // A call that prepares a list.
 pub(crate) type PrepareInto = unsafe extern "C" fn(
     settings: &Settings,
@@ -208,6 +221,18 @@ extern "C" {
     ) -> u32;
 
     pub fn dsa_judge(
+        settings: &Settings,
+        table: *const u64,
+        table_len: usize,
+        list: *const u8,
+        list_len: usize,
+        marks: *const u8,
+        marks_len: usize,
+        cost: &mut u64,
+        refusal: &mut Refusal,
+    ) -> u32;
+
+    pub fn dsa_judge_fenced_list(
         settings: &Settings,
         table: *const u64,
         table_len: usize,

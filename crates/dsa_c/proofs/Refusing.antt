@@ -19,9 +19,8 @@ use Rattle.dsa_c.specs.declared.refusal.RawRefusal.{RawRefusal}
 use Rattle.dsa_c.specs.Raw.{limits_of, AreSettings, refusal_of, no_room}
 use Rattle.dsa_plan.specs.Plan.{Plan}
 use Rattle.dsa_c.specs.Marks.{plan_of}
-use Rattle.dsa_calls.specs.Judge.{Judges}
 use Rattle.dsa_c.specs.Checking.{RefusesCheck}
-use Rattle.dsa_c.specs.Judging.{RefusesJudge}
+use Rattle.dsa_c.specs.Judging.{RefusesBy}
 use Rattle.dsa_c.specs.FencedChecking.{IsFencedCost, RefusesFencedCheck, fenced_refusal_of}
 use Rattle.dsa_c.specs.Planning.{IsPlannedFor, Refuses}
 use Rattle.dsa_c.specs.Fenced.{IsFencedFor, RefusesFenced}
@@ -108,10 +107,10 @@ fenced_cost s table list portal staging l c d cost is are same (inr checks) leas
       least = subst (λ (x : Limits). IsLeastEmission list portal staging x cost) is least;
     }
 
--- judging refuses
-pub refuses_judge : (s : RawSettings) (table list marks : List ℕ) (l : Limits) (plan : Plan) (fault : PlanFault) (r : RawRefusal) → l ≡ limits_of s table → AreSettings s table
-    → plan ≡ plan_of marks → (fault ≡ Memory) ⊎ Judges list plan l (Err fault) → r ≡ refusal_of fault → RefusesJudge s table list marks r
-refuses_judge s table list marks l plan fault r is are same (inl memory) value = inr (inl (value ∙ ap refusal_of memory, are))
-refuses_judge s table list marks l plan fault r is are same (inr refused) value =
-    let of_marks = subst (λ (x : Plan). Judges list x l (Err fault)) same refused in
-    inr (inr (fault, are, subst (λ (x : Limits). Judges list (plan_of marks) x (Err fault)) is of_marks, value))
+-- judging refuses, whatever it answers as
+pub refuses_judge : (judges : List ℕ → Plan → Limits → Result ℕ PlanFault → Type 0) (s : RawSettings) (table list marks : List ℕ) (l : Limits) (plan : Plan) (fault : PlanFault) (r : RawRefusal) → l ≡ limits_of s table
+    → AreSettings s table → plan ≡ plan_of marks → (fault ≡ Memory) ⊎ judges list plan l (Err fault) → r ≡ refusal_of fault → RefusesBy judges s table list marks r
+refuses_judge judges s table list marks l plan fault r is are same (inl memory) value = inr (inl (value ∙ ap refusal_of memory, are))
+refuses_judge judges s table list marks l plan fault r is are same (inr refused) value =
+    let of_marks = subst (λ (x : Plan). judges list x l (Err fault)) same refused in
+    inr (inr (fault, are, subst (λ (x : Limits). judges list (plan_of marks) x (Err fault)) is of_marks, value))

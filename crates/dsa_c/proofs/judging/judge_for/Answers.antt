@@ -1,4 +1,5 @@
 use Rattle.dsa_c.proofs.Refusing.{refuses_judge}
+use Rattle.dsa_calls.specs.Judge.{Judges}
 use Rattle.dsa_c.proofs.judging.judge_for.Goals as goal
 
 pub returns-in-Ok-judge_bytes : goal.returns-in-Ok-judge_bytes
@@ -9,5 +10,5 @@ returns-in-Ok-judge_bytes c =
 pub returns : goal.returns
 returns c = (
   c.refusal-in-Err.ensures.some,
-  refuses_judge c.args.settings.now c.args.table.now c.args.list.now c.args.marks.now c.in-Ok.checked c.in-Ok-plan_of.plan c.in-Err.fault c.refusal-in-Err.result c.in-Ok.ensures.0 c.in-Ok.ensures.1 c.in-Ok-plan_of.ensures c.in-Err.ensures.answer c.refusal-in-Err.ensures.value,
+  refuses_judge Judges c.args.settings.now c.args.table.now c.args.list.now c.args.marks.now c.in-Ok.checked c.in-Ok-plan_of.plan c.in-Err.fault c.refusal-in-Err.result c.in-Ok.ensures.0 c.in-Ok.ensures.1 c.in-Ok-plan_of.ensures c.in-Err.ensures.answer c.refusal-in-Err.ensures.value,
 )

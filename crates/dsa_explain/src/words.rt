@@ -489,18 +489,18 @@ fn push_piece(
 fn push_cells(
     alloc: Global,
     text: &mut String,
-    groups: &[GroupCost],
-    fences: &[Fence],
-    cells: &[Cell],
+    explanation: &Explanation,
     pieces: &[Descriptor],
     origins: &[Origin],
     settings: &Settings,
 ) -> Result<(), AllocError>
     ensures { OnOk result (string_bytes text.new ≡ string_bytes text.old ++
-        cell_lines settings.now groups.now pieces.now origins.now 0 fences.now cells.now) }
+        cell_lines settings.now explanation.now.costs.groups.items pieces.now origins.now 0
+        explanation.now.fences.items explanation.now.cells.items) }
 {
-    let mut left = fences;
-    for (index, cell) in cells.iter().enumerate() {
+    let groups = explanation.costs.groups.as_slice();
+    let mut left = explanation.fences.as_slice();
+    for (index, cell) in explanation.cells.iter().enumerate() {
         push_group(alloc, text, settings.greatest_batch(), groups, cell)?;
         left = push_fence(alloc, text, pieces, left, cell, settings.fence())?;
         push_piece(alloc, text, pieces, origins, index)?;
@@ -520,16 +520,7 @@ pub fn explanation_text(
         explanation_words settings.now explanation.now pieces.now origins.now) }
 {
     let mut text = String::new(alloc);
-    push_cells(
-        alloc,
-        &mut text,
-        &explanation.costs.groups,
-        &explanation.fences,
-        &explanation.cells,
-        pieces,
-        origins,
-        settings,
-    )?;
+    push_cells(alloc, &mut text, explanation, pieces, origins, settings)?;
     let costs = cost_text(alloc, &explanation.costs, pieces.len())?;
     push_line(&mut text, &costs)?;
     Ok(text)

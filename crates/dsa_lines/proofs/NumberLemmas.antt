@@ -1,7 +1,7 @@
 -- Numbers as words.
-use Rattle.std.proofs.Common.{◌≡◌, ℕ, zero, suc, ◌+◌, ◌*◌, ◌/◌, ◌%◌, ◌^◌, ◌<◌, ◌≤◌, Bool, true, false, cond, List, [], ◌∷◌, length, get_or, Some, refl, ap, ◌∙◌, arith}
+use Rattle.std.proofs.Common.{◌≡◌, ℕ, zero, suc, ◌+◌, ◌*◌, ◌/◌, ◌%◌, ◌^◌, ◌<◌, ◌≤◌, Bool, true, false, cond, List, [], ◌∷◌, length, get_or, Some, refl, ap, ◌∙◌, arith, ◌≢◌, ◌-◌}
 use Rattle.std.proofs.Math.Nat.{mul-le-mul_left}
-use Rattle.std.specs.Prelude.{◌==◌, ◌&&◌, decimal}
+use Rattle.std.specs.Prelude.{◌==◌, ◌&&◌, decimal, slice_index}
 use Rattle.std.specs.Char.{digit_value}
 use Rattle.std.specs.Fmt.{digits}
 use Rattle.std.specs.Int.{w64, to_le_bytes}
@@ -12,7 +12,7 @@ use Rattle.std.specs.Str.Parse.{AllDigits, IsNumeral, digits_value, digits_value
 use Rattle.std.proofs.lemmas.Bool.{ne_eqb, lt-ltb}
 use Rattle.std.proofs.lemmas.Fmt.{digits_is_IsNumeral}
 use Rattle.dsa_lines.specs.Words.{is_in_word}
-use Rattle.dsa_lines.specs.Numbers.{numeral, numeral_after, number_of, hex, pattern_word, pattern_of}
+use Rattle.dsa_lines.specs.Numbers.{numeral, numeral_after, number_of, last_byte, size_of, hex, pattern_word, pattern_of}
 use Rattle.dsa_lines.specs.Text.{spaced}
 use Rattle.dsa_lines.proofs.WordLemmas.{all_in, is_word, both}
 
@@ -86,6 +86,27 @@ pub decimal_again : (n : ℕ) → n < 2 ^ 64 → number_of (decimal n) ≡ Some 
 decimal_again n lt =
     let d = digits_is_IsNumeral 10 false (omega arith) (omega arith) n (omega arith) in
     plain_number (digits 10 false n) d.0.1 ∙ numeral_again 10 (digits 10 false n) (omega arith) d.0 (rw d.1 lt) ∙ ap Some d.1
+
+-- ---- a number of bytes
+
+digit_at : (base : ℕ) (ds : List ℕ) (k : ℕ) → AllDigits base ds → k < length ds → digit_value (slice_index ds k) < base
+digit_at base [] k all lt = absurd (omega arith)
+digit_at base (c ∷ cs) zero all lt = all.0
+digit_at base (c ∷ cs) (suc k) all lt = digit_at base cs k all.1 (omega arith)
+
+-- neither K nor M
+last_digit : (ds : List ℕ) → IsNumeral 10 ds → (last_byte ds ≢ 75) × (last_byte ds ≢ 77)
+last_digit [] h = absurd (omega arith)
+last_digit (c ∷ cs) h =
+    let digit = digit_at 10 (c ∷ cs) (length (c ∷ cs) - 1) h.1 (omega arith) in
+    (λ e. omega (arith, ap digit_value e, digit), λ e. omega (arith, ap digit_value e, digit))
+
+pub size_again : (n : ℕ) → n < 2 ^ 64 → size_of (decimal n) ≡ Some n
+unfolding size_of
+size_again n lt =
+    let d = digits_is_IsNumeral 10 false (omega arith) (omega arith) n (omega arith) in
+    let last = last_digit (digits 10 false n) d.0 in
+    rw (ne_eqb (last_byte (decimal n)) 75 last.0, ne_eqb (last_byte (decimal n)) 77 last.1) (decimal_again n lt)
 
 -- ---- a blank stands before a number
 

@@ -1,5 +1,5 @@
 -- The fields that a line spells fit their places, so no others have their bytes; and a line has no newline.
-use Rattle.std.proofs.Common.{◌≡◌, ◌≢◌, ℕ, zero, suc, ◌+◌, ◌^◌, ◌<◌, ◌≤◌, Bool, true, false, cond, Option, List, [], ◌∷◌, Some, None, refl, sym, ap, subst, ◌∙◌, arith}
+use Rattle.std.proofs.Common.{◌≡◌, ◌≢◌, ℕ, zero, suc, ◌+◌, ◌^◌, ◌<◌, ◌≤◌, Bool, true, false, cond, Option, List, [], ◌∷◌, ◌-◌, length, take, Some, None, refl, sym, ap, subst, ◌∙◌, arith}
 use Rattle.std.specs.Prelude.{Result, Ok, Err, is_some, option_and_then, codes, bit_and, bit_or, nat_le, ◌==◌}
 use Rattle.std.specs.List.{AllByRecursion, AllPass}
 use Rattle.std.specs.Str.{bytes_eq}
@@ -22,11 +22,11 @@ use Rattle.dsa_descriptor.specs.Spelling.{owner_word, spelling}
 use Rattle.dsa_descriptor.proofs.Back.{spelling-spelt, Stands, stands, op_there}
 use Rattle.dsa_lines.specs.declared.options.Options.{Options}
 use Rattle.dsa_lines.specs.Words.{Word, is_blank, is_in_word, goes_on, with_front, words_in, words_of}
-use Rattle.dsa_lines.specs.Numbers.{number_of, numeral_after, pattern_of, pattern_with}
+use Rattle.dsa_lines.specs.Numbers.{number_of, numeral_after, pattern_of, pattern_with, scaled, last_byte, before_last, size_of}
 use Rattle.dsa_lines.specs.Options.{no_options, or_zero, flags_with, carried_mask, check_mask}
 use Rattle.dsa_lines.specs.Answers.{Answers}
 use Rattle.dsa_lines.proofs.WordLemmas.{both, word_byte}
-use Rattle.dsa_lines.specs.Grammar.{greatest, after, named, number_at, pattern_at, size_at, move_at, fill_at, expected_at, compare_region_at, compare_pattern_at, compare_other_at, compare_at, delta_at, dualcast_at, op_at, pasid_at, privileged_at, check_at, flags_at, handle_at, option_at, options_at, fields_of, Spells}
+use Rattle.dsa_lines.specs.Grammar.{greatest, after, named, number_at, count_at, pattern_at, size_at, move_at, fill_at, expected_at, compare_region_at, compare_pattern_at, compare_other_at, compare_at, delta_at, dualcast_at, op_at, pasid_at, privileged_at, check_at, flags_at, handle_at, option_at, options_at, fields_of, Spells}
 
 -- ---- fields that fit their places are known by their bytes
 
@@ -144,7 +144,46 @@ number_lined most (w ∷ ws) r e h =
     let p = cond_some (nat_le n.0 most) (n.0, ws) r n.2 in
     (number_word w n.0 n.1, subst (λ (x : ℕ × List Word). Lined x.1) (sym p.1) h)
 
+scaled_some : (unit : ℕ) (o : Option ℕ) (n : ℕ) → scaled unit o ≡ Some n → (m : ℕ) × (o ≡ Some m)
+scaled_some unit None n e = absurd cc
+scaled_some unit (Some m) n e = (m, refl)
+
+-- a word that spells a number of bytes begins with no newline
+size_newline : (c : ℕ) (cs front before : Word) (a b : Bool) (n : ℕ) → c ≡ 10 → before ≡ c ∷ front
+    → cond a (scaled 1024 (number_of before)) (cond b (scaled 1048576 (number_of before)) (number_of (c ∷ cs))) ≡ Some n → ⊥
+size_newline c cs front before true b n k is e =
+    let m = scaled_some 1024 (number_of before) n e in no_number c front m.0 k (ap number_of (sym is) ∙ m.1)
+size_newline c cs front before false true n k is e =
+    let m = scaled_some 1048576 (number_of before) n e in no_number c front m.0 k (ap number_of (sym is) ∙ m.1)
+size_newline c cs front before false false n k is e = no_number c cs n k e
+
+no_size : (c : ℕ) (cs : List ℕ) (n : ℕ) → c ≡ 10 → size_of (c ∷ cs) ≡ Some n → ⊥
+unfolding size_of numeral_after
+no_size c [] n k e = let none : None ≡ Some n = rw k at e in cc
+no_size c (d ∷ ds) n k e =
+    let w = c ∷ d ∷ ds in
+    let count : length w - 1 ≡ suc (length ds) = omega arith in
+    size_newline c (d ∷ ds) (take (length ds) (d ∷ ds)) (before_last w) (last_byte w == 75) (last_byte w == 77) n k (ap (λ (x : ℕ). take x w) count) e
+
+size_word : (w : Word) (n : ℕ) → size_of w ≡ Some n → begins_newline w ≡ false
+size_word [] n e = refl
+size_word (c ∷ cs) n e = ne_eqb c 10 (λ k. no_size c cs n k e)
+
+count_lined : (ws : List Word) (r : ℕ × List Word) → count_at ws ≡ Some r → Lined r.1 → Lined ws
+count_lined [] r e h = tt
+count_lined (w ∷ ws) r e h =
+    let n = bound (size_of w) _ r e in
+    let p = cond_some (nat_le n.0 (greatest 32)) (n.0, ws) r n.2 in
+    (size_word w n.0 n.1, subst (λ (x : ℕ × List Word). Lined x.1) (sym p.1) h)
+
 -- ---- numbers
+
+count_fits : (ws : List Word) (r : ℕ × List Word) → count_at ws ≡ Some r → r.0 ≤ greatest 32
+count_fits [] r e = absurd cc
+count_fits (w ∷ ws) r e =
+    let n = bound (size_of w) _ r e in
+    let h = cond_some (nat_le n.0 (greatest 32)) (n.0, ws) r n.2 in
+    subst (λ (x : ℕ × List Word). x.0 ≤ greatest 32) h.1 (leb-true n.0 (greatest 32) h.0)
 
 number_fits : (most : ℕ) (ws : List Word) (r : ℕ × List Word) → number_at most ws ≡ Some r → r.0 ≤ most
 number_fits most [] r e = absurd cc
@@ -159,12 +198,12 @@ address_fits ws r e = omega (arith, number_fits (greatest 64) ws r e)
 size_fits : (ws : List Word) (r : ℕ × List Word) → size_at ws ≡ Some r → (r.0 < 2 ^ 32) × (Lined r.1 → Lined ws)
 unfolding size_at
 size_fits ws r e =
-    let size = bound (number_at (greatest 32) ws) _ r e in
+    let size = bound (count_at ws) _ r e in
     let rest = bound (after (codes "bytes") size.0.1) _ r size.2 in
-    let fits = number_fits (greatest 32) ws size.0 size.1 in
+    let fits = count_fits ws size.0 size.1 in
     let small : size.0.0 < 2 ^ 32 = omega arith in
     subst (λ (x : ℕ × List Word). (x.0 < 2 ^ 32) × (Lined x.1 → Lined ws)) (same_Some _ r rest.2)
-    (small, λ h. number_lined (greatest 32) ws size.0 size.1 (after_lined (codes "bytes") size.0.1 rest.0 refl rest.1 h))
+    (small, λ h. count_lined ws size.0 size.1 (after_lined (codes "bytes") size.0.1 rest.0 refl rest.1 h))
 
 digit_word : (w : Word) → AllPass is_hex_digit w → begins_newline w ≡ false
 digit_word [] all = refl

@@ -11,10 +11,10 @@ use Rattle.dsa_lines.specs.declared.options.Options.{Options}
 use Rattle.dsa_lines.specs.Words.{Word, words_of}
 use Rattle.dsa_lines.specs.Numbers.{hex, pattern_word}
 use Rattle.dsa_lines.specs.Options.{no_options, or_zero, fields_with, flags_with, carried_mask, carried_flags, checks_result}
-use Rattle.dsa_lines.specs.Grammar.{greatest, after, number_at, pattern_at, size_at, move_at, fill_at, expected_at, compare_region_at, compare_pattern_at, compare_at, delta_at, dualcast_at, op_at, pasid_at, privileged_at, check_at, flags_at, handle_at, option_at, options_at, fields_of, Spells}
+use Rattle.dsa_lines.specs.Grammar.{greatest, after, number_at, count_at, pattern_at, size_at, move_at, fill_at, expected_at, compare_region_at, compare_pattern_at, compare_at, delta_at, dualcast_at, op_at, pasid_at, privileged_at, check_at, flags_at, handle_at, option_at, options_at, fields_of, Spells}
 use Rattle.dsa_lines.specs.Text.{op_words, number_option, name_option, option_words, line_words, tail_text, text_of, line_text, spaced}
 use Rattle.dsa_lines.proofs.WordLemmas.{AreWords, is_word, text_words}
-use Rattle.dsa_lines.proofs.NumberLemmas.{hex_word, decimal_word, hex_again, decimal_again, spaced_decimal, pattern_is_word, pattern_again, spaced_pattern}
+use Rattle.dsa_lines.proofs.NumberLemmas.{hex_word, decimal_word, hex_again, decimal_again, size_again, spaced_decimal, pattern_is_word, pattern_again, spaced_pattern}
 use Rattle.dsa_lines.proofs.FlagLemmas.{flags_again, carried_again, carried_fit}
 
 -- ---- numbers and operations
@@ -28,15 +28,18 @@ decimal_at n most ws lt le = rw (decimal_again n lt, le-leb _ _ le) refl
 pattern_here : (n : ℕ) (ws : List Word) → n < 2 ^ 64 → pattern_at (pattern_word n ∷ ws) ≡ Some (n, ws)
 pattern_here n ws lt = rw (pattern_again n lt) refl
 
-size_again : (n : ℕ) (ws : List Word) → n < 2 ^ 32 → size_at (decimal n ∷ codes "bytes" ∷ ws) ≡ Some (n, ws)
+count_again : (n : ℕ) (ws : List Word) → n < 2 ^ 32 → count_at (decimal n ∷ ws) ≡ Some (n, ws)
+count_again n ws lt = rw (size_again n (omega arith), le-leb n (greatest 32) (omega arith)) refl
+
+sized_again : (n : ℕ) (ws : List Word) → n < 2 ^ 32 → size_at (decimal n ∷ codes "bytes" ∷ ws) ≡ Some (n, ws)
 unfolding size_at
-size_again n ws lt = rw (decimal_at n (greatest 32) (codes "bytes" ∷ ws) (omega arith) (omega arith)) refl
+sized_again n ws lt = rw (count_again n (codes "bytes" ∷ ws) lt) refl
 
 move_again : (src dst size : ℕ) (ws : List Word) → src < 2 ^ 64 → dst < 2 ^ 64 → size < 2 ^ 32
     → move_at (hex src ∷ codes "->" ∷ hex dst ∷ codes "," ∷ decimal size ∷ codes "bytes" ∷ ws) ≡ Some (Move src dst, size, ws)
 unfolding move_at
 move_again src dst size ws a b c =
-    rw (hex_at src (greatest 64) (codes "->" ∷ hex dst ∷ codes "," ∷ decimal size ∷ codes "bytes" ∷ ws) a (omega arith), hex_at dst (greatest 64) (codes "," ∷ decimal size ∷ codes "bytes" ∷ ws) b (omega arith), size_again size ws c) refl
+    rw (hex_at src (greatest 64) (codes "->" ∷ hex dst ∷ codes "," ∷ decimal size ∷ codes "bytes" ∷ ws) a (omega arith), hex_at dst (greatest 64) (codes "," ∷ decimal size ∷ codes "bytes" ∷ ws) b (omega arith), sized_again size ws c) refl
 
 fill_again : (pattern dst size : ℕ) (ws : List Word) → pattern < 2 ^ 64 → dst < 2 ^ 64 → size < 2 ^ 32
     → fill_at (hex dst ∷ codes "with" ∷ pattern_word pattern ∷ codes "," ∷ decimal size ∷ codes "bytes" ∷ ws) ≡ Some (Fill pattern dst, size, ws)
@@ -44,14 +47,14 @@ unfolding fill_at
 fill_again pattern dst size ws a b c =
     let w2 : List Word = codes "," ∷ decimal size ∷ codes "bytes" ∷ ws in
     let w1 : List Word = codes "with" ∷ pattern_word pattern ∷ w2 in
-    rw (hex_at dst (greatest 64) w1 b (omega arith), pattern_here pattern w2 a, size_again size ws c) refl
+    rw (hex_at dst (greatest 64) w1 b (omega arith), pattern_here pattern w2 a, sized_again size ws c) refl
 
 expected_again : (expected size : ℕ) (ws : List Word) → expected ≤ 1 → size < 2 ^ 32
     → expected_at (codes "," ∷ decimal size ∷ codes "bytes" ∷ codes "," ∷ codes "expect" ∷ decimal expected ∷ ws) ≡ Some (size, expected, ws)
 unfolding expected_at
 expected_again expected size ws e c =
     let w1 : List Word = codes "," ∷ codes "expect" ∷ decimal expected ∷ ws in
-    rw (size_again size w1 c, decimal_at expected 1 ws (omega arith) e) refl
+    rw (sized_again size w1 c, decimal_at expected 1 ws (omega arith) e) refl
 
 abbrev expected_words : ℕ → ℕ → List Word → List Word
 expected_words expected size ws = codes "," ∷ decimal size ∷ codes "bytes" ∷ codes "," ∷ codes "expect" ∷ decimal expected ∷ ws
@@ -86,7 +89,7 @@ unfolding delta_at
 delta_again delta dst record_size size ws a b e c =
     let w2 : List Word = codes "," ∷ decimal size ∷ codes "bytes" ∷ ws in
     let w1 : List Word = codes "->" ∷ hex dst ∷ w2 in
-    rw (hex_at delta (greatest 64) (codes "," ∷ decimal record_size ∷ codes "bytes" ∷ w1) a (omega arith), size_again record_size w1 e, hex_at dst (greatest 64) w2 b (omega arith), size_again size ws c) refl
+    rw (hex_at delta (greatest 64) (codes "," ∷ decimal record_size ∷ codes "bytes" ∷ w1) a (omega arith), sized_again record_size w1 e, hex_at dst (greatest 64) w2 b (omega arith), sized_again size ws c) refl
 
 dualcast_again : (src dst dst2 size : ℕ) (ws : List Word) → src < 2 ^ 64 → dst < 2 ^ 64 → dst2 < 2 ^ 64 → size < 2 ^ 32
     → dualcast_at (hex src ∷ codes "->" ∷ hex dst ∷ codes "and" ∷ hex dst2 ∷ codes "," ∷ decimal size ∷ codes "bytes" ∷ ws) ≡ Some (Dualcast src dst dst2, size, ws)
@@ -94,7 +97,7 @@ unfolding dualcast_at
 dualcast_again src dst dst2 size ws a b e c =
     let w2 : List Word = codes "," ∷ decimal size ∷ codes "bytes" ∷ ws in
     let w1 : List Word = codes "and" ∷ hex dst2 ∷ w2 in
-    rw (hex_at src (greatest 64) (codes "->" ∷ hex dst ∷ w1) a (omega arith), hex_at dst (greatest 64) w1 b (omega arith), hex_at dst2 (greatest 64) w2 e (omega arith), size_again size ws c) refl
+    rw (hex_at src (greatest 64) (codes "->" ∷ hex dst ∷ w1) a (omega arith), hex_at dst (greatest 64) w1 b (omega arith), hex_at dst2 (greatest 64) w2 e (omega arith), sized_again size ws c) refl
 
 -- the words of an operation are read
 op_again : (op : Op) (size : ℕ) (ws : List Word) → FieldsFit op → HasExpectedBit op → size < 2 ^ 32 → op_at (op_words op size ++ ws) ≡ Some (op, size, ws)

@@ -6,7 +6,7 @@ use Rattle.dsa_descriptor.specs.declared.op.Op.TheVariants.{Move, Fill, Compare,
 use Rattle.dsa_descriptor.specs.Fields.{Fields}
 use Rattle.dsa_lines.specs.declared.options.Options.{Options}
 use Rattle.dsa_lines.specs.Words.{Word, words_of}
-use Rattle.dsa_lines.specs.Numbers.{number_of, pattern_of}
+use Rattle.dsa_lines.specs.Numbers.{number_of, pattern_of, size_of}
 use Rattle.dsa_lines.specs.Options.{no_options, carried_mask, fields_with}
 
 infixl 10 ◌>>=◌
@@ -37,10 +37,15 @@ abbrev pub pattern_at : List Word → Option (ℕ × List Word)
 pattern_at [] = None
 pattern_at (w ∷ ws) = pattern_of w >>= λ n. Some (n, ws)
 
+-- a number of bytes below 2 ^ 32, and the words after it
+abbrev pub count_at : List Word → Option (ℕ × List Word)
+count_at [] = None
+count_at (w ∷ ws) = size_of w >>= λ n. if nat_le n (greatest 32) then Some (n, ws) else None
+
 -- a number of bytes, and the words after `bytes`
 unfoldable pub size_at : List Word → Option (ℕ × List Word)
 size_at words = do
-  size ← number_at (greatest 32) words
+  size ← count_at words
   rest ← after (codes "bytes") size.1
   Some (size.0, rest)
 

@@ -36,6 +36,7 @@ pub use laws::{
     canonical_line_spells, canonical_text_spells, one_line_no_newline, one_line_one_descriptor,
     one_text_one_list, spells_one, text_spells_one,
 };
+pub use numbers::{number_of, size_of};
 pub use portal::disassemble_portal;
 pub use portal_laws::{
     one_portal_shown, one_portal_text, portal_text_is_read, portal_text_is_recorded,

@@ -1,7 +1,7 @@
 //! Numbers and patterns as words.
 
 ghost use Rattle.std.specs.Prelude.{◌≡◌, ◌≤◌};
-ghost use Rattle.dsa_lines.specs.Numbers.{numeral, number_of, pattern_of};
+ghost use Rattle.dsa_lines.specs.Numbers.{numeral, number_of, pattern_of, scaled, size_of};
 
 /// The number that the digits write in the base.
 #[tactic(auto, unfolding(crate::specs::Numbers::numeral_after))]
@@ -29,8 +29,8 @@ fn numeral(digits: &[u8], base: u32) -> Option<u64>
     Some(value)
 }
 
-/// The number that a word spells.
-pub(crate) fn number_of(word: &[u8]) -> Option<u64>
+/// The number that a word spells: decimal, or hexadecimal after `0x`.
+pub fn number_of(word: &[u8]) -> Option<u64>
     ensures { result ≡ number_of word.now }
 {
     if let [first, second, digits @ ..] = word {
@@ -39,6 +39,29 @@ pub(crate) fn number_of(word: &[u8]) -> Option<u64>
         }
     }
     numeral(word, 10)
+}
+
+/// So many times a number, if it is below 2^64.
+fn scaled(unit: u64, count: Option<u64>) -> Option<u64>
+    ensures { result ≡ scaled unit count }
+{
+    count?.checked_mul(unit)
+}
+
+/// The number of bytes that a word spells: `K` or `M` after a number stands for 1,024 or 1,048,576 of them.
+#[tactic(auto, unfolding(crate::specs::Numbers::size_of))]
+pub fn size_of(word: &[u8]) -> Option<u64>
+    ensures { result ≡ size_of word.now }
+{
+    if word.is_empty() {
+        return None;
+    }
+    let end = word.len() - 1;
+    match word[end] {
+        b'K' => scaled(1_024, number_of(&word[..end])),
+        b'M' => scaled(1_048_576, number_of(&word[..end])),
+        _ => number_of(word),
+    }
 }
 
 /// The pattern that a word of 16 hexadecimal digits spells, the lowest byte first.

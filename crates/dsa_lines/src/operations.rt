@@ -4,7 +4,7 @@ ghost use Rattle.dsa_lines.specs.Words.{words_of};
 ghost use Rattle.dsa_lines.specs.Grammar.{Gives, size_at, move_at, fill_at, expected_at, compare_region_at, compare_pattern_at, compare_at, delta_at, dualcast_at, op_at};
 
 use crate::fault::{Expected, Stop};
-use crate::reading::{after, named, number_at, pattern_at};
+use crate::reading::{after, count_at, named, number_at, pattern_at};
 use crate::words::next_word;
 use dsa_descriptor::Op;
 
@@ -13,7 +13,7 @@ use dsa_descriptor::Op;
 fn size_at(text: &[u8]) -> Result<(u32, &[u8]), Stop>
     ensures { Gives (λ x. (x.0, words_of x.1.now)) result (size_at (words_of text.now)) }
 {
-    let (size, rest) = number_at(text, 0xffff_ffff, Expected::Size)?;
+    let (size, rest) = count_at(text)?;
     let rest = after(rest, b"bytes", Expected::Bytes)?;
     Ok((size as u32, rest))
 }

@@ -2,7 +2,7 @@
 
 ghost use Rattle.std.specs.Prelude.{◌≡◌, ◌<◌, ◌≤◌, ◌^◌, IfOk, Ok};
 ghost use Rattle.dsa_lines.specs.Words.{words_of};
-ghost use Rattle.dsa_lines.specs.Grammar.{Gives, after, named, number_at, pattern_at, fields_of, Spells};
+ghost use Rattle.dsa_lines.specs.Grammar.{Gives, after, named, number_at, count_at, pattern_at, fields_of, Spells};
 ghost use Rattle.dsa_lines.specs.Views.{view};
 ghost use Rattle.dsa_lines.specs.Text.{line_text};
 ghost use Rattle.dsa_lines.specs.Answers.{Answers, SpellsLine};
@@ -11,7 +11,7 @@ ghost use Rattle.dsa_descriptor.specs.Descriptors.{fields};
 
 use crate::fault::{Expected, LineFault, Stop};
 use crate::line::Line;
-use crate::numbers::{number_of, pattern_of};
+use crate::numbers::{number_of, pattern_of, size_of};
 use crate::operations::op_at;
 use crate::options::options_at;
 use crate::words::{is_over, next_word};
@@ -55,6 +55,24 @@ pub(crate) fn number_at(text: &[u8], most: u64, expected: Expected) -> Result<(u
         Ok((number, rest))
     } else {
         Err(Stop::at(text, expected))
+    }
+}
+
+/// A number of bytes below 2^32, and what comes after it.
+pub(crate) fn count_at(text: &[u8]) -> Result<(u64, &[u8]), Stop>
+    ensures value { Gives (λ x. (x.0, words_of x.1.now)) result (count_at (words_of text.now)) }
+    ensures bound { IfOk result (λ x. x.0 < 2 ^ 32) }
+{
+    let Some((word, rest)) = next_word(text) else {
+        return Err(Stop::at(text, Expected::Size));
+    };
+    let Some(count) = size_of(word) else {
+        return Err(Stop::at(text, Expected::Size));
+    };
+    if count <= 0xffff_ffff {
+        Ok((count, rest))
+    } else {
+        Err(Stop::at(text, Expected::Size))
     }
 }
 

@@ -6,7 +6,8 @@ use Rattle.dsa_lines.specs.Numbers.{number_of}
 use Rattle.dsa_report.specs.Settings.{SettingsText, AreSettings, limits_of}
 use Rattle.dsa_text.specs.declared.settings.SettingsWords.{SettingsWords}
 use Rattle.dsa_text.specs.declared.settings.SettingsNumbers.{SettingsNumbers}
-use Rattle.dsa_text.specs.Numbers.{numbers_of, size_of}
+use Rattle.dsa_lines.specs.Numbers.{size_of}
+use Rattle.dsa_text.specs.Numbers.{numbers_of}
 
 -- one price for all batches; or prices by size, where there are words for them
 abbrev pub SpellsBatch : List ℕ → Option (List ℕ) → BatchPrices → Type 0

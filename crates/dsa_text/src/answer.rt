@@ -4,6 +4,7 @@ ghost use Rattle.std.specs.Prelude.{◌≡◌, IfOk};
 ghost use Rattle.dsa_text.specs.Refusals.{IsRefusal, RefusesText, explain_cause};
 
 use crate::messages::{grammar_message, line_message, message_of, message_with};
+use crate::mistakes::{grammar_mistakes, list_mistakes};
 use dsa_calls::PlanFault;
 use dsa_explain::ExplainFault;
 use dsa_lines::TextFault;
@@ -34,7 +35,7 @@ impl Answer {
         }
     }
 
-    /// A refusal, which is one line.
+    /// A refusal.
     pub fn refused(text: String) -> Answer
         ensures text { result.text ≡ text }
         ensures status { result.status ≡ 1 }
@@ -76,7 +77,7 @@ impl Answer {
         Ok(Answer::refused(message_with(alloc, fault, words)?))
     }
 
-    /// The refusal of a text.
+    /// The refusal of a text, which names each line that is wrong, up to 20.
     pub(crate) fn text_fault(
         alloc: Global,
         text: &[u8],
@@ -85,11 +86,15 @@ impl Answer {
         ensures { IfOk result (RefusesText fault) }
     {
         match fault {
-            TextFault::Grammar(line, column, expected) => Ok(Answer::refused(grammar_message(
-                alloc, text, line, column, expected,
-            )?)),
+            TextFault::Grammar(line, column, expected) => {
+                let first = grammar_message(alloc, text, line, column, expected)?;
+                let all = grammar_mistakes(alloc, text, line, first)?;
+                Ok(Answer::refused(all))
+            }
             TextFault::List(line, fault) => {
-                Ok(Answer::refused(line_message(alloc, text, line, fault)?))
+                let first = line_message(alloc, text, line, fault)?;
+                let all = list_mistakes(alloc, text, line, fault, first)?;
+                Ok(Answer::refused(all))
             }
             TextFault::Memory => Answer::fault(alloc, PlanFault::Memory),
         }

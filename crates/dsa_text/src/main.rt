@@ -18,6 +18,7 @@ mod judging;
 mod kept;
 pub mod laws;
 mod messages;
+mod mistakes;
 mod numbers;
 mod options;
 mod origins;

@@ -139,9 +139,18 @@ fn hint_of_number(word: &[u8]) -> Option<&'static str> {
     }
     match word {
         [b'0', b'X', ..] | [b'0'..=b'9', .., b'h' | b'H'] => Some("0x before hexadecimal digits"),
-        [b'0'..=b'9', .., b'k' | b'K' | b'm' | b'M'] => Some("in bytes: 4K is 4096"),
+        [b'0'..=b'9', .., b'k' | b'm'] => Some("K and M are capitals"),
+        [b'0'..=b'9', .., b'K' | b'M'] => Some("K and M are for sizes"),
         [b'0'..=b'9', .., b's'] => Some("a blank before `bytes`"),
         _ => None,
+    }
+}
+
+/// What helps where a size was expected.
+fn hint_of_size(word: &[u8]) -> Option<&'static str> {
+    match word {
+        [b'0'..=b'9', .., b'K' | b'M'] => None,
+        _ => hint_of_number(word),
     }
 }
 
@@ -150,7 +159,7 @@ fn hint_of_bytes(word: &[u8]) -> Option<&'static str> {
     match word {
         b"," => Some("digits without separators, as 262144"),
         b"K" | b"KB" | b"kB" | b"KiB" | b"M" | b"MB" | b"MiB" | b"G" | b"GB" | b"GiB" => {
-            Some("in bytes: 4 KiB is 4096 bytes")
+            Some("4 KiB is 4K bytes, or 4096 bytes")
         }
         _ => Some("`bytes` comes after each size, of 1 too"),
     }
@@ -184,7 +193,8 @@ pub(crate) fn hint_of(word: &[u8], expected: Expected) -> Option<&'static str> {
         return Some("blanks before and after ->");
     }
     match expected {
-        Expected::Number | Expected::NumberOrPattern | Expected::Size => hint_of_number(word),
+        Expected::Number | Expected::NumberOrPattern => hint_of_number(word),
+        Expected::Size => hint_of_size(word),
         Expected::Pattern => Some("byte 0 first, as 0102030405060708"),
         Expected::Bytes => hint_of_bytes(word),
         Expected::Option => Some("each comes once"),

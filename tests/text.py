@@ -222,7 +222,6 @@ def texts():
     ]:
         expect("assemble", text, wanted)
     for text, begin, name in [
-        ("\nmove 1 -> 2, 0 bytes, record 0\nmove 1\n", "line 3, column 7: expected ->", "90 Line"),
         (f"# none\n{first}\n\nmove 1 -> 2, 0 bytes, record 0\n", "line 4, operation 1: ", "5 SizeZero 1"),
         (f"{PAIR}\n\nmove 1 -> 2, 3 bytes, record 64, pasid 1", "line 3, column 40, operation 1: ", "12 MixedPasid 1"),
         ("move 0x1000 -> 0x2000, 64 bytes, record 0x8010", "line 1, column 41, operation 0: ", "7 RecordAlign 0"),
@@ -231,6 +230,51 @@ def texts():
     ]:
         refused("assemble", text, begin, name)
     refused("disassemble", "000000", "the list's length is no multiple of 64", "1 Length")
+
+
+WRONG = [
+    ("move 1", "column 7: expected ->, found the end of the line", "90 Line"),
+    ("MOVE 1 -> 2, 3 bytes, record 32", "column 1: expected move, fill, compare, delta or dualcast, found 'MOVE'", "90 Line"),
+    ("move 1 -> 2, 0 bytes, record 32", "operation {}: the transfer size is 0", "5 SizeZero {}"),
+    ("move 1 -> 2, 3 bytes, record 33", "column 30, operation {}: ", "7 RecordAlign {}"),
+    (f"{PAIR}, pasid 1", "column 40, operation {}: ", "12 MixedPasid {}"),
+]
+
+
+def mistakes():
+    """Texts with some wrong lines. Each is named, up to 20 and in their order, and then how many there are."""
+    for seed in range(60):
+        choose = random.Random(seed)
+        lines, found, operations = [PAIR], [], 1
+        for number in range(2, choose.choice((4, 8, 60))):
+            line, begin, name = choose.choice([*WRONG, (PAIR, None, None), ("# none", None, None)])
+            lines.append(line)
+            if begin:
+                found.append((number, begin.format(operations), name.format(operations)))
+            operations += line.startswith("move 1 ")
+        ran = subprocess.run([TEXT, "assemble"], input="\n".join(lines).encode(), capture_output=True)
+        said = ran.stderr.decode().splitlines()
+        is_grammar = any(name == "90 Line" for _, _, name in found)
+        first = next((it for it in found if it[2] == "90 Line" or not is_grammar), None)
+        others = [it for it in found if it != first][:19]
+        named_lines = sorted([*others, first]) if first else []
+        wanted = [(f"error: line {number}, {begin}", f" [{name}]") for number, begin, name in named_lines]
+        if len(found) > 1:
+            left = f", and {len(found) - len(named_lines)} of them are not named" * (len(found) > 20)
+            wanted.append((f"error: {len(found)} lines are wrong{left}", " [90 Line]" * is_grammar))
+        is_right = len(said) == len(wanted) and all(it.startswith(a) and it.endswith(b) for it, (a, b) in zip(said, wanted))
+        common.expect(is_right and ran.returncode == int(bool(found)), f"{lines}: {said}, not {wanted}")
+
+
+def sizes():
+    """K and M after a size stand for 1,024 and 1,048,576 times the number."""
+    for word, size in [("4K", 4096), ("2M", 1 << 21), ("0x10K", 1 << 14), ("4095M", 4095 << 20), ("4194303K", 4194303 << 10)]:
+        expect("assemble", f"move 0 -> 0x200000000, {word} bytes, record 0x400000000", move(0, 0x2_0000_0000, size, 0x4_0000_0000).bytes().hex())
+    size = "column 24: expected a number below 2^32, found"
+    for word, end in [("4096M", "'4096M'"), ("4k", "'4k' (K and M are capitals)"), ("K", "'K'"), ("0xK", "'0xK'"), ("4KK", "'4KK'")]:
+        refused("assemble", f"move 0 -> 0x200000000, {word} bytes, record 0x8000", f"line 1, {size} {end}", "90 Line")
+    at_address = "line 1, column 6: expected a number below 2^64, found '4K' (K and M are for sizes)"
+    refused("assemble", "move 4K -> 0x2000, 8 bytes, record 0x8000", at_address, "90 Line")
 
 
 def sentences():
@@ -689,7 +733,7 @@ def files():
         common.expect(not fault, fault)
 
 
-PARTS = [examples, lists, refusals, arguments, lines, grammar, texts, fences, missing, shared_records, sentences, large, split, picture]
+PARTS = [examples, lists, refusals, arguments, lines, grammar, texts, mistakes, sizes, fences, missing, shared_records, sentences, large, split, picture]
 PARTS += [pictures, reasons_drawn, named_files, forms_of_bytes, members, waits, barriers, files]
 
 

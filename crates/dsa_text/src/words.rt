@@ -157,7 +157,7 @@ fn hint_of_size(word: &[u8]) -> Option<&'static str> {
 /// What helps where `bytes` was expected.
 fn hint_of_bytes(word: &[u8]) -> Option<&'static str> {
     match word {
-        b"," => Some("digits without separators, as 262144"),
+        b"," => Some("`bytes` comes after each size, whose digits have no separators"),
         b"K" | b"KB" | b"kB" | b"KiB" | b"M" | b"MB" | b"MiB" | b"G" | b"GB" | b"GiB" => {
             Some("4 KiB is 4K bytes, or 4096 bytes")
         }

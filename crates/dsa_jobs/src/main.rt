@@ -8,8 +8,8 @@ use serving::serve_lines;
 use std::io;
 use std::process::ExitCode;
 
-/// Runs the jobs. It looks at no arguments, and writes nothing to standard error. The status is 0 if all lines were read
-/// and the line of each job was written, whatever the answers are, and 2 if reading or writing failed.
+/// Runs the jobs. It looks at no arguments, and writes nothing to standard error. The status is 0 if all was read and
+/// the line of each job was written, whatever the answers are, and 2 if reading or writing failed.
 fn main(rt: HostRuntime) -> ExitCode {
     let mut input = rt.reader();
     let mut output = io::writer(&rt);

@@ -15,10 +15,10 @@ pub enum Ended {
 }
 
 /// How the piece has ended that has this completion record.
-pub fn how_ended(record: &[u8; 32]) -> Ended
-    ensures { result ≡ ended_of record.now }
+pub fn how_ended(completion: &[u8; 32]) -> Ended
+    ensures { result ≡ ended_of completion.now }
 {
-    match record[0] {
+    match completion[0] {
         0 => Ended::Waiting,
         1 | 2 => Ended::Finished,
         3..=255 => Ended::Failed,

@@ -99,6 +99,14 @@ def fenced():
     tried("fenced", [compiled("tests/bindings/fenced.c"), count], f"{count} lists with barriers\n")
 
 
+def resumed():
+    """What is left of random lists by random completion records, and each refusal (RESUMED=100000)."""
+    count = os.environ.get("RESUMED", "2000")
+    tried("resumed", [compiled("tests/bindings/resumed.c"), count, "20261127"], f"{count} lists resumed\n")
+    if sanitizers():
+        tried("resumed with sanitizers", [compiled("tests/bindings/resumed.c", *SANITIZE), "200", "7"])
+
+
 def random_lists():
     """The answers of the library are those of the program, but for the names of refusals."""
     lists = Path(WORK, "lists")
@@ -241,7 +249,7 @@ def main(words):
         sys.exit(0)
     make.need_proved("libdsa_c.a")
     with tempfile.TemporaryDirectory() as WORK:
-        parts = [header, examples, calls, fenced, texts, prepared, tracked, flights, in_flight, recorder]
+        parts = [header, examples, calls, fenced, resumed, texts, prepared, tracked, flights, in_flight, recorder]
         parts += [random_lists, speed]
         for part in named(parts, words):
             part()

@@ -15,7 +15,7 @@ from common import block_after, digits, expect, move, named, program, run_test, 
 
 
 def printed(command):
-    """What a command of a shell prints, where dsa_text is on the path and dsa is the built one."""
+    """What a command of a shell prints, where dsa_jobs and dsa_text are on the path and dsa is the built one."""
     return subprocess.run(command, shell=True, env=PLACES, capture_output=True, text=True).stdout
 
 
@@ -69,9 +69,14 @@ def README():
 
 
 def USING():
-    """The commands that audit recordings and check a batch."""
+    """The commands that answer jobs, audit recordings and check a batch."""
     checking = "## Checking other software's batches"
-    for words in ("One command reads the recording", "A checksum of two blocks", "Two queues, and no wait between"):
+    for words in (
+        "### As jobs",
+        "One command reads the recording",
+        "A checksum of two blocks",
+        "Two queues, and no wait between",
+    ):
         session(block_after("docs/USING.md", words))
     # the list has nine operations that one batch holds; three wait for the one before, and two come after a barrier
     with tempfile.TemporaryDirectory() as folder:
@@ -108,7 +113,8 @@ def main(words):
     global PLACES
     program("dsa")
     with tempfile.TemporaryDirectory() as folder:
-        os.symlink(program("dsa_text"), f"{folder}/dsa_text")
+        for name in ("dsa_jobs", "dsa_text"):
+            os.symlink(program(name), f"{folder}/{name}")
         PLACES = dict(os.environ, PATH=f"{folder}:{os.environ['PATH']}")
         for part in named([README, USING, PRICES, PROOF], words):
             part()

@@ -120,7 +120,7 @@ def reproduced():
 def unproved():
     """Nothing is packaged but files that the gate recorded as proved: in a copy of the tree with another file, without a record,
     with that of another crate or kit, or with another source, make.py stops with the reason and writes nothing."""
-    tree, crates = Path(WORK, "tree"), ("dsa", "dsa_text", "dsa_c")
+    tree, crates = Path(WORK, "tree"), ("dsa", "dsa_jobs", "dsa_text", "dsa_c")
     shutil.copytree(ROOT, tree, ignore=shutil.ignore_patterns("out", ".git"))
     for crate in crates:
         built = make.PROVED["libdsa_c.a" if crate == "dsa_c" else crate]
@@ -196,8 +196,8 @@ def debian():
     module = {"PYTHONPATH": f"{root}/usr/lib/python3/dist-packages", "DSA_PLANNER_LIBRARY": str(library)}
     tried("Python from the Debian package", "python3", "-c", "import dsa_planner", **module)
     pages = {path.name for path in root.rglob("*.gz")}
-    wanted = {"dsa.1.gz", "dsa_text.1.gz", "dsa_planner.3.gz", "dsa_trace.1.gz", "dsa_prices.1.gz"}
-    expect(pages == wanted, f"the Debian package has the pages {pages}")
+    wanted = {f"{name}.1.gz" for name in ("dsa", "dsa_jobs", "dsa_text", "dsa_trace", "dsa_prices")}
+    expect(pages == wanted | {"dsa_planner.3.gz"}, f"the Debian package has the pages {pages}")
     tried("dpkg --purge", *dpkg, "--purge", "dsa-planner", **tools)
     rest = {path for path in {*root.rglob("*")} - before if "var/lib/dpkg" not in str(path)}
     expect(not rest, f"dpkg --purge leaves {rest}")
@@ -222,7 +222,7 @@ def symbols():
     expect(needed == MEMORY | COPYING, f"the shared object needs {needed}")
     soname = f"Library soname: [libdsa_planner.so.{make.version()[0]}]"
     expect(soname in tried("readelf", "readelf", "-dW", shared), f"the shared object has no {soname}")
-    built = [Path(PREFIX, f"bin/{name}") for name in ("dsa", "dsa_text", "dsa_trace", "dsa_prices")]
+    built = [Path(PREFIX, f"bin/{name}") for name in ("dsa", "dsa_jobs", "dsa_text", "dsa_trace", "dsa_prices")]
     for path in (shared, Path(PREFIX, "lib/dsa-planner/libdsa_trace.so"), *built):
         said = tried("readelf", "readelf", "-dlW", path)
         stack = re.search(r"GNU_STACK +(?:\S+ +){5}(R?W?E?) ", said)
@@ -235,7 +235,8 @@ def pages():
     if not has("man"):
         return
     shown = {}
-    for page in ("man1/dsa.1", "man1/dsa_text.1", "man1/dsa_trace.1", "man1/dsa_prices.1", "man3/dsa_planner.3"):
+    programs = ("dsa", "dsa_jobs", "dsa_text", "dsa_trace", "dsa_prices")
+    for page in (*(f"man1/{name}.1" for name in programs), "man3/dsa_planner.3"):
         source = Path(FOLDER, Path(page).name)
         source.write_bytes(gzip.decompress(Path(PREFIX, f"share/man/{page}.gz").read_bytes()))
         end = ran("man", "--warnings", "-l", source, MANWIDTH="200", LC_ALL="C.UTF-8")
@@ -243,6 +244,7 @@ def pages():
         shown[page] = end.stdout
     words = {"man1/dsa.1": ["no arguments", "nothing to standard error", "Unfenced", "greatest_transfer", "DualcastBits"], "man3/dsa_planner.3": make.exported()}
     words["man1/dsa_text.1"] = ["--greatest-batch", "--svg", "--at", "dualcast"]
+    words["man1/dsa_jobs.1"] = ["no arguments", "67,108,864", "before it reads on"]
     words |= {"man1/dsa_trace.1": ["--seeds", "--no-namespace"], "man1/dsa_prices.1": ["--options"]}
     for page, wanted in words.items():
         missing = [word for word in wanted if word not in shown[page]]
@@ -305,7 +307,7 @@ def said():
     promised = Path("docs/PROOF.md").read_text().split("## What is promised")[1].split("\n## ")[0]
     rows = re.findall(r"^\| (.*?) \| ", promised, re.M)
     expect(len(rows) > 5 and all(row in text for row in rows[1:]), "PROVED does not have the promises of docs/PROOF.md")
-    for name in ("dsa", "dsa_text"):
+    for name in ("dsa", "dsa_jobs", "dsa_text"):
         summed = tried("sha256sum", "sha256sum", f"{PREFIX}/bin/{name}").split()[0]
         expect(f"{summed}  {name}\n" in text, f"PROVED has another sum of {name}")
 

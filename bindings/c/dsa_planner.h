@@ -114,7 +114,7 @@ struct dsa_refusal {
     uint64_t first;  /* the first index that the cause names, from 0; of DSA_SETTINGS the setting that is outside its
                         limits: 1 to 7 for the members of struct dsa_settings in their order, 8 for the table; of
                         DSA_NO_ROOM the bytes that portal needs, of DSA_NO_ROOM_FOR_CERTIFICATE the number of pieces,
-                        of DSA_NO_ROOM_FOR_ROWS the rows that are needed; else 0 */
+                        of DSA_NO_ROOM_FOR_ROWS the rows that are needed, of DSA_NO_ROOM_FOR_LIST the bytes; else 0 */
     uint64_t second; /* the second index; of DSA_NO_ROOM the bytes that staging needs; else 0 */
 };
 
@@ -185,6 +185,7 @@ enum dsa_number {
     DSA_NO_ROOM = 90,
     DSA_NO_ROOM_FOR_CERTIFICATE = 91,
     DSA_NO_ROOM_FOR_ROWS = 92, /* the rows that are needed */
+    DSA_NO_ROOM_FOR_LIST = 93, /* the bytes that are needed */
     /* preparing: index of the region */
     DSA_REGION_WRAP = 100,  /* it goes past 2^64 */
     DSA_REGION_ORDER = 101, /* it begins before the one before it has ended */
@@ -199,6 +200,8 @@ enum dsa_number {
     DSA_BASE_STAGING_MEETS = 109, /* it would overlap the staging area */
     DSA_STAGING = 110,            /* no index: the staging address is no multiple of 64, or above 2^63 */
     DSA_NOT_PREPARED = 111,       /* no index: the rows do not have the form of a prepared list of this version */
+    /* resuming */
+    DSA_RECORDS = 112, /* no index: there are not 32 bytes of completion records for each piece */
     /* tracking */
     DSA_NO_SLOT = 120,         /* no index: all slots have outstanding submissions */
     DSA_TOO_MANY_SPANS = 121,  /* how many spans the submission may read or write */
@@ -342,6 +345,31 @@ uint32_t dsa_check_fenced_list(const struct dsa_settings *settings,
                                const struct dsa_pair *pairs, size_t pairs_len,
                                uint64_t *cost,
                                struct dsa_refusal *refusal);
+
+/*
+ * What is left to submit of a list that dsa_plan_list has planned with these settings, once a submission has stopped,
+ * as after a page fault. records has the completion records of its pieces as the device has left them, 32 bytes for
+ * each in the order of the pieces: byte 0 is 0, as the caller has cleared it, of a piece that waits, 1 or 2 of one that
+ * has finished (2: a compare found another result than expected), and any other of one that failed.
+ *
+ * Returns 0: rest begins with the list of the pieces that have not finished, 64 bytes each, and rest_len is its length
+ * (64 bytes for each piece are always enough). They are as they were listed; if failed_first is not 0, those that
+ * failed come before those that wait. Clear their completion records, and plan the list. If no entry of the portal was
+ * submitted after one that failed, doing it leaves what the whole list leaves, provided that what is left writes each
+ * byte that a failed piece has written before it reads it; with failed_first moreover no piece that waits conflicts
+ * with a later one that failed.
+ *
+ * Returns another number: refusal has it, and nothing else was written: the first refusal of dsa_plan_list but for
+ * DSA_NO_ROOM, then DSA_RECORDS, then DSA_NO_ROOM_FOR_LIST.
+ */
+uint32_t dsa_resume(const struct dsa_settings *settings,
+                    const uint64_t *table, size_t table_len,
+                    const uint8_t *list, size_t list_len,
+                    const uint8_t *records, size_t records_len,
+                    uint32_t failed_first,
+                    uint8_t *rest, size_t rest_capacity,
+                    uint64_t *rest_len,
+                    struct dsa_refusal *refusal);
 
 /*
  * Judges a plan of the caller's, a mark for each descriptor of the list. No descriptor is split. The first descriptor

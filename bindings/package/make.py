@@ -3,7 +3,7 @@
 
     bindings/package/make.py [--built] [FOLDER]
 
-It needs the archive and both programs, as the gate proved and recorded them, and proves and builds what is lacking;
+It needs the archive and the programs, as the gate proved and recorded them, and proves and builds what is lacking;
 with --built it stops instead. It needs the toolchain too, a C compiler (CC names it), make, binutils, and dpkg-deb for
 the second.
 If the folder is given, the packages are written there. Equal inputs give equal packages, byte for byte."""
@@ -31,6 +31,7 @@ HEADER = ROOT / "bindings/c/dsa_planner.h"
 PROVED = {
     "libdsa_c.a": ROOT / "crates/dsa_c/out/libdsa_c.a",
     "dsa": ROOT / "crates/dsa/out/dsa",
+    "dsa_jobs": ROOT / "crates/dsa_jobs/out/dsa_jobs",
     "dsa_text": ROOT / "crates/dsa_text/out/dsa_text",
 }
 COMPILE = ["-std=c11", "-O2", "-fPIC", "-Wall", "-Wextra", "-Werror", "-ffunction-sections"]
@@ -168,8 +169,8 @@ def proved(records):
 Commit: {name}
 Toolchain: {kit}
 
-The toolchain proved each function of the archive libdsa_c.a and of the programs dsa and dsa_text before it compiled them.
-Their SHA-256 sums:
+The toolchain proved each function of the archive libdsa_c.a and of the programs dsa, dsa_jobs and dsa_text before it
+compiled them. Their SHA-256 sums:
 
 {sums}
 
@@ -191,7 +192,7 @@ def tree(root, places, records):
     docs = root / "share/doc/dsa-planner"
     for folder in (root / "bin", root / "include", library, docs / "examples"):
         folder.mkdir(parents=True)
-    for name in ("dsa", "dsa_text"):
+    for name in ("dsa", "dsa_jobs", "dsa_text"):
         copied = Path(shutil.copy(PROVED[name], root / "bin" / name))
         if hashlib.sha256(copied.read_bytes()).hexdigest() != records[name][1]:
             sys.exit(f"make.py: {name} changed while it was packaged")
@@ -223,6 +224,7 @@ def manuals(to, numbers):
     head = {"version": numbers, "date": date}
     pages = {
         "dsa.1": manual.dsa(head),
+        "dsa_jobs.1": manual.dsa_jobs(head),
         "dsa_text.1": manual.dsa_text(head, str(PROVED["dsa_text"])),
         "dsa_planner.3": manual.dsa_planner(head),
         "dsa_trace.1": filled("dsa_trace.1", **head),

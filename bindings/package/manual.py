@@ -93,6 +93,14 @@ STATUS = roff("""
 """)
 
 
+JOBS_STATUS = roff("""
+| Status | Meaning |
+|---|---|
+| 0 | all was read, and each job has its line, of an answer or of a refusal |
+| 2 | reading failed, and the jobs before have their lines; or writing failed: part of the lines may be written |
+""")
+
+
 TEXT_STATUS = roff("""
 | Status | Meaning |
 |---|---|
@@ -122,7 +130,26 @@ refused and why. All addresses are the device's; nothing here touches a device.
         LISTS=roff(section("docs/FORMATS.md", "What a list may hold (profile)")),
         REFUSALS=roff(section("docs/FORMATS.md", "Refusals")),
         EXIT_STATUS=STATUS,
-        SEE_ALSO=".BR dsa_text (1),\n.BR dsa_planner (3)\n",
+        SEE_ALSO=".BR dsa_jobs (1),\n.BR dsa_text (1),\n.BR dsa_planner (3)\n",
+    )
+
+
+def dsa_jobs(head):
+    """dsa_jobs(1)."""
+    about = """
+`dsa_jobs` reads a job on each line of standard input, and writes for each the line that `dsa` writes for that job, in
+order, before it reads on. An empty line is a job too, and is refused; what follows the last newline is one unless it is
+empty. A line longer than 67,108,864 bytes is refused, and the next one is read. It looks at no arguments and writes
+nothing to standard error.
+
+    dsa_jobs < JOBS
+"""
+    return PAGE.format(title="DSA_JOBS", section=1, **head) + sections(
+        NAME=plain("dsa_jobs - a job of dsa on each line") + "\n",
+        SYNOPSIS=".B dsa_jobs\n< JOBS\n",
+        DESCRIPTION=roff(about),
+        EXIT_STATUS=JOBS_STATUS,
+        SEE_ALSO=".BR dsa (1)\n",
     )
 
 

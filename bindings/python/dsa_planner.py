@@ -25,7 +25,7 @@ __all__ = [
     "Prepared", "Refusal", "Retired", "Settings", "Submitted", "Summary", "Tracker", "apply_delta", "check",
     "check_fenced_list", "compare", "compare_pattern", "count_pieces", "dualcast", "fill", "groups", "judge",
     "judge_fenced_list", "library_version", "move", "plan_fenced_list", "plan_fenced_list_certified", "plan_list",
-    "plan_list_certified", "prepare", "prepare_fenced",
+    "plan_list_certified", "prepare", "prepare_fenced", "resume",
 ]
 
 MOST_PIECES = 65_536
@@ -158,6 +158,7 @@ def _declare(library: ctypes.CDLL) -> None:
         "dsa_plan_fenced_list_certified": (number, [*listed, *rooms, *certificate, byte, size, planned, refusal]),
         "dsa_check": (ctypes.c_uint32, [*listed, byte, size, ctypes.c_uint64, *certificate, word, refusal]),
         "dsa_check_fenced_list": (number, [*listed, *[byte, size] * 2, ctypes.c_uint64, *certificate, word, refusal]),
+        "dsa_resume": (number, [*listed, byte, size, number, byte, size, word, refusal]),
         "dsa_judge": (ctypes.c_uint32, [*listed, byte, size, word, refusal]),
         "dsa_judge_fenced_list": (number, [*listed, byte, size, word, refusal]),
         "dsa_prepare": (ctypes.c_uint32, [*listed, regions, size, rows, size, info, refusal]),
@@ -315,6 +316,7 @@ CAUSES: Dict[int, str] = {
     90: "NoRoom",
     91: "NoRoomForCertificate",
     92: "NoRoomForRows",
+    93: "NoRoomForList",
     100: "RegionWrap",
     101: "RegionOrder",
     102: "Outside",
@@ -327,6 +329,7 @@ CAUSES: Dict[int, str] = {
     109: "BaseStagingMeets",
     110: "Staging",
     111: "NotPrepared",
+    112: "Records",
     120: "NoSlot",
     121: "TooManySpans",
     122: "NotOutstanding",
@@ -579,6 +582,20 @@ def _checked(call, settings: Settings, given: Sequence, certificate: Certificate
     arrays = [part for array in given for part in array]
     _answered(call(raw, table, entries, *arrays, *certified, cost, refusal), refusal)
     return cost.value
+
+
+def resume(settings: Settings, operations: Bytes, records: Bytes, failed_first: bool = False) -> bytes:
+    """What is left to submit of a list that was planned with these settings, once a submission has stopped: the list of
+    the pieces that have not finished, by their completion records, 32 bytes for each piece in their order, whose first
+    byte is 0 of a piece that waits, and 1 or 2 of one that has finished. Clear the records of what is left, and plan
+    it. Raises `Refusal`."""
+    raw, table, entries = settings._raw()
+    listed, size = _given("operations", operations)
+    pieces = min(int(_library.dsa_count_pieces(raw, table, entries, listed, size)), MOST_PIECES)
+    rest, count, refusal = _room(64 * pieces), ctypes.c_uint64(), _Refusal()
+    given = *_given("records", records), int(failed_first), rest, 64 * pieces
+    _answered(_library.dsa_resume(raw, table, entries, listed, size, *given, count, refusal), refusal)
+    return bytes(rest)[: count.value]
 
 
 def judge(settings: Settings, operations: Bytes, marks: Bytes) -> int:

@@ -37,9 +37,9 @@ struct rattle_block rattle_realloc(void *at, size_t old_size, size_t size, size_
     return block;
 }
 
-enum { N = 24, ROWS = 1 + 2 + 3 * N, CALLS = 12, WORDS = 4096 };
+enum { N = 24, ROWS = 1 + 2 + 3 * N, CALLS = 13, WORDS = 4096 };
 static const struct dsa_settings settings = {1, 5, 4096, 10, 14, 3, UINT64_C(1) << 40};
-static uint8_t list[64 * N], marks_in[N], portal_in[64 * N], staging_in[80 * N];
+static uint8_t list[64 * N], records[32 * N], marks_in[N], portal_in[64 * N], staging_in[80 * N];
 static uint64_t prices_in[N + 1];
 static struct dsa_pair pairs_in[N];
 static struct dsa_planned planned_in;
@@ -117,6 +117,9 @@ static uint32_t call(int which, struct dsa_refusal *r)
                                               o->pairs, N, o->marks, N, &o->planned, r);
     case 11:
         return dsa_judge_fenced_list(&settings, &settings.batch, 0, list, sizeof list, marks_in, N, &o->cost, r);
+    case 12:
+        return dsa_resume(&settings, &settings.batch, 0, list, sizeof list, records, sizeof records, 1, o->portal,
+                          sizeof o->portal, &o->cost, r);
     default:
         return track(which, r);
     }

@@ -8,10 +8,10 @@
 
 #include <dsa_planner.h>
 
-enum { MOST = DSA_MOST_PIECES, STACK = 1 << 20, CALLS = 15 };
+enum { MOST = DSA_MOST_PIECES, STACK = 1 << 20, CALLS = 16 };
 
 static const struct dsa_settings settings = {1, 1024, 4096, 10, 14, 3, UINT64_C(1) << 40};
-static uint8_t list[64 * MOST], portal[64 * MOST], staging[80 * MOST], marks[MOST];
+static uint8_t list[64 * MOST], records[32 * MOST], portal[64 * MOST], staging[80 * MOST], marks[MOST];
 static uint64_t prices[MOST + 1], cost;
 static struct dsa_pair pairs[MOST];
 static struct dsa_planned planned;
@@ -98,6 +98,9 @@ static void *call(void *which)
     case 14:
         code = dsa_judge_fenced_list(s, &s->batch, 0, list, len, marks, n, &cost, &refusal);
         break;
+    case 15:
+        code = dsa_resume(s, &s->batch, 0, list, len, records, 32 * n, 0, portal, sizeof portal, &cost, &refusal);
+        break;
     default: /* large groups, and many, are refused once they are read */
         code = dsa_track_begin(words, sizeof words / sizeof *words, 64, 1024, 13, 12, &refusal);
         if (code == DSA_OK)
@@ -139,7 +142,7 @@ int main(int argc, char **argv)
     static const char *const names[CALLS] = {"count_pieces", "plan_list", "plan_list_certified", "check", "judge",
                                              "prepare", "fill", "track_list", "track_complete", "track_groups",
                                              "plan_fenced_list", "check_fenced_list", "prepare_fenced",
-                                             "plan_fenced_list_certified", "judge_fenced_list"};
+                                             "plan_fenced_list_certified", "judge_fenced_list", "resume"};
     static const uint64_t lengths[] = {2, 63, 65, 3000, MOST};
     size_t greatest[CALLS] = {0}, limits[2] = {0, 0};
     if (argc != 3)

@@ -138,6 +138,8 @@ causes! {
     NoRoomForCertificate = 91,
     /// The array of rows needs room for `first` rows.
     NoRoomForRows = 92,
+    /// The buffer needs `first` bytes for the list of what is left.
+    NoRoomForList = 93,
     /// Region `first` goes past 2^64.
     RegionWrap = 100,
     /// Region `first` begins before the one before it has ended.
@@ -162,6 +164,8 @@ causes! {
     Staging = 110,
     /// The rows do not have the form of a prepared list of this version.
     NotPrepared = 111,
+    /// There are not 32 bytes of completion records for each piece.
+    Records = 112,
     /// All slots have outstanding submissions.
     NoSlot = 120,
     /// The submission may read or write `first` spans, more than the tracker keeps of one.

@@ -556,6 +556,66 @@ pub fn check_fenced_list(
     answer(code, cost, refusal)
 }
 
+/// In which order [`resume`] lists what is left.
+#[derive(Clone, Copy, Debug, PartialEq, Eq)]
+pub enum LeftOrder {
+    /// As it was listed.
+    AsListed,
+    /// The pieces that failed, and after them those that wait.
+    FailedFirst,
+}
+
+/// What is left to submit of a list that was planned with these settings, once a submission has stopped: the list of
+/// the pieces that have not finished, by their completion records, 32 bytes for each piece in their order, whose first
+/// byte is 0 of a piece that waits, and 1 or 2 of one that has finished. Clear the records of what is left, and plan
+/// it.
+///
+/// # Errors
+/// The first fault of the settings or the list; [`Cause::Records`]; [`Cause::Memory`].
+///
+/// ```
+/// # use dsa_planner::{list_of, resume, BatchPrice, Descriptor, LeftOrder, Settings};
+/// # let (lone, batch, fence) = (10, BatchPrice::Flat(14), 3);
+/// # let settings = Settings { greatest_batch: 4, greatest_transfer: 4096, lone, batch, fence, staging: 0x10000 };
+/// let first = Descriptor::memory_move(0x1000, 0x2000, 64, 0x8000);
+/// let second = Descriptor::memory_move(0x3000, 0x4000, 64, 0x8020);
+/// let mut records = [0; 64];
+/// (records[0], records[32]) = (1, 3); // success, and a page fault
+/// assert_eq!(resume(&settings, &list_of(&[first, second]), &records, LeftOrder::AsListed)?, list_of(&[second]));
+/// # Ok::<(), dsa_planner::Refusal>(())
+/// ```
+pub fn resume(
+    settings: &Settings,
+    list: &[u8],
+    records: &[u8],
+    order: LeftOrder,
+) -> Result<Vec<u8>, Refusal> {
+    let (raw, table) = settings.raw();
+    let pieces = usize::try_from(count_pieces(settings, list)).map_or(0, |n| n.min(MOST_PIECES));
+    let mut rest = vec![0; 64 * pieces];
+    let (mut rest_len, mut refusal) = (0, raw::Refusal::default());
+    // SAFETY: each pointer and length are those of one slice or one struct, and no output overlaps another argument.
+    let code = unsafe {
+        raw::dsa_resume(
+            &raw,
+            table.as_ptr(),
+            table.len(),
+            list.as_ptr(),
+            list.len(),
+            records.as_ptr(),
+            records.len(),
+            u32::from(order == LeftOrder::FailedFirst),
+            rest.as_mut_ptr(),
+            rest.len(),
+            &mut rest_len,
+            &mut refusal,
+        )
+    };
+    let rest_len = answer(code, rest_len, refusal)?;
+    rest.truncate(rest_len as usize);
+    Ok(rest)
+}
+
 /// What a plan of the caller's costs, a mark for each descriptor of the list, where it is within the limits and each
 /// conflict within a batch has its fence. No descriptor is split. It needs 256 KiB of stack.
 ///

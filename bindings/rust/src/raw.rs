@@ -220,6 +220,21 @@ extern "C" {
         refusal: &mut Refusal,
     ) -> u32;
 
+    pub fn dsa_resume(
+        settings: &Settings,
+        table: *const u64,
+        table_len: usize,
+        list: *const u8,
+        list_len: usize,
+        records: *const u8,
+        records_len: usize,
+        failed_first: u32,
+        rest: *mut u8,
+        rest_capacity: usize,
+        rest_len: &mut u64,
+        refusal: &mut Refusal,
+    ) -> u32;
+
     pub fn dsa_judge(
         settings: &Settings,
         table: *const u64,

@@ -8,5 +8,6 @@ pub mod Fenced
 pub mod Checking
 pub mod Judging
 pub mod Preparing
+pub mod Resuming
 pub mod FencedChecking
 pub mod Tracking

@@ -87,6 +87,7 @@ of_buffers n =
     if n == 90 then codes "a buffer is too small for the bytes to submit: portal needs # bytes and staging $" else
     if n == 91 then codes "an array is too small for the prices, the pairs or the marks of # pieces" else
     if n == 92 then codes "the array of rows is too small: # rows are needed" else
+    if n == 93 then codes "the buffer is too small for the list of what is left: # bytes are needed" else
     if n == 100 then codes "region # goes past 2^64" else
     if n == 101 then codes "region # begins before the one before it has ended" else
     if n == 102 then codes "a range of operation #, or the row of its records, lies in no one region" else
@@ -99,6 +100,7 @@ of_buffers n =
     if n == 109 then codes "at its new base region # has an address in the staging area, 96 bytes for each piece" else
     if n == 110 then codes "the staging address is no multiple of 64, or above 2^63" else
     if n == 111 then codes "the rows do not have the form of a prepared list" else
+    if n == 112 then codes "there are not 32 bytes of completion records for each piece" else
     []
 
 -- of trackers

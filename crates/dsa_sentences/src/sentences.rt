@@ -133,6 +133,7 @@ fn of_buffers(number: u64) -> &'static str
         90 => "a buffer is too small for the bytes to submit: portal needs # bytes and staging $",
         91 => "an array is too small for the prices, the pairs or the marks of # pieces",
         92 => "the array of rows is too small: # rows are needed",
+        93 => "the buffer is too small for the list of what is left: # bytes are needed",
         100 => "region # goes past 2^64",
         101 => "region # begins before the one before it has ended",
         102 => "a range of operation #, or the row of its records, lies in no one region",
@@ -148,6 +149,7 @@ fn of_buffers(number: u64) -> &'static str
             "at its new base region # has an address in the staging area, 96 bytes for each piece",
         110 => "the staging address is no multiple of 64, or above 2^63",
         111 => "the rows do not have the form of a prepared list",
+        112 => "there are not 32 bytes of completion records for each piece",
         _ => "",
     }
 }

@@ -1,0 +1,4 @@
+pub mod Jobs
+pub mod Writes
+pub mod Held
+pub mod Ended

@@ -1,0 +1,5 @@
+pub mod Fine
+pub mod Redone
+pub mod Parting
+pub mod Plans
+pub mod Resumed

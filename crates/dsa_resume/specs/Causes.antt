@@ -1,0 +1,23 @@
+-- What a refusal reports of the faults of resuming.
+-- Names, numbers and indices are this project's choice.
+use Rattle.std.specs.Prelude.{ℕ, List, codes}
+use Rattle.dsa_descriptor.specs.declared.indices.Indices.{Indices}
+use Rattle.dsa_descriptor.specs.declared.indices.Indices.TheVariants.{Empty}
+use Rattle.dsa_calls.specs.Fault.{fault_number, fault_name, fault_indices}
+use Rattle.dsa_resume.specs.declared.fault.ResumeFault.{ResumeFault}
+use Rattle.dsa_resume.specs.declared.fault.ResumeFault.TheVariants.{Plan, Records}
+
+-- its number
+abbrev pub resume_number : ResumeFault → ℕ
+resume_number (Plan fault) = fault_number fault
+resume_number Records = 112
+
+-- its name
+abbrev pub resume_name : ResumeFault → List ℕ
+resume_name (Plan fault) = fault_name fault
+resume_name Records = codes "Records"
+
+-- the indices of planning's refusal
+abbrev pub resume_indices : ResumeFault → Indices
+resume_indices (Plan fault) = fault_indices fault
+resume_indices Records = Empty

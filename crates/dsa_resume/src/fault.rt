@@ -1,0 +1,49 @@
+//! Why nothing is said of what is left.
+
+ghost use Rattle.std.specs.Prelude.{◌≡◌, ◌≤◌, length};
+ghost use Rattle.dsa_resume.specs.Causes.{resume_number, resume_name, resume_indices};
+
+use dsa_calls::PlanFault;
+use dsa_descriptor::Indices;
+
+/// Why a list is not resumed.
+#[derive(Clone, Copy, Debug, PartialEq, Eq)]
+pub enum ResumeFault {
+    /// Planning refuses the list, or an allocation failed.
+    Plan(PlanFault),
+    /// There are not 32 bytes of records for each piece.
+    Records,
+}
+
+impl ResumeFault {
+    /// The number of the refusal.
+    pub fn number(self) -> u64
+        ensures { result ≡ resume_number self }
+    {
+        match self {
+            ResumeFault::Plan(fault) => fault.number(),
+            ResumeFault::Records => 112,
+        }
+    }
+
+    /// The name of the refusal.
+    pub fn name(self) -> &'static str
+        ensures value { result.now ≡ resume_name self }
+        ensures short { length result.now ≤ 16 }
+    {
+        match self {
+            ResumeFault::Plan(fault) => fault.name(),
+            ResumeFault::Records => "Records",
+        }
+    }
+
+    /// The indices that the refusal names.
+    pub fn indices(self) -> Indices
+        ensures { result ≡ resume_indices self }
+    {
+        match self {
+            ResumeFault::Plan(fault) => fault.indices(),
+            ResumeFault::Records => Indices::Empty,
+        }
+    }
+}

@@ -1,0 +1,14 @@
+//! Laws of what is left, each the contract of an empty function.
+
+ghost use Rattle.dsa_resume.specs.Laws.{LegalPlansResume, ResumesFailedFirst, ResumesInOrder};
+
+/// Doing what is left after the finished pieces leaves what doing all pieces in order leaves.
+pub fn resuming_leaves_whole()
+    ensures in_order { ResumesInOrder }
+    ensures failed_first { ResumesFailedFirst }
+{}
+
+/// Under a legal plan no piece that is left conflicts with a later one that has finished.
+pub fn legal_plans_resume()
+    ensures { LegalPlansResume }
+{}

@@ -1,0 +1,83 @@
+//! The bytes of what is left of a list.
+
+ghost use Rattle.std.specs.Prelude.{◌≡◌, IfOk, length, map};
+ghost use Rattle.dsa_descriptor.specs.Descriptors.{fields};
+ghost use Rattle.dsa_descriptor.specs.Lists.{list_spelling};
+ghost use Rattle.dsa_calls.specs.Lists.{OrMemory};
+ghost use Rattle.dsa_calls.specs.Planned.{CanBePlanned, SplitsList};
+ghost use Rattle.dsa_resume.specs.Left.{left_of};
+ghost use Rattle.dsa_resume.specs.Resumed.{AnswersResume};
+
+use crate::fault::ResumeFault;
+use crate::left::{LeftOrder, left_pieces};
+use dsa_calls::PlanFault;
+use dsa_descriptor::{Descriptor, read_list};
+use dsa_settings::Settings;
+use dsa_splitter::into_pieces;
+use std::alloc::{AllocError, Global};
+
+/// What is left to submit of a list that was planned with these settings and submitted, by the completion records of
+/// its pieces, 32 bytes each, in the order of the pieces: the list of the pieces that have not finished, in this order.
+/// They have no fence, and can be planned.
+///
+/// # Errors
+/// What planning refuses of the list before it has pieces; else [`ResumeFault::Records`];
+/// [`PlanFault::Memory`] at the first allocation that fails.
+pub fn resume_list(
+    alloc: Global,
+    list: &[u8],
+    settings: &Settings,
+    records: &[u8],
+    order: LeftOrder,
+) -> Result<Vec<u8>, ResumeFault>
+    ensures { AnswersResume settings.now list.now records.now order result }
+{
+    let pieces = match pieces_of(alloc, list, settings) {
+        Ok(pieces) => pieces,
+        Err(fault) => return Err(ResumeFault::Plan(fault)),
+    };
+    if records.len() != 32 * pieces.len() {
+        return Err(ResumeFault::Records);
+    }
+    let (completions, _) = records.as_chunks::<32>();
+    match left_bytes(alloc, &pieces, completions, order) {
+        Ok(bytes) => Ok(bytes),
+        Err(_) => Err(ResumeFault::Plan(PlanFault::Memory)),
+    }
+}
+
+// The pieces of the operations that the bytes spell.
+fn pieces_of(alloc: Global, list: &[u8], settings: &Settings) -> Result<Vec<Descriptor>, PlanFault>
+    ensures split { OrMemory (λ pieces. pieces.items) (SplitsList settings.now list.now) result }
+    ensures can { IfOk result (λ pieces. CanBePlanned settings.now (map fields pieces.items)) }
+{
+    let operations = read_list(alloc, list)?;
+    let pieces = into_pieces(alloc, operations, settings)?;
+    Ok(pieces)
+}
+
+// The bytes of what is left of the pieces.
+fn left_bytes(
+    alloc: Global,
+    pieces: &[Descriptor],
+    completions: &[[u8; 32]],
+    order: LeftOrder,
+) -> Result<Vec<u8>, AllocError>
+    requires { length completions.now ≡ length pieces.now }
+    ensures { IfOk result (λ bytes. bytes.items ≡
+        list_spelling (map fields (left_of order pieces.now completions.now))) }
+{
+    let rest = left_pieces(alloc, pieces, completions, order)?;
+    spelled(alloc, &rest)
+}
+
+// The bytes of a list of descriptors.
+fn spelled(alloc: Global, list: &[Descriptor]) -> Result<Vec<u8>, AllocError>
+    ensures { IfOk result (λ bytes. bytes.items ≡ list_spelling (map fields list.now)) }
+{
+    let mut bytes = Vec::new(alloc);
+    for d in list {
+        bytes.extend_from_slice(&d.write())?;
+    }
+    Ok(bytes)
+}

@@ -127,16 +127,14 @@ def random_lists():
 def prepared():
     """What is filled of random prepared lists is what planning them at their new addresses answers, and each refusal is
     that of a model, also of rows that were damaged; the most pieces and none; threads that share a prepared list. Then the
-    ring of buffers that docs/USING.md shows."""
+    ring of buffers of which docs/USING.md says what it prints."""
     source, count = "tests/bindings/prepared.c", os.environ.get("FILLED", "1000")
     tried("prepared lists", [compiled(source, "-pthread"), count, "20261125", "4"])
     if shutil.which("valgrind"):
         tried("prepared lists under valgrind", ["valgrind", "-q", "--error-exitcode=9", compiled(source, "-pthread"), "20", "7", "2"])
     if sanitizers():
         tried("prepared lists with sanitizers", [compiled(source, "-pthread", *SANITIZE), "200", "9", "4"])
-    ring = block_after("docs/USING.md", "## A ring of buffers", "c")
-    Path(WORK, "ring.c").write_text(ring)
-    tried("the ring of docs/USING.md", [compiled(f"{WORK}/ring.c")], block_after("docs/USING.md", "It prints", ""))
+    tried("the ring of docs/USING.md", [compiled("bindings/c/ring.c")], block_after("docs/USING.md", "It prints", ""))
 
 
 def tracked():
@@ -173,10 +171,8 @@ def flights():
 
 
 def in_flight():
-    """What docs/USING.md shows of a tracker: the program compiles and prints what the page says."""
-    shown = Path(WORK, "in_flight.c")
-    shown.write_text(block_after("docs/USING.md", "## Many submissions in flight", "c"))
-    tried("the tracker of docs/USING.md", [compiled(shown)], block_after("docs/USING.md", "The program prints"))
+    """The example of a tracker prints what docs/USING.md says."""
+    tried("the tracker of docs/USING.md", [compiled("bindings/c/tracker.c")], block_after("docs/USING.md", "The program prints"))
 
 
 def recorder():

@@ -4,6 +4,7 @@
 mod line;
 mod serving;
 
+use dsa_report::large_block;
 use serving::serve_lines;
 use std::io;
 use std::process::ExitCode;
@@ -11,6 +12,7 @@ use std::process::ExitCode;
 /// Runs the jobs. It looks at no arguments, and writes nothing to standard error. The status is 0 if all was read and
 /// the line of each job was written, whatever the answers are, and 2 if reading or writing failed.
 fn main(rt: HostRuntime) -> ExitCode {
+    drop(large_block(rt.alloc()));
     let mut input = rt.reader();
     let mut output = io::writer(&rt);
     let ending = serve_lines(&rt, &mut input, &mut output);

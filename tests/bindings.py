@@ -172,7 +172,8 @@ def flights():
 
 def in_flight():
     """The example of a tracker prints what docs/USING.md says."""
-    tried("the tracker of docs/USING.md", [compiled("bindings/c/tracker.c")], block_after("docs/USING.md", "The program prints"))
+    printed = block_after("docs/USING.md", "The program prints")
+    tried("the tracker of docs/USING.md", [compiled("bindings/c/tracker.c")], printed)
 
 
 def recorder():

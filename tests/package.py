@@ -534,7 +534,8 @@ def threads():
     """Random lists from eight threads at once with sanitizers (LISTS sets how many, 100), and the stack that each call
     takes beside what the header says."""
     asked = Path(PREFIX, "include/dsa_planner.h").read_text()
-    limits = re.search(r"has (\d+) KiB of stack free for dsa_check.*\n.* dsa_judge_fenced_list, and (\d+) KiB for\s", asked)
+    words = r"has (\d+) KiB of stack free for dsa_check.*\n.* dsa_judge_fenced_list, and (\d+) KiB for\s"
+    limits = re.search(words, asked)
     common = ["cc", "-std=c11", "-D_GNU_SOURCE", "-O1", "-g", "-Wall", "-Wextra", "-Werror", "-pthread"]
     tried("stack.c", *common, ROOT / "tests/bindings/stack.c", *linking("dsa_planner_static"), "-o", "stack")
     checking, planning = (1024 * int(number) for number in limits.groups())

@@ -234,7 +234,7 @@ def texts():
 
 WRONG = [
     ("move 1", "column 7: expected ->, found the end of the line", "90 Line"),
-    ("MOVE 1 -> 2, 3 bytes, record 32", "column 1: expected move, fill, compare, delta or dualcast, found 'MOVE'", "90 Line"),
+    ("MOVE 1 -> 2", "column 1: expected move, fill, compare, delta or dualcast, found 'MOVE'", "90 Line"),
     ("move 1 -> 2, 0 bytes, record 32", "operation {}: the transfer size is 0", "5 SizeZero {}"),
     ("move 1 -> 2, 3 bytes, record 33", "column 30, operation {}: ", "7 RecordAlign {}"),
     (f"{PAIR}, pasid 1", "column 40, operation {}: ", "12 MixedPasid {}"),
@@ -262,16 +262,20 @@ def mistakes():
         if len(found) > 1:
             left = f", and {len(found) - len(named_lines)} of them are not named" * (len(found) > 20)
             wanted.append((f"error: {len(found)} lines are wrong{left}", " [90 Line]" * is_grammar))
-        is_right = len(said) == len(wanted) and all(it.startswith(a) and it.endswith(b) for it, (a, b) in zip(said, wanted))
+        pairs = zip(said, wanted)
+        is_right = len(said) == len(wanted) and all(it.startswith(a) and it.endswith(b) for it, (a, b) in pairs)
         common.expect(is_right and ran.returncode == int(bool(found)), f"{lines}: {said}, not {wanted}")
 
 
 def sizes():
     """K and M after a size stand for 1,024 and 1,048,576 times the number."""
-    for word, size in [("4K", 4096), ("2M", 1 << 21), ("0x10K", 1 << 14), ("4095M", 4095 << 20), ("4194303K", 4194303 << 10)]:
-        expect("assemble", f"move 0 -> 0x200000000, {word} bytes, record 0x400000000", move(0, 0x2_0000_0000, size, 0x4_0000_0000).bytes().hex())
+    spelled = [("4K", 4096), ("2M", 1 << 21), ("0x10K", 1 << 14), ("4095M", 4095 << 20), ("4194303K", 4194303 << 10)]
+    for word, size in spelled:
+        listed = move(0, 0x2_0000_0000, size, 0x4_0000_0000).bytes().hex()
+        expect("assemble", f"move 0 -> 0x200000000, {word} bytes, record 0x400000000", listed)
     size = "column 24: expected a number below 2^32, found"
-    for word, end in [("4096M", "'4096M'"), ("4k", "'4k' (K and M are capitals)"), ("K", "'K'"), ("0xK", "'0xK'"), ("4KK", "'4KK'")]:
+    for word, more in [("4096M", ""), ("4k", " (K and M are capitals)"), ("K", ""), ("0xK", ""), ("4KK", "")]:
+        end = f"'{word}'{more}"
         refused("assemble", f"move 0 -> 0x200000000, {word} bytes, record 0x8000", f"line 1, {size} {end}", "90 Line")
     at_address = "line 1, column 6: expected a number below 2^64, found '4K' (K and M are for sizes)"
     refused("assemble", "move 4K -> 0x2000, 8 bytes, record 0x8000", at_address, "90 Line")
@@ -733,8 +737,8 @@ def files():
         common.expect(not fault, fault)
 
 
-PARTS = [examples, lists, refusals, arguments, lines, grammar, texts, mistakes, sizes, fences, missing, shared_records, sentences, large, split, picture]
-PARTS += [pictures, reasons_drawn, named_files, forms_of_bytes, members, waits, barriers, files]
+PARTS = [examples, lists, refusals, arguments, lines, grammar, texts, mistakes, sizes, fences, missing, shared_records]
+PARTS += [sentences, large, split, picture, pictures, reasons_drawn, named_files, forms_of_bytes, members, waits, barriers, files]
 
 
 def main(words):

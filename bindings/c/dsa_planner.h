@@ -387,9 +387,9 @@ uint32_t dsa_judge(const struct dsa_settings *settings,
                    struct dsa_refusal *refusal);
 
 /*
- * The same for a list as dsa_plan_fenced_list takes it. Returns 0 if the plan also keeps each barrier: by a fence of the
- * descriptor after it, or by a group that begins there. A barrier that is not kept is DSA_UNFENCED, with the pieces just
- * before and just after it.
+ * The same for a list as dsa_plan_fenced_list takes it. Returns 0 if the plan also keeps each barrier: by a fence of
+ * the descriptor after it, or by a group that begins there. A barrier that is not kept is DSA_UNFENCED, with the
+ * pieces just before and just after it.
  */
 uint32_t dsa_judge_fenced_list(const struct dsa_settings *settings,
                                const uint64_t *table, size_t table_len,

@@ -32,15 +32,16 @@ int main(void)
     /* once: from in to copy, from copy to out, with the buffers of the first slot */
     dsa_put_move(list, at(ring[0].in), at(ring[0].copy), SIZE, at(ring[0].records));
     dsa_put_move(list + 64, at(ring[0].copy), at(ring[0].out), SIZE, at(ring[0].records + 32));
-    if (dsa_prepare(&s, &s.batch, 0, list, sizeof list, buffers, 4, rows, DSA_PREPARED_ROOM(4, PIECES), &info, &refusal))
+    if (dsa_prepare(&s, &s.batch, 0, list, sizeof list, buffers, 4, rows, DSA_PREPARED_ROOM(4, PIECES), &info,
+                    &refusal))
         return EXIT_FAILURE;
 
     for (int turn = 0; turn < SLOTS; turn++) { /* each turn: the staging bytes go where the device reads them */
         struct slot *slot = &ring[turn];
         const uint64_t bases[] = {at(slot->in), at(slot->copy), at(slot->out), at(slot->records)};
         memset(slot->records, 0, sizeof slot->records);
-        if (dsa_fill(rows, info.rows, bases, 4, at(slot->staging), portal, sizeof portal, slot->staging, sizeof slot->staging,
-                     &refusal))
+        if (dsa_fill(rows, info.rows, bases, 4, at(slot->staging), portal, sizeof portal, slot->staging,
+                     sizeof slot->staging, &refusal))
             return EXIT_FAILURE;
         /* here: write each 64 bytes of portal to the queue's portal, as under "Submitting" */
         uint64_t record;

@@ -1,5 +1,5 @@
-/* Three moves of which the third reads what the first writes, and what each waits for: docs/USING.md, "Many submissions in
- * flight". */
+/* Three moves of which the third reads what the first writes, and what each waits for: docs/USING.md, "Many submissions
+ * in flight". */
 #include <stdio.h>
 #include <string.h>
 #include <linux/idxd.h>

@@ -147,22 +147,19 @@ def _declare(library: ctypes.CDLL) -> None:
     regions, rows, info = ctypes.POINTER(_Region), ctypes.POINTER(_Row), ctypes.POINTER(_Info)
     rooms = [byte, size, byte, size]
     slot, words, spans = ctypes.POINTER(ctypes.c_uint32), [word, size], [ctypes.POINTER(_Span), size] * 2
-    number = ctypes.c_uint32
+    number, kept = ctypes.c_uint32, [regions, size, rows, size]
     certificate = [word, size, pairs, size]
     calls = {
         "dsa_refusal_text": (ctypes.c_uint64, [refusal, ctypes.c_char_p, size]),
         "dsa_count_pieces": (ctypes.c_uint64, listed),
-        "dsa_plan_list": (ctypes.c_uint32, [*listed, *rooms, planned, refusal]),
-        "dsa_plan_fenced_list": (ctypes.c_uint32, [*listed, *rooms, planned, refusal]),
+        **dict.fromkeys(("dsa_plan_list", "dsa_plan_fenced_list"), (number, [*listed, *rooms, planned, refusal])),
         "dsa_plan_list_certified": (number, [*listed, *rooms, *certificate, byte, size, planned, refusal]),
         "dsa_plan_fenced_list_certified": (number, [*listed, *rooms, *certificate, byte, size, planned, refusal]),
         "dsa_check": (ctypes.c_uint32, [*listed, byte, size, ctypes.c_uint64, *certificate, word, refusal]),
         "dsa_check_fenced_list": (number, [*listed, *[byte, size] * 2, ctypes.c_uint64, *certificate, word, refusal]),
         "dsa_resume": (number, [*listed, byte, size, number, byte, size, word, refusal]),
-        "dsa_judge": (ctypes.c_uint32, [*listed, byte, size, word, refusal]),
-        "dsa_judge_fenced_list": (number, [*listed, byte, size, word, refusal]),
-        "dsa_prepare": (ctypes.c_uint32, [*listed, regions, size, rows, size, info, refusal]),
-        "dsa_prepare_fenced": (ctypes.c_uint32, [*listed, regions, size, rows, size, info, refusal]),
+        **dict.fromkeys(("dsa_judge", "dsa_judge_fenced_list"), (number, [*listed, byte, size, word, refusal])),
+        **dict.fromkeys(("dsa_prepare", "dsa_prepare_fenced"), (number, [*listed, *kept, info, refusal])),
         "dsa_fill": (ctypes.c_uint32, [rows, size, word, size, ctypes.c_uint64, *rooms, refusal]),
         "dsa_track_begin": (number, [*words, number, number, number, number, refusal]),
         "dsa_track_list": (number, [*words, byte, size, *[ctypes.c_uint64] * 3, slot, word, refusal]),
@@ -585,10 +582,9 @@ def _checked(call, settings: Settings, given: Sequence, certificate: Certificate
 
 
 def resume(settings: Settings, operations: Bytes, records: Bytes, failed_first: bool = False) -> bytes:
-    """What is left to submit of a list that was planned with these settings, once a submission has stopped: the list of
-    the pieces that have not finished, by their completion records, 32 bytes for each piece in their order, whose first
-    byte is 0 of a piece that waits, and 1 or 2 of one that has finished. Clear the records of what is left, and plan
-    it. Raises `Refusal`."""
+    """What is left to submit of a list that was planned with these settings, once a submission has stopped: the pieces
+    that have not finished, by their completion records, 32 bytes for each in their order (the first byte is 0 if the
+    piece waits, 1 or 2 if it has finished). Clear the records of what is left, and plan it. Raises `Refusal`."""
     raw, table, entries = settings._raw()
     listed, size = _given("operations", operations)
     pieces = min(int(_library.dsa_count_pieces(raw, table, entries, listed, size)), MOST_PIECES)

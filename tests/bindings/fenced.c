@@ -4,8 +4,8 @@
  * that begin a group or set a fence at each barrier are legal; the least cost of these is the answer, and what is
  * submitted keeps each barrier. Without barriers the bytes are those of dsa_plan_list, and what that refuses of the
  * list without fences is refused. Of each plan dsa_judge_fenced_list says what it costs, or which barrier it does not
- * keep. With the certificate of these costs dsa_check_fenced_list accepts the bytes of those plans alone that are legal,
- * keep the barriers and cost the least, and no bytes of other pieces; and with its own certificate what
+ * keep. With the certificate of these costs dsa_check_fenced_list accepts the bytes of those plans alone that are
+ * legal, keep the barriers and cost the least, and no bytes of other pieces; and with its own certificate what
  * dsa_plan_fenced_list_certified writes, which is what dsa_plan_fenced_list does. */
 #include <inttypes.h>
 #include <stdio.h>
@@ -244,8 +244,8 @@ static uint32_t checked(const struct list *l, const struct bytes *b, const struc
                                  l->count, cost, r);
 }
 
-/* A plan that is legal without barriers, and costs this, is judged so exactly if it keeps them; else the first that it does
- * not keep is named, by the pieces around it. A plan that is not legal is refused. */
+/* A plan that is legal without barriers, and costs this, is judged so exactly if it keeps them; else the first that it
+ * does not keep is named, by the pieces around it. A plan that is not legal is refused. */
 static void try_judging(const struct list *l, const uint8_t *marks, uint64_t own)
 {
     struct dsa_refusal r = {0};

@@ -3,3 +3,4 @@ pub mod Refused
 pub mod Answered
 pub mod Spelled
 pub mod Fenced
+pub mod WhatIsLeft

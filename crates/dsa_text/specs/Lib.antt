@@ -11,3 +11,4 @@ pub mod Audited
 pub mod Laws
 pub mod Traced
 pub mod Disassembled
+pub mod Resumed

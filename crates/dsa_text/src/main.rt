@@ -1,4 +1,5 @@
-//! Descriptors as text: `assemble`, `disassemble`, `explain` and `audit`, from a file or standard input to standard output.
+//! Descriptors as text: `assemble`, `disassemble`, `explain`, `resume` and `audit`, from a file or standard input to
+//! standard output.
 #![tactic(auto)]
 
 mod answer;
@@ -22,6 +23,7 @@ mod mistakes;
 mod numbers;
 mod options;
 mod origins;
+mod resuming;
 mod rows;
 mod settings;
 mod shown;
@@ -41,6 +43,7 @@ use crate::inputs::{explain, refused_settings};
 use crate::messages::message_of;
 use crate::numbers::number_of;
 use crate::options::{settings_words, word};
+use crate::resuming::{order_of, resume_command, resume_text};
 use crate::settings::{Setting, settings_of};
 use crate::traced::audit_traced;
 use clap::error::ErrorKind;
@@ -160,7 +163,7 @@ fn keep_fences<'a>(alloc: Global) -> Arg<'a> {
 }
 
 /// The options of the settings.
-fn settings_options<'a>(alloc: Global) -> Result<Vec<Arg<'a>>, AllocError> {
+pub(crate) fn settings_options<'a>(alloc: Global) -> Result<Vec<Arg<'a>>, AllocError> {
     let batches = batches(alloc)?;
     Ok(vec![in alloc;
         value(
@@ -269,6 +272,7 @@ fn subcommands<'a>(alloc: Global) -> Result<Vec<Command<'a>>, AllocError> {
     commands.push(assemble_command(alloc)?)?;
     commands.push(disassemble_command(alloc)?)?;
     commands.push(explain_command(alloc)?)?;
+    commands.push(resume_command(alloc)?)?;
     commands.push(audit_command(alloc)?)?;
     Ok(commands)
 }
@@ -574,6 +578,51 @@ fn audited(rt: &HostRuntime, matches: &ArgMatches<'_>) -> Result<ExitCode, Alloc
     }
 }
 
+/// What `resume` answers to this input of records and this text, as `disassemble` reads bytes.
+fn resume(
+    alloc: Global,
+    matches: &ArgMatches<'_>,
+    input: &[u8],
+    text: &[u8],
+) -> Result<Answer, AllocError> {
+    let words = settings_words(matches);
+    let Some(settings) = settings_of(alloc, &words)? else {
+        return refused_settings(alloc, &words);
+    };
+    let order = order_of(matches.get_flag("failed-first"));
+    if !is_text(input) {
+        return resume_text(alloc, text, &settings, input, order);
+    }
+    match bytes_or_refusal(alloc, input)? {
+        Ok(records) => resume_text(alloc, text, &settings, &records, order),
+        Err(refusal) => Ok(refusal),
+    }
+}
+
+/// Answers `resume` of these records.
+fn resumed(
+    rt: &HostRuntime,
+    matches: &ArgMatches<'_>,
+    records: &[u8],
+) -> Result<ExitCode, AllocError> {
+    let file = file_in(matches);
+    match input(rt, file) {
+        Ok(text) => Ok(ended(rt, &resume(rt.alloc(), matches, records, &text)?)),
+        Err(NoText::Refused(fault)) => Ok(ended(rt, &Answer::fault(rt.alloc(), fault)?)),
+        Err(NoText::Failed(what)) => unread(rt, file, what),
+    }
+}
+
+/// Runs `resume`.
+fn run_resume(rt: &HostRuntime, matches: &ArgMatches<'_>) -> Result<ExitCode, AllocError> {
+    let file = matches.get_str("records");
+    match input(rt, file) {
+        Ok(records) => resumed(rt, matches, &records),
+        Err(NoText::Refused(fault)) => Ok(ended(rt, &Answer::fault(rt.alloc(), fault)?)),
+        Err(NoText::Failed(what)) => unread(rt, file, what),
+    }
+}
+
 /// Runs `audit`.
 fn run_audit(rt: &HostRuntime, matches: &ArgMatches<'_>) -> ExitCode {
     match audited(rt, matches) {
@@ -594,6 +643,7 @@ fn run(rt: &HostRuntime) -> Result<ExitCode, AllocError> {
     };
     match matches.subcommand() {
         Some(("audit", options)) => Ok(run_audit(rt, options)),
+        Some(("resume", options)) => run_resume(rt, options),
         Some(_) | None => run_command(rt, &matches),
     }
 }

@@ -5,6 +5,7 @@ mod answer;
 mod assembling;
 mod auditing;
 mod bytes;
+mod comments;
 mod diagnosis;
 mod disassembling;
 mod dumps;

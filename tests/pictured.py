@@ -1,5 +1,5 @@
-"""Reads pictures of plans and of audits, and says what has to be in them: docs/FORMATS.md has the form. What a plan does
-is taken from the words of its explanation, what an audit found from its report."""
+"""Reads pictures of plans and of audits, and says what has to be in them: docs/FORMATS.md has the form. What a plan
+does is taken from the words of its explanation, what an audit found from its report."""
 import re
 from bisect import bisect_right
 from dataclasses import dataclass, field

@@ -551,6 +551,32 @@ def pictures():
         common.expect(wanted in (None, told[0]), f"{place}: {told[0][:600]}")
 
 
+def overlaps():
+    """A note for each move of which a piece's source and destination meet: of up to 20, and how many more."""
+    note = "note: operation {}: its regions overlap, "
+    note += "and only devices with overlapping copy support (GENCAP bit 1) take it\n"
+    line = "move {} -> {}, 64 bytes, record 0x8000\n"
+    meeting, apart = line.format(0x1000, 0x103F), line.format(0x1000, 0x1040)
+    copy = common.judge(pieces_of([(0x1000, 0x1020)]), [[False]], common.settings(staging=0x2000_0000))
+    for text, words, noted in [
+        (meeting, "", [0]),
+        (apart, "", []),
+        (line.format(0x103F, 0x1000), "", [0]),
+        (line.format(0x1000, 0x1000), "", [0]),
+        (line.format(0x1020, 0x1000), "--greatest-transfer 32", []),
+        (line.format(0x101F, 0x1000), "--greatest-transfer 32", [0]),
+        ("fill 0x1000 with 0000000000000000, 64 bytes, record 0x8000\n" + meeting.replace("0x8000", "0x8020"), "", [1]),
+        (copy, "", [0]),
+    ]:
+        ran = subprocess.run([TEXT, "explain", *words.split()], input=text, capture_output=True, text=True)
+        wanted = (0, "".join(map(note.format, noted)))
+        common.expect((ran.returncode, ran.stderr) == wanted, f"{text} {words}: {ran.returncode}, {ran.stderr}")
+    many = "".join(meeting.replace("0x8000", f"{0x8000 + 32 * k:#x}") for k in range(23))
+    ran = subprocess.run([TEXT, "explain"], input=many, capture_output=True, text=True)
+    wanted = "".join(map(note.format, range(20))) + "note: and 3 more moves that overlap\n"
+    common.expect(ran.stderr == wanted, f"23 moves that overlap: {ran.stderr}")
+
+
 def named_files():
     """Each command reads the file that it names, and not standard input; and a text that is too long is refused."""
     store, job = (Path(f"examples/text/store.{end}") for end in ("txt", "job"))
@@ -718,7 +744,7 @@ def files():
 
 
 PARTS = [examples, lists, refusals, arguments, lines, grammar, texts, fences, missing, shared_records, sentences, large, split, picture]
-PARTS += [pictures, reasons_drawn, names_drawn, named_files, forms_of_bytes, members, waits, barriers, files]
+PARTS += [pictures, reasons_drawn, names_drawn, overlaps, named_files, forms_of_bytes, members, waits, barriers, files]
 
 
 def main(words):

@@ -21,6 +21,7 @@ use crate::comments::names_of;
 use crate::form::Form;
 use crate::kept::{barrier_notes, joined, unkept_notes};
 use crate::origins::origins_of;
+use crate::overlapping::overlap_notes;
 use crate::rows::warnings_of;
 use crate::shown::{Subject, answer_plan, plain};
 use crate::unplanned::{Source, unplanned};
@@ -115,7 +116,8 @@ fn answer_with_warnings(
     let records = warnings_of(alloc, operations, settings)?;
     let barriers = barrier_notes(alloc, source, marks, form)?;
     let fences = unkept_notes(alloc, source, operations, &planned.plan, settings)?;
-    let warnings = joined(joined(records, barriers)?, fences)?;
+    let overlaps = overlap_notes(alloc, operations, settings)?;
+    let warnings = joined(joined(records, barriers)?, joined(fences, overlaps)?)?;
     Ok(answer.with_warnings(warnings))
 }
 

@@ -22,6 +22,7 @@ mod messages;
 mod numbers;
 mod options;
 mod origins;
+mod overlapping;
 mod rows;
 mod settings;
 mod shown;

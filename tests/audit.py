@@ -13,9 +13,9 @@ import subprocess
 import tempfile
 import time
 from pathlib import Path
-from xml.etree import ElementTree
 
 import common
+import pictured
 from common import move, named, program, run_test
 from model import COMPARE, DELTA, DUALCAST, FILL, MOVE, PATTERN, Op
 
@@ -617,83 +617,105 @@ def padded():
 
 # ---- pictures
 
-NAMES = {0: "no-op", MOVE: "move", FILL: "fill", COMPARE: "cmp", PATTERN: "pat", DELTA: "delta", DUALCAST: "dual"}
-HAZARDS = {"read after write": "RAW", "write after read": "WAR", "write after write": "WAW"}
-PARTS = ("row", "box", "fence", "missing", "needless", "kept")
-SVG = "{http://www.w3.org/2000/svg}"
+NAMES = {0: "no-op", MOVE: "move", FILL: "fill", COMPARE: "compare", PATTERN: "compare pattern", DELTA: "delta"}
+NAMES |= {DUALCAST: "dualcast"} | NAMED
+WORDS = {
+    "guarding": "guards {earlier}",
+    "signalling": "signals {awaited}",
+    "guarding and signalling": "guards {earlier} signals {awaited}",
+    "needless": "needless",
+}
+PARTS = ("group", "operation", "folded", "mark", "conflict", *pictured.BARS)
 
 
 def counted(number, one, more=""):
     return f"{number} {one if number == 1 else more or one + 's'}"
 
 
-def mark_of(found, fenced, later):
-    """The kind of the mark before a member, and the words under it; of what was found of the member."""
-    what = found.get(later, {}).get("mark")
-    if what is None:
-        return ("fence",) if fenced else None
-    if what["kind"] == "missing":
-        return ("missing", f"{later}←{what['earlier']}", HAZARDS[what["hazard"]])
-    words = {
-        "guarding": "guards {earlier}",
-        "signalling": "signals {awaited}",
-        "guarding and signalling": "{earlier} and {awaited}",
-    }
-    return ("kept", words[what["kind"]].format(**what)) if what["kind"] in words else ("needless", "needless")
-
-
-def wanted_parts(recording, report):
-    """What a picture has of a recording, from its report: at the left of each submission its number and what it is, the
-    boxes of its members with their marks, each where it begins; and where the last submission ends."""
-    entries = [recording[k : k + 64] for k in range(0, len(recording), 64)]
-    parts, at, number, end, findings = [], 0, 0, 36, {}
-    for it in report["findings"]:
-        what = it["what"]
-        if what["kind"] == REPEATED:
-            continue
-        if what["kind"] in FLAWS and (what["kind"], entries[it["entry"]][7] == 1, it["member"]) != ("fence without effect", False, None):
-            continue
-        part = "unseen" if what["kind"] == "unseen" else "mark"
-        findings.setdefault(it["submission"], {}).setdefault(it["member"] or 0, {})[part] = it["what"]
+def submissions_of(recording):
+    """Of each submission of a recording whether it is a batch, its descriptor, and the number of its first member."""
+    entries, at = [recording[k : k + 64] for k in range(0, len(recording), 64)], 0
     while at < len(entries):
-        is_batch, found = entries[at][7] == 1, findings.get(number, {})
-        first, size = (at + 1, struct.unpack_from("<I", entries[at], 32)[0]) if is_batch else (at, 1)
-        height = 68 if any("mark" in it for it in found.values()) else 48
-        parts.append(("row", 8, end + 11, f"submission {number}", f"batch of {size}" if is_batch else "lone"))
-        ground = ["white", "#ddd"]
-        for k, it in enumerate(entries[first : first + size]):
-            x, y, fenced, code = 100 + 50 * (k % 16), end + k // 16 * height, it[4] & 1, it[7]
-            if fenced and k:
-                ground.reverse()
-            name, why = NAMES.get(code, f"0x{code:02x}"), found.get(k, {}).get("unseen", {}).get("why")
-            border = ["4 3", why] if why else [None]
-            full = name if why else FURTHER.get(code, name)
-            parts.append(("box", x, y, f"{k}: {full}, entry {first + k}", ground[0], f"{k}", name, *border))
-            if mark := mark_of(found, fenced, k):
-                parts.append((mark[0], x - 7, y, *mark[1:]))
-        at, number, end = first + size, number + 1, end + max(1, -(-size // 16)) * height + 6
-    return parts, end
+        is_batch = entries[at][7] == 1
+        size = struct.unpack_from("<I", entries[at], 32)[0] if is_batch else 1
+        yield is_batch, entries[at], at + is_batch, entries[at + is_batch : at + is_batch + size]
+        at += is_batch + size
 
 
-def part_of(group):
-    """What a group of shapes and words is, and where it begins."""
-    title, *shapes = group
-    words = [it.text for it in shapes if it.tag == f"{SVG}text"]
-    shapes = [it for it in shapes if it.tag != f"{SVG}text"]
-    tags = [it.tag.removeprefix(SVG) for it in shapes]
-    if not tags:
-        return ("row", int(group[1].get("x")), int(group[1].get("y")), *words)
-    shape, place = shapes[0], lambda x, y: (int(shapes[0].get(x)), int(shapes[0].get(y)))
-    if tags == ["rect"] and shape.get("width") == "40":
-        line, border = title.text.split(", not looked at: ")[0], shape.get("stroke-dasharray")
-        return ("box", *place("x", "y"), line, shape.get("fill"), *words[:2], border, *words[2:])
-    x, y = place("x1", "y1") if tags == ["line"] else place("x", "y")
-    if tags == ["line"]:
-        is_red = shape.get("stroke") == "#c00" and shape.get("stroke-dasharray") == "6 4"
-        return ("missing" if is_red else "a line", x - 2, y, *words)
-    if tags == ["rect", "path"]:
-        return ("needless" if shapes[1].get("d") == f"M{x - 4} {y + 14}l12 12m0 -12l-12 12" else "a path", x, y, *words)
-    return ({None: "fence", "white": "kept"}.get(shape.get("fill"), "a bar"), x, y, *words)
+def listed(spans):
+    return [(it.start, len(it)) for it in spans]
+
+
+def column_of(number, at, it, why):
+    """The column of a member, which is entry `at`; why it is not looked at, if it is not."""
+    import findings  # which imports this file
+
+    name = NAMES.get(it[7]) or f"0x{it[7]:02x}"
+    title = f"{number}: {findings.operation(it)}, entry {at}"
+    if why:
+        return pictured.Column(title, number, f"{name} ({why})", seen=False)
+    reads, writes = data_of(it)
+    record = (struct.unpack_from("<Q", it, 8)[0], 32) if it[4] & 0x04 else None
+    return pictured.Column(title, number, name, listed(reads), listed(writes), record=record)
+
+
+def hazard_of(earlier, later):
+    """Of two columns that conflict the kind and an address, by data and records; or nothing."""
+    writes = [([it.record] if it.record else []) + it.writes for it in (earlier, later)]
+    for kind, one, other in [("RAW", writes[0], later.reads), ("WAW", *writes), ("WAR", earlier.reads, writes[1])]:
+        for (first, size), (second, other_size) in itertools.product(one, other):
+            if max(first, second) < min(first + size, second + other_size):
+                return kind, max(first, second)
+    return None
+
+
+def needed_bar(k, first, kept, columns, lines):
+    """The bar of a fence that a conflict needs: of the conflicts that are drawn one that it alone separates, of all
+    fences that stay; or it is needed for a member of which nothing is known."""
+    for earlier, later, _ in lines:
+        if first <= earlier < k <= later and [it for it in kept if earlier < it <= later] == [k]:
+            kind, address = hazard_of(columns[earlier], columns[later]) or ("no conflict", 0)
+            return pictured.Bar(k, "fence", kind, pair=(earlier, later, address))
+    return pictured.Bar(k, "fence", "unknown")
+
+
+def wanted_picture(recording, report, svg):
+    """The columns, the sizes of submissions and the bars that the picture of a recording has to have, by its report; of
+    a needed fence the conflict is taken from the picture, and judged."""
+    found, columns, sizes, bars, heads = {}, [], [], [], []
+    for it in report["findings"]:
+        what, place = it["what"], (it["submission"], it["member"] or 0)
+        if what["kind"] == "unseen":
+            found.setdefault(place, {})["why"] = what["why"]
+        elif what["kind"] == "missing" or what["kind"] in WORDS:
+            found.setdefault(place, {})["mark"] = what
+        elif what["kind"] == "fence without effect" and it["member"] is None and recording[64 * it["entry"] + 7] != 1:
+            found.setdefault(place, {})["mark"] = {"kind": "needless"}
+    for number, (is_batch, _, at, members) in enumerate(submissions_of(recording)):
+        marks = [found.get((number, k), {}) for k in range(len(members))]
+        kind, fences = f"batch of {len(members)}" if is_batch else "lone", sum(it[4] & 1 for it in members)
+        cost = f"cost {14 + 3 * fences if is_batch else 10}" if not is_batch or 2 <= len(members) <= 32 else "no price"
+        heads.append(f"submission {number}: {kind}, {cost}")
+        sizes.append(len(members))
+        columns += [column_of(k, at + k, it, mark.get("why")) for k, (it, mark) in enumerate(zip(members, marks))]
+    lines = pictured.drawn(svg, columns)[0]["conflicts"] if svg else []
+    first = 0
+    for number, (_, _, at, members) in enumerate(submissions_of(recording)):
+        marks = [found.get((number, k), {}).get("mark") for k in range(len(members))]
+        kinds = [mark["kind"] if mark else "fence" if it[4] & 1 else "" for it, mark in zip(members, marks)]
+        kept = [first + k for k, kind in enumerate(kinds) if kind not in ("", "needless")]
+        own = [line for line in lines if first <= line[0] < first + len(members)]
+        for k, (it, mark) in enumerate(zip(members, marks)):
+            if mark and mark["kind"] == "missing":
+                pair = (first + mark["earlier"], first + k, int(mark["address"], 16))
+                bars.append(pictured.Bar(first + k, "missing", f"missing {pictured.KINDS[mark['hazard']]}", pair=pair))
+            elif mark:
+                kind = "needless" if mark["kind"] == "needless" else "kept"
+                bars.append(pictured.Bar(first + k, kind, WORDS[mark["kind"]].format(**mark)))
+            elif it[4] & 1:
+                bars.append(needed_bar(first + k, first, kept, columns, own))
+        first += len(members)
+    return columns, sizes, bars, heads
 
 
 def drawn_totals(totals):
@@ -713,20 +735,17 @@ def draw(recording, words=""):
 def compare(recording, name, words=""):
     """The picture of a recording has what its report says, and nothing else; the kinds of its parts."""
     report, _ = audited(recording)
-    drawn, status, error = draw(recording, words)
-    totals, (wanted, end) = report["totals"], wanted_parts(recording, report)
+    svg, status, error = draw(recording, words)
+    totals = report["totals"]
     denied = totals["flaws"] + sum(totals[kind] for kind in ("needless", "unseen") if kind in words)
     common.expect((status, error) == (int(totals["missing"] + denied > 0), ""), f"{name}: status {status}, {error}")
-    root = ElementTree.fromstring(drawn)
-    parts = [part_of(group) for group in root.iter(f"{SVG}g")]
-    fault = next((pair for pair in itertools.zip_longest(wanted, parts) if pair[0] != pair[1]), None)
-    common.expect(not fault, f"{name}: wanted and drawn are {fault}")
-    common.expect((root.get("width"), root.get("height")) == ("900", f"{end + 38}"), f"{name}: {drawn[:200]}")
-    last = [(it.get("y"), it.text) for it in root.findall(f"{SVG}text")[-2:]]
-    lines = [(f"{end + 11 + 14 * k}", line) for k, line in enumerate(drawn_totals(totals))]
-    common.expect(last == lines, f"{name}: at the end stand {last}")
-    kinds = [part[0] for part in parts]
-    return {kind: kinds.count(kind) for kind in PARTS}
+    columns, sizes, bars, heads = wanted_picture(recording, report, svg)
+    fault, others = pictured.fault_of(svg, columns, sizes, bars)
+    common.expect(not fault, f"{name}: {fault}")
+    groups = [it for it in others["groups"] if not it.startswith("groups ")]
+    common.expect(set(groups) <= set(heads), f"{name}: the groups are {groups}, and not {heads}")
+    common.expect(others["notes"][:2] == drawn_totals(totals), f"{name}: at the end stand {others['notes']}")
+    return {kind: svg.count(f'class="{kind}"') for kind in PARTS}
 
 
 def pictures():
@@ -746,22 +765,22 @@ def sizes():
     same = [move(0x1000000 + 64 * k, 0x2000, record_at=0x20000000 + 32 * k).bytes() for k in range(1023)]
     none = dict.fromkeys(PARTS, 0)
     common.expect(compare(b"", "nothing") == none, "nothing has parts")
-    common.expect(compare(batch(), "an empty batch") == none | {"row": 1}, "an empty batch has other parts")
-    for size in (1, 2, 15, 16, 17, 32, 33, 1023):
+    common.expect(compare(batch(), "an empty batch") == none | {"group": 1}, "an empty batch has other parts")
+    for size in (1, 2, 15, 16, 24, 25, 33, 1023):
         got = compare(batch(*apart[:size]), f"{size} members")
-        common.expect(got == none | {"row": 1, "box": size}, f"{size} members: {got}")
+        folded = {"operation": size, "mark": 2 * size} if size <= 24 else {"folded": 1}
+        common.expect(got == none | {"group": 1} | folded, f"{size} members: {got}")
         got = compare(batch(*same[:size]), f"{size} members that conflict")
-        common.expect(got == none | {"row": 1, "box": size, "missing": size - 1}, f"{size} members that conflict: {got}")
+        all_of = {"group": 1, "operation": size, "missing": size - 1, "conflict": size - 1}
+        common.expect(got | {"mark": 0} == none | all_of, f"{size} members that conflict: {got}")
         fenced = [bytes([*it[:4], it[4] | 1, *it[5:]]) for it in apart[:size]]
         got = compare(batch(*fenced), f"{size} needless fences")
-        wanted = {"row": 1, "box": size, "needless": 1, "kept": size - 1}
-        common.expect(got == none | wanted, f"{size} fences that no conflict needs: {got}")
-    for recording, boxes, name in [
-        (b"".join(apart[:1024]), 1024, "1024 lone submissions"),
-        (batch(*apart[:63]) * 1024, 63 * 1024, "1024 batches of 65536 entries"),
-    ]:
+        all_of = {"group": 1, "operation": size, "needless": 1, "kept": size - 1}
+        common.expect(got | {"mark": 0} == none | all_of, f"{size} fences that no conflict needs: {got}")
+    lone, whole = b"".join(apart[:1024]), batch(*apart[:63]) * 1024
+    for recording, name in [(lone, "1024 lone submissions"), (whole, "1024 batches of 65536 entries")]:
         got = compare(recording, name)
-        common.expect(got == none | {"row": 1024, "box": boxes}, f"{name}: {got}")
+        common.expect(got == none | {"group": 1, "folded": 1}, f"{name}: {got}")
 
 
 def too_large():

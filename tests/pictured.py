@@ -1,77 +1,345 @@
-"""The picture of a plan, drawn from the words of its explanation: docs/FORMATS.md says what stands in it."""
+"""Reads pictures of plans and of audits, and says what has to be in them: docs/FORMATS.md has the form. What a plan
+does is taken from the words of its explanation, what an audit found from its report."""
 import re
+from bisect import bisect_right
+from dataclasses import dataclass, field
+from xml.etree import ElementTree
 
-LINE = 16
-SHORT = {"move": "move", "fill": "fill", "delta": "delta", "dualcast": "dual"}
+MOST_COLUMNS, MOST_ROWS = 24, 48
+SVG = "{http://www.w3.org/2000/svg}"
 KINDS = {"read after write": "RAW", "write after read": "WAR", "write after write": "WAW"}
-LEGEND = (
-    "bar: fence; 2←1: piece 2 waits for piece 1; +N: N more conflicts",
-    "RAW: read after write; WAR: write after read; WAW: write after write",
-)
 GROUP = re.compile(r"group (\d+): (?:lone submission|batch of (\d+)(?: \(full\))?, (\d+) fences?, \d+ epochs?), cost (\d+)")
 FENCE = re.compile(r"  -- fence, cost \d+: (.*)")
-REASON = re.compile(r"(\d+) after (\d+), (.*) at 0x[0-9a-f]+(?: \(record of \d+\))?(?:, and (\d+) more)?")
-PIECE = re.compile(r"  (\d+): (\w+) .*")
+REASON = r"(a barrier, and )?(\d+) after (\d+), (.*) at (0x[0-9a-f]+)(?: \(record of \d+\))?(?:, and (\d+) more)?"
+PIECE = re.compile(r"  (\d+): (\w+) (.*)")
+PART = re.compile(r"(.*) \(operation (\d+), piece (\d+) of (\d+)\)")
+ADDRESS = r"(0x[0-9a-f]+)"
+BARS = ("fence", "missing", "needless", "kept")
 
 
-def lettered(x, y, width, words):
-    """A text in letters of size 11, or smaller where it is wider than that."""
-    wide = max(1, len(words.encode()))
-    return f'<text x="{x}" y="{y}" font-size="{min(11, width * 5 // 3 // wide)}">{words}</text>'
+@dataclass
+class Column:
+    """An operation: what a browser says of it, its number and name, and the spans that it reads and writes, each as its
+    first address and its size; or that it is not looked at."""
+
+    title: str
+    number: int
+    name: str
+    reads: list = field(default_factory=list)
+    writes: list = field(default_factory=list)
+    seen: bool = True
+    record: tuple | None = None
 
 
-def drawn_group(found, top):
-    """What stands at the left of a group."""
-    size = int(found[2] or 1)
-    kind = f"batch of {size}" if size > 1 else "lone"
-    words = (f"group {found[1]}", kind, f"cost {found[4]}")
-    texts = (lettered(8, top + 11 + 13 * at, 85, text) for at, text in enumerate(words))
-    return f"<g><title>{found[0]}</title>{''.join(texts)}</g>"
+@dataclass
+class Bar:
+    """What is before a column: the kind of bar, the words below it, what a browser says of it, if that is looked at;
+    and if it is about a conflict the columns of the two, and the address."""
+
+    column: int
+    kind: str
+    words: str
+    title: str | None = None
+    pair: tuple | None = None
 
 
-def drawn_fence(words, x, y):
-    """The bar of a fence before the box at this place, with its reason."""
-    found = REASON.fullmatch(words)
-    bar = f'<rect x="{x - 7}" y="{y}" width="4" height="40"/>'
-    under = lettered(x - 5, y + 51, 50, "barrier" if words == "a barrier" else "none alone")
-    if found:
-        more = f" +{found[4]}" if found[4] else ""
-        under = lettered(x - 5, y + 51, 60, f"{found[1]}←{found[2]}") + lettered(x - 5, y + 62, 50, KINDS[found[3]] + more)
-    return f'<g text-anchor="middle"><title>fence: {words}</title>{bar}{under}</g>'
+# ---- what has to be in a picture
 
 
-def drawn_piece(found, x, y, shaded):
-    """The box of a piece."""
-    line, ground = found[0].strip(), "#ddd" if shaded else "white"
-    name = SHORT.get(found[2]) or ("pat" if " with pattern " in line else "cmp")
-    box = f'<rect x="{x}" y="{y}" width="40" height="40" fill="{ground}" stroke="black"/>'
-    words = f'<text x="{x + 4}" y="{y + 16}">{found[1]}</text><text x="{x + 4}" y="{y + 32}">{name}</text>'
-    return f"<g><title>{line}</title>{box}{words}</g>"
+def slots_of(sizes, kept):
+    """The columns of a picture, each as its operations and the number of groups that they are of."""
+    slots, first = [], 0
+    is_small, before = sum(max(1, size) for size in sizes) <= MOST_COLUMNS, False
+    for size in sizes:
+        own = range(first, first + size)
+        whole = not is_small and not any(k in kept for k in own) or not size
+        if whole and before and not is_small:
+            operations, groups = slots.pop()
+            slots.append(([*operations, *own], groups + 1))
+        elif whole:
+            slots.append(([*own], 1))
+        else:
+            run = []
+            for k in own:
+                if is_small or k in kept:
+                    slots.append(([k], 1))
+                    run = []
+                elif run:
+                    run.append(k)
+                else:
+                    run = [k]
+                    slots.append((run, 1))
+        before, first = whole, first + size
+    return slots
 
 
-def picture_of(words):
-    """The picture of a plan that is explained in these words."""
-    parts, costs = [], next(line for line in words.splitlines() if line.startswith("cost "))
+def rows_of(spans, conflicts):
+    """The rows of spans, as the first address, the end and the number of ranges; of more than 48 only those of
+    conflicts have one of their own."""
+    rows = []
+    for first, size in sorted(span for span in spans if span[1]):
+        if rows and first < rows[-1][1]:
+            rows[-1][1] = max(rows[-1][1], first + size)
+        else:
+            rows.append([first, first + size, 1])
+    if len(rows) <= MOST_ROWS:
+        return rows
+    marked = {bisect_right([row[0] for row in rows], address) - 1 for address in conflicts}
+    folded, before = [], True
+    for k, row in enumerate(rows):
+        if k in marked or before:
+            folded.append(row)
+        else:
+            folded[-1] = [folded[-1][0], row[1], folded[-1][2] + 1]
+        before = k in marked
+    return folded
+
+
+def wanted(columns, sizes, bars):
+    """What a picture has of operations in groups of these sizes: its columns, rows, marks, bars, conflicts, and the
+    columns of each second epoch and of operations that are not looked at."""
+    pairs = [bar.pair for bar in bars if bar.pair]
+    kept = {bar.column for bar in bars} | {k for pair in pairs for k in pair[:2]}
+    slots = slots_of(sizes, kept)
+    shown = [slot[0][0] for slot in slots if len(slot[0]) == 1 and slot[1] == 1]
+    uses = [(k, span, "R") for k in shown for span in columns[k].reads]
+    uses += [(k, span, "W") for k in shown for span in columns[k].writes]
+    for earlier, later, address in pairs:
+        for k in (earlier, later):
+            record = columns[k].record
+            if record and record[0] <= address < record[0] + record[1]:
+                uses.append((k, record, "W"))
+    rows = rows_of([span for _, span, _ in uses], [address for _, _, address in pairs])
+    firsts = [row[0] for row in rows]
+    row_of = lambda address: bisect_right(firsts, address) - 1
+    marks = {}
+    for k, span, letter in uses:
+        if span[1]:
+            marks.setdefault((k, row_of(span[0])), set()).add(letter)
+    fenced = {bar.column for bar in bars if bar.kind != "missing"}
+    second, is_second, at = set(), False, 0
+    for size in sizes:
+        is_second = False
+        for k in range(at, at + size):
+            is_second ^= k in fenced and k != at
+            if is_second:
+                second.add(k)
+        at += size
+    return {
+        "columns": [operations[0] if len(operations) == 1 and groups == 1 else (len(operations), groups)
+                    for operations, groups in slots if operations or groups > 1],
+        "rows": [(first, end - first, count) for first, end, count in rows],
+        "marks": {place: "".join(sorted(letters)) for place, letters in marks.items()},
+        "bars": [(bar.column, bar.kind, bar.words, bar.title) for bar in bars],
+        "conflicts": sorted((earlier, later, row_of(address)) for earlier, later, address in pairs),
+        "second": second & set(shown),
+        "unseen": {k for k in shown if not columns[k].seen},
+    }
+
+
+# ---- what is in a picture
+
+
+def words_in(part):
+    return " ".join(text.text or "" for text in part.iter(f"{SVG}text"))
+
+
+def place_of(shape):
+    """Where a rectangle or a line begins."""
+    return int(shape.get("x", shape.get("x1"))), int(shape.get("y", shape.get("y1")))
+
+
+def drawn(svg, columns):
+    """What a picture has, in the same form, with the titles of its groups and the names of its columns and rows.
+    Operations are known by their titles, in order."""
+    root = ElementTree.fromstring(svg)
+    parts = {}
+    for it in root.iter():
+        parts.setdefault(it.get("class"), []).append(it)
+    titles, next_one, found, lefts, names = [column.title for column in columns], 0, [], {}, {}
+    for part in root.iter(f"{SVG}g"):
+        if part.get("class") == "operation":
+            next_one = titles.index(part[0].text.split(", not looked at: ")[0], next_one)
+            lefts[int(part[1].get("x")) - 4] = next_one
+            names[next_one] = (part[1].text, " ".join(text.text for text in part[2:]))
+            found.append(next_one)
+            next_one += 1
+        elif part.get("class") == "folded":
+            words = [int(word) for word in re.findall(r"\d+", " ".join(text.text for text in part[2:]))]
+            found.append((words[0], words[1] if len(words) > 1 else 1))
+    rows, labels, tops = [], [], {}
+    for part in parts.get("row", []):
+        first, size = re.fullmatch(r"0x([0-9a-f]+) \+(\d+)", part[0].text).groups()
+        label = part[1].text
+        folded = re.fullmatch(r"(\d+) buffers", label)
+        tops[int(part[2].get("y1")) - 22] = len(rows)
+        rows.append((int(first, 16), int(size), int(folded[1]) if folded else 1))
+        labels.append(label)
+    marks = {}
+    for part in parts.get("mark", []):
+        x, y = place_of(part[0])
+        marks[lefts[x - 7], tops[y - 4]] = part[1].text
+    ends = {left + int(root_width(parts)): k for left, k in lefts.items()}
+    bars = []
+    for part in root.iter(f"{SVG}g"):
+        if part.get("class") in BARS:
+            x, _ = place_of(part[1])
+            left = x if part[1].tag == f"{SVG}line" else x + 2
+            bars.append((lefts[left], kind_of(part), words_in(part), part[0].text))
+    lines = [[int(it.get(name)) for name in ("x1", "x2", "y1")] for it in parts.get("conflict", [])]
+    conflicts = sorted((ends[left + 7], lefts[right - 7], tops[y - 11]) for left, right, y in lines)
+    grounds = {kind: {place_of(it)[0] for it in parts.get(kind, [])} for kind in ("epoch", "unseen")}
+    grounds = {kind: {lefts[left] for left in places if left in lefts} for kind, places in grounds.items()}
+    return {
+        "columns": found, "rows": rows, "marks": marks, "bars": bars, "conflicts": conflicts,
+        "second": grounds["epoch"], "unseen": grounds["unseen"],
+    }, {
+        "groups": [part[0].text for part in parts.get("group", [])],
+        "names": names,
+        "labels": labels,
+        "notes": [it.text for it in root.findall(f"{SVG}text")],
+        "title": root[0].text,
+        "size": (int(root.get("width")), int(root.get("height"))),
+    }
+
+
+def root_width(parts):
+    """How wide the columns of a picture are: marks are 14 narrower."""
+    return int(parts["mark"][0][0].get("width")) + 14 if parts.get("mark") else 0
+
+
+def kind_of(part):
+    """The kind of a bar by what can be seen of it."""
+    shape = part[1]
+    if shape.tag == f"{SVG}line":
+        return "missing" if (shape.get("stroke"), shape.get("stroke-dasharray")) == ("#c00", "6 4") else "a line"
+    return {"black": "fence", "white": "needless", "#999": "kept"}.get(shape.get("fill"), "a bar")
+
+
+def fault_of(svg, columns, sizes, bars):
+    """What is wrong with a picture of operations in groups of these sizes, or nothing; and what else is in it."""
+    needed, (found, others) = wanted(columns, sizes, bars), drawn(svg, columns)
+    for part, want in needed.items():
+        if part == "bars":
+            titles = [title for *_, title in want] + [""] * len(found[part])
+            found[part] = [(*bar[:3], bar[3] if title is not None else None) for bar, title in zip(found[part], titles)]
+        if found[part] != want:
+            return f"{part}: wanted {want}, drawn {found[part]}", others
+    for k, (number, name) in others["names"].items():
+        name, whole = (" ".join(words.split()) for words in (name, columns[k].name))
+        if number != str(columns[k].number) or not (name == whole or "…" in name and cut_of(name, whole)):
+            return f"column {k} is named {number} {name}, and not {columns[k].number} {whole}", others
+    width = others["size"][0]
+    if len(needed["columns"]) <= MOST_COLUMNS and not 500 <= width <= 960:
+        return f"{len(needed['columns'])} columns are {width} wide", others
+    return "", others
+
+
+def cut_of(name, whole):
+    """A name is the whole one, of which words have been cut off."""
+    pattern = ".*".join(re.escape(part) for part in name.split("…"))
+    return re.fullmatch(pattern + ".*", whole) is not None
+
+
+# ---- the picture of a plan
+
+
+def spans_of(word, rest):
+    """What a piece reads and writes, by its line."""
+    numbers = [int(number, 0) for number in re.findall(r"0x[0-9a-f]+", rest)]
+    sizes = [int(size) for size in re.findall(r"(\d+) bytes", rest)]
+    if word == "move":
+        return [(numbers[0], sizes[0])], [(numbers[1], sizes[0])]
+    if word == "fill":
+        return [], [(numbers[0], sizes[0])]
+    if word == "delta":
+        return [(numbers[0], sizes[0]), (numbers[1], sizes[1])], [(numbers[1], sizes[1])]
+    if word == "dualcast":
+        return [(numbers[0], sizes[0])], [(number, sizes[0]) for number in numbers[1:]]
+    return [(number, sizes[0]) for number in numbers[: 1 if " with pattern " in rest else 2]], []
+
+
+def comments_of(text):
+    """The comment of each operation of a text, and the buffers that comments name."""
+    comments, buffers = [], {}
+    for line in text.split("\n"):
+        before, _, comment = line.partition("#")
+        words, comment = before.replace(",", " ").split(), comment.strip()
+        if words and words[0] not in ("barrier", "batch"):
+            comments.append(comment)
+        elif not words and (found := re.fullmatch(r"(0x[0-9a-f]+|\d+):\s*(.*)", comment)):
+            buffers.setdefault(int(found[1], 0), found[2].strip())
+    return comments, buffers
+
+
+def columns_of(words, text):
+    """The operations of a plan that is explained in these words, by the comments of its text if it has one."""
+    columns, comments = [], comments_of(text)[0] if text is not None else None
+    for line in words.splitlines():
+        if not (found := PIECE.fullmatch(line)):
+            continue
+        number, word, rest = int(found[1]), found[2], found[3]
+        part = PART.fullmatch(rest)
+        name = "compare pattern" if " with pattern " in rest else word
+        comment, title = "", line.strip()
+        if comments is not None:
+            comment = comments[int(part[2]) if part else split_index(columns)]
+        if comment:
+            name, title = comment, f"{title} # {comment}"
+        columns.append(Column(title, number, f"{name} {part[3]}/{part[4]}" if part else name, *spans_of(word, rest)))
+        columns[-1].operation = int(part[2]) if part else split_index(columns[:-1])
+    return columns
+
+
+def split_index(columns):
+    """The index of the operation after those of these pieces."""
+    return columns[-1].operation + 1 if columns else 0
+
+
+def bars_of(words, columns):
+    """The fences of a plan that is explained in these words; the completion records that they are about are noted in
+    the columns."""
+    bars, number = [], 0
+    for line in words.splitlines():
+        if PIECE.fullmatch(line):
+            number += 1
+        if not (found := FENCE.fullmatch(line)):
+            continue
+        label, pair, reason = "none alone", None, re.fullmatch(REASON, found[1])
+        if found[1] == "a barrier":
+            label = "barrier"
+        elif reason:
+            label = KINDS[reason[4]] + (f" +{reason[6]}" if reason[6] else "") + (" barrier" if reason[1] else "")
+            pair = (int(reason[3]), int(reason[2]), int(reason[5], 16))
+            for k in pair[:2]:
+                own = [*columns[k].reads, *columns[k].writes]
+                if not any(first <= pair[2] < first + size for first, size in own):
+                    # a conflict is in the data of both or in the completion record of one, which has 32 bytes
+                    columns[k].record = (pair[2] & ~31, 32)
+        bars.append(Bar(number, "fence", label, f"fence: {found[1]}", pair))
+    return bars
+
+
+def plan_fault(svg, words, text=None):
+    """What is wrong with the picture of a plan that is explained in these words, and was planned from this text."""
+    columns = columns_of(words, text)
+    bars = bars_of(words, columns)
+    heads = [found for line in words.splitlines() if (found := GROUP.fullmatch(line))]
+    fault, others = fault_of(svg, columns, [int(found[2] or 1) for found in heads], bars)
+    if fault:
+        return fault
+    costs = next(line for line in words.splitlines() if line.startswith("cost "))
     if found := re.search(r"^least (\d+): this plan costs ", words, re.M):
         costs += f"; least {found[1]}"
-    top, height, end, column, shaded, widest = 10, 48, 10, 0, False, 8
-    for line in words.splitlines():
-        x, y = 100 + 50 * (column % LINE), top + column // LINE * height
-        if found := GROUP.fullmatch(line):
-            size, top, height = int(found[2] or 1), end, 68 if int(found[3] or 0) else 48
-            end, widest, column, shaded = top + -(-size // LINE) * height + 6, max(widest, size), 0, False
-            parts.append(drawn_group(found, top))
-        elif found := FENCE.fullmatch(line):
-            shaded = not shaded
-            parts.append(drawn_fence(found[1], x, y))
-        elif found := PIECE.fullmatch(line):
-            parts.append(drawn_piece(found, x, y, shaded))
-            column += 1
-    has_fences = any(FENCE.fullmatch(line) for line in words.splitlines())
-    width, height = 100 + 50 * min(LINE, widest), end + (54 if has_fences else 24)
-    sizes = f'width="{width}" height="{height}" viewBox="0 0 {width} {height}"'
-    head = f'<svg xmlns="http://www.w3.org/2000/svg" role="img" {sizes} font-family="monospace" font-size="11">'
-    total = lettered(8, end + 11, width - 16, f"total {costs}")
-    ground = '<rect width="100%" height="100%" fill="white"/>'
-    legend = [lettered(8, end + 27 + 15 * at, width - 16, line) for at, line in enumerate(LEGEND)] if has_fences else []
-    return "\n".join([head, f"<title>{costs}</title>", ground, *parts, total, *legend, "</svg>", ""])
+    if others["title"] != costs or others["notes"][0] != f"total {costs}":
+        return f"the costs are {others['title']}, {others['notes']}, and not {costs}"
+    groups = [title for title in others["groups"] if not re.fullmatch(r"groups \d+ to \d+", title)]
+    if not set(groups) <= {found[0] for found in heads}:
+        return f"the groups are {groups}"
+    buffers = comments_of(text)[1] if text is not None else {}
+    for (first, size, count), label in zip(drawn(svg, columns)[0]["rows"], others["labels"]):
+        named = [name for address, name in sorted(buffers.items()) if first <= address < first + size]
+        whole = named[0] if named and count == 1 else f"{count} buffers" if count > 1 else f"{first:#x} +{size}"
+        if label != whole and not (label.endswith("…") and whole.startswith(label[:-1])):
+            return f"a row of {first:#x} is named {label}, and not {whole}"
+    return ""

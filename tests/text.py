@@ -130,7 +130,7 @@ def refusals():
         refused(command, text, begin, name)
     # the most groups that a picture has
     picture = written("explain --svg --lone 0", "move 0 -> 4096, 64 bytes, record 8192\n" * 1024)
-    common.expect(picture.count(": lone submission, cost 0<") == 1024 and picture.endswith("</svg>\n"), picture[:200])
+    common.expect("<title>groups 0 to 1023</title>" in picture and picture.endswith("</svg>\n"), picture[:200])
 
 
 def arguments():
@@ -469,8 +469,8 @@ def large():
     expect("explain", common.plan(listed, common.settings(greatest_batch=1024)), "\n".join(rows))
     expect("assemble", text, listed)
     expect("disassemble", listed, text.rstrip("\n"))
-    expect("explain", f"{' ' * (1 << 20)}\n{PAIR} # behind a mebibyte of blanks",
-           "group 0: lone submission, cost 10\n  0: move 0x1 -> 0x2, 3 bytes\n"
+    expect("explain", f"{' ' * (1 << 20)}\nmove 1 -> 4, 3 bytes, record 32 # after a mebibyte of blanks",
+           "group 0: lone submission, cost 10\n  0: move 0x1 -> 0x4, 3 bytes\n"
            "cost 10; 1 lone submission costs 10, saved 0")
 
 
@@ -489,56 +489,82 @@ def split():
 
 
 def picture():
-    """Where rows, boxes and bars stand in a picture of three groups of 40, 12 and 1 pieces, of which some are fenced."""
-    sizes, lines_at = (40, 12, 1), ((10, 78, 146), (220,), (274,))
+    """A picture of three groups of 40, 12 and 1 pieces, of which some are fenced: columns between fences are folded,
+    and the last groups; one of 24 lone pieces, where nothing is folded; and one where rows are."""
     moves = [(0x10_0000 + 0x1000 * k, 0x1000_0000 + 0x1000 * k) for k in range(53)]
-    groups = [[column % 7 == 5 and row != 1 for column in range(size)] for row, size in enumerate(sizes)]
+    groups = [[column % 7 == 5 and row != 1 for column in range(size)] for row, size in enumerate((40, 12, 1))]
     rules = common.settings(greatest_batch=40, staging=0x2000_0000)
-    drawn = written("explain --svg", common.judge(pieces_of(moves), groups, rules))
-    places = [(100 + 50 * (c % 16), lines_at[row][c // 16], row, c) for row, size in enumerate(sizes) for c in range(size)]
-    box = r'<rect x="(\d+)" y="(\d+)" width="40" height="40" fill="(white|#ddd)"[^>]*/>'
-    box += r'<text x="(\d+)" y="(\d+)">(\d+)</text>'
-    wanted = []
-    for k, (x, y, row, c) in enumerate(places):
-        ground = ("white", "#ddd")[sum(groups[row][: c + 1]) % 2]
-        wanted.append((f"{x}", f"{y}", ground, f"{x + 4}", f"{y + 16}", f"{k}"))
-    common.expect(re.findall(box, drawn) == wanted, f"boxes stand at {re.findall(box, drawn)}")
-    bar = r'<rect x="(\d+)" y="(\d+)" width="4" height="40"/><text x="(\d+)" y="(\d+)" font-size="8">none alone<'
-    wanted = [(f"{x - 7}", f"{y}", f"{x - 5}", f"{y + 51}") for x, y, row, c in places if groups[row][c]]
-    common.expect(re.findall(bar, drawn) == wanted, f"bars stand at {re.findall(bar, drawn)}")
-    left = re.findall(r'<text x="8" y="(\d+)" font-size="11">([^<]*)</text>', drawn)
-    wanted = [("21", "group 0"), ("34", "batch of 40"), ("47", "cost 29")]
-    wanted += [("231", "group 1"), ("244", "batch of 12"), ("257", "cost 14")]
-    wanted += [("285", "group 2"), ("298", "lone"), ("311", "cost 10")]
-    wanted += [("339", "total cost 53; 53 lone submissions cost 530, saved 477; least 28")]  # two batches
-    wanted += [("355", "bar: fence; 2←1: piece 2 waits for piece 1; +N: N more conflicts")]
-    wanted += [("370", "RAW: read after write; WAR: write after read; WAW: write after write")]
-    common.expect(left == wanted, f"at the left stand {left}")
-    common.expect(' width="900" height="382" viewBox="0 0 900 382" ' in drawn, drawn[:200])
+    job = common.judge(pieces_of(moves), groups, rules)
+    drawn, told = written("explain --svg", job), written("explain", job)
+    common.expect(not pictured.plan_fault(drawn, told), pictured.plan_fault(drawn, told))
+    folds = re.findall(r">(\d+ more|\d+ in \d+)<", drawn)
+    common.expect(folds == ["5 more", *["6 more"] * 5, "13 in 2"], f"folded are {folds}")
+    common.expect(drawn.count('class="fence"') == 5 and drawn.count(">none<") == 5, f"bars are {drawn}")
+    common.expect(">folded: 48 of 53 operations<" in drawn, f"no line says how many are folded: {drawn[-400:]}")
+    job = common.judge(pieces_of(moves[:24]), [[False]] * 24, rules)
+    drawn, told = written("explain --svg", job), written("explain", job)
+    common.expect(not pictured.plan_fault(drawn, told), pictured.plan_fault(drawn, told))
+    is_whole = drawn.count('class="mark"') == 48 and "folded" not in drawn
+    common.expect(is_whole, f"of 24 pieces some are folded: {drawn[:200]}")
+    rules = common.settings(greatest_batch=80, staging=0x2000_0000)
+    job = common.judge(pieces_of([*moves, *moves[::2]]), [[k > 52 for k in range(80)]], rules)
+    drawn, told = written("explain --svg", job), written("explain", job)
+    common.expect(not pictured.plan_fault(drawn, told), pictured.plan_fault(drawn, told))
 
 
 def reasons_drawn():
-    """What stands under bars: which piece waits for which, why, and how many more; small letters where it is long."""
-    waits = "move 0x1000 -> 0x2000, 64 bytes, record 0x8000\n{0}, record 0x8020\n"
-    for later, under in [
-        ("move 0x2000 -> 0x3000, 64 bytes", "RAW"),
-        ("fill 0x1000 with 0000000000000000, 64 bytes", "WAR"),
-        ("move 0x3000 -> 0x2000, 64 bytes", "WAW"),
+    """What is below bars: why the later piece waits, and how many more conflicts there are; and the line in the row of
+    the address, of the data or of a completion record."""
+    waits = "move 0x1000 -> 0x2000, 64 bytes, record 0x8000\n{0}\n"
+    for later, under, row in [
+        ("move 0x2000 -> 0x3000, 64 bytes, record 0x8020", "RAW", "0x2000 +64"),
+        ("fill 0x1000 with 0000000000000000, 64 bytes, record 0x8020", "WAR", "0x1000 +64"),
+        ("move 0x3000 -> 0x2000, 64 bytes, record 0x8020", "WAW", "0x2000 +64"),
+        ("move 0x3000 -> 0x4000, 64 bytes, record 0x8000", "WAW", "0x8000 +32"),
+        ("move 0x8000 -> 0x4000, 64 bytes, record 0x9000", "RAW", "0x8000 +64"),
     ]:
         drawn = written("explain --svg", waits.format(later))
-        wanted = f'<text x="145" y="61" font-size="11">1←0</text><text x="145" y="72" font-size="11">{under}</text></g>'
-        common.expect(wanted in drawn, f"{later}: {drawn}")
+        row_at, bar = re.search(rf'<title>{re.escape(row)}</title><text x="8" y="(\d+)"', drawn), f">{under}</text>"
+        common.expect(row_at and bar in drawn, f"{later}: {drawn}")
+        line = rf'<line x1="\d+" y1="{int(row_at[1]) - 4}" x2="\d+" y2="\d+" class="conflict"'
+        common.expect(re.search(line, drawn), f"{later}: {drawn}")
     # 500 pieces, and behind a fence 500 that read what those write
     moves = [(0x10_0000 + 64 * k, 0x100_0000 + 64 * k) for k in range(500)]
     moves += [(0x100_0000 + 64 * k, 0x200_0000 + 64 * k) for k in range(500)]
     rules = common.settings(greatest_batch=1024, staging=0x4000_0000)
     drawn = written("explain --svg", common.judge(pieces_of(moves), [[k == 500 for k in range(1000)]], rules))
-    wanted = '<text x="295" y="2169" font-size="11">500←0</text><text x="295" y="2180" font-size="10">RAW +499</text></g>'
-    common.expect(wanted in drawn, f"{drawn[:200]}: {re.findall('[^>]*←[^>]*>[^/]*', drawn)}")
+    found = re.findall(r'<g class="fence"[^>]*>.*?</title>.*?<text[^>]*>([^<]*)</text>', drawn)
+    common.expect(found == ["RAW +499"], f"{found}: {drawn[:200]}")
+
+
+def names_drawn():
+    """Names from comments: of operations, of pieces, and of buffers; signs of SVG, other scripts, and bytes that are no
+    text."""
+    text = """# 0x2000: the log
+# 8192: the log <again>
+# 0x9000 no buffer
+move 0x1000 -> 0x2000, 128 bytes, record 0x8000 # a & b <c> "d" # e
+barrier # no name
+move 0x2040 -> 0x3000, 64 bytes, record 0x8040 #größer
+fill 0x4000 with 0000000000000000, 64 bytes, record 0x8060
+compare 0x4000 with pattern 0000000000000000, 64 bytes, expect 0, record 0x8080
+move 0x5000 -> 0x6000, 64 bytes, record 0x80a0 # b\x00\x1b\x7fc and a name that is too long for a column
+"""
+    words = "--greatest-transfer 64"
+    drawn, told = written(f"explain --svg {words}", text), written(f"explain {words}", text)
+    fault = pictured.plan_fault(drawn, told, text.replace("\x00\x1b\x7f", "   "))
+    common.expect(not fault, f"{fault}: {drawn}")
+    for part in ('a &amp; b &lt;c&gt; "d" # e', ">the log<", ">größer<", ">fill<", ">pattern<"):
+        common.expect(part in drawn, f"no {part} in {drawn}")
+    wild = b"move 1 -> 2, 3 bytes, record 32 # \xff\xfe\n"
+    wild = subprocess.run([TEXT, "explain", "--svg"], input=wild, capture_output=True).stdout.decode()
+    common.expect(">move<" in wild, f"a comment that is no text is drawn: {wild}")
+    job = written(f"assemble --job {words}", text.replace("barrier # no name\n", ""))
+    common.expect(">move 1/2<" in written("explain --svg", job), "a job has names from comments")
 
 
 def pictures():
-    """Pictures of plans as a model draws them from the words of the same plan: those of the golden files and of the
+    """Pictures of plans, judged by the words of the same plan and the text: those of the golden files and of the
     examples, and those of lists of up to 1,024 pieces that conflict here and there."""
     asked = []
     for path in sorted(Path("tests/text").glob("*.golden")):
@@ -567,8 +593,36 @@ def pictures():
     for place, words, text, wanted in asked:
         told = [subprocess.run([TEXT, *less], input=text, capture_output=True).stdout.decode()
                 for less in (words, [word for word in words if word != "--svg"])]
-        common.expect(told[0] == pictured.picture_of(told[1]), f"{place}: {told[0][:600]}")
+        spelled = None if text.lstrip().startswith(b"{") else text.decode()
+        fault = pictured.plan_fault(*told, spelled)
+        common.expect(not fault, f"{place}: {fault}: {told[0][:600]}")
         common.expect(wanted in (None, told[0]), f"{place}: {told[0][:600]}")
+
+
+def overlaps():
+    """A note for each move of which a piece's source and destination meet: of up to 20, and how many more."""
+    note = "note: operation {}: its regions overlap, "
+    note += "and only devices with overlapping copy support (GENCAP bit 1) take it\n"
+    line = "move {} -> {}, 64 bytes, record 0x8000\n"
+    meeting, apart = line.format(0x1000, 0x103F), line.format(0x1000, 0x1040)
+    copy = common.judge(pieces_of([(0x1000, 0x1020)]), [[False]], common.settings(staging=0x2000_0000))
+    for text, words, noted in [
+        (meeting, "", [0]),
+        (apart, "", []),
+        (line.format(0x103F, 0x1000), "", [0]),
+        (line.format(0x1000, 0x1000), "", [0]),
+        (line.format(0x1020, 0x1000), "--greatest-transfer 32", []),
+        (line.format(0x101F, 0x1000), "--greatest-transfer 32", [0]),
+        ("fill 0x1000 with 0000000000000000, 64 bytes, record 0x8000\n" + meeting.replace("0x8000", "0x8020"), "", [1]),
+        (copy, "", [0]),
+    ]:
+        ran = subprocess.run([TEXT, "explain", *words.split()], input=text, capture_output=True, text=True)
+        wanted = (0, "".join(map(note.format, noted)))
+        common.expect((ran.returncode, ran.stderr) == wanted, f"{text} {words}: {ran.returncode}, {ran.stderr}")
+    many = "".join(meeting.replace("0x8000", f"{0x8000 + 32 * k:#x}") for k in range(23))
+    ran = subprocess.run([TEXT, "explain"], input=many, capture_output=True, text=True)
+    wanted = "".join(map(note.format, range(20))) + "note: and 3 more moves that overlap\n"
+    common.expect(ran.stderr == wanted, f"23 moves that overlap: {ran.stderr}")
 
 
 def named_files():
@@ -582,7 +636,7 @@ def named_files():
             (["assemble", str(store)], listed + "\n"),
             (["disassemble", file.name], store.with_suffix(".lines").read_text()),
             (["explain", str(job)], store.with_suffix(".explain").read_text()),
-            (["explain", "--svg", str(job)], store.with_suffix(".svg").read_text()),
+            (["explain", "--svg", str(store)], store.with_suffix(".svg").read_text()),
         ]:
             for given in (b"", b"move 1 -> 2, 3 bytes, record 32\n"):
                 ran = subprocess.run([TEXT, *words], input=given, capture_output=True)
@@ -784,8 +838,8 @@ def resumed():
 
 
 PARTS = [examples, lists, refusals, arguments, lines, grammar, texts, mistakes, sizes, fences, missing, shared_records]
-PARTS += [sentences, large, split, picture, pictures, reasons_drawn, named_files, forms_of_bytes, members, waits, barriers, resumed]
-PARTS += [files]
+PARTS += [sentences, large, split, picture, pictures, reasons_drawn, names_drawn, overlaps, named_files, forms_of_bytes]
+PARTS += [members, waits, barriers, resumed, files]
 
 
 def main(words):

@@ -1,12 +1,19 @@
-//! What pictures of plans and of audits are drawn with: boxes, 16 to a line, bars before them, and texts that fit.
+//! Pictures of plans and of audits: operations in columns, buffers in rows, and the conflict that each fence is about.
 #![tactic(auto)]
 
+mod bars;
+mod drawing;
+mod grid;
+mod heads;
+mod layout;
 mod names;
 mod places;
+mod rows;
 mod shapes;
+mod slots;
+mod texts;
 
+pub use drawing::draw;
+pub use layout::{Bar, BarKind, Buffer, Column, Group, Layout, Separated};
 pub use names::{hazard_name, op_name};
-pub use places::{LINE, MOST_ROWS, Spot, column_left, lines_of, picture_width, spot_in};
-pub use shapes::{
-    Square, push_bar, push_box, push_conflict, push_head, push_text, push_unseen_box, svg_of,
-};
+pub use places::MOST_ROWS;

@@ -1,21 +1,21 @@
-//! Short names, as they stand in pictures.
+//! Short names, as they are in pictures.
 
 use dsa_descriptor::Op;
 use dsa_ranges::HazardKind;
 
-/// The short name of an operation, as it stands in its box.
+/// The name of an operation that no comment names.
 pub fn op_name(op: &Op) -> &'static str {
     match op {
         Op::Move { .. } => "move",
         Op::Fill { .. } => "fill",
-        Op::Compare { .. } => "cmp",
-        Op::ComparePattern { .. } => "pat",
+        Op::Compare { .. } => "compare",
+        Op::ComparePattern { .. } => "compare pattern",
         Op::ApplyDelta { .. } => "delta",
-        Op::Dualcast { .. } => "dual",
+        Op::Dualcast { .. } => "dualcast",
     }
 }
 
-/// The short name of a kind of hazard, as it stands under a bar.
+/// The short name of a kind of hazard.
 pub fn hazard_name(kind: HazardKind) -> &'static str {
     match kind {
         HazardKind::ReadAfterWrite => "RAW",

@@ -15,14 +15,14 @@ mod words;
 pub use cells::{Cell, lay_out};
 pub use document::explanation_line;
 pub use dsa_descriptor::MOST_PIECES;
-pub use dsa_drawing::MOST_ROWS;
+pub use dsa_drawing::{Buffer, MOST_ROWS};
 pub use dsa_plan::{Costs, GroupCost, plan_costs};
 pub use explanation::{ExplainFault, Explanation, explain};
 pub use fences::{Detail, Fence, fences_of};
 pub use laws::{
     cells_are_pieces_and_fences, each_fence_once, group_costs_add_up, least_plans_save,
 };
-pub use picture::draw;
+pub use picture::{Names, draw};
 pub use reason::Reason;
 pub use waits::{Waits, WaitsFault, group_waits, waits_text};
 pub use words::{Origin, explanation_text, kind_text};

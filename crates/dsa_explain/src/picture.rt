@@ -1,239 +1,180 @@
-//! A plan as a picture: a row of boxes for each group, its cost beside it, and a bar for each fence with its reason under
-//! it.
+//! A plan as a picture.
 
 ghost use Rattle.std.specs.Prelude.{IfOk, string_bytes};
 ghost use Rattle.dsa_drawing.specs.Pictures.{IsPicture};
 
-use crate::cells::Cell;
 use crate::explanation::Explanation;
 use crate::fences::Fence;
 use crate::words::{Origin, cost_text, fence_text, group_text, piece_text};
 use dsa_descriptor::Descriptor;
-use dsa_drawing::{
-    Spot, Square, lines_of, op_name, push_bar, push_box, push_conflict, push_head, push_text,
-    spot_in, svg_of,
-};
+use dsa_drawing::{Bar, BarKind, Buffer, Column, Group, Layout, Separated, hazard_name, op_name};
 use dsa_plan::{Costs, GroupCost, Settings};
+use dsa_ranges::touched;
 use std::alloc::{AllocError, Global};
 
-/// What stands under the bar of a fence.
-const LEGEND: &str = "bar: fence; 2←1: piece 2 waits for piece 1; +N: N more conflicts";
+/// What the marks, bars and lines mean.
+const LEGEND: &str = "R: reads, W: writes; bar: fence; red: the conflict that it separates";
 
 /// The kinds of conflicts.
 const KINDS: &str = "RAW: read after write; WAR: write after read; WAW: write after write";
 
-/// Where a group stands: each of its lines has this height, and the next group begins at its end.
-#[derive(Clone, Copy)]
-struct Row {
-    top: usize,
-    line: usize,
-    end: usize,
+/// Names from the comments of a text.
+#[derive(Debug, Drop)]
+pub struct Names {
+    /// That of each operation, empty if it has none.
+    pub operations: Vec<String>,
+    /// Those of buffers.
+    pub buffers: Vec<Buffer>,
 }
 
-/// Where a group stands that begins here; lines with fences have room for reasons.
-fn row_of(group: &GroupCost, top: usize) -> Row {
-    let line: usize = if group.fences == 0 { 48 } else { 68 };
-    let end = top.saturating_add(lines_of(group.size).saturating_mul(line));
-    Row {
-        top,
-        line,
-        end: end.saturating_add(6),
-    }
-}
-
-/// Where the last of the groups ends.
-fn groups_end(groups: &[GroupCost]) -> usize {
-    let mut end: usize = 10;
-    for group in groups {
-        end = row_of(group, end).end;
-    }
-    end
-}
-
-/// The width of a picture.
-fn picture_width(groups: &[GroupCost]) -> usize {
-    dsa_drawing::picture_width(groups.iter().map(|group| group.size).max().unwrap_or(0))
-}
-
-/// Writes the costs of the plan under its groups.
-fn push_total(
+/// A group of this number.
+fn drawn_group(
     alloc: Global,
-    svg: &mut String,
-    explanation: &Explanation,
-    costs: &str,
-) -> Result<(), AllocError> {
-    let groups = &explanation.costs.groups;
-    let spot = Spot {
-        x: 8,
-        y: groups_end(groups).saturating_add(11),
-    };
-    let words = format!(in alloc; "total {costs}")?;
-    push_text(
-        alloc,
-        svg,
-        spot,
-        picture_width(groups).saturating_sub(16),
-        &words,
-    )?;
-    svg.push_str("\n")
-}
-
-/// Whether a group has a fence.
-fn has_fences(groups: &[GroupCost]) -> bool {
-    groups.iter().any(|group| group.fences > 0)
-}
-
-/// The height of a picture: under the costs it has room for a legend where there are fences.
-fn picture_height(groups: &[GroupCost]) -> usize {
-    let behind: usize = if has_fences(groups) { 54 } else { 24 };
-    groups_end(groups).saturating_add(behind)
-}
-
-/// Writes under the costs what stands under a bar.
-fn push_legend(alloc: Global, svg: &mut String, groups: &[GroupCost]) -> Result<(), AllocError> {
-    let width = picture_width(groups).saturating_sub(16);
-    let spot = Spot {
-        x: 8,
-        y: groups_end(groups).saturating_add(27),
-    };
-    push_text(alloc, svg, spot, width, LEGEND)?;
-    svg.push_str("\n")?;
-    push_text(alloc, svg, spot.below(15), width, KINDS)?;
-    svg.push_str("\n")
-}
-
-/// Writes at the left of a group its number, what it is and its cost.
-fn push_row(
-    alloc: Global,
-    svg: &mut String,
     greatest: u64,
     number: usize,
     group: &GroupCost,
-    top: usize,
-) -> Result<(), AllocError> {
-    let spot = Spot { x: 8, y: top };
+) -> Result<Group, AllocError> {
     let (size, cost) = (group.size, group.cost);
-    let title = group_text(alloc, greatest, number, group)?;
-    let front = format!(in alloc; "<g><title>{title}</title>")?;
-    svg.push_str(&front)?;
-    push_text(
-        alloc,
-        svg,
-        spot.below(11),
-        85,
-        &format!(in alloc; "group {number}")?,
-    )?;
-    if size == 1 {
-        push_text(alloc, svg, spot.below(24), 85, "lone")?;
+    let kind = if size == 1 {
+        String::from_str(alloc, "lone")?
     } else {
-        push_text(
-            alloc,
-            svg,
-            spot.below(24),
-            85,
-            &format!(in alloc; "batch of {size}")?,
-        )?;
-    }
-    push_text(
-        alloc,
-        svg,
-        spot.below(37),
-        85,
-        &format!(in alloc; "cost {cost}")?,
-    )?;
-    svg.push_str("</g>\n")
+        format!(in alloc; "batch of {size}")?
+    };
+    Ok(Group {
+        title: group_text(alloc, greatest, number, group)?,
+        name: format!(in alloc; "group {number}")?,
+        kind,
+        cost: format!(in alloc; "cost {cost}")?,
+        size,
+    })
 }
 
-/// Writes what needs a fence under its bar: the later piece and the earlier of its first conflict,
-/// and why the later waits; else that a barrier does, or nothing alone.
-fn push_reason(
+/// The groups of a plan.
+fn drawn_groups(
     alloc: Global,
-    svg: &mut String,
-    fence: &Fence,
-    more: usize,
-    middle: Spot,
-) -> Result<(), AllocError> {
+    greatest: u64,
+    costs: &[GroupCost],
+) -> Result<Vec<Group>, AllocError> {
+    let mut groups = Vec::new(alloc);
+    for (number, group) in costs.iter().enumerate() {
+        groups.push(drawn_group(alloc, greatest, number, group)?)?;
+    }
+    Ok(groups)
+}
+
+/// The comment of a piece's operation, if it has one.
+fn comment_of<'a>(names: Option<&'a Names>, origin: Option<Origin>) -> Option<&'a str> {
+    let operation = origin?.operation;
+    let comment = names?.operations.get(operation)?;
+    if comment.is_empty() {
+        None
+    } else {
+        Some(comment.as_str())
+    }
+}
+
+/// The name of a piece: the comment of its operation, or its word; and which of the pieces of its operation it is.
+fn piece_name(
+    alloc: Global,
+    d: &Descriptor,
+    comment: Option<&str>,
+    origin: Option<Origin>,
+) -> Result<String, AllocError> {
+    let name = comment.unwrap_or(op_name(&d.op));
+    match origin {
+        Some(Origin { piece, pieces, .. }) if pieces > 1 => {
+            format!(in alloc; "{name} {piece}/{pieces}")
+        }
+        Some(_) | None => String::from_str(alloc, name),
+    }
+}
+
+/// What a browser shows of a piece under the pointer.
+fn piece_title(
+    alloc: Global,
+    number: usize,
+    d: &Descriptor,
+    comment: Option<&str>,
+    origin: Option<Origin>,
+) -> Result<String, AllocError> {
+    let words = piece_text(alloc, d, origin)?;
+    match comment {
+        Some(comment) => format!(in alloc; "{number}: {words} # {comment}"),
+        None => format!(in alloc; "{number}: {words}"),
+    }
+}
+
+/// The pieces of a plan.
+fn drawn_pieces(
+    alloc: Global,
+    pieces: &[Descriptor],
+    origins: &[Origin],
+    names: Option<&Names>,
+) -> Result<Vec<Column>, AllocError> {
+    let mut columns = Vec::new(alloc);
+    for (number, d) in pieces.iter().enumerate() {
+        let origin = origins.get(number).copied();
+        let comment = comment_of(names, origin);
+        columns.push(Column {
+            number,
+            name: piece_name(alloc, d, comment, origin)?,
+            title: piece_title(alloc, number, d, comment, origin)?,
+            touched: Some(touched(d)),
+            has_record: true,
+        })?;
+    }
+    Ok(columns)
+}
+
+/// What is below a fence: the kind of its first conflict and how many more it alone separates; whether a barrier needs it.
+fn fence_label(alloc: Global, fence: &Fence) -> Result<String, AllocError> {
     let Some(reason) = fence.named.first() else {
         let words = if fence.barrier {
             "barrier"
         } else {
             "none alone"
         };
-        return push_text(alloc, svg, middle.below(51), 50, words);
+        return String::from_str(alloc, words);
     };
-    let pair = (reason.later, reason.earlier);
-    push_conflict(alloc, svg, middle, pair, reason.hazard.kind, more)
-}
-
-/// Writes the bar of a fence before a box, and its reason.
-fn push_fence(
-    alloc: Global,
-    svg: &mut String,
-    pieces: &[Descriptor],
-    fence: Option<&Fence>,
-    spot: Spot,
-) -> Result<(), AllocError> {
-    let Some(fence) = fence else {
-        return Ok(());
-    };
-    let bar = Spot {
-        x: spot.x.saturating_sub(7),
-        y: spot.y,
-    };
-    let words = fence_text(alloc, pieces, fence)?;
-    let more = fence
-        .named
-        .len()
-        .saturating_sub(1)
-        .saturating_add(fence.more);
-    let front = format!(in alloc; "<g text-anchor=\"middle\"><title>fence: {words}</title>")?;
-    svg.push_str(&front)?;
-    push_bar(alloc, svg, bar, 40)?;
-    push_reason(alloc, svg, fence, more, bar.behind(2))?;
-    svg.push_str("</g>\n")
-}
-
-/// Writes the rows of a picture.
-fn push_cells(
-    alloc: Global,
-    svg: &mut String,
-    explanation: &Explanation,
-    pieces: &[Descriptor],
-    origins: &[Origin],
-    greatest: u64,
-) -> Result<(), AllocError> {
-    let mut row = Row {
-        top: 10,
-        line: 0,
-        end: 10,
-    };
-    let mut next_fence: usize = 0;
-    let mut shaded = false;
-    for (index, cell) in explanation.cells.iter().enumerate() {
-        if cell.column == 0 {
-            shaded = false;
-            if let Some(group) = explanation.costs.groups.get(cell.row) {
-                row = row_of(group, row.end);
-                push_row(alloc, svg, greatest, cell.row, group, row.top)?;
-            }
-        }
-        let spot = spot_in(row.top, row.line, cell.column);
-        if cell.fenced {
-            push_fence(alloc, svg, pieces, explanation.fences.get(next_fence), spot)?;
-            next_fence = next_fence.saturating_add(1);
-            shaded = !shaded;
-        }
-        if let Some(d) = pieces.get(index) {
-            let title = piece_text(alloc, d, origins.get(index).copied())?;
-            let square = Square {
-                spot,
-                number: index,
-                shaded,
-            };
-            push_box(alloc, svg, square, op_name(&d.op), &title)?;
-        }
+    let mut text = String::from_str(alloc, hazard_name(reason.hazard.kind))?;
+    let others = fence.named.len().saturating_sub(1);
+    let more = others.saturating_add(fence.more);
+    if more > 0 {
+        text.push_str(&format!(in alloc; " +{more}")?)?;
     }
-    Ok(())
+    if fence.barrier {
+        text.push_str(" barrier")?;
+    }
+    Ok(text)
+}
+
+/// A fence of a plan.
+fn drawn_fence(alloc: Global, pieces: &[Descriptor], fence: &Fence) -> Result<Bar, AllocError> {
+    let words = fence_text(alloc, pieces, fence)?;
+    Ok(Bar {
+        column: fence.piece,
+        kind: BarKind::Needed,
+        title: format!(in alloc; "fence: {words}")?,
+        words: fence_label(alloc, fence)?,
+        separated: fence.named.first().map(|reason| Separated {
+            earlier: reason.earlier,
+            later: reason.later,
+            address: reason.hazard.address,
+        }),
+    })
+}
+
+/// The fences of a plan.
+fn drawn_fences(
+    alloc: Global,
+    pieces: &[Descriptor],
+    fences: &[Fence],
+) -> Result<Vec<Bar>, AllocError> {
+    let mut bars = Vec::new(alloc);
+    for fence in fences {
+        bars.push(drawn_fence(alloc, pieces, fence)?)?;
+    }
+    Ok(bars)
 }
 
 /// The words of the costs in a picture, and of the least cost where that is below the plan's.
@@ -252,44 +193,47 @@ fn costs_drawn(
     Ok(words)
 }
 
-/// What stands in a picture behind its first word.
-fn picture_body(
-    alloc: Global,
-    explanation: &Explanation,
-    pieces: &[Descriptor],
-    origins: &[Origin],
-    greatest: u64,
-    least: Option<u64>,
-) -> Result<String, AllocError> {
-    let mut svg = String::new(alloc);
-    let groups = &explanation.costs.groups;
-    let (width, height) = (picture_width(groups), picture_height(groups));
-    let costs = costs_drawn(alloc, &explanation.costs, pieces.len(), least)?;
-    push_head(alloc, &mut svg, width, height, &costs)?;
-    push_cells(alloc, &mut svg, explanation, pieces, origins, greatest)?;
-    push_total(alloc, &mut svg, explanation, &costs)?;
-    if has_fences(groups) {
-        push_legend(alloc, &mut svg, groups)?;
+/// The lines at the end: the costs, and what the parts of the picture mean.
+fn notes_of(alloc: Global, costs: &str, has_fences: bool) -> Result<Vec<String>, AllocError> {
+    let mut notes = Vec::new(alloc);
+    notes.push(format!(in alloc; "total {costs}")?)?;
+    if has_fences {
+        notes.push(String::from_str(alloc, LEGEND)?)?;
+        notes.push(String::from_str(alloc, KINDS)?)?;
     }
-    Ok(svg)
+    Ok(notes)
 }
 
-/// The picture of a plan as SVG, in black, white and grey and without scripts. A group has 16 boxes to a line, its cost at
-/// the left, and epochs that are white and grey by turns. Under the bar of a fence stand the two pieces that it separates,
-/// the kind of their conflict and how many more it alone separates; the costs stand at the end, with the least cost where
-/// that is given and below the plan's, and where there are fences a legend of what stands under them. A browser shows the words
-/// of each row, box and bar under the pointer.
+/// The names of buffers.
+fn buffers_of(names: Option<&Names>) -> &[Buffer] {
+    match names {
+        Some(names) => names.buffers.as_slice(),
+        None => &[],
+    }
+}
+
+/// The picture of a plan as SVG, in black, white, grey and red and without scripts: its pieces in columns by their groups,
+/// with the names that comments give them, buffers in rows, and its fences with the first of their conflicts. The costs are
+/// at the end, with the least cost if that is given and below the plan's.
 pub fn draw(
     alloc: Global,
     explanation: &Explanation,
     pieces: &[Descriptor],
     origins: &[Origin],
+    names: Option<&Names>,
     settings: &Settings,
     least: Option<u64>,
 ) -> Result<String, AllocError>
     ensures { IfOk result (λ s. IsPicture (string_bytes s)) }
 {
-    let greatest = settings.greatest_batch();
-    let body = picture_body(alloc, explanation, pieces, origins, greatest, least)?;
-    svg_of(alloc, &body)
+    let costs = costs_drawn(alloc, &explanation.costs, pieces.len(), least)?;
+    let layout = Layout {
+        groups: drawn_groups(alloc, settings.greatest_batch(), &explanation.costs.groups)?,
+        columns: drawn_pieces(alloc, pieces, origins, names)?,
+        bars: drawn_fences(alloc, pieces, &explanation.fences)?,
+        buffers: buffers_of(names),
+        notes: notes_of(alloc, &costs, !explanation.fences.is_empty())?,
+        title: costs,
+    };
+    dsa_drawing::draw(alloc, &layout)
 }

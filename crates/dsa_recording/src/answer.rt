@@ -223,6 +223,7 @@ fn answer_picture(
     alloc: Global,
     all: &[[u8; 64]],
     report: &Report,
+    settings: &Settings,
     options: AuditOptions<'_>,
 ) -> Result<AuditAnswer, AllocError>
     requires sums { HasSums report.now }
@@ -233,7 +234,7 @@ fn answer_picture(
         let text = too_large_text(alloc, all, report)?;
         return Ok(AuditAnswer { text, status: 2 });
     }
-    let picture = draw_report(alloc, all, report)?;
+    let picture = draw_report(alloc, all, report, settings)?;
     written(alloc, options, all, report, picture)
 }
 
@@ -276,7 +277,7 @@ fn answer_report(
             let line = report_json(alloc, all, report, settings, options)?;
             written(alloc, options, all, report, line)
         }
-        AuditFormat::Picture => answer_picture(alloc, all, report, options),
+        AuditFormat::Picture => answer_picture(alloc, all, report, settings, options),
         AuditFormat::List => answer_list(alloc, all, report, options),
         AuditFormat::Keys => {
             let text = keys_text(alloc, all, report, options)?;

@@ -37,7 +37,7 @@ pub struct Costs {
 }
 
 /// Whether a submission with these fences has a price.
-fn has_price(settings: &Settings, is_batch: bool, fences: &[bool]) -> bool
+pub(crate) fn has_price(settings: &Settings, is_batch: bool, fences: &[bool]) -> bool
     ensures { result ≡ has_price settings.now.greatest_batch is_batch fences.now }
 {
     let size = fences.len();
@@ -58,7 +58,7 @@ fn batch_cost(settings: &Settings, fences: &[bool]) -> u64
 }
 
 /// What a submission costs with these fences; nothing where it has no price.
-fn submission_cost(settings: &Settings, is_batch: bool, fences: &[bool]) -> u64
+pub(crate) fn submission_cost(settings: &Settings, is_batch: bool, fences: &[bool]) -> u64
     ensures { result ≡ submission_cost settings.now is_batch fences.now }
 {
     if !has_price(settings, is_batch, fences) {

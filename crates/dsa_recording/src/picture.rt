@@ -1,242 +1,218 @@
-//! A report on a recording as a picture: a row of boxes for each submission, with a bar for each fence that is there or is
-//! missing, and what is found of it.
+//! A report on a recording as a picture.
 
 ghost use Rattle.std.specs.Prelude.{◌↔◌, IfOk, IsTrue, string_bytes};
 ghost use Rattle.dsa_drawing.specs.Pictures.{IsPicture};
 ghost use Rattle.dsa_recording.specs.Answers.{IsTooLarge};
 ghost use Rattle.dsa_recording.specs.Totals.{HasSums};
 
+use crate::costs::{has_price, submission_cost};
 use crate::detail::has_all_fences;
+use crate::entry_words::descriptor_text;
 use crate::further::code_name;
-use crate::marks::{has_words, mark_of, push_legend, push_mark};
+use crate::marks::bar_before;
+use crate::member::{records_of, touched_by};
 use crate::report::Report;
 use crate::report_json::unseen_name;
-use crate::stream::Submission;
 use crate::submission::Audited;
 use crate::totals::{totals_of, totals_text};
 use crate::words::unseen_text;
 use dsa_audit::Member;
 use dsa_descriptor::{op_at, u32_at};
-use dsa_drawing::{
-    MOST_ROWS, Spot, Square, lines_of, op_name, push_box, push_head, push_text, push_unseen_box,
-    spot_in, svg_of,
-};
+use dsa_drawing::{Bar, Buffer, Column, Group, Layout, MOST_ROWS, op_name};
+use dsa_settings::Settings;
 use std::alloc::{AllocError, Global};
 
 /// The most entries of a recording that has a picture.
 pub const MOST_ENTRIES: usize = 65_536;
 
-/// How wide a picture is.
-const WIDTH: usize = 900;
+/// What the marks and lines mean.
+const LEGEND: &str = "R: reads, W: writes; red: a conflict; hatched: not looked at (unknown)";
 
-/// Where the first submission begins, under the line that says what the marks mean.
-const TOP: usize = 36;
+/// What the bars mean.
+const BARS: &str = "bar: fence; dashed: missing; hollow: needless; grey: guards or signals";
 
-/// Where a submission is drawn: each of its lines has this height, and the next submission begins at its end.
-#[derive(Clone, Copy)]
-struct Row {
-    top: usize,
-    line: usize,
-    end: usize,
-}
-
-/// Whether words are under a bar of a submission.
-fn is_marked(audited: &Audited) -> bool {
-    for member in 0..audited.members.len() {
-        if has_words(mark_of(audited, member)) {
-            return true;
-        }
+/// What a submission costs, if it has a price.
+fn cost_drawn(alloc: Global, settings: &Settings, audited: &Audited) -> Result<String, AllocError> {
+    if !has_price(settings, audited.is_batch, &audited.fences) {
+        return String::from_str(alloc, "no price");
     }
-    false
+    let cost = submission_cost(settings, audited.is_batch, &audited.fences);
+    format!(in alloc; "cost {cost}")
 }
 
-/// Where a submission is drawn that begins here.
-fn row_of(audited: &Audited, top: usize) -> Row {
-    let line: usize = if is_marked(audited) { 68 } else { 48 };
-    let lines = lines_of(audited.members.len());
-    // an empty batch has a line too, for its words
-    let lines = if lines == 0 { 1 } else { lines };
-    let end = top.saturating_add(lines.saturating_mul(line));
-    Row {
-        top,
-        line,
-        end: end.saturating_add(6),
-    }
-}
-
-/// Where the last of the submissions ends.
-fn rows_end(audits: &[Audited]) -> usize {
-    let mut end = TOP;
-    for audited in audits {
-        end = row_of(audited, end).end;
-    }
-    end
-}
-
-/// Writes at the left of a submission its number and what it is.
-fn push_row(
+/// A submission of this number.
+fn drawn_group(
     alloc: Global,
-    svg: &mut String,
+    settings: &Settings,
     number: usize,
-    submission: Submission,
-    top: usize,
-) -> Result<(), AllocError> {
-    let (spot, size) = (Spot { x: 8, y: top }, submission.size);
-    let words = if submission.is_batch {
+    audited: &Audited,
+) -> Result<Group, AllocError> {
+    let size = audited.members.len();
+    let kind = if audited.is_batch {
         format!(in alloc; "batch of {size}")?
     } else {
         String::from_str(alloc, "lone")?
     };
-    let title = format!(in alloc; "<g><title>submission {number}: {words}</title>")?;
-    svg.push_str(&title)?;
-    let first = format!(in alloc; "submission {number}")?;
-    push_text(alloc, svg, spot.below(11), 85, &first)?;
-    push_text(alloc, svg, spot.below(24), 85, &words)?;
-    svg.push_str("</g>\n")
+    let cost = cost_drawn(alloc, settings, audited)?;
+    Ok(Group {
+        title: format!(in alloc; "submission {number}: {kind}, {cost}")?,
+        name: format!(in alloc; "submission {number}")?,
+        kind,
+        cost,
+        size,
+    })
 }
 
-/// The short name of an entry's operation, or its code.
+/// The submissions of a report.
+fn drawn_groups(
+    alloc: Global,
+    settings: &Settings,
+    report: &Report,
+) -> Result<Vec<Group>, AllocError> {
+    let mut groups = Vec::new(alloc);
+    for (number, audited) in report.audits.iter().enumerate() {
+        groups.push(drawn_group(alloc, settings, number, audited)?)?;
+    }
+    Ok(groups)
+}
+
+/// The name of an entry's operation, or its code.
 fn entry_name(alloc: Global, entry: &[u8; 64]) -> Result<String, AllocError> {
     if let Some(op) = op_at(entry) {
         return String::from_str(alloc, op_name(&op));
     }
     let code = u32_at(entry, 4) >> 24;
-    if code == 0 {
-        String::from_str(alloc, "no-op")
-    } else {
+    let name = code_name(code as u8);
+    if name.is_empty() {
         format!(in alloc; "0x{code:02x}")
+    } else {
+        String::from_str(alloc, name)
     }
 }
 
-/// The name of an entry's operation in full, if no plan has it, else its short name or its code.
-fn entry_title(alloc: Global, entry: &[u8; 64], name: &str) -> Result<String, AllocError> {
-    let full = code_name((u32_at(entry, 4) >> 24) as u8);
-    String::from_str(alloc, if full.is_empty() { name } else { full })
-}
-
-/// Writes the box of a member, which has this entry.
-fn push_member(
+/// The column of a member, which has this entry.
+fn drawn_member(
     alloc: Global,
-    svg: &mut String,
     member: &Member,
-    square: Square,
+    number: usize,
     at: usize,
     entry: &[u8; 64],
-) -> Result<(), AllocError> {
+) -> Result<Column, AllocError> {
+    let words = descriptor_text(alloc, entry)?;
     let name = entry_name(alloc, entry)?;
     match member {
-        Member::Known(_) => {
-            let full = entry_title(alloc, entry, &name)?;
-            let title = format!(in alloc; "{full}, entry {at}")?;
-            push_box(alloc, svg, square, &name, &title)
-        }
+        Member::Known(_) => Ok(Column {
+            number,
+            name,
+            title: format!(in alloc; "{number}: {words}, entry {at}")?,
+            touched: Some(touched_by(entry)),
+            has_record: !records_of(entry).is_empty(),
+        }),
         Member::Unknown(why) => {
             let code = u32_at(entry, 4) >> 24;
-            let words = unseen_text(alloc, *why, code as u8)?;
-            let title = format!(in alloc; "{name}, entry {at}, {words}")?;
-            push_unseen_box(alloc, svg, square, &name, &title, unseen_name(*why))
+            let (reason, unseen) = (unseen_name(*why), unseen_text(alloc, *why, code as u8)?);
+            Ok(Column {
+                number,
+                name: format!(in alloc; "{name} ({reason})")?,
+                title: format!(in alloc; "{number}: {words}, entry {at}, {unseen}")?,
+                touched: None,
+                has_record: false,
+            })
         }
     }
 }
 
-/// Writes the members of a submission, whose first is this entry, and what is before each.
+/// Adds the columns of a submission's members, whose first is this entry.
 fn push_members(
     alloc: Global,
-    svg: &mut String,
+    columns: &mut Vec<Column>,
     all: &[[u8; 64]],
     first: usize,
     audited: &Audited,
-    row: Row,
 ) -> Result<(), AllocError> {
-    let complete = has_all_fences(audited);
-    let mut shaded = false;
     for (number, member) in audited.members.iter().enumerate() {
-        let spot = spot_in(row.top, row.line, number);
-        let fenced = audited.fences.get(number).copied().unwrap_or(false);
-        if fenced && number != 0 {
-            shaded = !shaded;
-        }
         let at = first.saturating_add(number);
         if let Some(entry) = all.get(at) {
-            let square = Square {
-                spot,
-                number,
-                shaded,
-            };
-            push_member(alloc, svg, member, square, at, entry)?;
+            columns.push(drawn_member(alloc, member, number, at, entry)?)?;
         }
-        // below the box, which would cover a part of a cross
-        push_mark(alloc, svg, mark_of(audited, number), complete, spot)?;
     }
     Ok(())
 }
 
-/// Writes the rows of a picture.
-fn push_rows(
+/// The members of all submissions.
+fn drawn_members(
     alloc: Global,
-    svg: &mut String,
     all: &[[u8; 64]],
     report: &Report,
+) -> Result<Vec<Column>, AllocError> {
+    let mut columns = Vec::new(alloc);
+    for (submission, audited) in report.submissions.iter().zip(report.audits.iter()) {
+        push_members(alloc, &mut columns, all, submission.first, audited)?;
+    }
+    Ok(columns)
+}
+
+/// Adds what is before the members of a submission whose first column is `start`.
+fn push_bars(
+    alloc: Global,
+    bars: &mut Vec<Bar>,
+    audited: &Audited,
+    start: usize,
 ) -> Result<(), AllocError> {
-    let mut end = TOP;
-    for (number, audited) in report.audits.iter().enumerate() {
-        let row = row_of(audited, end);
-        end = row.end;
-        if let Some(submission) = report.submissions.get(number) {
-            push_row(alloc, svg, number, *submission, row.top)?;
-            push_members(alloc, svg, all, submission.first, audited, row)?;
+    let complete = has_all_fences(audited);
+    for member in 0..audited.members.len() {
+        if let Some(bar) = bar_before(alloc, audited, member, start, complete)? {
+            bars.push(bar)?;
         }
     }
     Ok(())
 }
 
-/// Writes the two lines of the numbers, from here on.
-fn push_totals(
-    alloc: Global,
-    svg: &mut String,
-    totals: &str,
-    top: usize,
-) -> Result<(), AllocError> {
-    let mut spot = Spot {
-        x: 8,
-        y: top.saturating_add(11),
-    };
-    for line in totals.lines() {
-        push_text(alloc, svg, spot, WIDTH - 16, line)?;
-        svg.push_str("\n")?;
-        spot = spot.below(14);
+/// The fences of all submissions, and the places of those that are missing.
+fn drawn_bars(alloc: Global, report: &Report) -> Result<Vec<Bar>, AllocError> {
+    let mut bars = Vec::new(alloc);
+    let mut start: usize = 0;
+    for audited in &report.audits {
+        push_bars(alloc, &mut bars, audited, start)?;
+        start = start.saturating_add(audited.members.len());
     }
-    Ok(())
+    Ok(bars)
 }
 
-/// What is in a picture after its first word.
-fn picture_body(alloc: Global, all: &[[u8; 64]], report: &Report) -> Result<String, AllocError>
-    requires { HasSums report.now }
-{
-    let mut svg = String::new(alloc);
-    let end = rows_end(&report.audits);
-    let totals = totals_text(alloc, &totals_of(report))?;
-    push_head(alloc, &mut svg, WIDTH, end.saturating_add(38), &totals)?;
-    push_legend(alloc, &mut svg)?;
-    push_rows(alloc, &mut svg, all, report)?;
-    push_totals(alloc, &mut svg, &totals, end)?;
-    Ok(svg)
+/// The lines at the end: the numbers, and what the parts of the picture mean.
+fn notes_of(alloc: Global, totals: &str) -> Result<Vec<String>, AllocError> {
+    let mut notes = Vec::new(alloc);
+    for line in totals.lines() {
+        notes.push(String::from_str(alloc, line)?)?;
+    }
+    notes.push(String::from_str(alloc, LEGEND)?)?;
+    notes.push(String::from_str(alloc, BARS)?)?;
+    Ok(notes)
 }
 
-/// The picture of a report as SVG, without scripts. A submission has 16 boxes to a line, with the index and the operation
-/// of each member, and epochs that are white and grey by turns; the border of a member that is not looked at is of dashes,
-/// with the reason in it. Before a member is a bar if it is fenced: crossed out if the fence is needless, and
-/// with the member under it against whose failure it guards; and red dashes where a fence is missing, with the two members
-/// that conflict and why the later waits. The numbers are at the end.
+/// The picture of a report as SVG, without scripts: the members of submissions in columns, buffers in rows, fences as
+/// bars, red and dashed if they are missing, hollow if they are needless and grey if no conflict needs them; a member
+/// that is not looked at is hatched. The numbers are at the end.
 pub(crate) fn draw_report(
     alloc: Global,
     all: &[[u8; 64]],
     report: &Report,
+    settings: &Settings,
 ) -> Result<String, AllocError>
     requires { HasSums report.now }
     ensures { IfOk result (λ s. IsPicture (string_bytes s)) }
 {
-    svg_of(alloc, &picture_body(alloc, all, report)?)
+    let totals = totals_text(alloc, &totals_of(report))?;
+    let no_names: &[Buffer] = &[];
+    let layout = Layout {
+        groups: drawn_groups(alloc, settings, report)?,
+        columns: drawn_members(alloc, all, report)?,
+        bars: drawn_bars(alloc, report)?,
+        buffers: no_names,
+        notes: notes_of(alloc, &totals)?,
+        title: totals,
+    };
+    dsa_drawing::draw(alloc, &layout)
 }
 
 /// Whether a report on these entries has no picture: it has too many submissions or entries.

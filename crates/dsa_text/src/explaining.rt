@@ -17,9 +17,11 @@ ghost use Rattle.dsa_text.specs.Refusals.{IsRefusal};
 ghost use Rattle.dsa_text.specs.Shown.{AnswersPlan};
 
 use crate::answer::Answer;
+use crate::comments::names_of;
 use crate::form::Form;
 use crate::kept::{barrier_notes, joined, unkept_notes};
 use crate::origins::origins_of;
+use crate::overlapping::overlap_notes;
 use crate::rows::warnings_of;
 use crate::shown::{Subject, answer_plan, plain};
 use crate::unplanned::{Source, unplanned};
@@ -72,6 +74,7 @@ fn answer_planned(
     planned: &Planned,
     settings: &Settings,
     form: Form,
+    source: Source<'_>,
 ) -> Result<Answer, AllocError>
     ensures { IfOk result (AnswersPlan settings.now planned.now.plan planned.now.pieces.items
         (marks_of_pieces settings.now (map fields operations.now) marks.now)
@@ -80,11 +83,14 @@ fn answer_planned(
 {
     let barriers = marks_of_pieces(alloc, operations, marks, settings)?;
     let origins = origins_of(alloc, operations, settings)?;
+    let found = names_of(alloc, source, form)?;
+    let names = found.as_ref();
     let subject = Subject {
         plan: &planned.plan,
         pieces: &planned.pieces,
         barriers: &barriers,
         origins: &origins,
+        names,
         least: Some(planned.cost),
     };
     answer_plan(alloc, &subject, settings, form)
@@ -106,11 +112,12 @@ fn answer_with_warnings(
         (origins_from settings.now.greatest_transfer 0 (map fields operations.now))
         (Some planned.now.cost) form) }
 {
-    let answer = answer_planned(alloc, operations, marks, planned, settings, form)?;
+    let answer = answer_planned(alloc, operations, marks, planned, settings, form, source)?;
     let records = warnings_of(alloc, operations, settings)?;
     let barriers = barrier_notes(alloc, source, marks, form)?;
     let fences = unkept_notes(alloc, source, operations, &planned.plan, settings)?;
-    let warnings = joined(joined(records, barriers)?, fences)?;
+    let overlaps = overlap_notes(alloc, operations, settings)?;
+    let warnings = joined(joined(records, barriers)?, joined(fences, overlaps)?)?;
     Ok(answer.with_warnings(warnings))
 }
 

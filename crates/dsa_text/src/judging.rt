@@ -14,6 +14,8 @@ ghost use Rattle.dsa_text.specs.Refusals.{IsRefusal};
 use crate::answer::Answer;
 use crate::form::Form;
 use crate::judged::missing_message;
+use crate::kept::joined;
+use crate::overlapping::overlap_notes;
 use crate::rows::warnings_of;
 use crate::shown::{answer_plan, plain, plan_words};
 use dsa_calls::{PlanFault, judge_pieces, plan_operations};
@@ -166,8 +168,9 @@ fn answer_judged(
     ensures { IfOk result (AnswersJudged settings.now plan.now pieces.now cost form) }
 {
     let answer = judged_in_form(alloc, plan, pieces, settings, cost, form)?;
-    let warnings = warnings_of(alloc, pieces, settings)?;
-    Ok(answer.with_warnings(warnings))
+    let records = warnings_of(alloc, pieces, settings)?;
+    let overlaps = overlap_notes(alloc, pieces, settings)?;
+    Ok(answer.with_warnings(joined(records, overlaps)?))
 }
 
 /// The refusal of a plan of one's own. That of a plan that lacks fences lists each of them.

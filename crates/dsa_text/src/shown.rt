@@ -10,21 +10,22 @@ use crate::answer::Answer;
 use crate::form::Form;
 use dsa_descriptor::Descriptor;
 use dsa_explain::{
-    Detail, ExplainFault, MOST_ROWS, Origin, WaitsFault, draw, explain, explanation_line,
+    Detail, ExplainFault, MOST_ROWS, Names, Origin, WaitsFault, draw, explain, explanation_line,
     explanation_text, group_waits, waits_text,
 };
 use dsa_plan::{Plan, Settings};
 use dsa_tracker::TrackFault;
 use std::alloc::{AllocError, Global};
 
-/// What is shown: a plan of pieces and their barriers, of which operation each piece is, and what
-/// the least plan costs, where that is known.
+/// What is shown: a plan of pieces and their barriers, of which operation each piece is, what comments
+/// name, and what the least plan costs, where that is known.
 #[derive(Clone, Copy, Debug)]
 pub(crate) struct Subject<'a> {
     pub(crate) plan: &'a Plan,
     pub(crate) pieces: &'a [Descriptor],
     pub(crate) barriers: &'a [bool],
     pub(crate) origins: &'a [Origin],
+    pub(crate) names: Option<&'a Names>,
     pub(crate) least: Option<u64>,
 }
 
@@ -41,6 +42,7 @@ pub(crate) fn plain<'a>(plan: &'a Plan, pieces: &'a [Descriptor], least: Option<
         pieces,
         barriers: [].as_slice(),
         origins: [].as_slice(),
+        names: None,
         least,
     }
 }
@@ -105,6 +107,7 @@ fn plan_line(
         barriers,
         origins,
         least,
+        ..
     } = *subject;
     let explanation = explain(alloc, plan, pieces, barriers, settings, Detail::All)?;
     match explanation_line(alloc, &explanation, pieces, origins, least) {
@@ -150,6 +153,7 @@ fn answer_picture(
         pieces,
         barriers,
         origins,
+        names,
         least,
     } = *subject;
     let explanation = match explain(alloc, plan, pieces, barriers, settings, Detail::First) {
@@ -160,7 +164,7 @@ fn answer_picture(
     if groups > MOST_ROWS {
         return too_many_groups(alloc, groups);
     }
-    let picture = draw(alloc, &explanation, pieces, origins, settings, least)?;
+    let picture = draw(alloc, &explanation, pieces, origins, names, settings, least)?;
     Ok(Answer::done(picture))
 }
 

@@ -1,0 +1,196 @@
+//! A picture: operations in columns, buffers in rows, and fences as bars between the columns.
+
+ghost use Rattle.std.specs.Prelude.{IfOk, string_bytes};
+ghost use Rattle.dsa_drawing.specs.Pictures.{IsPicture};
+
+use crate::bars::push_bars;
+use crate::grid::{Grid, grid_of};
+use crate::heads::{push_columns, push_heads};
+use crate::layout::{Column, Layout};
+use crate::places::{Places, places_of};
+use crate::rows::{push_conflicts, push_marks, push_rows};
+use crate::shapes::{Extent, Spot, place, push_box, push_head, push_text};
+use crate::slots::{Slot, slots_of};
+use std::alloc::{AllocError, Global};
+
+/// The pattern on the columns of operations that are not looked at.
+const HATCH: &str = "<defs><pattern id=\"hatch\" width=\"6\" height=\"6\" \
+    patternUnits=\"userSpaceOnUse\" patternTransform=\"rotate(45)\">\
+    <path d=\"M0 0v6\" stroke=\"#999\" stroke-width=\"2\"/></pattern></defs>\n";
+
+/// The least width of a picture, in which the lines at its end have room.
+const LEAST_WIDTH: usize = 500;
+
+/// The operations that have a column of their own.
+fn shown(alloc: Global, slots: &[Slot]) -> Result<Vec<usize>, AllocError> {
+    slots
+        .iter()
+        .filter_map(|slot| slot.operation())
+        .collect(alloc)
+}
+
+/// Whether an operation is not looked at.
+fn is_unseen(column: &Column) -> bool {
+    column.touched.is_none()
+}
+
+/// Writes the ground of a column from here on.
+fn push_ground(
+    alloc: Global,
+    svg: &mut String,
+    places: &Places,
+    from: Spot,
+    paint: &str,
+) -> Result<(), AllocError> {
+    let extent = Extent {
+        width: places.width,
+        height: places.bottom.saturating_sub(from.y),
+    };
+    push_box(alloc, svg, from, extent, paint)?;
+    svg.push_str("\n")
+}
+
+/// Writes the grey of a column of each second epoch, and the hatching of one that is not looked at.
+fn push_grounds_of(
+    alloc: Global,
+    svg: &mut String,
+    layout: &Layout<'_>,
+    places: &Places,
+    slot: &Slot,
+    left: usize,
+    is_second: bool,
+) -> Result<(), AllocError> {
+    if is_second {
+        let paint = "class=\"epoch\" fill=\"#eee\"";
+        push_ground(alloc, svg, places, place(left, places.names), paint)?;
+    }
+    if let Some(operation) = slot.operation()
+        && layout.columns.get(operation).is_some_and(is_unseen)
+    {
+        let paint = "class=\"unseen\" fill=\"url(#hatch)\"";
+        push_ground(alloc, svg, places, place(left, places.top), paint)?;
+    }
+    Ok(())
+}
+
+/// Writes the grounds of the columns: epochs are white and grey by turns.
+fn push_grounds(
+    alloc: Global,
+    svg: &mut String,
+    layout: &Layout<'_>,
+    slots: &[Slot],
+    places: &Places,
+) -> Result<(), AllocError> {
+    let mut bars = layout.bars.as_slice();
+    let (mut group, mut is_second) = (usize::MAX, false);
+    for (slot, left) in slots.iter().zip(places.lefts.iter()) {
+        let begins = if let [bar, behind @ ..] = bars
+            && bar.column == slot.first
+            && slot.count > 0
+        {
+            bars = behind;
+            bar.is_set()
+        } else {
+            false
+        };
+        is_second = slot.group == group && begins != is_second;
+        group = slot.group;
+        push_grounds_of(alloc, svg, layout, places, slot, *left, is_second)?;
+    }
+    Ok(())
+}
+
+/// How many operations and ranges of addresses are folded, if some are.
+fn folded_text(
+    alloc: Global,
+    layout: &Layout<'_>,
+    slots: &[Slot],
+    grid: &Grid,
+) -> Result<String, AllocError> {
+    let mut text = String::new(alloc);
+    let shown = slots
+        .iter()
+        .filter(|slot| slot.operation().is_some())
+        .count();
+    let operations = layout.columns.len();
+    if shown < operations {
+        let folded = operations.saturating_sub(shown);
+        text.push_str(&format!(in alloc; "folded: {folded} of {operations} operations")?)?;
+    }
+    let (rows, ranges) = (grid.single_rows(), grid.ranges());
+    if rows < ranges {
+        let folded = ranges.saturating_sub(rows);
+        text.push_str(if text.is_empty() { "folded: " } else { ", " })?;
+        text.push_str(&format!(in alloc; "{folded} of {ranges} buffers")?)?;
+    }
+    Ok(text)
+}
+
+/// Writes the lines at the end.
+fn push_notes(
+    alloc: Global,
+    svg: &mut String,
+    layout: &Layout<'_>,
+    places: &Places,
+    folded: &str,
+    width: usize,
+) -> Result<(), AllocError> {
+    let mut y = places.notes;
+    let width = width.saturating_sub(16);
+    for note in &layout.notes {
+        push_text(alloc, svg, place(8, y), width, note)?;
+        svg.push_str("\n")?;
+        y = y.saturating_add(14);
+    }
+    if folded.is_empty() {
+        return Ok(());
+    }
+    push_text(alloc, svg, place(8, y), width, folded)?;
+    svg.push_str("\n")
+}
+
+/// What is in a picture after its first word.
+fn body(alloc: Global, layout: &Layout<'_>) -> Result<String, AllocError> {
+    let slots = slots_of(alloc, layout)?;
+    let grid = grid_of(alloc, layout, &shown(alloc, &slots)?)?;
+    let places = places_of(alloc, layout, &slots, &grid)?;
+    let folded = folded_text(alloc, layout, &slots, &grid)?;
+    let lines = layout
+        .notes
+        .len()
+        .saturating_add(if folded.is_empty() { 0 } else { 1 });
+    let extent = Extent {
+        width: places.right.saturating_add(10).max(LEAST_WIDTH),
+        height: places.notes.saturating_add(lines.saturating_mul(14)),
+    };
+    let mut svg = String::new(alloc);
+    push_head(alloc, &mut svg, extent, &layout.title)?;
+    if layout.columns.iter().any(is_unseen) {
+        svg.push_str(HATCH)?;
+    }
+    push_grounds(alloc, &mut svg, layout, &slots, &places)?;
+    push_heads(alloc, &mut svg, layout, &slots, &places)?;
+    push_columns(alloc, &mut svg, layout, &slots, &places)?;
+    push_rows(alloc, &mut svg, layout.buffers, &grid, &places)?;
+    push_bars(alloc, &mut svg, &layout.bars, &places)?;
+    push_conflicts(alloc, &mut svg, layout, &grid, &places)?;
+    push_marks(alloc, &mut svg, &grid, &places)?;
+    push_notes(alloc, &mut svg, layout, &places, &folded, extent.width)?;
+    Ok(svg)
+}
+
+/// The picture as SVG, without scripts. Each operation has a column, below its number and its name; each range of
+/// addresses that these read or write has a row, with a mark where an operation does: R, W or RW. A fence is a bar
+/// before its operation, the conflict that it is about a red line from the mark of the earlier operation to that of the
+/// later, and the words of the fence are below. Epochs are white and grey by turns. Of more than 24 operations or 48
+/// ranges those that no fence is about are folded. A browser shows the titles of groups, operations, ranges and fences
+/// under the pointer.
+pub fn draw(alloc: Global, layout: &Layout<'_>) -> Result<String, AllocError>
+    ensures { IfOk result (λ s. IsPicture (string_bytes s)) }
+{
+    let parts = body(alloc, layout)?;
+    let mut svg = String::from_str(alloc, "<svg ")?;
+    svg.push_str(&parts)?;
+    svg.push_str("</svg>\n")?;
+    Ok(svg)
+}

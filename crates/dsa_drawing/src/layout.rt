@@ -1,0 +1,108 @@
+//! What a picture shows: operations in their groups, with the fences before them.
+
+use dsa_ranges::Touched;
+
+/// What is submitted at once: a batch, or an operation alone.
+#[derive(Debug, Drop)]
+pub struct Group {
+    /// What a browser shows of it under the pointer.
+    pub title: String,
+    /// Its number, as `group 0`.
+    pub name: String,
+    /// What it is, as `batch of 2`.
+    pub kind: String,
+    /// What it costs, as `cost 14`.
+    pub cost: String,
+    /// How many operations it has.
+    pub size: usize,
+}
+
+/// An operation, which has a column.
+#[derive(Debug, Drop)]
+pub struct Column {
+    /// Its number, as it is named elsewhere.
+    pub number: usize,
+    /// Its name.
+    pub name: String,
+    /// What a browser shows of it under the pointer.
+    pub title: String,
+    /// What it reads and writes, if it is looked at.
+    pub touched: Option<Touched>,
+    /// Whether the first span that it writes is its completion record.
+    pub has_record: bool,
+}
+
+/// What is to be said of a fence.
+#[derive(Clone, Copy, Debug, PartialEq, Eq)]
+pub enum BarKind {
+    /// A conflict or a barrier needs it.
+    Needed,
+    /// It is not there.
+    Missing,
+    /// It may go.
+    Needless,
+    /// No conflict needs it, but it guards or signals.
+    Kept,
+}
+
+/// Two operations that a fence separates, and an address at which they conflict.
+#[derive(Clone, Copy, Debug, PartialEq, Eq)]
+pub struct Separated {
+    /// The column of the earlier.
+    pub earlier: usize,
+    /// The column of the later.
+    pub later: usize,
+    /// The address.
+    pub address: u64,
+}
+
+/// A fence, or the place of one that is missing.
+#[derive(Debug, Drop)]
+pub struct Bar {
+    /// The column that it is before.
+    pub column: usize,
+    /// What is to be said of it.
+    pub kind: BarKind,
+    /// What a browser shows of it under the pointer.
+    pub title: String,
+    /// What is written below it.
+    pub words: String,
+    /// The conflict that it is about, if it is about one.
+    pub separated: Option<Separated>,
+}
+
+/// The name of the buffer that has an address.
+#[derive(Debug, Drop)]
+pub struct Buffer {
+    /// The address.
+    pub address: u64,
+    /// The name.
+    pub name: String,
+}
+
+/// What a picture shows.
+#[derive(Debug, Drop)]
+pub struct Layout<'a> {
+    /// The title of the picture.
+    pub title: String,
+    /// The groups, in order.
+    pub groups: Vec<Group>,
+    /// The operations of all groups, in order.
+    pub columns: Vec<Column>,
+    /// The fences, in order.
+    pub bars: Vec<Bar>,
+    /// The names of buffers.
+    pub buffers: &'a [Buffer],
+    /// The lines at the end.
+    pub notes: Vec<String>,
+}
+
+impl Bar {
+    /// Whether the fence is there.
+    pub(crate) fn is_set(&self) -> bool {
+        match self.kind {
+            BarKind::Needed | BarKind::Needless | BarKind::Kept => true,
+            BarKind::Missing => false,
+        }
+    }
+}

@@ -10,11 +10,10 @@ use Rattle.dsa_audit.specs.declared.member.Member.{Member}
 use Rattle.dsa_audit.specs.declared.member.Member.TheVariants.{Known}
 use Rattle.std.specs.List.{AllByRecursion}
 use Rattle.dsa_descriptor.specs.Lists.{entries}
-use Rattle.dsa_recording.specs.declared.report.Report.{Report}
 use Rattle.dsa_recording.specs.declared.assumptions.Assumptions.{Assumptions}
 use Rattle.dsa_recording.specs.Entries.{IsMember}
 use Rattle.dsa_recording.specs.Details.{IsPlaced}
-use Rattle.dsa_recording.specs.Reports.{IsReport}
+use Rattle.dsa_recording.specs.Reports.{IsReport, Reported}
 
 -- the entry of a listed descriptor, in a batch of its owner, is looked at, and what is known of it is what the
 -- descriptor reads and writes
@@ -27,4 +26,4 @@ ListedAreKnown =
 -- each finding of a report on a recording is of an entry, and a missing fence has a known conflict
 abbrev pub FindingsArePlaced : Type 0
 FindingsArePlaced =
-    (assumed : Assumptions) (bytes : List ℕ) (r : Report) → IsReport assumed bytes r → AllByRecursion (IsPlaced (entries bytes) r) r.findings.items
+    (assumed : Assumptions) (bytes : List ℕ) (r : Reported) → IsReport assumed bytes r → AllByRecursion (IsPlaced (entries bytes) r) r.findings

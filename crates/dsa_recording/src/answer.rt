@@ -7,6 +7,7 @@ ghost use Rattle.dsa_recording.specs.Answers.{is_harmless, AnswersFormat, Answer
 ghost use Rattle.dsa_recording.specs.Accepted.{has_key};
 ghost use Rattle.dsa_recording.specs.Details.{IsPlaced};
 ghost use Rattle.dsa_recording.specs.Keys.{key_words};
+ghost use Rattle.dsa_recording.specs.Reports.{reported_by};
 ghost use Rattle.dsa_recording.specs.Words.{severity_of, severity_with};
 ghost use Rattle.dsa_recording.specs.Listings.{AreEntries};
 ghost use Rattle.dsa_recording.specs.Submissions.{IsWithin};
@@ -110,8 +111,9 @@ fn is_no_error(
     report: &Report,
     finding: Finding,
 ) -> Result<bool, AllocError>
-    requires { IsPlaced all.now report.now finding }
-    ensures { IfOk result (λ yes. IsTrue yes ↔ IsNoError options.entry all.now report.now finding) }
+    requires { IsPlaced all.now (reported_by report.now) finding }
+    ensures { IfOk result (λ yes. IsTrue yes ↔
+        IsNoError options.entry all.now (reported_by report.now) finding) }
 {
     if is_harmless(options.denied, finding.kind) {
         return Ok(true);
@@ -126,8 +128,8 @@ fn status_of(
     all: &[[u8; 64]],
     report: &Report,
 ) -> Result<u8, AllocError>
-    requires { ArePlaced all.now report.now }
-    ensures { IfOk result (IsStatusOf options.entry all.now report.now) }
+    requires { ArePlaced all.now (reported_by report.now) }
+    ensures { IfOk result (IsStatusOf options.entry all.now (reported_by report.now)) }
 {
     let mut rest = report.findings.as_slice();
     while let [finding, after @ ..] = rest {
@@ -209,10 +211,10 @@ fn written(
     report: &Report,
     text: String,
 ) -> Result<AuditAnswer, AllocError>
-    requires { ArePlaced all.now report.now }
+    requires { ArePlaced all.now (reported_by report.now) }
     ensures text { IfOk result (λ answer. answer.text ≡ text) }
     ensures status { IfOk result
-        (λ answer. IsStatusOf options.entry all.now report.now answer.status) }
+        (λ answer. IsStatusOf options.entry all.now (reported_by report.now) answer.status) }
 {
     let status = status_of(alloc, options, all, report)?;
     Ok(AuditAnswer { text, status })
@@ -226,8 +228,8 @@ fn answer_picture(
     options: AuditOptions<'_>,
 ) -> Result<AuditAnswer, AllocError>
     requires sums { HasSums report.now }
-    requires placed { ArePlaced all.now report.now }
-    ensures { IfOk result (AnswersFormat Picture options.entry all.now report.now) }
+    requires placed { ArePlaced all.now (reported_by report.now) }
+    ensures { IfOk result (AnswersFormat Picture options.entry all.now (reported_by report.now)) }
 {
     if is_too_large(all, report) {
         let text = too_large_text(alloc, all, report)?;
@@ -246,7 +248,7 @@ fn answer_list(
 ) -> Result<AuditAnswer, AllocError>
     requires entries { AreEntries all.now report.now.submissions.items report.now.audits.items }
     requires few { length all.now ≤ 2 ^ 58 }
-    ensures { IfOk result (AnswersFormat Listed options.entry all.now report.now) }
+    ensures { IfOk result (AnswersFormat Listed options.entry all.now (reported_by report.now)) }
 {
     let text = listing_text(alloc, all, report)?;
     Ok(AuditAnswer { text, status: 0 })
@@ -264,8 +266,8 @@ fn answer_report(
     requires entries { AreEntries all.now report.now.submissions.items report.now.audits.items }
     requires few { length all.now ≤ 2 ^ 58 }
     requires within { All (IsWithin all.now) report.now.submissions.items }
-    requires placed { ArePlaced all.now report.now }
-    ensures { IfOk result (AnswersReport options.entry all.now report.now) }
+    requires placed { ArePlaced all.now (reported_by report.now) }
+    ensures { IfOk result (AnswersReport options.entry all.now (reported_by report.now)) }
 {
     match options.format {
         AuditFormat::Text => {

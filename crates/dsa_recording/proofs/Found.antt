@@ -39,18 +39,18 @@ pub all_append : {X : Type 0} (P : X → Type 0) (xs ys : List X) → AllByRecur
 all_append P [] ys first second = second
 all_append P (x ∷ xs) ys (here, first) second = (here, all_append P xs ys first second)
 
-all_map : {X : Type 0} (P Q : X → Type 0) (xs : List X) → ((x : X) → P x → Q x) → AllByRecursion P xs → AllByRecursion Q xs
+pub all_map : {X : Type 0} (P Q : X → Type 0) (xs : List X) → ((x : X) → P x → Q x) → AllByRecursion P xs → AllByRecursion Q xs
 all_map P Q [] step all = tt
 all_map P Q (x ∷ xs) step (here, all) = (step x here, all_map P Q xs step all)
 
 -- ---- in one submission
 
 -- the place is the descriptor, or one of so many members
-abbrev IsInside : ℕ → Place → Type 0
+abbrev pub IsInside : ℕ → Place → Type 0
 IsInside count Head = Unit
 IsInside count (Member k) = k < count
 
-record IsAt (number : ℕ) (ms : List KnownMember) (f : Finding) : Type 0 where
+pub record IsAt (number : ℕ) (ms : List KnownMember) (f : Finding) : Type 0 where
   pub number_is : f.submission ≡ number
   pub place : IsInside (length ms) f.place
   pub kind : IsOf ms f.place f.kind
@@ -174,7 +174,7 @@ found_in assumed es s number a is =
 
 -- ---- in submissions, of which the first has this number
 
-record IsFrom (assumed : Assumptions) (es : List (List ℕ)) (number : ℕ) (ss : List Submission) (audits : List Audited) (f : Finding) : Type 0 where
+pub record IsFrom (assumed : Assumptions) (es : List (List ℕ)) (number : ℕ) (ss : List Submission) (audits : List Audited) (f : Finding) : Type 0 where
   pub at : ℕ
   pub submission : Submission
   pub audited : Audited
@@ -213,7 +213,7 @@ from_next assumed es number s ss a audits f there = record {
   is_at = there.is_at;
 }
 
-found_from : (assumed : Assumptions) (es : List (List ℕ)) (number : ℕ) (ss : List Submission) (audits : List Audited) → AllByRecursion (IsWithin es) ss → AreAudited assumed es ss audits
+pub found_from : (assumed : Assumptions) (es : List (List ℕ)) (number : ℕ) (ss : List Submission) (audits : List Audited) → AllByRecursion (IsWithin es) ss → AreAudited assumed es ss audits
     → AllByRecursion (IsFrom assumed es number ss audits) (recording_findings number audits)
 found_from assumed es number [] [] within all = tt
 found_from assumed es number (s ∷ ss) (a ∷ audits) (inside, within) (is, all) =
@@ -236,7 +236,7 @@ entry_within assumed es s a k within is lt =
     (omega (arith, count, size, lt), omega (arith, count, rest, size, lt, ends))
 
 -- the place is one of the submission, and an entry
-place_within : (assumed : Assumptions) (es : List (List ℕ)) (s : Submission) (a : Audited) (place : Place) → IsWithin es s → IsAudited assumed es s a → IsInside (length a.operands.items) place
+pub place_within : (assumed : Assumptions) (es : List (List ℕ)) (s : Submission) (a : Audited) (place : Place) → IsWithin es s → IsAudited assumed es s a → IsInside (length a.operands.items) place
     → IsPlaceOf s place × (entry_at s place < length es)
 place_within assumed es s a Head within is inside = (tt, within.head)
 place_within assumed es s a (Member k) within is inside =
@@ -246,7 +246,7 @@ place_within assumed es s a (Member k) within is inside =
     let both = entry_within assumed es s a k within is (omega (arith, lt, members, operands)) in
     (both.0, both.1)
 
-from_report : (assumed : Assumptions) (es : List (List ℕ)) (r : Reported) (f : Finding) → IsFrom assumed es 0 r.submissions r.audits f → IsPlaced es r f
+unfoldable pub from_report : (assumed : Assumptions) (es : List (List ℕ)) (r : Reported) (f : Finding) → IsFrom assumed es 0 r.submissions r.audits f → IsPlaced es r f
 from_report assumed es r f there =
     let number : f.submission ≡ there.at = there.number_is ∙ (omega arith) in
     let inside = place_within assumed es there.submission there.audited f.place there.is_within there.is_audited there.is_at.place in

@@ -15,20 +15,16 @@ ghost use Rattle.dsa_recording.specs.Totals.{HasSums};
 
 use crate::accepted::{Accepted, is_accepted};
 use crate::assumptions::Assumptions;
-use crate::costs::{costs_of, costs_text};
 use crate::detail::{Detail, detail_of, has_all_fences};
 use crate::findings::{Finding, FindingKind};
-use crate::folding::{folded_of, keys_text, push_alike};
 use crate::foreign::STAGING_HINT;
-use crate::freed::{freed_by, freed_text};
 use crate::keys::key_text;
 use crate::listing::listing_text;
 use crate::picture::{draw_report, is_too_large, too_large_text};
 use crate::report::{Report, audit_recording};
-use crate::report_json::report_json;
 use crate::stream::StreamFault;
-use crate::totals::{flaws_text, totals_of, totals_text};
-use crate::words::{Denied, Severity, finding_text, severity_of, severity_with};
+use crate::words::{Denied, Severity, severity_of, severity_with};
+use crate::written::Written;
 use dsa_descriptor::u32_at;
 use dsa_settings::Settings;
 use std::alloc::{AllocError, Global};
@@ -122,7 +118,7 @@ fn is_no_error(
 }
 
 /// The status of a report: whether some finding is an error.
-fn status_of(
+pub(crate) fn status_of(
     alloc: Global,
     options: AuditOptions<'_>,
     all: &[[u8; 64]],
@@ -157,31 +153,7 @@ pub(crate) fn severity_in(
     Ok(severity_with(options.accepted.has(&key), severity))
 }
 
-/// Writes the lines of the findings, each or those of the first of each key.
-fn push_findings(
-    alloc: Global,
-    text: &mut String,
-    all: &[[u8; 64]],
-    report: &Report,
-    options: AuditOptions<'_>,
-) -> Result<(), AllocError> {
-    let complete = completeness(alloc, report)?;
-    let folded = folded_of(alloc, all, report, &complete, options.every)?;
-    for (finding, alike) in report.findings.iter().zip(folded.iter()) {
-        if *alike == 0 {
-            continue;
-        }
-        if let Some(detail) = detail_of(all, report, *finding) {
-            let known = is_complete(&complete, detail.submission);
-            let severity = severity_in(alloc, options, all, &detail)?;
-            text.push_str(&finding_text(alloc, all, &detail, known, severity)?)?;
-            push_alike(alloc, text, *alike)?;
-        }
-    }
-    Ok(())
-}
-
-/// The report in words: the findings, and what they come to.
+/// The report in the format of the options, where that is words, JSON or keys.
 fn report_text(
     alloc: Global,
     all: &[[u8; 64]],
@@ -192,15 +164,9 @@ fn report_text(
     requires sums { HasSums report.now }
     requires within { All (IsWithin all.now) report.now.submissions.items }
 {
-    let mut text = String::new(alloc);
-    push_findings(alloc, &mut text, all, report, options)?;
-    let totals = totals_of(report);
-    text.push_str(&totals_text(alloc, &totals)?)?;
-    text.push_str(&flaws_text(alloc, totals.flaws)?)?;
-    text.push_str(&costs_text(alloc, settings, &costs_of(settings, report), &totals)?)?;
-    let freed = freed_by(alloc, all, report, options.assumptions)?;
-    text.push_str(&freed_text(alloc, options.assumptions, &freed)?)?;
-    Ok(text)
+    let mut written = Written::new(alloc);
+    written.add(alloc, all, report, settings, options)?;
+    written.into_text(alloc, settings, options)
 }
 
 /// The answer of a report in this text, with status 1 if some finding is an error.
@@ -270,30 +236,31 @@ fn answer_report(
     ensures { IfOk result (AnswersReport options.entry all.now (reported_by report.now)) }
 {
     match options.format {
-        AuditFormat::Text => {
+        AuditFormat::Text | AuditFormat::Json => {
             let text = report_text(alloc, all, report, settings, options)?;
             written(alloc, options, all, report, text)
-        }
-        AuditFormat::Json => {
-            let line = report_json(alloc, all, report, settings, options)?;
-            written(alloc, options, all, report, line)
         }
         AuditFormat::Picture => answer_picture(alloc, all, report, options),
         AuditFormat::List => answer_list(alloc, all, report, options),
         AuditFormat::Keys => {
-            let text = keys_text(alloc, all, report, options)?;
+            let text = report_text(alloc, all, report, settings, options)?;
             Ok(AuditAnswer { text, status: 0 })
         }
     }
 }
 
-/// Why bytes are no recording.
-fn fault_text(alloc: Global, bytes: &[u8], fault: StreamFault) -> Result<String, AllocError>
+/// Why bytes are no recording, after so many entries of it.
+pub(crate) fn fault_text(
+    alloc: Global,
+    before: usize,
+    bytes: &[u8],
+    fault: StreamFault,
+) -> Result<String, AllocError>
     ensures { IfOk result (λ _. fault ≢ Memory) }
 {
     match fault {
         StreamFault::Length => {
-            let (entry, rest) = (bytes.len() / 64, bytes.len() % 64);
+            let (entry, rest) = (before as u128 + bytes.len() as u128 / 64, bytes.len() % 64);
             format!(in alloc;
                 "entry {entry}: error: the recording ends after {rest} of its 64 bytes\n"
             )
@@ -305,6 +272,7 @@ fn fault_text(alloc: Global, bytes: &[u8], fault: StreamFault) -> Result<String,
                 None => 0,
             };
             let there = all.len().saturating_sub(at).saturating_sub(1);
+            let at = before as u128 + at as u128;
             format!(in alloc;
                 "entry {at}: error: the recording ends after {there} of the {size} members of this batch: {STAGING_HINT}\n"
             )
@@ -328,7 +296,7 @@ pub(crate) fn audit_bytes(
             answer_report(alloc, all, &report, settings, options)
         }
         Err(fault) => {
-            let text = fault_text(alloc, bytes, fault)?;
+            let text = fault_text(alloc, 0, bytes, fault)?;
             Ok(AuditAnswer { text, status: 2 })
         }
     }

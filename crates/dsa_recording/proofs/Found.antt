@@ -21,7 +21,6 @@ use Rattle.dsa_recording.specs.declared.assumptions.Assumptions.{Assumptions}
 use Rattle.dsa_recording.specs.declared.stream.Submission.{Submission}
 use Rattle.dsa_recording.specs.declared.submission.Audited.{Audited}
 use Rattle.dsa_recording.specs.declared.findings.Finding.{Finding}
-use Rattle.dsa_recording.specs.declared.report.Report.{Report}
 use Rattle.dsa_recording.specs.Streams.{end_of}
 use Rattle.dsa_recording.specs.Submissions.{IsWithin, IsAudited, AreAudited, members_in}
 use Rattle.dsa_recording.specs.declared.findings.FindingKind.{FindingKind}
@@ -33,25 +32,25 @@ use Rattle.dsa_recording.specs.declared.findings.Place.TheVariants.{Head, Member
 use Rattle.dsa_recording.specs.Flaws.{no_flaws}
 use Rattle.dsa_recording.specs.Findings.{unseen_kind, missing_kind, use_kind, shared_kind, repeated_kind, flaw_kind, head_kinds, member_kinds, all_found, head_findings, findings_upto, submission_findings, recording_findings}
 use Rattle.dsa_recording.specs.Details.{IsOf, IsPlaceOf, IsPlaced, entry_at}
-use Rattle.dsa_recording.specs.Reports.{IsReport}
+use Rattle.dsa_recording.specs.Reports.{IsReport, Reported}
 use Rattle.dsa_recording.proofs.Within.{each_within, has_all}
 
 pub all_append : {X : Type 0} (P : X → Type 0) (xs ys : List X) → AllByRecursion P xs → AllByRecursion P ys → AllByRecursion P (xs ++ ys)
 all_append P [] ys first second = second
 all_append P (x ∷ xs) ys (here, first) second = (here, all_append P xs ys first second)
 
-all_map : {X : Type 0} (P Q : X → Type 0) (xs : List X) → ((x : X) → P x → Q x) → AllByRecursion P xs → AllByRecursion Q xs
+pub all_map : {X : Type 0} (P Q : X → Type 0) (xs : List X) → ((x : X) → P x → Q x) → AllByRecursion P xs → AllByRecursion Q xs
 all_map P Q [] step all = tt
 all_map P Q (x ∷ xs) step (here, all) = (step x here, all_map P Q xs step all)
 
 -- ---- in one submission
 
 -- the place is the descriptor, or one of so many members
-abbrev IsInside : ℕ → Place → Type 0
+abbrev pub IsInside : ℕ → Place → Type 0
 IsInside count Head = Unit
 IsInside count (Member k) = k < count
 
-record IsAt (number : ℕ) (ms : List KnownMember) (f : Finding) : Type 0 where
+pub record IsAt (number : ℕ) (ms : List KnownMember) (f : Finding) : Type 0 where
   pub number_is : f.submission ≡ number
   pub place : IsInside (length ms) f.place
   pub kind : IsOf ms f.place f.kind
@@ -175,7 +174,7 @@ found_in assumed es s number a is =
 
 -- ---- in submissions, of which the first has this number
 
-record IsFrom (assumed : Assumptions) (es : List (List ℕ)) (number : ℕ) (ss : List Submission) (audits : List Audited) (f : Finding) : Type 0 where
+pub record IsFrom (assumed : Assumptions) (es : List (List ℕ)) (number : ℕ) (ss : List Submission) (audits : List Audited) (f : Finding) : Type 0 where
   pub at : ℕ
   pub submission : Submission
   pub audited : Audited
@@ -214,7 +213,7 @@ from_next assumed es number s ss a audits f there = record {
   is_at = there.is_at;
 }
 
-found_from : (assumed : Assumptions) (es : List (List ℕ)) (number : ℕ) (ss : List Submission) (audits : List Audited) → AllByRecursion (IsWithin es) ss → AreAudited assumed es ss audits
+pub found_from : (assumed : Assumptions) (es : List (List ℕ)) (number : ℕ) (ss : List Submission) (audits : List Audited) → AllByRecursion (IsWithin es) ss → AreAudited assumed es ss audits
     → AllByRecursion (IsFrom assumed es number ss audits) (recording_findings number audits)
 found_from assumed es number [] [] within all = tt
 found_from assumed es number (s ∷ ss) (a ∷ audits) (inside, within) (is, all) =
@@ -237,7 +236,7 @@ entry_within assumed es s a k within is lt =
     (omega (arith, count, size, lt), omega (arith, count, rest, size, lt, ends))
 
 -- the place is one of the submission, and an entry
-place_within : (assumed : Assumptions) (es : List (List ℕ)) (s : Submission) (a : Audited) (place : Place) → IsWithin es s → IsAudited assumed es s a → IsInside (length a.operands.items) place
+pub place_within : (assumed : Assumptions) (es : List (List ℕ)) (s : Submission) (a : Audited) (place : Place) → IsWithin es s → IsAudited assumed es s a → IsInside (length a.operands.items) place
     → IsPlaceOf s place × (entry_at s place < length es)
 place_within assumed es s a Head within is inside = (tt, within.head)
 place_within assumed es s a (Member k) within is inside =
@@ -247,22 +246,22 @@ place_within assumed es s a (Member k) within is inside =
     let both = entry_within assumed es s a k within is (omega (arith, lt, members, operands)) in
     (both.0, both.1)
 
-from_report : (assumed : Assumptions) (es : List (List ℕ)) (r : Report) (f : Finding) → IsFrom assumed es 0 r.submissions.items r.audits.items f → IsPlaced es r f
+unfoldable pub from_report : (assumed : Assumptions) (es : List (List ℕ)) (r : Reported) (f : Finding) → IsFrom assumed es 0 r.submissions r.audits f → IsPlaced es r f
 from_report assumed es r f there =
     let number : f.submission ≡ there.at = there.number_is ∙ (omega arith) in
     let inside = place_within assumed es there.submission there.audited f.place there.is_within there.is_audited there.is_at.place in
-    let s_is : slice_get r.submissions.items f.submission ≡ Some there.submission = ap (slice_get r.submissions.items) number ∙ there.submission_is in
-    let a_is : slice_get r.audits.items f.submission ≡ Some there.audited = ap (slice_get r.audits.items) number ∙ there.audited_is in (
+    let s_is : slice_get r.submissions f.submission ≡ Some there.submission = ap (slice_get r.submissions) number ∙ there.submission_is in
+    let a_is : slice_get r.audits f.submission ≡ Some there.audited = ap (slice_get r.audits) number ∙ there.audited_is in (
       there.submission,
       there.audited.operands.items,
       record { submission = s_is; audited = there.audited; audited_is = a_is; members = refl },
       record { place = inside.0; within = inside.1; head = there.is_within.head; kind = there.is_at.kind },
     )
 
-pub report_placed : (assumed : Assumptions) (bytes : List ℕ) (r : Report) → IsReport assumed bytes r → AllByRecursion (IsPlaced (entries bytes) r) r.findings.items
+pub report_placed : (assumed : Assumptions) (bytes : List ℕ) (r : Reported) → IsReport assumed bytes r → AllByRecursion (IsPlaced (entries bytes) r) r.findings
 report_placed assumed bytes r is =
-    let within = each_within (entries bytes) 0 (length (entries bytes)) r.submissions.items is.submissions.all in
-    let all = found_from assumed (entries bytes) 0 r.submissions.items r.audits.items within is.audits in
-    let placed = all_map (IsFrom assumed (entries bytes) 0 r.submissions.items r.audits.items) (IsPlaced (entries bytes) r) (recording_findings 0 r.audits.items)
+    let within = each_within (entries bytes) 0 (length (entries bytes)) r.submissions is.submissions.all in
+    let all = found_from assumed (entries bytes) 0 r.submissions r.audits within is.audits in
+    let placed = all_map (IsFrom assumed (entries bytes) 0 r.submissions r.audits) (IsPlaced (entries bytes) r) (recording_findings 0 r.audits)
     (from_report assumed (entries bytes) r) all in
     subst (λ (fs : List Finding). AllByRecursion (IsPlaced (entries bytes) r) fs) (sym is.findings) placed

@@ -17,7 +17,7 @@ use Rattle.dsa_recording.specs.declared.findings.FindingKind.{FindingKind}
 use Rattle.dsa_recording.specs.declared.findings.FindingKind.TheVariants.{NotSeen, MissingFence, GuardingFence, SignallingFence, GuardingAndSignallingFence, NeedlessFence, Repeated, Flawed}
 use Rattle.dsa_recording.specs.declared.findings.Place.{Place}
 use Rattle.dsa_recording.specs.declared.findings.Place.TheVariants.{Head, Member}
-use Rattle.dsa_recording.specs.declared.report.Report.{Report}
+use Rattle.dsa_recording.specs.Reports.{Reported}
 use Rattle.dsa_recording.specs.declared.stream.Submission.{Submission}
 use Rattle.dsa_recording.specs.declared.submission.Audited.{Audited}
 use Rattle.dsa_recording.specs.Details.{entry_at, HasHazard, IsCause, IsDetail, IsOfHead, kind_of, named_by, named_by_flaw}
@@ -199,7 +199,7 @@ same_key es d e entry code first size is_batch place kinds hazards =
     joined (cause_key d.code d.cause) (place_key es d d.is_batch d.place) (others_key es d (named_by d.cause))
     (cause_key e.code e.cause) (place_key es e e.is_batch e.place) (others_key es e (named_by e.cause)) key middle last
 
-pub one_key : (es : List (List ℕ)) (r : Report) (f : Finding) (d e : Detail) → IsDetail es r f d → IsDetail es r f e → key_words es d ≡ key_words es e
+pub one_key : (es : List (List ℕ)) (r : Reported) (f : Finding) (d e : Detail) → IsDetail es r f d → IsDetail es r f e → key_words es d ≡ key_words es e
 one_key es r f d e (s, ms, there, says) (t, ns, there', says') =
     let i = there.submission in
     let i' = there'.submission in

@@ -1,4 +1,9 @@
 pub mod Chain
+mod Middle
+mod Joined
+mod Extended
+mod Lacking
+mod Streamed
 pub mod Outcomes
 pub mod Reasons
 pub mod Listed

@@ -8,7 +8,7 @@ use Rattle.dsa_recording.specs.declared.stream.Submission.{Submission}
 use Rattle.dsa_recording.specs.declared.submission.Audited.{Audited}
 use Rattle.dsa_recording.specs.declared.report.Report.{Report}
 use Rattle.dsa_recording.specs.Submissions.{IsWithin, IsAudited, AreAudited}
-use Rattle.dsa_recording.specs.Reports.{IsReport}
+use Rattle.dsa_recording.specs.Reports.{IsReport, reported_by}
 use Rattle.std.specs.Prelude.{slice_index_or}
 use Rattle.dsa_audit.specs.declared.member.Member.{Member}
 use Rattle.dsa_audit.specs.declared.needless.FenceUse.{FenceUse}
@@ -93,7 +93,7 @@ each_inside assumed es (s ∷ ss) (a ∷ audits) (first, within) (is, all) =
 each_inside assumed es [] (a ∷ audits) within all = absurd all
 each_inside assumed es (s ∷ ss) [] within all = absurd all
 
-pub report_entries : (assumed : Assumptions) (bytes : List ℕ) (es : List (List ℕ)) (r : Report) → es ≡ entries bytes → IsReport assumed bytes r → AreEntries es r.submissions.items r.audits.items
+pub report_entries : (assumed : Assumptions) (bytes : List ℕ) (es : List (List ℕ)) (r : Report) → es ≡ entries bytes → IsReport assumed bytes (reported_by r) → AreEntries es r.submissions.items r.audits.items
 report_entries assumed bytes es r same is =
     let within = each_within (entries bytes) 0 (length (entries bytes)) r.submissions.items is.submissions.all in
     subst (λ (z : List (List ℕ)). AreEntries z r.submissions.items r.audits.items) (sym same)

@@ -6,13 +6,13 @@ use Rattle.dsa_recording.specs.declared.stream.Submission.{Submission}
 use Rattle.dsa_recording.specs.declared.submission.Audited.{Audited}
 use Rattle.dsa_recording.specs.declared.findings.Finding.{Finding}
 use Rattle.dsa_recording.specs.declared.detail.Detail.{Detail}
-use Rattle.dsa_recording.specs.declared.report.Report.{Report}
+use Rattle.dsa_recording.specs.Reports.{Reported}
 use Rattle.dsa_recording.specs.declared.detail.Cause.{Cause}
 use Rattle.dsa_recording.specs.declared.detail.Cause.TheVariants as cause
 use Rattle.dsa_recording.specs.Details.{IsBehind, HasEntry, Describes, IsPlaced, IsDetail}
 
-pub placed : (es : List (List ℕ)) (r : Report) (f : Finding) (s : Submission) (a : Audited) (ms : List Member) (o : Option Detail)
-    → slice_get r.submissions.items f.submission ≡ Some s → slice_get r.audits.items f.submission ≡ Some a → a.operands.items ≡ ms
+pub placed : (es : List (List ℕ)) (r : Reported) (f : Finding) (s : Submission) (a : Audited) (ms : List Member) (o : Option Detail)
+    → slice_get r.submissions f.submission ≡ Some s → slice_get r.audits f.submission ≡ Some a → a.operands.items ≡ ms
     → MatchOption o (¬ HasEntry es s ms f) (Describes es s ms f) → MatchOption o (¬ IsPlaced es r f) (IsDetail es r f)
 placed es r f s a ms (Some d) i j e says = (s, ms, record { submission = i; audited = a; audited_is = j; members = e }, says)
 placed es r f s a ms None i j e none = λ (t, ns, there, has).

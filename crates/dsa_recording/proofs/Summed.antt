@@ -13,7 +13,7 @@ use Rattle.dsa_recording.specs.declared.submission.Audited.{Audited}
 use Rattle.dsa_recording.specs.declared.report.Report.{Report}
 use Rattle.dsa_recording.specs.Streams.{submission_at, end_of, ReadsUpTo}
 use Rattle.dsa_recording.specs.Submissions.{is_fenced, members_in, IsAudited, AreAudited}
-use Rattle.dsa_recording.specs.Reports.{IsReport}
+use Rattle.dsa_recording.specs.Reports.{IsReport, reported_by}
 use Rattle.dsa_recording.specs.Totals.{member_count, set_count, HasSums}
 
 -- ---- of one submission
@@ -66,7 +66,7 @@ sum_within assumed f es few from to (s ∷ ss) (a ∷ audits) (lt, is, le, reads
 sum_within assumed f es few from to [] (a ∷ audits) reads all = absurd all
 sum_within assumed f es few from to (s ∷ ss) [] reads all = absurd all
 
-pub has_sums : (assumed : Assumptions) (bytes : List ℕ) (r : Report) → IsReport assumed bytes r → length bytes < 2 ^ 64 → HasSums r
+pub has_sums : (assumed : Assumptions) (bytes : List ℕ) (r : Report) → IsReport assumed bytes (reported_by r) → length bytes < 2 ^ 64 → HasSums r
 has_sums assumed bytes r is small =
     let es : List (List ℕ) = entries bytes in
     let count : length es ≡ length bytes / 64 = length-chunks (length bytes / 64) bytes in

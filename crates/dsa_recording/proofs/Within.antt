@@ -17,7 +17,7 @@ head_by : (b : Bool) (n at : ℕ) → head_at (if b then record { first = at + 1
 head_by true n at = omega arith
 head_by false n at = refl
 
-head_of : (es : List (List ℕ)) (from : ℕ) → head_at (submission_at es from) ≡ from
+pub head_of : (es : List (List ℕ)) (from : ℕ) → head_at (submission_at es from) ≡ from
 unfolding submission_at
 head_of es from = head_by (code_at (slice_index_or es from []) == 1) (u32_at 32 (slice_index_or es from [])) from
 

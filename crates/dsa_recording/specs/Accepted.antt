@@ -7,7 +7,7 @@ use Rattle.dsa_lines.specs.Texts.{lines_of}
 use Rattle.dsa_recording.specs.declared.accepted.Accepted.{Accepted}
 use Rattle.dsa_recording.specs.declared.detail.Detail.{Detail}
 use Rattle.dsa_recording.specs.declared.findings.Finding.{Finding}
-use Rattle.dsa_recording.specs.declared.report.Report.{Report}
+use Rattle.dsa_recording.specs.Reports.{Reported}
 use Rattle.dsa_recording.specs.Details.{IsDetail}
 use Rattle.dsa_recording.specs.Keys.{key_words}
 
@@ -24,5 +24,5 @@ abbrev pub AcceptsLines : List ℕ → Accepted → Type 0
 AcceptsLines text accepted = (key : List ℕ) → has_key accepted key ≡ is_line_of key text
 
 -- the key of a finding of a report is accepted
-abbrev pub IsAccepted : Accepted → List (List ℕ) → Report → Finding → Type 0
+abbrev pub IsAccepted : Accepted → List (List ℕ) → Reported → Finding → Type 0
 IsAccepted accepted es r f = (d : Detail) × IsDetail es r f d × (has_key accepted (key_words es d) ≡ true)

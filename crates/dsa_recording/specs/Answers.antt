@@ -11,9 +11,9 @@ use Rattle.dsa_recording.specs.declared.findings.Finding.{Finding}
 use Rattle.dsa_recording.specs.declared.findings.FindingKind.{FindingKind}
 use Rattle.dsa_recording.specs.declared.findings.FindingKind.TheVariants.{NotSeen, MissingFence, GuardingFence, SignallingFence, GuardingAndSignallingFence, NeedlessFence, Repeated, Flawed}
 use Rattle.dsa_recording.specs.declared.report.Report.{Report}
+use Rattle.dsa_recording.specs.Reports.{Reported, IsReport, reported_by}
 use Rattle.dsa_recording.specs.declared.stream.Submission.{Submission}
 use Rattle.dsa_recording.specs.Streams.{ReadsStream}
-use Rattle.dsa_recording.specs.Reports.{IsReport}
 use Rattle.dsa_recording.specs.Accepted.{IsAccepted}
 use Rattle.dsa_recording.specs.Details.{IsPlaced}
 use Rattle.dsa_recording.specs.Listings.{listing_text}
@@ -31,54 +31,58 @@ is_harmless denied (Repeated earlier) = true
 is_harmless denied (Flawed flaw) = false
 
 -- of these entries and their report the finding is no error: it is harmless, or accepted
-abbrev pub IsNoError : AuditOptions → List (List ℕ) → Report → Finding → Type 0
+abbrev pub IsNoError : AuditOptions → List (List ℕ) → Reported → Finding → Type 0
 IsNoError options es r f = (is_harmless options.denied f.kind ≡ true) ⊎ IsAccepted options.accepted.now es r f
 
 -- all findings are no errors
-abbrev pub AreNoErrors : AuditOptions → List (List ℕ) → Report → Type 0
-AreNoErrors options es r = AllByRecursion (IsNoError options es r) r.findings.items
+abbrev pub AreNoErrors : AuditOptions → List (List ℕ) → Reported → Type 0
+AreNoErrors options es r = AllByRecursion (IsNoError options es r) r.findings
 
 -- the status says that nothing that was found is an error, or that something is
-abbrev pub IsStatusOf : AuditOptions → List (List ℕ) → Report → ℕ → Type 0
+abbrev pub IsStatusOf : AuditOptions → List (List ℕ) → Reported → ℕ → Type 0
 IsStatusOf options es r status =
     ((status ≡ 0) × AreNoErrors options es r) ⊎ ((status ≡ 1) × (¬ AreNoErrors options es r))
 
 -- the report on these entries has no picture: it has more than 1,024 submissions, or they are more than 65,536
-abbrev pub IsTooLarge : List (List ℕ) → Report → Type 0
-IsTooLarge es r = (1024 < length r.submissions.items) ⊎ (65536 < length es)
+abbrev pub HasNoPicture : List (List ℕ) → Reported → Type 0
+HasNoPicture es r = (1024 < length r.submissions) ⊎ (65536 < length es)
 
 -- the answer is a picture of the report, with the status of the findings
-pub record Draws (options : AuditOptions) (es : List (List ℕ)) (r : Report) (answer : AuditAnswer) : Type 0 where
-  pub fits : ¬ IsTooLarge es r
+pub record Draws (options : AuditOptions) (es : List (List ℕ)) (r : Reported) (answer : AuditAnswer) : Type 0 where
+  pub fits : ¬ HasNoPicture es r
   pub picture : IsPicture (string_bytes answer.text)
   pub status : IsStatusOf options es r answer.status
 
 -- the answer is the operations as a list to plan; its status says nothing of findings
-pub record Lists (es : List (List ℕ)) (r : Report) (answer : AuditAnswer) : Type 0 where
-  pub text : string_bytes answer.text ≡ listing_text es r.submissions.items r.audits.items
+pub record Lists (es : List (List ℕ)) (r : Reported) (answer : AuditAnswer) : Type 0 where
+  pub text : string_bytes answer.text ≡ listing_text es r.submissions r.audits
   pub status : answer.status ≡ 0
 
 -- the answer of a report: its status is that of the findings; or, of pictures alone, it is 2, and the report has none; of
 -- keys it is 0
-abbrev pub AnswersFormat : AuditFormat → AuditOptions → List (List ℕ) → Report → AuditAnswer → Type 0
+abbrev pub AnswersFormat : AuditFormat → AuditOptions → List (List ℕ) → Reported → AuditAnswer → Type 0
 AnswersFormat Text options es r answer = IsStatusOf options es r answer.status
 AnswersFormat Json options es r answer = IsStatusOf options es r answer.status
-AnswersFormat Picture options es r answer = Draws options es r answer ⊎ ((answer.status ≡ 2) × IsTooLarge es r)
+AnswersFormat Picture options es r answer = Draws options es r answer ⊎ ((answer.status ≡ 2) × HasNoPicture es r)
 AnswersFormat Listed options es r answer = Lists es r answer
 AnswersFormat Keys options es r answer = answer.status ≡ 0
 
 -- the same in the format of the options
-abbrev pub AnswersReport : AuditOptions → List (List ℕ) → Report → AuditAnswer → Type 0
+abbrev pub AnswersReport : AuditOptions → List (List ℕ) → Reported → AuditAnswer → Type 0
 AnswersReport options es r answer = AnswersFormat options.format options es r answer
 
 -- the answer of a recording: that of a report on the bytes; or its status is 2, and they are no recording
 abbrev pub AnswersRecording : AuditOptions → List ℕ → AuditAnswer → Type 0
 AnswersRecording options bytes answer =
-    ((r : Report) × IsReport options.assumptions bytes r × AnswersReport options (entries bytes) r answer)
+    ((r : Reported) × IsReport options.assumptions bytes r × AnswersReport options (entries bytes) r answer)
     ⊎ ((answer.status ≡ 2) × ((list : List Submission) → ¬ ReadsStream bytes list))
 
 -- ---- for private clauses
 
+-- a report in memory has no picture
+abbrev pub IsTooLarge : List (List ℕ) → Report → Type 0
+IsTooLarge es r = HasNoPicture es (reported_by r)
+
 -- each finding of the report is of an entry
-abbrev pub ArePlaced : List (List ℕ) → Report → Type 0
-ArePlaced es r = AllByRecursion (IsPlaced es r) r.findings.items
+abbrev pub ArePlaced : List (List ℕ) → Reported → Type 0
+ArePlaced es r = AllByRecursion (IsPlaced es r) r.findings

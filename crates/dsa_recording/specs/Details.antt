@@ -21,7 +21,7 @@ use Rattle.dsa_recording.specs.declared.detail.Records.{Records}
 use Rattle.dsa_ranges.specs.declared.hazards.Hazard.{Hazard}
 use Rattle.dsa_recording.specs.Overlaps.{overlap}
 use Rattle.dsa_recording.specs.Submissions.{head_at}
-use Rattle.dsa_recording.specs.declared.report.Report.{Report}
+use Rattle.dsa_recording.specs.Reports.{Reported}
 
 -- a finding of a place
 abbrev pub finding_at : ℕ → Place → FindingKind → Finding
@@ -197,18 +197,18 @@ pub record Describes (es : List (List ℕ)) (s : Submission) (ms : List KnownMem
   pub overlap : d.overlap ≡ overlap_at ms f.place d.cause
 
 -- the submission of the finding, and what is known of its members' operands
-pub record IsIn (r : Report) (f : Finding) (s : Submission) (ms : List KnownMember) : Type 0 where
-  pub submission : slice_get r.submissions.items f.submission ≡ Some s
+pub record IsIn (r : Reported) (f : Finding) (s : Submission) (ms : List KnownMember) : Type 0 where
+  pub submission : slice_get r.submissions f.submission ≡ Some s
   pub audited : Audited
-  pub audited_is : slice_get r.audits.items f.submission ≡ Some audited
+  pub audited_is : slice_get r.audits f.submission ≡ Some audited
   pub members : audited.operands.items ≡ ms
 
 -- the finding is of an entry
-abbrev pub IsPlaced : List (List ℕ) → Report → Finding → Type 0
+abbrev pub IsPlaced : List (List ℕ) → Reported → Finding → Type 0
 IsPlaced es r f = (s : Submission) × (ms : List KnownMember) × IsIn r f s ms × HasEntry es s ms f
 
 -- the detail is of the finding's entry
-abbrev pub IsDetail : List (List ℕ) → Report → Finding → Detail → Type 0
+abbrev pub IsDetail : List (List ℕ) → Reported → Finding → Detail → Type 0
 IsDetail es r f d = (s : Submission) × (ms : List KnownMember) × IsIn r f s ms × Describes es s ms f d
 
 -- ---- of a whole submission

@@ -17,6 +17,7 @@ pub mod Accepted
 pub mod Answers
 pub mod Foreign
 pub mod Inputs
+pub mod Parts
 pub mod Dumps
 pub mod Totals
 pub mod Freed

@@ -1,5 +1,5 @@
 -- The words of a report on a recording (this project's choice): of each finding where it is, how severe, what, and why.
-use Rattle.std.specs.Prelude.{ℕ, ◌+◌, ◌*◌, ◌/◌, ◌%◌, ◌^◌, ◌==◌, Bool, true, false, ◌||◌, List, [], ◌∷◌, ◌++◌, codes, decimal, slice_get, Option, Some, None, if◌then◌else◌}
+use Rattle.std.specs.Prelude.{ℕ, ◌+◌, ◌-◌, ◌*◌, ◌/◌, ◌%◌, ◌^◌, ◌==◌, Bool, true, false, ◌||◌, List, [], ◌∷◌, ◌++◌, codes, decimal, slice_get, Option, Some, None, if◌then◌else◌}
 use Rattle.dsa_audit.specs.declared.member.Unseen.{Unseen}
 use Rattle.dsa_audit.specs.declared.member.Unseen.TheVariants.{Blank, Operation, Nested, Owner, Empty, Wrap}
 use Rattle.dsa_ranges.specs.declared.hazards.HazardKind.{HazardKind}
@@ -176,14 +176,15 @@ entry_line n None = []
 entry_line n (Some e) =
     codes "  entry " ++ (decimal n ++ (codes ", byte " ++ (decimal (n * 64) ++ (codes ": " ++ (descriptor_words e ++ 10 ∷ [])))))
 
--- that of another member of the submission
-abbrev pub other_line : List (List ℕ) → Detail → ℕ → List ℕ
-other_line es d m = if d.first + m == d.entry then [] else entry_line (d.first + m) (slice_get es (d.first + m))
+-- that of another member of the submission, in the entries of a recording from number `from` on
+abbrev pub other_line : ℕ → List (List ℕ) → Detail → ℕ → List ℕ
+other_line from es d m =
+    if d.first + m == d.entry then [] else entry_line (d.first + m) (slice_get es (d.first + m - from))
 
 -- those of members
-abbrev pub other_lines : List (List ℕ) → Detail → List ℕ → List ℕ
-other_lines es d [] = []
-other_lines es d (m ∷ ms) = other_line es d m ++ other_lines es d ms
+abbrev pub other_lines : ℕ → List (List ℕ) → Detail → List ℕ → List ℕ
+other_lines from es d [] = []
+other_lines from es d (m ∷ ms) = other_line from es d m ++ other_lines from es d ms
 
 -- what is found
 abbrev pub finding_line : Severity → Bool → Detail → List ℕ
@@ -192,6 +193,7 @@ finding_line severity complete d =
     ++ (severity_words severity ++ (cause_words complete d.code d.cause ++ (more_words d d.cause ++ 10 ∷ [])))
 
 -- the same, with its entry and those that it names
-abbrev pub finding_words : Severity → Bool → List (List ℕ) → Detail → List ℕ
-finding_words severity complete es d =
-    finding_line severity complete d ++ (entry_line d.entry (slice_get es d.entry) ++ other_lines es d (named_by d.cause))
+abbrev pub finding_words : Severity → Bool → ℕ → List (List ℕ) → Detail → List ℕ
+finding_words severity complete from es d =
+    finding_line severity complete d
+    ++ (entry_line d.entry (slice_get es (d.entry - from)) ++ other_lines from es d (named_by d.cause))

@@ -3,6 +3,7 @@
 ghost use Rattle.std.specs.Prelude.{◌≡◌, ◌↔◌, ℕ, List, false, IfOk, IsTrue};
 ghost use Rattle.dsa_recording.specs.Accepted.{AcceptsLines, IsAccepted, has_key};
 ghost use Rattle.dsa_recording.specs.Details.{IsPlaced};
+ghost use Rattle.dsa_recording.specs.Reports.{reported_by};
 
 use crate::detail::detail_of;
 use crate::findings::Finding;
@@ -58,8 +59,9 @@ pub(crate) fn is_accepted(
     report: &Report,
     finding: Finding,
 ) -> Result<bool, AllocError>
-    requires { IsPlaced all.now report.now finding }
-    ensures { IfOk result (λ yes. IsTrue yes ↔ IsAccepted accepted.now all.now report.now finding) }
+    requires { IsPlaced all.now (reported_by report.now) finding }
+    ensures { IfOk result (λ yes. IsTrue yes ↔
+        IsAccepted accepted.now all.now (reported_by report.now) finding) }
 {
     match detail_of(all, report, finding) {
         Some(detail) => {

@@ -7,6 +7,7 @@ ghost use Rattle.dsa_recording.specs.Answers.{is_harmless, AnswersFormat, Answer
 ghost use Rattle.dsa_recording.specs.Accepted.{has_key};
 ghost use Rattle.dsa_recording.specs.Details.{IsPlaced};
 ghost use Rattle.dsa_recording.specs.Keys.{key_words};
+ghost use Rattle.dsa_recording.specs.Reports.{reported_by};
 ghost use Rattle.dsa_recording.specs.Words.{severity_of, severity_with};
 ghost use Rattle.dsa_recording.specs.Listings.{AreEntries};
 ghost use Rattle.dsa_recording.specs.Submissions.{IsWithin};
@@ -14,20 +15,16 @@ ghost use Rattle.dsa_recording.specs.Totals.{HasSums};
 
 use crate::accepted::{Accepted, is_accepted};
 use crate::assumptions::Assumptions;
-use crate::costs::{costs_of, costs_text};
 use crate::detail::{Detail, detail_of, has_all_fences};
 use crate::findings::{Finding, FindingKind};
-use crate::folding::{folded_of, keys_text, push_alike};
 use crate::foreign::STAGING_HINT;
-use crate::freed::{freed_by, freed_text};
 use crate::keys::key_text;
 use crate::listing::listing_text;
 use crate::picture::{draw_report, is_too_large, too_large_text};
 use crate::report::{Report, audit_recording};
-use crate::report_json::report_json;
 use crate::stream::StreamFault;
-use crate::totals::{flaws_text, totals_of, totals_text};
-use crate::words::{Denied, Severity, finding_text, severity_of, severity_with};
+use crate::words::{Denied, Severity, severity_of, severity_with};
+use crate::written::Written;
 use dsa_descriptor::u32_at;
 use dsa_settings::Settings;
 use std::alloc::{AllocError, Global};
@@ -110,8 +107,9 @@ fn is_no_error(
     report: &Report,
     finding: Finding,
 ) -> Result<bool, AllocError>
-    requires { IsPlaced all.now report.now finding }
-    ensures { IfOk result (λ yes. IsTrue yes ↔ IsNoError options.entry all.now report.now finding) }
+    requires { IsPlaced all.now (reported_by report.now) finding }
+    ensures { IfOk result (λ yes. IsTrue yes ↔
+        IsNoError options.entry all.now (reported_by report.now) finding) }
 {
     if is_harmless(options.denied, finding.kind) {
         return Ok(true);
@@ -120,14 +118,14 @@ fn is_no_error(
 }
 
 /// The status of a report: whether some finding is an error.
-fn status_of(
+pub(crate) fn status_of(
     alloc: Global,
     options: AuditOptions<'_>,
     all: &[[u8; 64]],
     report: &Report,
 ) -> Result<u8, AllocError>
-    requires { ArePlaced all.now report.now }
-    ensures { IfOk result (IsStatusOf options.entry all.now report.now) }
+    requires { ArePlaced all.now (reported_by report.now) }
+    ensures { IfOk result (IsStatusOf options.entry all.now (reported_by report.now)) }
 {
     let mut rest = report.findings.as_slice();
     while let [finding, after @ ..] = rest {
@@ -155,31 +153,7 @@ pub(crate) fn severity_in(
     Ok(severity_with(options.accepted.has(&key), severity))
 }
 
-/// Writes the lines of the findings, each or those of the first of each key.
-fn push_findings(
-    alloc: Global,
-    text: &mut String,
-    all: &[[u8; 64]],
-    report: &Report,
-    options: AuditOptions<'_>,
-) -> Result<(), AllocError> {
-    let complete = completeness(alloc, report)?;
-    let folded = folded_of(alloc, all, report, &complete, options.every)?;
-    for (finding, alike) in report.findings.iter().zip(folded.iter()) {
-        if *alike == 0 {
-            continue;
-        }
-        if let Some(detail) = detail_of(all, report, *finding) {
-            let known = is_complete(&complete, detail.submission);
-            let severity = severity_in(alloc, options, all, &detail)?;
-            text.push_str(&finding_text(alloc, all, &detail, known, severity)?)?;
-            push_alike(alloc, text, *alike)?;
-        }
-    }
-    Ok(())
-}
-
-/// The report in words: the findings, and what they come to.
+/// The report in the format of the options, where that is words, JSON or keys.
 fn report_text(
     alloc: Global,
     all: &[[u8; 64]],
@@ -190,15 +164,9 @@ fn report_text(
     requires sums { HasSums report.now }
     requires within { All (IsWithin all.now) report.now.submissions.items }
 {
-    let mut text = String::new(alloc);
-    push_findings(alloc, &mut text, all, report, options)?;
-    let totals = totals_of(report);
-    text.push_str(&totals_text(alloc, &totals)?)?;
-    text.push_str(&flaws_text(alloc, totals.flaws)?)?;
-    text.push_str(&costs_text(alloc, settings, &costs_of(settings, report), &totals)?)?;
-    let freed = freed_by(alloc, all, report, options.assumptions)?;
-    text.push_str(&freed_text(alloc, options.assumptions, &freed)?)?;
-    Ok(text)
+    let mut written = Written::new(alloc);
+    written.add(alloc, all, report, settings, options)?;
+    written.into_text(alloc, settings, options)
 }
 
 /// The answer of a report in this text, with status 1 if some finding is an error.
@@ -209,10 +177,10 @@ fn written(
     report: &Report,
     text: String,
 ) -> Result<AuditAnswer, AllocError>
-    requires { ArePlaced all.now report.now }
+    requires { ArePlaced all.now (reported_by report.now) }
     ensures text { IfOk result (λ answer. answer.text ≡ text) }
     ensures status { IfOk result
-        (λ answer. IsStatusOf options.entry all.now report.now answer.status) }
+        (λ answer. IsStatusOf options.entry all.now (reported_by report.now) answer.status) }
 {
     let status = status_of(alloc, options, all, report)?;
     Ok(AuditAnswer { text, status })
@@ -227,8 +195,8 @@ fn answer_picture(
     options: AuditOptions<'_>,
 ) -> Result<AuditAnswer, AllocError>
     requires sums { HasSums report.now }
-    requires placed { ArePlaced all.now report.now }
-    ensures { IfOk result (AnswersFormat Picture options.entry all.now report.now) }
+    requires placed { ArePlaced all.now (reported_by report.now) }
+    ensures { IfOk result (AnswersFormat Picture options.entry all.now (reported_by report.now)) }
 {
     if is_too_large(all, report) {
         let text = too_large_text(alloc, all, report)?;
@@ -247,7 +215,7 @@ fn answer_list(
 ) -> Result<AuditAnswer, AllocError>
     requires entries { AreEntries all.now report.now.submissions.items report.now.audits.items }
     requires few { length all.now ≤ 2 ^ 58 }
-    ensures { IfOk result (AnswersFormat Listed options.entry all.now report.now) }
+    ensures { IfOk result (AnswersFormat Listed options.entry all.now (reported_by report.now)) }
 {
     let text = listing_text(alloc, all, report)?;
     Ok(AuditAnswer { text, status: 0 })
@@ -265,34 +233,35 @@ fn answer_report(
     requires entries { AreEntries all.now report.now.submissions.items report.now.audits.items }
     requires few { length all.now ≤ 2 ^ 58 }
     requires within { All (IsWithin all.now) report.now.submissions.items }
-    requires placed { ArePlaced all.now report.now }
-    ensures { IfOk result (AnswersReport options.entry all.now report.now) }
+    requires placed { ArePlaced all.now (reported_by report.now) }
+    ensures { IfOk result (AnswersReport options.entry all.now (reported_by report.now)) }
 {
     match options.format {
-        AuditFormat::Text => {
+        AuditFormat::Text | AuditFormat::Json => {
             let text = report_text(alloc, all, report, settings, options)?;
             written(alloc, options, all, report, text)
-        }
-        AuditFormat::Json => {
-            let line = report_json(alloc, all, report, settings, options)?;
-            written(alloc, options, all, report, line)
         }
         AuditFormat::Picture => answer_picture(alloc, all, report, settings, options),
         AuditFormat::List => answer_list(alloc, all, report, options),
         AuditFormat::Keys => {
-            let text = keys_text(alloc, all, report, options)?;
+            let text = report_text(alloc, all, report, settings, options)?;
             Ok(AuditAnswer { text, status: 0 })
         }
     }
 }
 
-/// Why bytes are no recording.
-fn fault_text(alloc: Global, bytes: &[u8], fault: StreamFault) -> Result<String, AllocError>
+/// Why bytes are no recording, after so many entries of it.
+pub(crate) fn fault_text(
+    alloc: Global,
+    before: usize,
+    bytes: &[u8],
+    fault: StreamFault,
+) -> Result<String, AllocError>
     ensures { IfOk result (λ _. fault ≢ Memory) }
 {
     match fault {
         StreamFault::Length => {
-            let (entry, rest) = (bytes.len() / 64, bytes.len() % 64);
+            let (entry, rest) = (before as u128 + bytes.len() as u128 / 64, bytes.len() % 64);
             format!(in alloc;
                 "entry {entry}: error: the recording ends after {rest} of its 64 bytes\n"
             )
@@ -304,6 +273,7 @@ fn fault_text(alloc: Global, bytes: &[u8], fault: StreamFault) -> Result<String,
                 None => 0,
             };
             let there = all.len().saturating_sub(at).saturating_sub(1);
+            let at = before as u128 + at as u128;
             format!(in alloc;
                 "entry {at}: error: the recording ends after {there} of the {size} members of this batch: {STAGING_HINT}\n"
             )
@@ -327,7 +297,7 @@ pub(crate) fn audit_bytes(
             answer_report(alloc, all, &report, settings, options)
         }
         Err(fault) => {
-            let text = fault_text(alloc, bytes, fault)?;
+            let text = fault_text(alloc, 0, bytes, fault)?;
             Ok(AuditAnswer { text, status: 2 })
         }
     }

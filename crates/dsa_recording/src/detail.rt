@@ -4,6 +4,7 @@ ghost use Rattle.std.specs.Prelude.{◌≡◌, ◌↔◌, ◌<◌, List, length,
 ghost use Rattle.std.specs.List.{AllByRecursion};
 ghost use Rattle.dsa_audit.specs.declared.member.Member.{Member};
 ghost use Rattle.dsa_recording.specs.declared.findings.Place.TheVariants as Place;
+ghost use Rattle.dsa_recording.specs.Reports.{reported_by};
 ghost use Rattle.dsa_recording.specs.Details.{finding_at, is_in_record, named_by, overlap_of, shared_records, IsBehind, IsFlawAt, IsOfHead, IsOfMember, IsHeadCause, IsMemberCause, HasEntry, Describes, IsPlaced, IsDetail, IsRight};
 
 use crate::findings::{Finding, FindingKind, Flaw, Place};
@@ -348,8 +349,8 @@ fn described(
 
 /// A finding of a report on these entries, with all that can be said of its entry.
 pub fn detail_of(all: &[[u8; 64]], report: &Report, finding: Finding) -> Option<Detail>
-    ensures { MatchOption result (¬ IsPlaced all.now report.now finding)
-        (IsDetail all.now report.now finding) }
+    ensures { MatchOption result (¬ IsPlaced all.now (reported_by report.now) finding)
+        (IsDetail all.now (reported_by report.now) finding) }
 {
     let number = finding.submission;
     if number >= report.submissions.len() || number >= report.audits.len() {

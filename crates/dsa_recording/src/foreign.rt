@@ -77,3 +77,11 @@ pub(crate) fn find_foreign(alloc: Global, bytes: &[u8]) -> Result<Option<Foreign
         Err(StreamFault::Length | StreamFault::CutOff(_)) => Ok(None),
     }
 }
+
+/// That an entry cannot be a member of its batch.
+pub(crate) fn foreign_text(alloc: Global, foreign: Foreign) -> Result<String, AllocError> {
+    let Foreign { head, entry } = foreign;
+    format!(in alloc;
+        "entry {entry}: error: this cannot be a member of the batch at entry {head}: {STAGING_HINT}\n"
+    )
+}

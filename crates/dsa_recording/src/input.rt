@@ -7,7 +7,7 @@ ghost use Rattle.dsa_recording.specs.Forms.{IsText};
 ghost use Rattle.dsa_recording.specs.Inputs.{AnswersInput, IsInLines, IsRefused, OneRecording, SpellsRecording};
 
 use crate::answer::{AuditAnswer, AuditOptions, audit_bytes};
-use crate::foreign::{Foreign, STAGING_HINT, find_foreign};
+use crate::foreign::{find_foreign, foreign_text};
 use crate::forms::{begins_with_digits, form_of, is_text};
 use crate::places::{BytesFault, bytes_of_input};
 use dsa_lines::{Expected, TextFault, assemble_recording};
@@ -93,14 +93,6 @@ pub(crate) fn bytes_of_text_input(
         return bytes_of_digits(alloc, text);
     }
     bytes_of_lines(alloc, text)
-}
-
-/// That an entry cannot be a member of its batch.
-fn foreign_text(alloc: Global, foreign: Foreign) -> Result<String, AllocError> {
-    let Foreign { head, entry } = foreign;
-    format!(in alloc;
-        "entry {entry}: error: this cannot be a member of the batch at entry {head}: {STAGING_HINT}\n"
-    )
 }
 
 /// The report on entries, each batch with its members after it.

@@ -5,7 +5,7 @@ ghost use Rattle.dsa_recording.specs.declared.stream.Submission.{Submission};
 ghost use Rattle.dsa_recording.specs.declared.stream.StreamFault.{StreamFault};
 ghost use Rattle.dsa_recording.specs.declared.stream.StreamFault.TheVariants.{Memory};
 ghost use Rattle.dsa_recording.specs.Streams.{ReadsStream, IsStreamFault};
-ghost use Rattle.dsa_recording.specs.Reports.{IsReport};
+ghost use Rattle.dsa_recording.specs.Reports.{IsReport, reported_by};
 
 use crate::assumptions::Assumptions;
 use crate::findings::{Finding, findings_of};
@@ -33,7 +33,8 @@ pub fn audit_recording(
     bytes: &[u8],
     assumptions: Assumptions,
 ) -> Result<Report, StreamFault>
-    ensures answer { MatchResult result (IsReport assumptions bytes.now) (IsStreamFault bytes.now) }
+    ensures answer { MatchResult result
+        (λ r. IsReport assumptions bytes.now (reported_by r)) (IsStreamFault bytes.now) }
     ensures only { (list : List Submission) → ReadsStream bytes.now list →
         MatchResult result (λ r. r.submissions.items ≡ list) (λ fault. fault ≡ Memory) }
     ensures refused { (fault : StreamFault) → fault ≢ Memory → IsStreamFault bytes.now fault →

@@ -1,23 +1,19 @@
 //! A report on a recording as JSON.
 
-ghost use Rattle.std.specs.Prelude.{All};
-ghost use Rattle.dsa_recording.specs.Submissions.{IsWithin};
-ghost use Rattle.dsa_recording.specs.Totals.{HasSums};
-
-use crate::answer::{AuditOptions, completeness, is_complete, severity_in};
+use crate::answer::{AuditOptions, severity_in};
 use crate::assumptions::Assumptions;
-use crate::costs::{Costs, costs_of};
-use crate::detail::{Cause, Detail, detail_of, named_by};
+use crate::costs::Costs;
+use crate::detail::{Cause, Detail, named_by};
 use crate::entry_words::descriptor_text;
 use crate::findings::{Flaw, Place};
-use crate::freed::{Freed, await_name, freed_by};
+use crate::freed::{Freed, await_name};
 use crate::keys::key_text;
-use crate::report::Report;
-use crate::totals::{Totals, totals_of};
+use crate::sums::Sums;
+use crate::totals::Totals;
 use crate::words::Severity;
+use crate::written::Before;
 use dsa_audit::Unseen;
 use dsa_ranges::{Hazard, HazardKind};
-use dsa_settings::Settings;
 use serde_json::{Value, json};
 use std::alloc::{AllocError, Global};
 
@@ -166,41 +162,49 @@ fn entry_json(alloc: Global, number: usize, entry: &[u8; 64]) -> Result<Value, A
     json!(in alloc; {"entry": number, "offset": offset, "operation": operation})
 }
 
-/// Adds the object of the entry of this number, if there is one.
+/// Adds the object of the entry of this number, if there is one in those from number `from` on.
 fn push_entry(
     alloc: Global,
     entries: &mut Vec<Value>,
+    from: usize,
     all: &[[u8; 64]],
     number: usize,
 ) -> Result<(), AllocError> {
-    if let Some(entry) = all.get(number) {
+    if let Some(entry) = all.get(number.saturating_sub(from)) {
         entries.push(entry_json(alloc, number, entry)?)?;
     }
     Ok(())
 }
 
 /// The array of the entries that a finding is of: its own, and those of the members that it names.
-fn entries_json(alloc: Global, all: &[[u8; 64]], detail: &Detail) -> Result<Value, AllocError> {
+fn entries_json(
+    alloc: Global,
+    from: usize,
+    all: &[[u8; 64]],
+    detail: &Detail,
+) -> Result<Value, AllocError> {
     let mut entries = Vec::new(alloc);
-    push_entry(alloc, &mut entries, all, detail.entry)?;
+    push_entry(alloc, &mut entries, from, all, detail.entry)?;
     for member in named_by(detail.cause).as_slice() {
         let number = detail.first.saturating_add(*member);
         if number != detail.entry {
-            push_entry(alloc, &mut entries, all, number)?;
+            push_entry(alloc, &mut entries, from, all, number)?;
         }
     }
     Ok(Value::Array(entries))
 }
 
-/// The object of a finding.
-fn finding_json(
+/// The object of a finding of a part, which has these entries.
+pub(crate) fn finding_json(
     alloc: Global,
+    before: Before,
     all: &[[u8; 64]],
     detail: &Detail,
     complete: bool,
     options: AuditOptions<'_>,
 ) -> Result<Value, AllocError> {
-    let (entry, submission) = (detail.entry as u64, detail.submission as u64);
+    let shown = before.shown(detail);
+    let (entry, submission) = (shown.entry as u64, shown.submission as u64);
     let member = match (detail.place, detail.is_batch) {
         (Place::Member(member), true) => Value::from(member as u64),
         (Place::Member(_), false) | (Place::Head, true | false) => Value::Null,
@@ -208,7 +212,7 @@ fn finding_json(
     let severity = severity_name(severity_in(alloc, options, all, detail)?);
     let (key, entries) = (
         key_text(alloc, all, detail)?,
-        entries_json(alloc, all, detail)?,
+        entries_json(alloc, before.entries, all, &shown)?,
     );
     let what = cause_json(alloc, detail, complete)?;
     json!(in alloc; {
@@ -277,56 +281,27 @@ fn freed_json(alloc: Global, freed: &[Freed]) -> Result<Value, AllocError> {
     Ok(Value::Array(rows))
 }
 
-/// Writes the objects of all findings, one by one, since a value of all of them would take much memory.
-fn push_findings(
-    alloc: Global,
-    line: &mut String,
-    all: &[[u8; 64]],
-    report: &Report,
-    options: AuditOptions<'_>,
-) -> Result<(), AllocError> {
-    let complete = completeness(alloc, report)?;
-    let mut is_first = true;
-    for finding in &report.findings {
-        if let Some(detail) = detail_of(all, report, *finding) {
-            let known = is_complete(&complete, detail.submission);
-            let value = finding_json(alloc, all, &detail, known, options)?;
-            if !is_first {
-                line.push_str(",")?;
-            }
-            line.push_str(&value.to_string(alloc)?)?;
-            is_first = false;
-        }
-    }
-    Ok(())
-}
-
-/// The report as one line of JSON.
+/// The report as one line of JSON, of these findings.
 pub(crate) fn report_json(
     alloc: Global,
-    all: &[[u8; 64]],
-    report: &Report,
-    settings: &Settings,
-    options: AuditOptions<'_>,
-) -> Result<String, AllocError>
-    requires sums { HasSums report.now }
-    requires within { All (IsWithin all.now) report.now.submissions.items }
-{
+    findings: &str,
+    sums: &Sums,
+    assumptions: Assumptions,
+) -> Result<String, AllocError> {
     let mut line = String::from_str(alloc, "{\"assumptions\":")?;
-    let assumed = assumptions_json(alloc, options.assumptions)?;
+    let assumed = assumptions_json(alloc, assumptions)?;
     line.push_str(&assumed.to_string(alloc)?)?;
     line.push_str(",\"costs\":")?;
-    let costs = costs_json(alloc, &costs_of(settings, report))?;
+    let costs = costs_json(alloc, &sums.costs)?;
     line.push_str(&costs.to_string(alloc)?)?;
     line.push_str(",\"findings\":[")?;
-    push_findings(alloc, &mut line, all, report, options)?;
+    line.push_str(findings)?;
     line.push_str("],\"freed\":")?;
-    let freed = freed_by(alloc, all, report, options.assumptions)?;
-    line.push_str(&freed_json(alloc, &freed)?.to_string(alloc)?)?;
+    line.push_str(&freed_json(alloc, &sums.freed)?.to_string(alloc)?)?;
     line.push_str(",\"tool\":")?;
     line.push_str(&tool_json(alloc)?.to_string(alloc)?)?;
     line.push_str(",\"totals\":")?;
-    let totals = totals_json(alloc, &totals_of(report))?;
+    let totals = totals_json(alloc, &sums.totals)?;
     line.push_str(&totals.to_string(alloc)?)?;
     line.push_str("}\n")?;
     Ok(line)

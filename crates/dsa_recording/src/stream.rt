@@ -49,7 +49,7 @@ impl<T: Drop> From<AllocFailed<T>> for StreamFault {
 
 /// The submission that begins with the entry, where all of its members are there.
 #[tactic(auto, unfolding(crate::specs::Streams::submission_at))]
-fn submission_at(all: &[[u8; 64]], at: usize) -> Option<Submission>
+pub(crate) fn submission_at(all: &[[u8; 64]], at: usize) -> Option<Submission>
     requires { at < length all.now }
     ensures { MatchOption result (length all.now < end_of (submission_at all.now at))
         (λ s. (s ≡ submission_at all.now at) × (at < end_of s) × (end_of s ≤ length all.now)) }

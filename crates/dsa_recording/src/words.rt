@@ -1,6 +1,6 @@
 //! The words of what an audit finds.
 
-ghost use Rattle.std.specs.Prelude.{◌≡◌, ◌++◌, true, IfOk, OnOk, codes, slice_get, string_bytes};
+ghost use Rattle.std.specs.Prelude.{◌≡◌, ◌++◌, ◌-◌, ◌<◌, ◌^◌, Some, true, IfOk, OnOk, codes, slice_get, string_bytes};
 ghost use Rattle.dsa_recording.specs.declared.detail.Detail.{Detail};
 ghost use Rattle.dsa_recording.specs.declared.findings.Place.TheVariants as Place;
 ghost use Rattle.dsa_recording.specs.Details.{named_by};
@@ -368,6 +368,21 @@ fn finding_line(
     Ok(line)
 }
 
+/// Writes a line of the entry of this number.
+fn push_entry_line(
+    alloc: Global,
+    text: &mut String,
+    number: u128,
+    entry: &[u8; 64],
+) -> Result<(), AllocError>
+    requires { number < 2 ^ 65 }
+    ensures { OnOk result (string_bytes text.new ≡ string_bytes text.old ++
+        entry_line number (Some entry.now)) }
+{
+    let (first, words) = (number * 64, descriptor_text(alloc, entry)?);
+    text.push_str(&format!(in alloc; "  entry {number}, byte {first}: {words}\n")?)
+}
+
 /// Writes a line of the entry of this number, if there is one.
 pub fn push_entry(
     alloc: Global,
@@ -378,65 +393,85 @@ pub fn push_entry(
     ensures { OnOk result (string_bytes text.new ≡ string_bytes text.old ++
         entry_line number (slice_get all.now number)) }
 {
-    let Some(entry) = all.get(number) else {
+    match all.get(number) {
+        Some(entry) => push_entry_line(alloc, text, number as u128, entry),
+        None => Ok(()),
+    }
+}
+
+/// The same in the entries of a recording from number `from` on.
+fn push_entry_from(
+    alloc: Global,
+    text: &mut String,
+    from: usize,
+    all: &[[u8; 64]],
+    number: u128,
+) -> Result<(), AllocError>
+    requires { number < 2 ^ 65 }
+    ensures { OnOk result (string_bytes text.new ≡ string_bytes text.old ++
+        entry_line number (slice_get all.now (number - from))) }
+{
+    let Ok(index) = usize::try_from(number.saturating_sub(from as u128)) else {
         return Ok(());
     };
-    let (first, words) = (number as u128 * 64, descriptor_text(alloc, entry)?);
-    text.push_str(&format!(in alloc; "  entry {number}, byte {first}: {words}\n")?)
+    match all.get(index) {
+        Some(entry) => push_entry_line(alloc, text, number, entry),
+        None => Ok(()),
+    }
 }
 
 /// Writes a line of another member of the finding's submission.
 fn push_other(
     alloc: Global,
     text: &mut String,
+    from: usize,
     all: &[[u8; 64]],
     detail: &Detail,
     member: usize,
 ) -> Result<(), AllocError>
     ensures { OnOk result (string_bytes text.new ≡ string_bytes text.old ++
-        other_line all.now detail.now member) }
+        other_line from all.now detail.now member) }
 {
     let number = detail.first as u128 + member as u128;
     if number == detail.entry as u128 {
         return Ok(());
     }
-    match usize::try_from(number) {
-        Ok(number) => push_entry(alloc, text, all, number),
-        Err(_) => Ok(()),
-    }
+    push_entry_from(alloc, text, from, all, number)
 }
 
 /// Writes a line of each other member that the cause of a finding names.
 fn push_others(
     alloc: Global,
     text: &mut String,
+    from: usize,
     all: &[[u8; 64]],
     detail: &Detail,
 ) -> Result<(), AllocError>
     ensures { OnOk result (string_bytes text.new ≡ string_bytes text.old ++
-        other_lines all.now detail.now (named_by detail.now.cause)) }
+        other_lines from all.now detail.now (named_by detail.now.cause)) }
 {
     let members = named_by(detail.cause);
     for member in members.as_slice() {
-        push_other(alloc, text, all, detail, *member)?;
+        push_other(alloc, text, from, all, detail, *member)?;
     }
     Ok(())
 }
 
-/// The lines of a finding of this severity: where it is, what, and why; its entry, and those that it names. `complete`: no
-/// fence of its submission is missing.
+/// The lines of a finding of this severity, in the entries of a recording from number `from` on: where it is, what, and
+/// why; its entry, and those that it names. `complete`: no fence of its submission is missing.
 pub fn finding_text(
     alloc: Global,
+    from: usize,
     all: &[[u8; 64]],
     detail: &Detail,
     complete: bool,
     severity: Severity,
 ) -> Result<String, AllocError>
     ensures { IfOk result (λ s. string_bytes s ≡
-        finding_words severity complete all.now detail.now) }
+        finding_words severity complete from all.now detail.now) }
 {
     let mut text = finding_line(alloc, detail, complete, severity)?;
-    push_entry(alloc, &mut text, all, detail.entry)?;
-    push_others(alloc, &mut text, all, detail)?;
+    push_entry_from(alloc, &mut text, from, all, detail.entry as u128)?;
+    push_others(alloc, &mut text, from, all, detail)?;
     Ok(text)
 }

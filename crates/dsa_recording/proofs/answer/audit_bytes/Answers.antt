@@ -1,5 +1,6 @@
 use Rattle.std.proofs.Common.{arith, subst, sym}
 use Rattle.dsa_recording.specs.Answers.{ArePlaced}
+use Rattle.dsa_recording.specs.Reports.{reported_by}
 use Rattle.dsa_recording.proofs.Found.{report_placed}
 use Rattle.dsa_recording.proofs.ListingLines.{report_entries}
 use Rattle.dsa_recording.proofs.Status.{reported}
@@ -19,10 +20,10 @@ answer_report-requires-clause-within c =
 
 pub answer_report-requires-clause-placed : goal.answer_report-requires-clause-placed
 answer_report-requires-clause-placed c =
-    subst (λ es. ArePlaced es c.in-Ok.report) (sym c.as_chunks.ensures.front)
-    (report_placed c.args.options.assumptions c.args.bytes.now c.in-Ok.report c.in-Ok.ensures.answer)
+    subst (λ es. ArePlaced es (reported_by c.in-Ok.report)) (sym c.as_chunks.ensures.front)
+    (report_placed c.args.options.assumptions c.args.bytes.now (reported_by c.in-Ok.report) c.in-Ok.ensures.answer)
 
 pub returns-in-Ok : goal.returns-in-Ok
 returns-in-Ok c =
-    reported c.answer_report.result c.args.options c.args.bytes.now c.as_chunks.result.0.now c.in-Ok.report c.as_chunks.ensures.front
+    reported c.answer_report.result c.args.options c.args.bytes.now c.as_chunks.result.0.now (reported_by c.in-Ok.report) c.as_chunks.ensures.front
     c.in-Ok.ensures.answer c.answer_report.ensures

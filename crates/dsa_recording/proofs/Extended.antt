@@ -1,0 +1,308 @@
+-- What a recording comes to once another follows it.
+use Rattle.std.proofs.Common.{◌≡◌, ◌≢◌, ℕ, zero, suc, ◌+◌, ◌-◌, ◌%◌, ◌<◌, ◌≤◌, ◌↔◌, ◌⊎◌, inl, inr, Bool, true, false, List, [], ◌∷◌, ◌++◌, Option, Some, None, option_map, length, map, max, min, drop, slice_get, refl, sym, ap, subst, ◌∙◌, arith, length-append, append-nil, append_assoc}
+use Rattle.std.specs.Prelude.{if◌then◌else◌, ◌==◌, slice_index_or, Result, Ok, Err, IfOk}
+use Rattle.std.specs.List.{AllByRecursion}
+use Rattle.std.proofs.lemmas.List.{length-map, length-take, length-drop}
+use Rattle.std.proofs.lemmas.Option.{slice_get-map, slice_get_within}
+use Rattle.dsa_descriptor.specs.Lists.{entries}
+use Rattle.dsa_descriptor.specs.Places.{u32_at, code_at}
+use Rattle.dsa_audit.specs.declared.member.Member.{Member as KnownMember}
+use Rattle.dsa_recording.specs.declared.accepted.Accepted.{Accepted}
+use Rattle.dsa_recording.specs.declared.answer.AuditOptions.{AuditOptions}
+use Rattle.dsa_recording.specs.declared.assumptions.Assumptions.{Assumptions}
+use Rattle.dsa_recording.specs.declared.findings.Finding.{Finding}
+use Rattle.dsa_recording.specs.declared.stream.Submission.{Submission}
+use Rattle.dsa_recording.specs.declared.submission.Audited.{Audited}
+use Rattle.dsa_recording.specs.Answers.{AreNoErrors, IsNoError, IsStatusOf}
+use Rattle.dsa_recording.specs.Details.{HasEntry, IsIn, IsPlaced}
+use Rattle.dsa_recording.specs.Findings.{recording_findings}
+use Rattle.dsa_recording.specs.Parts.{HasStatus}
+use Rattle.dsa_recording.specs.Reports.{IsReport, Reported}
+use Rattle.dsa_recording.specs.Streams.{ReadsStream, ReadsUpTo, end_of, submission_at}
+use Rattle.dsa_recording.specs.Submissions.{AreAudited, IsAudited, IsWithin, head_at, members_in}
+use Rattle.dsa_recording.proofs.Found.{IsFrom, all_append, all_map, found_from, from_report}
+use Rattle.dsa_recording.proofs.Joined.{accepted_here, accepted_there, findings_joined, findings_renumbered, renumbered}
+use Rattle.dsa_recording.proofs.Middle.{audited_joined, audited_middle, entries_joined, get_middle, moved, reads_joined, reads_middle}
+use Rattle.dsa_recording.proofs.Within.{each_within}
+
+-- ---- what is known of each finding
+
+-- the head of a submission moves with it
+abbrev pub Moves : Submission → Type 0
+Moves s = (n : ℕ) → head_at (moved n s) ≡ n + head_at s
+
+moves_by : (b : Bool) (size at : ℕ) → Moves (if b then record { first = at + 1; size = size; is_batch = true } else record { first = at; size = 1; is_batch = false })
+moves_by true size at n = omega arith
+moves_by false size at n = refl
+
+moves_at : (es : List (List ℕ)) (from : ℕ) → Moves (submission_at es from)
+unfolding submission_at
+moves_at es from = moves_by (code_at (slice_index_or es from []) == 1) (u32_at 32 (slice_index_or es from [])) from
+
+pub all_move : (es : List (List ℕ)) (from to : ℕ) (ss : List Submission) → ReadsUpTo es from ss to → AllByRecursion Moves ss
+all_move es from to [] r = tt
+all_move es from to (s ∷ ss) (lt, is, le, rest) = (subst Moves (sym is) (moves_at es from), all_move es (end_of s) to ss rest)
+
+pub all_at : {X : Type 0} (P : X → Type 0) (xs : List X) (i : ℕ) (x : X) → AllByRecursion P xs → slice_get xs i ≡ Some x → P x
+all_at P [] i x all e = let no : None ≡ Some x = e in absurd cc
+all_at P (y ∷ xs) zero x (here, all) e = let same : y ≡ x = cc in subst P same here
+all_at P (y ∷ xs) (suc i) x (here, all) e = all_at P xs i x all e
+
+-- the finding is of an entry of a submission that can be moved
+record IsHeld (es : List (List ℕ)) (r : Reported) (f : Finding) : Type 0 where
+  pub s : Submission
+  pub ms : List KnownMember
+  pub is_in : IsIn r f s ms
+  pub has : HasEntry es s ms f
+  pub room : s.first + length ms ≤ length es
+  pub moves : Moves s
+
+held_from : (assumed : Assumptions) (es : List (List ℕ)) (r : Reported) → AllByRecursion Moves r.submissions
+    → (f : Finding) → IsFrom assumed es 0 r.submissions r.audits f → IsHeld es r f
+unfolding from_report
+held_from assumed es r move f from =
+    let s : Submission = from.submission in
+    let a : Audited = from.audited in
+    let placed : IsPlaced es r f = from_report assumed es r f from in
+    let count : length a.operands.items ≡ length (members_in es s) = from.is_audited.operands.count in
+    let size : length (members_in es s) ≡ min (end_of s - s.first) (length (drop s.first es)) = length-take (end_of s - s.first) (drop s.first es) in
+    let ends : end_of s ≤ length es = from.is_within.members in
+    let all_of_it : end_of s ≡ s.first + s.size = refl in
+    record {
+      s = placed.0;
+      ms = placed.1;
+      is_in = placed.2;
+      has = placed.3;
+      room = omega (arith, count, size, ends, all_of_it);
+      moves = all_at Moves r.submissions from.at s move from.submission_is;
+    }
+
+all_held : (assumed : Assumptions) (bytes : List ℕ) (r : Reported) → IsReport assumed bytes r → AllByRecursion (IsHeld (entries bytes) r) r.findings
+all_held assumed bytes r is =
+    let es : List (List ℕ) = entries bytes in
+    let within = each_within es 0 (length es) r.submissions is.submissions.all in
+    let move = all_move es 0 (length es) r.submissions is.submissions.all in
+    let all = found_from assumed es 0 r.submissions r.audits within is.audits in
+    subst (λ (fs : List Finding). AllByRecursion (IsHeld es r) fs) (sym is.findings)
+    (all_map (IsFrom assumed es 0 r.submissions r.audits) (IsHeld es r) (recording_findings 0 r.audits) (held_from assumed es r move) all)
+
+-- ---- errors of a report within a longer one
+
+-- the submissions and audits of a report are in another, after so many others
+record IsPart (n : ℕ) (k : ℕ) (r other : Reported) : Type 0 where
+  pub before : List Submission
+  pub behind : List Submission
+  pub audited_before : List Audited
+  pub audited_behind : List Audited
+  pub submissions : other.submissions ≡ before ++ (map (moved n) r.submissions ++ behind)
+  pub audits : other.audits ≡ audited_before ++ (r.audits ++ audited_behind)
+  pub count : length before ≡ k
+  pub audited_count : length audited_before ≡ k
+
+in_other : (n k : ℕ) (r other : Reported) (f : Finding) (s : Submission) (ms : List KnownMember) → IsPart n k r other → IsIn r f s ms
+    → IsIn other (renumbered k f) (moved n s) ms
+in_other n k r other f s ms part is =
+    let there : f.submission < length r.submissions = slice_get_within r.submissions f.submission s is.submission in
+    let lt : f.submission < length (map (moved n) r.submissions) = omega (arith, there, length-map r.submissions (moved n)) in
+    let lt' : f.submission < length r.audits = slice_get_within r.audits f.submission is.audited is.audited_is in
+    let one : slice_get other.submissions (k + f.submission) ≡ Some (moved n s) =
+    ap (λ (l : List Submission). slice_get l (k + f.submission)) part.submissions
+    ∙ (ap (λ (i : ℕ). slice_get (part.before ++ (map (moved n) r.submissions ++ part.behind)) (i + f.submission)) (sym part.count)
+    ∙ (get_middle part.before (map (moved n) r.submissions) part.behind f.submission lt
+    ∙ (slice_get-map (moved n) r.submissions f.submission ∙ ap (option_map (moved n)) is.submission))) in
+    let two : slice_get other.audits (k + f.submission) ≡ Some is.audited =
+    ap (λ (l : List Audited). slice_get l (k + f.submission)) part.audits
+    ∙ (ap (λ (i : ℕ). slice_get (part.audited_before ++ (r.audits ++ part.audited_behind)) (i + f.submission)) (sym part.audited_count)
+    ∙ (get_middle part.audited_before r.audits part.audited_behind f.submission lt' ∙ is.audited_is)) in
+    record { submission = one; audited = is.audited; audited_is = two; members = is.members }
+
+module _ (options : AuditOptions) (pre es post : List (List ℕ)) (k : ℕ) (r other : Reported) (part : IsPart (length pre) k r other) where
+  error_there : (f : Finding) → IsHeld es r f → IsNoError options es r f → IsNoError options (pre ++ (es ++ post)) other (renumbered k f)
+  error_there f held (inl harmless) = inl harmless
+  error_there f held (inr accepted) =
+      inr (accepted_there pre es post options.accepted.now r other k f held.s held.ms held.is_in (in_other (length pre) k r other f held.s held.ms part held.is_in) held.has held.room (held.moves (length pre)) accepted)
+
+  error_here : (f : Finding) → IsHeld es r f → IsNoError options (pre ++ (es ++ post)) other (renumbered k f) → IsNoError options es r f
+  error_here f held (inl harmless) = inl harmless
+  error_here f held (inr accepted) =
+      inr (accepted_here pre es post options.accepted.now r other k f held.s held.ms held.is_in (in_other (length pre) k r other f held.s held.ms part held.is_in) held.has held.room (held.moves (length pre)) accepted)
+
+  errors_there : (fs : List Finding) → AllByRecursion (IsHeld es r) fs → AllByRecursion (IsNoError options es r) fs
+      → AllByRecursion (IsNoError options (pre ++ (es ++ post)) other) (map (renumbered k) fs)
+  errors_there [] held all = tt
+  errors_there (f ∷ fs) (h, held) (here, all) = (error_there f h here, errors_there fs held all)
+
+  errors_here : (fs : List Finding) → AllByRecursion (IsHeld es r) fs → AllByRecursion (IsNoError options (pre ++ (es ++ post)) other) (map (renumbered k) fs)
+      → AllByRecursion (IsNoError options es r) fs
+  errors_here [] held all = tt
+  errors_here (f ∷ fs) (h, held) (here, all) = (error_here f h here, errors_here fs held all)
+
+-- ---- two recordings
+
+-- nothing moves after nothing
+map_moved : (ss : List Submission) → map (moved 0) ss ≡ ss
+map_moved [] = refl
+map_moved (s ∷ ss) =
+    let same : 0 + s.first ≡ s.first = omega arith in
+    ap (λ (k : ℕ). record { first = k; size = s.size; is_batch = s.is_batch } ∷ map (moved 0) ss) same ∙ ap (λ (l : List Submission). s ∷ l) (map_moved ss)
+
+map_renumbered : (fs : List Finding) → map (renumbered 0) fs ≡ fs
+map_renumbered [] = refl
+map_renumbered (f ∷ fs) =
+    let same : 0 + f.submission ≡ f.submission = omega arith in
+    ap (λ (k : ℕ). record { submission = k; place = f.place; kind = f.kind } ∷ map (renumbered 0) fs) same ∙ ap (λ (l : List Finding). f ∷ l) (map_renumbered fs)
+
+same_count : (assumed : Assumptions) (es : List (List ℕ)) (ss : List Submission) (audits : List Audited) → AreAudited assumed es ss audits → length ss ≡ length audits
+same_count assumed es [] [] all = refl
+same_count assumed es (s ∷ ss) (a ∷ audits) (first, all) = ap suc (same_count assumed es ss audits all)
+same_count assumed es [] (a ∷ audits) all = absurd all
+same_count assumed es (s ∷ ss) [] all = absurd all
+
+pub reads_first : (es more : List (List ℕ)) (to : ℕ) (ss : List Submission) → ReadsUpTo es 0 ss to → ReadsUpTo (es ++ more) 0 ss to
+reads_first es more to ss reads =
+    let there : ReadsUpTo (es ++ more) 0 (map (moved 0) ss) (0 + to) = reads_middle [] es more 0 to ss reads in
+    let same : 0 + to ≡ to = omega arith in
+    subst (λ (k : ℕ). ReadsUpTo (es ++ more) 0 ss k) same (subst (λ (l : List Submission). ReadsUpTo (es ++ more) 0 l (0 + to)) (map_moved ss) there)
+
+pub reads_second : (before es : List (List ℕ)) (to : ℕ) (ss : List Submission) → ReadsUpTo es 0 ss to
+    → ReadsUpTo (before ++ es) (length before) (map (moved (length before)) ss) (length before + to)
+reads_second before es to ss reads =
+    let there : ReadsUpTo (before ++ (es ++ [])) (length before + 0) (map (moved (length before)) ss) (length before + to) = reads_middle before es [] 0 to ss reads in
+    let same : length before + 0 ≡ length before = omega arith in
+    subst (λ (k : ℕ). ReadsUpTo (before ++ es) k (map (moved (length before)) ss) (length before + to)) same
+    (subst (λ (l : List (List ℕ)). ReadsUpTo (before ++ l) (length before + 0) (map (moved (length before)) ss) (length before + to)) (append-nil es) there)
+
+-- the submissions of one recording after those of another
+pub stream_joined : (a b : List ℕ) (ss ts : List Submission) → ReadsStream a ss → ReadsStream b ts → ReadsStream (a ++ b) (ss ++ map (moved (length (entries a))) ts)
+stream_joined a b ss ts first second =
+    let es : List (List ℕ) = entries a in
+    let fs : List (List ℕ) = entries b in
+    let long : length (a ++ b) ≡ length a + length b = length-append a b in
+    let more : List Submission = map (moved (length es)) ts in
+    let both : ReadsUpTo (es ++ fs) 0 (ss ++ more) (length es + length fs) =
+    reads_joined (es ++ fs) 0 (length es) (length es + length fs) ss more (reads_first es fs (length es) ss first.all) (reads_second es fs (length fs) ts second.all) in
+    let ended : ReadsUpTo (es ++ fs) 0 (ss ++ more) (length (es ++ fs)) = subst (ReadsUpTo (es ++ fs) 0 (ss ++ more)) (sym (length-append es fs)) both in
+    record {
+      whole = omega (arith, long, first.whole, second.whole);
+      all = subst (λ (l : List (List ℕ)). ReadsUpTo l 0 (ss ++ more) (length l)) (sym (entries_joined a b first.whole)) ended;
+    }
+
+-- the report on one recording after that on another
+abbrev both_reports : ℕ → Reported → Reported → Reported
+both_reports n r q = record {
+  submissions = r.submissions ++ map (moved n) q.submissions;
+  audits = r.audits ++ q.audits;
+  findings = recording_findings 0 (r.audits ++ q.audits);
+}
+
+report_joined : (assumed : Assumptions) (a b : List ℕ) (r q : Reported) → IsReport assumed a r → IsReport assumed b q
+    → IsReport assumed (a ++ b) (both_reports (length (entries a)) r q)
+report_joined assumed a b r q first second =
+    let es : List (List ℕ) = entries a in
+    let fs : List (List ℕ) = entries b in
+    let more : List Submission = map (moved (length es)) q.submissions in
+    let one : AreAudited assumed (es ++ fs) r.submissions r.audits =
+    subst (λ (l : List Submission). AreAudited assumed (es ++ fs) l r.audits) (map_moved r.submissions)
+    (audited_middle assumed [] es fs 0 (length es) r.submissions r.audits first.submissions.all first.audits) in
+    let two : AreAudited assumed (es ++ fs) more q.audits =
+    subst (λ (l : List (List ℕ)). AreAudited assumed (es ++ l) more q.audits) (append-nil fs)
+    (audited_middle assumed es fs [] 0 (length fs) q.submissions q.audits second.submissions.all second.audits) in
+    record {
+      submissions = stream_joined a b r.submissions q.submissions first.submissions second.submissions;
+      audits =
+          subst (λ (l : List (List ℕ)). AreAudited assumed l (r.submissions ++ more) (r.audits ++ q.audits)) (sym (entries_joined a b first.submissions.whole))
+          (audited_joined assumed (es ++ fs) r.submissions more r.audits q.audits one two);
+      findings = refl;
+    }
+
+all_split : {X : Type 0} (P : X → Type 0) (xs ys : List X) → AllByRecursion P (xs ++ ys) → AllByRecursion P xs × AllByRecursion P ys
+all_split P [] ys all = (tt, all)
+all_split P (x ∷ xs) ys (here, all) =
+    let rest = all_split P xs ys all in
+    ((here, rest.0), rest.1)
+
+module _ (options : AuditOptions) (a b : List ℕ) (r q : Reported) (first : IsReport options.assumptions a r) (second : IsReport options.assumptions b q) where
+  whole : Reported
+  whole = both_reports (length (entries a)) r q
+
+  first_part : IsPart 0 0 r whole
+  unfolding whole
+  first_part = record {
+    before = [];
+    behind = map (moved (length (entries a))) q.submissions;
+    audited_before = [];
+    audited_behind = q.audits;
+    submissions = ap (λ (l : List Submission). l ++ map (moved (length (entries a))) q.submissions) (sym (map_moved r.submissions));
+    audits = refl;
+    count = refl;
+    audited_count = refl;
+  }
+
+  second_part : IsPart (length (entries a)) (length r.audits) q whole
+  unfolding whole
+  second_part = record {
+    before = r.submissions;
+    behind = [];
+    audited_before = r.audits;
+    audited_behind = [];
+    submissions = ap (λ (l : List Submission). r.submissions ++ l) (sym (append-nil (map (moved (length (entries a))) q.submissions)));
+    audits = ap (λ (l : List Audited). r.audits ++ l) (sym (append-nil q.audits));
+    count = same_count options.assumptions (entries a) r.submissions r.audits first.audits;
+    audited_count = refl;
+  }
+
+  findings_are : whole.findings ≡ r.findings ++ map (renumbered (length r.audits)) q.findings
+  unfolding whole
+  findings_are =
+      findings_joined 0 r.audits q.audits
+      ∙ (ap (λ (fs : List Finding). fs ++ recording_findings (length r.audits + 0) q.audits) (sym first.findings)
+      ∙ ap (λ (fs : List Finding). r.findings ++ fs) (findings_renumbered (length r.audits) 0 q.audits ∙ ap (map (renumbered (length r.audits))) (sym second.findings)))
+
+  errors_joined : AreNoErrors options (entries a) r → AreNoErrors options (entries b) q → AreNoErrors options (entries (a ++ b)) whole
+  errors_joined one two =
+      let es : List (List ℕ) = entries a in
+      let fs : List (List ℕ) = entries b in
+      let left : AllByRecursion (IsNoError options (es ++ fs) whole) r.findings =
+      subst (AllByRecursion (IsNoError options (es ++ fs) whole)) (map_renumbered r.findings)
+      (errors_there options [] es fs 0 r whole first_part r.findings (all_held options.assumptions a r first) one) in
+      let right : AllByRecursion (IsNoError options (es ++ fs) whole) (map (renumbered (length r.audits)) q.findings) =
+      subst (λ (l : List (List ℕ)). AllByRecursion (IsNoError options (es ++ l) whole) (map (renumbered (length r.audits)) q.findings)) (append-nil fs)
+      (errors_there options es fs [] (length r.audits) q whole second_part q.findings (all_held options.assumptions b q second) two) in
+      subst (λ (l : List (List ℕ)). AreNoErrors options l whole) (sym (entries_joined a b first.submissions.whole))
+      (subst (AllByRecursion (IsNoError options (es ++ fs) whole)) (sym findings_are) (all_append (IsNoError options (es ++ fs) whole) r.findings (map (renumbered (length r.audits)) q.findings) left right))
+
+  errors_apart : AreNoErrors options (entries (a ++ b)) whole → AreNoErrors options (entries a) r × AreNoErrors options (entries b) q
+  errors_apart all =
+      let es : List (List ℕ) = entries a in
+      let fs : List (List ℕ) = entries b in
+      let there : AllByRecursion (IsNoError options (es ++ fs) whole) (r.findings ++ map (renumbered (length r.audits)) q.findings) =
+      subst (AllByRecursion (IsNoError options (es ++ fs) whole)) findings_are
+      (subst (λ (l : List (List ℕ)). AreNoErrors options l whole) (entries_joined a b first.submissions.whole) all) in
+      let two = all_split (IsNoError options (es ++ fs) whole) r.findings (map (renumbered (length r.audits)) q.findings) there in (
+        errors_here options [] es fs 0 r whole first_part r.findings (all_held options.assumptions a r first)
+            (subst (AllByRecursion (IsNoError options (es ++ fs) whole)) (sym (map_renumbered r.findings)) two.0),
+        errors_here options es fs [] (length r.audits) q whole second_part q.findings (all_held options.assumptions b q second)
+            (subst (λ (l : List (List ℕ)). AllByRecursion (IsNoError options (es ++ l) whole) (map (renumbered (length r.audits)) q.findings)) (sym (append-nil fs)) two.1),
+      )
+
+  status_of_both : (s t : ℕ) → IsStatusOf options (entries a) r s → IsStatusOf options (entries b) q t → IsStatusOf options (entries (a ++ b)) whole (max s t)
+  status_of_both s t (inl (e, none)) (inl (f, none')) = inl (omega (arith, e, f), errors_joined none none')
+  status_of_both s t (inl (e, none)) (inr (f, some)) = inr (omega (arith, e, f), λ all. some (errors_apart all).1)
+  status_of_both s t (inr (e, some)) (inl (f, none)) = inr (omega (arith, e, f), λ all. some (errors_apart all).0)
+  status_of_both s t (inr (e, some)) (inr (f, some')) = inr (omega (arith, e, f), λ all. some (errors_apart all).0)
+
+-- the status of one recording after another is the greater one
+pub status_joined : (options : AuditOptions) (a b : List ℕ) (s t : ℕ) → HasStatus options a s → HasStatus options b t → HasStatus options (a ++ b) (max s t)
+unfolding whole
+status_joined options a b s t first second = record {
+  report = whole options a b first.report second.report first.is_report second.is_report;
+  is_report = report_joined options.assumptions a b first.report second.report first.is_report second.is_report;
+  is_status = status_of_both options a b first.report second.report first.is_report second.is_report s t first.is_status second.is_status;
+}
+
+pub status_of_nothing : (options : AuditOptions) → HasStatus options [] 0
+status_of_nothing options = record {
+  report = record { submissions = []; audits = []; findings = [] };
+  is_report = record { submissions = record { whole = refl; all = refl }; audits = tt; findings = refl };
+  is_status = inl (refl, tt);
+}

@@ -1,0 +1,89 @@
+"""Texts that a person types: with mistakes, each of which dsa_text names, and of a list that stopped, of which `resume`
+says what is left. What is expected is typed by hand."""
+import random
+import subprocess
+import tempfile
+from pathlib import Path
+
+from common import expect
+
+PAIR = "move 1 -> 2, 3 bytes, record 32"
+WRONG = [
+    ("move 1", "column 7: expected ->, found the end of the line", "90 Line"),
+    ("MOVE 1 -> 2", "column 1: expected move, fill, compare, delta or dualcast, found 'MOVE'", "90 Line"),
+    ("move 1 -> 2, 0 bytes, record 32", "operation {}: the transfer size is 0", "5 SizeZero {}"),
+    ("move 1 -> 2, 3 bytes, record 33", "column 30, operation {}: ", "7 RecordAlign {}"),
+    (f"{PAIR}, pasid 1", "column 40, operation {}: ", "12 MixedPasid {}"),
+]
+
+
+def mistakes(text):
+    """Texts with some wrong lines. Each is named, up to 20 and in their order, and then how many there are."""
+    for seed in range(60):
+        choose = random.Random(seed)
+        lines, found, operations = [PAIR], [], 1
+        for number in range(2, choose.choice((4, 8, 60))):
+            line, begin, name = choose.choice([*WRONG, (PAIR, None, None), ("# none", None, None)])
+            lines.append(line)
+            if begin:
+                found.append((number, begin.format(operations), name.format(operations)))
+            operations += line.startswith("move 1 ")
+        ran = subprocess.run([text, "assemble"], input="\n".join(lines).encode(), capture_output=True)
+        said = ran.stderr.decode().splitlines()
+        is_grammar = any(name == "90 Line" for _, _, name in found)
+        first = next((it for it in found if it[2] == "90 Line" or not is_grammar), None)
+        others = [it for it in found if it != first][:19]
+        named_lines = sorted([*others, first]) if first else []
+        wanted = [(f"error: line {number}, {begin}", f" [{name}]") for number, begin, name in named_lines]
+        if len(found) > 1:
+            left = f", and {len(found) - len(named_lines)} of them are not named" * (len(found) > 20)
+            wanted.append((f"error: {len(found)} lines are wrong{left}", " [90 Line]" * is_grammar))
+        pairs = zip(said, wanted)
+        is_right = len(said) == len(wanted) and all(it.startswith(a) and it.endswith(b) for it, (a, b) in pairs)
+        expect(is_right and ran.returncode == int(bool(found)), f"{lines}: {said}, not {wanted}")
+
+
+def resumed(text):
+    """What is left of a list by completion records, typed by hand: operations that are split, both orders, records in
+    each form and of another length, barriers, and a file of records that is not there."""
+    fill = "fill 0x300000 with 0102030405060708, 64 bytes, record 0x8060\n"
+    lines = "move 0x100000 -> 0x200000, 10000 bytes, record 0x8000\n" + fill
+    first = "move 0x100000 -> 0x200000, 4096 bytes, record 0x8000\n"
+    second = "move 0x101000 -> 0x201000, 4096 bytes, record 0x8020\n"
+    third = "move 0x102000 -> 0x202000, 1808 bytes, record 0x8040\n"
+    short = ["--greatest-transfer", "4096"]
+    with tempfile.TemporaryDirectory() as folder:
+        kinds = {"some": (1, 0, 3, 2), "none": (0, 0, 0, 0), "all": (1, 1, 1, 1), "late": (1, 0, 0, 0x84)}
+        for name, statuses in kinds.items():
+            records = b"".join(bytes([status]).ljust(32, b"\xa5") for status in statuses)
+            Path(folder, name).write_bytes(records)
+            Path(folder, f"{name}.hex").write_text(records.hex() + "\n")
+        Path(folder, "odd").write_bytes(b"\1" * 127)
+        for name, more, wanted in (
+            ("some", [], second + third),
+            ("some.hex", [], second + third),
+            ("some.hex", ["--failed-first"], third + second),
+            ("none", [], first + second + third + fill),
+            ("none", ["--failed-first"], first + second + third + fill),
+            ("all.hex", [], ""),
+            ("late", [], second + third + fill),
+            ("late.hex", ["--failed-first"], fill + second + third),
+        ):
+            words = ["resume", *short, *more, "--records", f"{folder}/{name}"]
+            ran = subprocess.run([text, *words], input=lines, capture_output=True, text=True)
+            got = (ran.returncode, ran.stdout, ran.stderr)
+            expect(got == (0, wanted, ""), f"{words}: wanted {wanted!r}, got {got}")
+        records = "there are not 32 bytes of completion records for each piece"
+        fenced = "operation 1: a flag is set that may not be, or missing that has to be; check result is for compares"
+        for words, given, status, error in (
+            ([*short, "--records", f"{folder}/odd"], lines, 1, f"error: {records} [112 Records]\n"),
+            (["--records", f"{folder}/some"], lines, 1, f"error: {records} [112 Records]\n"),
+            ([*short, "--records", f"{folder}/some"], "mov 1", 1, "[90 Line]\n"),
+            ([*short, "--records", f"{folder}/some"], f"{first}barrier\n{fill}", 1, f"{fenced} alone [3 FlagBits 1]\n"),
+            (["--greatest-transfer", "7", "--records", f"{folder}/some"], lines, 1, "[83 Settings]\n"),
+            (["--records", f"{folder}/no"], lines, 2, f"{folder}/no can't be opened: there is no such file\n"),
+            ([], lines, 2, "For more information, try '--help'.\n"),
+        ):
+            ran = subprocess.run([text, "resume", *words], input=given, capture_output=True, text=True)
+            right = (ran.returncode, ran.stdout) == (status, "") and ran.stderr.endswith(error)
+            expect(right, f"resume {words}: status {ran.returncode}, {ran.stdout!r}, {ran.stderr!r}")

@@ -1,6 +1,7 @@
 //! Reads a job on each line of standard input, and writes a line for each to standard output.
 #![tactic(auto)]
 
+pub mod laws;
 mod line;
 mod serving;
 

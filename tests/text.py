@@ -529,9 +529,28 @@ move 0x5000 -> 0x6000, 64 bytes, record 0x80a0 # b\x00\x1b\x7fc and a name that 
     common.expect(">move 1/2<" in written("explain --svg", job), "a job has names from comments")
 
 
+def mixed(chance, count):
+    """A text of all operations at few addresses, of which some share a record, with barriers, comments and buffers."""
+    place, lines = lambda: 0x1000 + 64 * chance.randrange(40), ["# 0x1000: first", "# 5120: second"]
+    for k in range(count):
+        first, second, size = place(), place(), chance.choice((8, 64, 128, 2048))
+        operation = chance.choice((
+            f"move {first} -> {second}, {size} bytes",
+            f"fill {first} with 0102030405060708, {size} bytes",
+            f"compare {first} with {second}, {size} bytes, expect 0",
+            f"compare {first} with pattern 0102030405060708, {size} bytes, expect 1",
+            f"delta {first + 0x100000}, 80 bytes -> {second}, 64 bytes",
+            f"dualcast {first + 0x100000} -> {second} and {second + 0x200000}, {size} bytes",
+        ))
+        record = 0x400000 + 32 * (chance.randrange(k + 1) if chance.random() < 0.2 else k)
+        lines += ["barrier"] * (chance.random() < 0.1)
+        lines.append(f"{operation}, record {record}" + f" # the {'x' * (k % 14)} {'y ' * (k % 5)}" * (k % 3 > 0))
+    return "\n".join(lines)
+
+
 def pictures():
     """Pictures of plans, judged by the words of the same plan and the text: those of the golden files and of the
-    examples, and those of lists of up to 1,024 pieces that conflict here and there."""
+    examples, those of lists of up to 1,024 pieces that conflict here and there, and those of all operations."""
     asked = []
     for path in sorted(Path("tests/text").glob("*.golden")):
         for case in golden.cases(path):
@@ -547,6 +566,11 @@ def pictures():
         lines = (f"move {a} -> {b + (a == b) * 64}, 64 bytes, record {0x1000_0000 + 32 * k}" for k, (a, b) in enumerate(places))
         words = ["explain", "--svg", "--greatest-batch", "1024", "--staging", "0x70000000"]
         asked.append((f"{count} moves", words, "\n".join(lines).encode(), None))
+    for seed in range(120):
+        chance = random.Random(seed)
+        words = ["explain", "--svg", "--staging", "0x70000000", "--lone", str(seed % 2 * 10)]
+        words += ["--greatest-batch", str((2, 4, 32)[seed % 3]), "--greatest-transfer", ("64", "2M")[seed % 2]]
+        asked.append((f"seed {seed}", words, mixed(chance, 1 + seed % 40).encode(), None))
     # plans of one's own, of which the first costs more than the least
     moves = [(0x1000, 0x2000), (0x3000, 0x4000)]
     for plan, costs in [

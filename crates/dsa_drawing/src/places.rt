@@ -21,6 +21,9 @@ pub(crate) const MOST_TURNED: usize = 24;
 /// The longest name of a column in which operations are folded.
 const FOLDED: &str = "65536 in 1024 groups";
 
+/// How wide a column is if there are few.
+const WIDEST: usize = 80;
+
 /// How wide all columns are together, if none is too wide or too narrow.
 const COLUMNS: usize = 740;
 
@@ -62,7 +65,7 @@ impl Places {
 
 /// How wide each of so many columns is.
 fn width_of(columns: usize) -> usize {
-    (COLUMNS / columns.max(1)).clamp(30, 80)
+    (COLUMNS / columns.max(1)).clamp(30, WIDEST)
 }
 
 /// Where each column begins: there is a gap between groups.
@@ -179,7 +182,7 @@ pub(crate) fn places_of(
     grid: &Grid,
 ) -> Result<Places, AllocError> {
     let width = width_of(slots.len());
-    let gap: usize = if is_narrow(width) { 3 } else { 8 };
+    let gap: usize = if width < WIDEST { 3 } else { 8 };
     let lefts = lefts_of(alloc, slots, width, gap)?;
     let right = lefts.last().copied().unwrap_or(LEFT).saturating_add(width);
     let names = heads_height(slots, width);

@@ -1,12 +1,14 @@
 """Runs `dsa_text audit` on recordings. Random ones, which a seed makes, are judged by brute force: every set of fences of
 each batch is tried, addresses are sets of bytes, and nothing is shared with the program. Pictures of them have what a
 model takes from their reports. Recordings of what the planner submits have no finding, and lack a fence where one is left
-out. Recordings as lists to plan. Every operation code, recordings that end early, and how long large recordings take. The
-words are names of parts; a number is how many random recordings are judged, 200 without one."""
+out. Recordings that are read in parts, and how much memory that takes. Recordings as lists to plan.
+Every operation code, recordings that end early, and how long large recordings take. The words are
+names of parts; a number is how many random recordings are judged, 200 without one."""
 
 import itertools
 import json
 import random
+import resource
 import shutil
 import struct
 import subprocess
@@ -22,6 +24,8 @@ from model import COMPARE, DELTA, DUALCAST, FILL, MOVE, PATTERN, Op
 COUNT = 400
 WRAP = 1 << 64
 GREATEST_BATCH = 6
+# Less than a large recording has.
+MOST_MEMORY = 48 << 20
 KINDS = ("unseen", "missing", "needless", "guarding", "signalling")
 # What is wrong beside fences.
 REPEATED = "repeated operation"
@@ -1088,6 +1092,70 @@ def ends():
         common.expect(got == (2, b"", reason), f"{len(recording)} bytes: {got}")
 
 
+def answer_of(recording, words):
+    """The whole answer: the status, and what is written to both outputs."""
+    ran = subprocess.run([TEXT, "audit", *words.split()], input=recording, capture_output=True)
+    return ran.returncode, ran.stdout, ran.stderr
+
+
+def moves_apart(count, is_fenced=lambda k: False):
+    """A batch of so many moves, of which no two conflict."""
+    ways = [(0x1000000 + 64 * k, 0x9000000 + 64 * k, 0x20000000 + 32 * k) for k in range(count)]
+    made = [move(first, second, record_at=at) for first, second, at in ways]
+    return batch(*[it.bytes(is_fenced(k)) for k, it in enumerate(made)])
+
+
+def faulty_ones(recording, large):
+    """Recordings that begin with this one, and why each is none."""
+    count, hint = len(recording) // 64, "if members are not recorded, give a dump of them with --staging"
+    one, another = move(0x1000, 0x2000).bytes(), entry(MOVE, owner=7, size=64)
+    foreign = recording + batch(one, another, one)
+    lost = f"cannot be a member of the batch at entry {count}: {hint}"
+    yield recording + bytes(3), f"entry {count}", "the recording ends after 3 of its 64 bytes"
+    yield recording + large[:-64], f"entry {count}", (
+        f"the recording ends after 39999 of the 40000 members of this batch: {hint}"
+    )
+    yield foreign + recording, f"entry {count + 2}", f"this {lost}"
+    last = f"entry {2 * count + 4}"
+    yield foreign + recording + bytes(1), last, "the recording ends after 1 of its 64 bytes"
+
+
+def in_parts():
+    """Recordings of bytes are read in parts of 1 MiB, texts as a whole: each has one answer, in each
+    form. Batches that go over the end of a part, one that has more members than a part, entries that
+    cannot be members, and recordings that end early, all after the first part."""
+    small, large = [Maker(seed).recording() for seed in range(200)], moves_apart(40_000, lambda k: k % 9 == 0)
+    for seed in range(6):
+        chosen, pieces = random.Random(seed), []
+        while sum(map(len, pieces)) < 2_600_000:
+            pieces.append(chosen.choice(small))
+        if seed % 3 == 0:
+            pieces.insert(chosen.randrange(len(pieces)), large)
+        recording = b"".join(pieces)
+        for words in ("", "--all", "--json", "--write-accept", "--deny needless,unseen --resident"):
+            got, wanted = (answer_of(it, words) for it in (recording, plain(recording).encode()))
+            said = f"{got[0]}, {got[1][-300:]} {got[2][:300]}"
+            common.expect(got == wanted, f"seed {seed} {words}: another answer in parts: {said}")
+        for made, place, reason in faulty_ones(recording, large):
+            got, wanted = answer_of(made, ""), f"{place}: error: {reason}\n"
+            common.expect(got == (2, b"", wanted.encode()), f"seed {seed}: wanted {wanted}, got {got}")
+
+
+def memory():
+    """64 MiB take no more memory than their largest batch and what is written: less than they have."""
+    batches = moves_apart(31)
+    with tempfile.NamedTemporaryFile() as file:
+        for _ in range(64):
+            file.write(batches * 512)
+        file.flush()
+        limit = lambda: resource.setrlimit(resource.RLIMIT_AS, (MOST_MEMORY, MOST_MEMORY))
+        command = [TEXT, "audit", "--json", file.name]
+        ran = subprocess.run(command, capture_output=True, preexec_fn=limit)
+        count = json.loads(ran.stdout or "{}").get("totals", {}).get("batches")
+        said = f"status {ran.returncode}, {count} batches, {ran.stderr[:300]}"
+        common.expect((ran.returncode, count) == (0, 64 * 512), said)
+
+
 def xxd(recording):
     lines = []
     for at in range(0, len(recording), 16):
@@ -1154,7 +1222,8 @@ def main(words):
     TEXT = program("dsa_text")
     numbers = [int(word) for word in words if word.isdigit()]
     COUNT = numbers[-1] if numbers else COUNT
-    parts = [brute_force, padded, pictures, sizes, too_large, planned, staged, lines, lists, unseen, ends, forms, speed]
+    parts = [brute_force, padded, pictures, sizes, too_large, planned, staged, lines, lists, unseen]
+    parts += [ends, in_parts, memory, forms, speed]
     for part in named(parts, [it for it in words if not it.isdigit()]):
         part()
 

@@ -1,3 +1,4 @@
+mod Settled
 pub mod PlannedNeeded
 pub mod Refused
 pub mod Answered

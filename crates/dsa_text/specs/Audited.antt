@@ -1,6 +1,7 @@
 -- What `audit` answers of an input and options (this project's choice).
-use Rattle.std.specs.Prelude.{◌≡◌, ◌==◌, ◌+◌, nat_lt, ℕ, Bool, false, List, [], ◌∷◌, length, codes, Option, Some, None, option_map, if◌then◌else◌}
+use Rattle.std.specs.Prelude.{◌≡◌, ◌⊎◌, ◌==◌, ◌+◌, nat_lt, ℕ, Bool, false, List, [], ◌∷◌, length, codes, Option, Some, None, Result, Ok, Err, option_map, if◌then◌else◌}
 use Rattle.std.specs.List.{count_by, slice_split}
+use Rattle.std.specs.Io.KnownBytes.{Consumes, IsAtEnd}
 use Rattle.std.specs.Str.{bytes_eq}
 use Rattle.clap.specs.Words.{first_value, found_of}
 use Rattle.clap.specs.declared.parser.matches.ArgMatches.{ArgMatches}
@@ -13,6 +14,7 @@ use Rattle.dsa_recording.specs.declared.assumptions.Await.TheVariants.{Writes, S
 use Rattle.dsa_recording.specs.declared.words.Denied.{Denied}
 use Rattle.dsa_recording.specs.declared.answer.AuditOptions.{AuditOptions}
 use Rattle.dsa_recording.specs.declared.dumps.Dump.{Dump}
+use Rattle.dsa_recording.specs.declared.reading.ReadFault.{ReadFault}
 use Rattle.dsa_recording.specs.Dumps.{AnswersStaged}
 use Rattle.dsa_recording.specs.Inputs.{AnswersInput}
 use Rattle.dsa_text.specs.declared.auditing.Given.{Given}
@@ -113,3 +115,28 @@ AuditsAssuming (Some denied) (Some awaited) m g input a = AuditsWithOptions m g 
 
 abbrev pub AuditsInput : ArgMatches → Given → List ℕ → AuditAnswer → Type 0
 AuditsInput m g input a = AuditsAssuming (denied_in m) (awaited_in m) m g input a
+
+-- the arguments mean these options: what answers an input with them is the answer of `audit`
+abbrev pub SettleWith : ArgMatches → Given → Denied → Await → AuditOptions → Type 0
+SettleWith m g denied awaited o =
+    (input : List ℕ) (a : AuditAnswer) → AnswersWith o g.dumps.now input a → AuditsWithOptions m g denied awaited input a
+
+-- the same, whatever is denied and awaited
+abbrev pub Settle : ArgMatches → Given → AuditOptions → Type 0
+Settle m g o = (input : List ℕ) (a : AuditAnswer) → AnswersWith o g.dumps.now input a → AuditsInput m g input a
+
+-- the arguments are refused with this answer, whatever the input is
+abbrev pub RefusesWith : ArgMatches → Given → Denied → Await → AuditAnswer → Type 0
+RefusesWith m g denied awaited a = (input : List ℕ) → AuditsWithOptions m g denied awaited input a
+
+-- the same, whatever is denied and awaited
+abbrev pub Refuses : ArgMatches → Given → AuditAnswer → Type 0
+Refuses m g a = (input : List ℕ) → AuditsInput m g input a
+
+-- ---- of what is read
+
+-- the answer to all that the reader gave up to its end; or to any input, without reading
+abbrev pub AuditsReader : ArgMatches → Given → Option (List ℕ) → Option (List ℕ) → Result AuditAnswer ReadFault → Type 0
+AuditsReader m g old new (Ok a) =
+    ((input : List ℕ) × Consumes old new input × IsAtEnd new × AuditsInput m g input a) ⊎ Refuses m g a
+AuditsReader m g old new (Err fault) = Unit

@@ -1,10 +1,10 @@
 //! `audit` of an input, with the options that were given.
 
-ghost use Rattle.std.specs.Prelude.{◌≡◌, IfOk, codes, map};
+ghost use Rattle.std.specs.Prelude.{◌≡◌, [], IfOk, MatchResult, codes, map};
 ghost use Rattle.std.specs.List.{count_by};
 ghost use Rattle.std.specs.Str.{bytes_eq};
 ghost use Rattle.dsa_text.specs.Options.{IsFlag};
-ghost use Rattle.dsa_text.specs.Audited.{AnswersWith, AreAuditWords, AuditsInput, AuditsWithOptions, IsFormat, awaited_by, awaited_in, denied_by, denied_in, format_of};
+ghost use Rattle.dsa_text.specs.Audited.{AnswersWith, AreAuditWords, AuditsInput, AuditsReader, IsFormat, Refuses, RefusesWith, Settle, SettleWith, awaited_by, awaited_in, denied_by, denied_in, format_of};
 
 use crate::messages::message_with;
 use crate::numbers::parts_of;
@@ -15,10 +15,11 @@ use clap::{Arg, ArgAction, ArgMatches, Command};
 use dsa_calls::PlanFault;
 use dsa_plan::Settings;
 use dsa_recording::{
-    Accepted, Assumptions, AuditAnswer, AuditFormat, AuditOptions, Await, Denied, Dump, audit,
-    audit_staged,
+    Accepted, Assumptions, AuditAnswer, AuditFormat, AuditOptions, Await, Denied, Dump, ReadFault,
+    audit, audit_read, audit_staged,
 };
 use std::alloc::{AllocError, Global};
+use std::io::Read;
 
 /// What files that options name have.
 #[derive(Clone, Copy)]
@@ -34,6 +35,9 @@ const RECORDINGS: &str =
     "A recording has what was submitted, in order: entries of 64 bytes, and behind the descriptor of a batch its members.
 It is read as these bytes, as xxd, xxd -p and hexdump -v -C write them, or as lines that disassemble writes, with those
 of the members behind the line of their batch.
+
+Bytes may have any length: they are read and audited in parts. A text, and what is read with --svg, --list, --staging or
+--events, has 64 MiB at most.
 
 With --staging it is read as what was written to a portal, with the members of each batch in the first dump that has them
 at the batch's list address. --staging may be given more than once.
@@ -339,16 +343,18 @@ fn audit_with(
     audit_staged(alloc, input, dumps, settings, options)
 }
 
-/// What `audit` answers, with findings that count as errors and what software looks at.
-fn audit_denying(
+/// The settings and options that arguments spell, with findings that count as errors and what software looks at; or the
+/// answer, if they spell no settings.
+fn options_denying<'a>(
     alloc: Global,
     matches: &ArgMatches<'_>,
-    given: Given<'_>,
+    given: Given<'a>,
     denied: Denied,
     awaited: Await,
-    input: &[u8],
-) -> Result<AuditAnswer, AllocError>
-    ensures { IfOk result (AuditsWithOptions matches.now given.entry denied awaited input.now) }
+) -> Result<Result<(Settings, AuditOptions<'a>), AuditAnswer>, AllocError>
+    ensures { IfOk result (λ spelled. MatchResult spelled
+        (λ x. SettleWith matches.now given.entry denied awaited x.1)
+        (RefusesWith matches.now given.entry denied awaited)) }
 {
     let format = format_in(matches);
     let resident = resident_in(matches);
@@ -363,9 +369,35 @@ fn audit_denying(
                 accepted: given.accepted,
                 assumptions: Assumptions { awaited, resident },
             };
-            audit_with(alloc, given.dumps, input, &settings, options)
+            Ok(Ok((settings, options)))
         }
-        None => refused_settings(alloc, &words),
+        None => {
+            let refused = refused_settings(alloc, &words)?;
+            Ok(Err(refused))
+        }
+    }
+}
+
+/// The settings and options that arguments spell, or the answer if they spell none.
+fn options_in<'a>(
+    alloc: Global,
+    matches: &ArgMatches<'_>,
+    given: Given<'a>,
+) -> Result<Result<(Settings, AuditOptions<'a>), AuditAnswer>, AllocError>
+    ensures { IfOk result (λ spelled. MatchResult spelled
+        (λ x. Settle matches.now given.entry x.1) (Refuses matches.now given.entry)) }
+{
+    let Some(denied) = denied_in(alloc, matches)? else {
+        let reason =
+            "error: --deny takes needless, guarding, signalling and unseen, with commas between\n";
+        return Ok(Err(refusal(String::from_str(alloc, reason)?)));
+    };
+    match awaited_in(matches) {
+        Some(awaited) => options_denying(alloc, matches, given, denied, awaited),
+        None => {
+            let reason = "error: --await takes writes, signals or batches\n";
+            Ok(Err(refusal(String::from_str(alloc, reason)?)))
+        }
     }
 }
 
@@ -378,16 +410,24 @@ pub(crate) fn audit_input(
 ) -> Result<AuditAnswer, AllocError>
     ensures { IfOk result (AuditsInput matches.now given.entry input.now) }
 {
-    let Some(denied) = denied_in(alloc, matches)? else {
-        let reason =
-            "error: --deny takes needless, guarding, signalling and unseen, with commas between\n";
-        return Ok(refusal(String::from_str(alloc, reason)?));
-    };
-    match awaited_in(matches) {
-        Some(awaited) => audit_denying(alloc, matches, given, denied, awaited, input),
-        None => {
-            let reason = "error: --await takes writes, signals or batches\n";
-            Ok(refusal(String::from_str(alloc, reason)?))
-        }
+    match options_in(alloc, matches, given)? {
+        Ok((settings, options)) => audit_with(alloc, given.dumps, input, &settings, options),
+        Err(refused) => Ok(refused),
+    }
+}
+
+/// What `audit` answers of what a reader gives, options, and the file of errors that they name, without dumps.
+pub(crate) fn audit_reader<R: Read>(
+    alloc: Global,
+    matches: &ArgMatches<'_>,
+    given: Given<'_>,
+    reader: &mut R,
+) -> Result<AuditAnswer, ReadFault>
+    ensures { given.entry.dumps.now ≡ [] → AuditsReader matches.now given.entry
+        (R.remaining reader.old) (R.remaining reader.new) result }
+{
+    match options_in(alloc, matches, given)? {
+        Ok((settings, options)) => audit_read(alloc, reader, &settings, options),
+        Err(refused) => Ok(refused),
     }
 }

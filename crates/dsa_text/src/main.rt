@@ -35,7 +35,7 @@ mod words;
 
 use crate::answer::Answer;
 use crate::assembling::{assemble_job, assemble_list};
-use crate::auditing::{Given, audit_command, audit_input};
+use crate::auditing::{Given, audit_command, audit_input, audit_reader};
 use crate::bytes::bytes_or_refusal;
 use crate::disassembling::{
     disassemble_fenced, disassemble_list, disassemble_portal, disassemble_staging,
@@ -51,7 +51,7 @@ use crate::traced::audit_traced;
 use clap::error::ErrorKind;
 use clap::{Arg, ArgAction, ArgMatches, Command};
 use dsa_calls::PlanFault;
-use dsa_recording::{Accepted, AuditAnswer, VERSION, is_text};
+use dsa_recording::{Accepted, AuditAnswer, ReadFault, VERSION, is_text};
 use dsa_report::{Stop, read_text, write_line};
 use std::alloc::{AllocError, Global};
 use std::fs::File;
@@ -457,14 +457,18 @@ fn file_in<'a>(matches: &ArgMatches<'a>) -> Option<&'a str> {
     }
 }
 
-/// The text of an open file.
-fn text_of(rt: &HostRuntime, mut opened: File) -> Result<Vec<u8>, NoText> {
+/// An open file.
+fn file_at(rt: &HostRuntime, path: &str) -> Result<File, NoText> {
+    let opened = match File::open(rt, path) {
+        Ok(opened) => opened,
+        Err(error) => return Err(unopened(error.kind())),
+    };
     if let Ok(metadata) = opened.metadata() {
         if metadata.is_dir() {
             return Err(NoText::Failed("is a directory"));
         }
     }
-    text_or_reason(read_text(rt.alloc(), &mut opened))
+    Ok(opened)
 }
 
 /// The text of the file, or of standard input where none is named.
@@ -472,10 +476,8 @@ fn input(rt: &HostRuntime, file: Option<&str>) -> Result<Vec<u8>, NoText> {
     let Some(path) = file else {
         return text_or_reason(read_text(rt.alloc(), &mut rt.reader()));
     };
-    match File::open(rt, path) {
-        Ok(opened) => text_of(rt, opened),
-        Err(error) => Err(unopened(error.kind())),
-    }
+    let mut opened = file_at(rt, path)?;
+    text_or_reason(read_text(rt.alloc(), &mut opened))
 }
 
 /// Says why there is no text, and ends.
@@ -533,17 +535,50 @@ fn accepted_in(
     }
 }
 
-/// The answer of `audit` to this text, in the light of the files that the options name.
-fn audit_answer(
+/// The answer of `audit` to the text of the file, in the light of the files that the options name.
+fn audit_whole(
     rt: &HostRuntime,
     matches: &ArgMatches<'_>,
     given: Given<'_>,
     events: Option<(&str, Vec<u8>)>,
-    text: &[u8],
-) -> Result<AuditAnswer, AllocError> {
-    match events {
-        Some((name, events)) => audit_traced(rt.alloc(), matches, given, text, name, &events),
-        None => audit_input(rt.alloc(), matches, given, text),
+) -> Result<Result<AuditAnswer, NoText>, AllocError> {
+    let text = match input(rt, file_in(matches)) {
+        Ok(text) => text,
+        Err(reason) => return Ok(Err(reason)),
+    };
+    let answer = match events {
+        Some((name, events)) => audit_traced(rt.alloc(), matches, given, &text, name, &events)?,
+        None => audit_input(rt.alloc(), matches, given, &text)?,
+    };
+    Ok(Ok(answer))
+}
+
+/// Why what was read has no answer.
+fn unanswered(fault: ReadFault) -> NoText {
+    match fault {
+        ReadFault::Failed => NoText::Failed("can't be read to its end"),
+        ReadFault::TooLong => NoText::Refused(PlanFault::JobTooLong),
+        ReadFault::Memory => NoText::Refused(PlanFault::Memory),
+    }
+}
+
+/// The answer of `audit` to the file, which is read in parts.
+fn audit_file(
+    rt: &HostRuntime,
+    matches: &ArgMatches<'_>,
+    given: Given<'_>,
+) -> Result<AuditAnswer, NoText> {
+    let alloc = rt.alloc();
+    let read = match file_in(matches) {
+        Some(path) => {
+            let mut opened = file_at(rt, path)?;
+            audit_reader(alloc, matches, given, &mut opened)
+        }
+        None => audit_reader(alloc, matches, given, &mut rt.reader()),
+    };
+    match read {
+        Ok(answer) => Ok(answer),
+        Err(fault) => Err(unanswered(fault)),
     }
 }
 
@@ -565,10 +600,13 @@ fn audited(rt: &HostRuntime, matches: &ArgMatches<'_>) -> Result<ExitCode, Alloc
         accepted: &accepted,
         dumps: &dumps,
     };
-    let file = file_in(matches);
-    match input(rt, file) {
-        Ok(text) => {
-            let answer = audit_answer(rt, matches, given, events, &text)?;
+    let answered = if dumps.is_empty() && events.is_none() {
+        audit_file(rt, matches, given)
+    } else {
+        audit_whole(rt, matches, given, events)?
+    };
+    match answered {
+        Ok(answer) => {
             if answer.status == 2 {
                 Ok(failed(rt, &answer.text))
             } else {
@@ -576,7 +614,7 @@ fn audited(rt: &HostRuntime, matches: &ArgMatches<'_>) -> Result<ExitCode, Alloc
             }
         }
         Err(NoText::Refused(fault)) => Ok(failed(rt, &message_of(rt.alloc(), fault)?)),
-        Err(NoText::Failed(what)) => unread(rt, file, what),
+        Err(NoText::Failed(what)) => unread(rt, file_in(matches), what),
     }
 }
 

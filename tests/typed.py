@@ -1,12 +1,15 @@
-"""Texts that a person types: with mistakes, each of which dsa_text names, and of a list that stopped, of which `resume`
-says what is left. What is expected is typed by hand."""
+"""Texts that a person types: with mistakes, each of which dsa_text names; with barriers, which the plan keeps at least
+cost; and of a list that stopped, of which `resume` says what is left."""
+import json
 import random
 import subprocess
 import tempfile
 from pathlib import Path
 
-from common import expect
+import model
+from common import expect, move
 
+LEAST = model.Settings(4, 4096, 10, 14, 3, 0x10000)
 PAIR = "move 1 -> 2, 3 bytes, record 32"
 WRONG = [
     ("move 1", "column 7: expected ->, found the end of the line", "90 Line"),
@@ -41,6 +44,39 @@ def mistakes(text):
         pairs = zip(said, wanted)
         is_right = len(said) == len(wanted) and all(it.startswith(a) and it.endswith(b) for it, (a, b) in pairs)
         expect(is_right and ran.returncode == int(bool(found)), f"{lines}: {said}, not {wanted}")
+
+
+def keeps(plan, marks):
+    """The plan has a fence or the start of a group before each piece after a barrier."""
+    cuts = [at == 0 or fence for fences in plan for at, fence in enumerate(fences)]
+    return all(cut for cut, mark in zip(cuts, marks) if mark)
+
+
+def barriers(text):
+    """Random lists with barriers: the plan is legal and keeps them, none that does costs less, and each fence says if
+    a barrier needs it. The word fence, if it is kept, says what the line `barrier` does."""
+    options = "--greatest-batch 4 --greatest-transfer 4096 --lone 10 --batch 14 --fence 3 --staging 0x10000".split()
+    for seed in range(80):
+        choose = random.Random(seed)
+        ends = [[0x20000 + 0x1000 * choose.randrange(5) for _ in range(2)] for _ in range(5)]
+        moves = [move(*it, record_at=0x8000 + 32 * k) for k, it in enumerate(ends)]
+        marks = [choose.random() < 0.4 for _ in moves]
+        rows = [f"move {it.first:#x} -> {it.second:#x}, {it.size} bytes, record {it.record_at:#x}" for it in moves]
+        lines = "".join("barrier\n" * mark + row + "\n" for mark, row in zip(marks, rows))
+        ran = subprocess.run([text, "explain", "--json", *options], input=lines, capture_output=True, text=True)
+        expect(ran.returncode == 0, f"{lines}: {ran}")
+        found = json.loads(ran.stdout)
+        fenced, sizes = {it["before"] for it in found["fences"]}, [it["size"] for it in found["groups"]]
+        plan = [[sum(sizes[:k]) + at in fenced for at in range(size)] for k, size in enumerate(sizes)]
+        legal = [it for it in model.every_plan(5, 4) if model.first_fault(moves, it) is None and keeps(it, marks)]
+        least = min(model.cost(it, LEAST) for it in legal)
+        expect(plan in legal and least == found["cost"], f"{lines}: {found}, and the least cost is {least}")
+        said = [it["before"] for it in found["fences"] if it.get("barrier")]
+        expect(said == [k for k in sorted(fenced) if marks[k]], f"{lines}: barriers are said of {said}")
+        words = "".join("fence " * mark + row + "\n" for mark, row in zip(marks, rows))
+        command = [text, "explain", "--json", "--keep-fences", *options]
+        kept = subprocess.run(command, input=words, capture_output=True, text=True)
+        expect((kept.stdout, kept.stderr) == (ran.stdout, ran.stderr), f"{words}: {kept}")
 
 
 def resumed(text):

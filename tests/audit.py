@@ -1141,7 +1141,7 @@ def in_parts():
             common.expect(got == (2, b"", wanted.encode()), f"seed {seed}: wanted {wanted}, got {got}")
 
 
-def memory():
+def small_memory():
     """64 MiB take no more memory than their largest batch and what is written: less than they have."""
     batches = moves_apart(31)
     with tempfile.NamedTemporaryFile() as file:
@@ -1223,7 +1223,7 @@ def main(words):
     numbers = [int(word) for word in words if word.isdigit()]
     COUNT = numbers[-1] if numbers else COUNT
     parts = [brute_force, padded, pictures, sizes, too_large, planned, staged, lines, lists, unseen]
-    parts += [ends, in_parts, memory, forms, speed]
+    parts += [ends, in_parts, small_memory, forms, speed]
     for part in named(parts, [it for it in words if not it.isdigit()]):
         part()
 

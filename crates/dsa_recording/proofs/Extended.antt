@@ -1,13 +1,12 @@
 -- What a recording comes to once another follows it.
-use Rattle.std.proofs.Common.{◌≡◌, ◌≢◌, ℕ, zero, suc, ◌+◌, ◌-◌, ◌%◌, ◌<◌, ◌≤◌, ◌↔◌, ◌⊎◌, inl, inr, Bool, true, false, List, [], ◌∷◌, ◌++◌, Option, Some, None, option_map, length, map, max, min, drop, slice_get, refl, sym, ap, subst, ◌∙◌, arith, length-append, append-nil, append_assoc}
-use Rattle.std.specs.Prelude.{if◌then◌else◌, ◌==◌, slice_index_or, Result, Ok, Err, IfOk}
+use Rattle.std.proofs.Common.{◌≡◌, ℕ, zero, suc, ◌+◌, ◌-◌, ◌<◌, ◌≤◌, inl, inr, Bool, true, false, List, [], ◌∷◌, ◌++◌, Some, None, option_map, length, map, max, min, drop, slice_get, refl, sym, ap, subst, ◌∙◌, arith, length-append, append-nil}
+use Rattle.std.specs.Prelude.{if◌then◌else◌, ◌==◌, slice_index_or}
 use Rattle.std.specs.List.{AllByRecursion}
-use Rattle.std.proofs.lemmas.List.{length-map, length-take, length-drop}
+use Rattle.std.proofs.lemmas.List.{length-map, length-take}
 use Rattle.std.proofs.lemmas.Option.{slice_get-map, slice_get_within}
 use Rattle.dsa_descriptor.specs.Lists.{entries}
 use Rattle.dsa_descriptor.specs.Places.{u32_at, code_at}
 use Rattle.dsa_audit.specs.declared.member.Member.{Member as KnownMember}
-use Rattle.dsa_recording.specs.declared.accepted.Accepted.{Accepted}
 use Rattle.dsa_recording.specs.declared.answer.AuditOptions.{AuditOptions}
 use Rattle.dsa_recording.specs.declared.assumptions.Assumptions.{Assumptions}
 use Rattle.dsa_recording.specs.declared.findings.Finding.{Finding}
@@ -19,7 +18,7 @@ use Rattle.dsa_recording.specs.Findings.{recording_findings}
 use Rattle.dsa_recording.specs.Parts.{HasStatus}
 use Rattle.dsa_recording.specs.Reports.{IsReport, Reported}
 use Rattle.dsa_recording.specs.Streams.{ReadsStream, ReadsUpTo, end_of, submission_at}
-use Rattle.dsa_recording.specs.Submissions.{AreAudited, IsAudited, IsWithin, head_at, members_in}
+use Rattle.dsa_recording.specs.Submissions.{AreAudited, head_at, members_in}
 use Rattle.dsa_recording.proofs.Found.{IsFrom, all_append, all_map, found_from, from_report}
 use Rattle.dsa_recording.proofs.Joined.{accepted_here, accepted_there, findings_joined, findings_renumbered, renumbered}
 use Rattle.dsa_recording.proofs.Middle.{audited_joined, audited_middle, entries_joined, get_middle, moved, reads_joined, reads_middle}

@@ -1,16 +1,12 @@
 -- The report on two recordings one after the other.
-use Rattle.std.proofs.Common.{◌≡◌, ℕ, zero, suc, ◌+◌, ◌-◌, decimal, ◌==◌, ◌<◌, ◌≤◌, ◌↔◌, ◌⊎◌, inl, inr, Bool, true, false, List, [], ◌∷◌, ◌++◌, Option, Some, None, option_map, length, map, max, slice_get, refl, sym, ap, subst, ◌∙◌, arith, length-append, append-nil, append_assoc}
+use Rattle.std.proofs.Common.{◌≡◌, ℕ, zero, suc, ◌+◌, decimal, ◌==◌, ◌<◌, ◌≤◌, Bool, true, false, List, [], ◌∷◌, ◌++◌, Option, Some, None, length, map, slice_get, refl, sym, ap, subst, ◌∙◌, arith, append_assoc}
 use Rattle.std.specs.Prelude.{if◌then◌else◌, slice_index_or, codes}
 use Rattle.std.specs.List.{AllByRecursion}
-use Rattle.std.proofs.lemmas.List.{map-append, length-map, length-take, length-drop}
+use Rattle.std.proofs.lemmas.List.{map-append}
 use Rattle.std.proofs.lemmas.Bool.{eq-eqb, eqb-false, eqb-true, ne_eqb}
-use Rattle.std.proofs.lemmas.Option.{same_Some, slice_get-map, slice_get_within}
-use Rattle.dsa_descriptor.specs.Lists.{entries}
 use Rattle.dsa_descriptor.specs.Places.{u32_at, code_at}
 use Rattle.dsa_audit.specs.declared.member.Member.{Member as KnownMember}
 use Rattle.dsa_recording.specs.declared.accepted.Accepted.{Accepted}
-use Rattle.dsa_recording.specs.declared.answer.AuditOptions.{AuditOptions}
-use Rattle.dsa_recording.specs.declared.assumptions.Assumptions.{Assumptions}
 use Rattle.dsa_recording.specs.declared.detail.Cause.{Cause}
 use Rattle.dsa_recording.specs.declared.detail.Cause.TheVariants as cause
 use Rattle.dsa_recording.specs.declared.detail.Detail.{Detail}
@@ -23,16 +19,12 @@ use Rattle.dsa_recording.specs.declared.findings.Place.TheVariants.{Head, Member
 use Rattle.dsa_recording.specs.declared.stream.Submission.{Submission}
 use Rattle.dsa_recording.specs.declared.submission.Audited.{Audited}
 use Rattle.dsa_recording.specs.Accepted.{IsAccepted, has_key}
-use Rattle.dsa_recording.specs.Answers.{AreNoErrors, IsNoError, IsStatusOf, is_harmless}
-use Rattle.dsa_recording.specs.Details.{Describes, HasEntry, IsCause, IsDetail, IsIn, IsOf, IsPlaced, entry_at, is_in_record, kind_of, named_by, overlap_at, shared_records}
-use Rattle.dsa_recording.specs.Findings.{all_found, finding_of, findings_upto, head_findings, head_kinds, member_kinds, recording_findings, submission_findings}
+use Rattle.dsa_recording.specs.Details.{Describes, HasEntry, IsCause, IsIn, IsOf, entry_at, is_in_record, kind_of, named_by, shared_records}
+use Rattle.dsa_recording.specs.Findings.{all_found, findings_upto, head_findings, head_kinds, member_kinds, recording_findings, submission_findings}
 use Rattle.dsa_recording.specs.Keys.{batch_key, cause_key, entry_key, key_words, member_key, other_key, others_key, place_key}
-use Rattle.dsa_recording.specs.Reports.{IsReport, Reported}
-use Rattle.dsa_recording.specs.Streams.{ReadsStream, ReadsUpTo, end_of, submission_at}
-use Rattle.dsa_recording.specs.Submissions.{AreAudited, IsAudited, IsWithin, head_at, members_in}
-use Rattle.dsa_recording.proofs.Found.{all_append, all_map, found_from, IsFrom}
-use Rattle.dsa_recording.proofs.Middle.{audited_joined, audited_middle, end_moved, entries_joined, get_middle, head_moved, length_middle, moved, nth_middle, reads_joined, reads_middle}
-use Rattle.dsa_recording.proofs.Within.{each_within}
+use Rattle.dsa_recording.specs.Reports.{Reported}
+use Rattle.dsa_recording.specs.Submissions.{head_at}
+use Rattle.dsa_recording.proofs.Middle.{get_middle, moved, nth_middle}
 
 -- ---- findings
 

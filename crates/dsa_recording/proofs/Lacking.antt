@@ -1,13 +1,12 @@
 -- Entries that cannot be members, of two recordings one after the other.
-use Rattle.std.proofs.Common.{◌≡◌, ◌≢◌, ℕ, zero, suc, ◌+◌, ◌-◌, ◌%◌, ◌<◌, ◌≤◌, ◌⊎◌, inl, inr, List, [], ◌∷◌, ◌++◌, Option, Some, None, option_map, length, map, max, slice_get, refl, sym, ap, subst, ◌∙◌, arith, length-append, append-nil}
-use Rattle.std.specs.Prelude.{slice_index_or, Result, Ok, Err, IfOk, MatchOption, MatchResult}
+use Rattle.std.proofs.Common.{◌≡◌, ℕ, zero, suc, ◌+◌, ◌-◌, ◌<◌, ◌≤◌, ◌⊎◌, inl, inr, List, [], ◌∷◌, ◌++◌, Option, Some, None, option_map, length, map, slice_get, refl, sym, ap, subst, ◌∙◌, arith, append-nil}
+use Rattle.std.specs.Prelude.{slice_index_or}
 use Rattle.std.specs.List.{AllByRecursion}
 use Rattle.std.proofs.lemmas.Option.{slice_get-map, slice_get_within, same_Some}
 use Rattle.dsa_descriptor.specs.Lists.{entries}
-use Rattle.dsa_recording.specs.declared.answer.AuditOptions.{AuditOptions}
 use Rattle.dsa_recording.specs.declared.stream.Submission.{Submission}
 use Rattle.dsa_recording.specs.Foreign.{HasForeign, HasOwnMembers, IsForeign, LacksMembers, LacksSome}
-use Rattle.dsa_recording.specs.Streams.{ReadsStream, ReadsUpTo, end_of}
+use Rattle.dsa_recording.specs.Streams.{ReadsStream, end_of}
 use Rattle.dsa_recording.specs.Submissions.{IsWithin, head_at}
 use Rattle.dsa_recording.proofs.Chain.{one_reading}
 use Rattle.dsa_recording.proofs.Extended.{Moves, all_at, all_move, stream_joined}

@@ -1,5 +1,5 @@
 -- Entries within longer lists of entries, and submissions of them.
-use Rattle.std.proofs.Common.{◌≡◌, ℕ, zero, suc, ◌+◌, ◌-◌, ◌*◌, ◌/◌, ◌%◌, ◌<◌, ◌≤◌, ◌↔◌, Bool, true, false, IsTrue, List, [], ◌∷◌, ◌++◌, Option, Some, None, length, map, get_or, take, drop, slice_get, slice_range, refl, sym, ap, subst, ◌∙◌, arith, length-append, append-nil, append_assoc}
+use Rattle.std.proofs.Common.{◌≡◌, ℕ, zero, suc, ◌+◌, ◌-◌, ◌*◌, ◌/◌, ◌%◌, ◌<◌, ◌≤◌, ◌↔◌, Bool, true, false, IsTrue, List, [], ◌∷◌, ◌++◌, length, map, get_or, take, drop, slice_get, slice_range, refl, sym, ap, subst, ◌∙◌, arith, length-append}
 use Rattle.std.specs.Prelude.{if◌then◌else◌, ◌==◌, slice_index_or}
 use Rattle.std.specs.Simd.{first_chunks}
 use Rattle.std.proofs.lemmas.List.{get_or_append_left, get_or-append-add, drop-drop, drop_at, drop-append-le, take-append-le, length-drop}
@@ -13,7 +13,7 @@ use Rattle.dsa_recording.specs.Failures.{AreFallible}
 use Rattle.dsa_recording.specs.Showing.{AreVisible}
 use Rattle.dsa_recording.specs.Entries.{action_of}
 use Rattle.dsa_recording.specs.Streams.{submission_at, end_of, ReadsUpTo}
-use Rattle.dsa_recording.specs.Submissions.{is_fenced, head_at, members_in, IsWithin, AreMembers, AreOperands, AreShared, IsAudited, AreAudited}
+use Rattle.dsa_recording.specs.Submissions.{is_fenced, head_at, members_in, AreMembers, AreOperands, AreShared, IsAudited, AreAudited}
 use Rattle.dsa_recording.proofs.Within.{head_of}
 
 -- ---- entries of bytes

@@ -2,8 +2,6 @@ use Rattle.std.proofs.Common.{arith, subst, sym}
 use Rattle.dsa_recording.specs.Answers.{ArePlaced}
 use Rattle.dsa_recording.specs.Reports.{reported_by}
 use Rattle.dsa_recording.proofs.Found.{report_placed}
-use Rattle.dsa_recording.proofs.Extended.{status_joined}
-use Rattle.dsa_recording.proofs.Lacking.{own_joined}
 use Rattle.dsa_recording.proofs.Summed.{has_sums}
 use Rattle.dsa_recording.proofs.Within.{within}
 use Rattle.dsa_recording.proofs.parts.Parts.add_report.Goals as goal

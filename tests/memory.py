@@ -130,7 +130,9 @@ class Run:
             return self
         alone = self.sweep("alone", ample, lambda number: (number, number))
         after = self.sweep("and all after it", ample, lambda number: (number, ALL))
-        if not self.faults and asked and (not alone or not after):
+        # dsa first asks for a block that it can do without
+        needed = asked if self.words else asked - 1
+        if not self.faults and needed and (not alone or not after):
             self.faults.append(f"{self.name}: refused memory is never noticed")
         self.threads(ample, starts)
         return self

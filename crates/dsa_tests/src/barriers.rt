@@ -1,6 +1,6 @@
 //! Lists that publish only after a check, and whose check fails.
 
-use super::{image_of, run_plan};
+use crate::engines::{image_of, run_plan};
 use dsa_calls::plan_fenced_list;
 use dsa_engines::OpenGate;
 use dsa_plan::Settings;

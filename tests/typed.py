@@ -28,9 +28,11 @@ def mistakes(text):
         for number in range(2, choose.choice((4, 8, 60))):
             line, begin, name = choose.choice([*WRONG, (PAIR, None, None), ("# none", None, None)])
             lines.append(line)
-            if begin:
+            # of whom the operations are is known up to the first line that leaves the grammar
+            is_told = "pasid" not in line or all(it[2] != "90 Line" for it in found)
+            if begin and is_told:
                 found.append((number, begin.format(operations), name.format(operations)))
-            operations += line.startswith("move 1 ")
+            operations += line[0] != "#"
         ran = subprocess.run([text, "assemble"], input="\n".join(lines).encode(), capture_output=True)
         said = ran.stderr.decode().splitlines()
         is_grammar = any(name == "90 Line" for _, _, name in found)

@@ -98,7 +98,8 @@ fn audit_parts<R: Read>(
         let whole = whole_bytes(&buffer);
         parts.add(alloc, &buffer[..whole], settings, options)?;
         buffer = Vec::from_slice(alloc, &buffer[whole..])?;
-        let most = buffer.len().saturating_add(PART);
+        // what is held doubles, so that a long batch is copied few times
+        let most = buffer.len().saturating_add(buffer.len().max(PART));
         ended = fill(reader, &mut buffer, most)?;
     }
     Err(ReadFault::Failed)

@@ -1,19 +1,18 @@
 -- Some pieces of a list done before others.
-use Rattle.std.proofs.Common.{◌≡◌, ℕ, zero, suc, ◌<◌, Bool, true, false, List, [], ◌∷◌, ◌++◌, length, map, Some, slice_get, refl, sym, ap, ◌∙◌, arith}
-use Rattle.std.specs.Prelude.{if◌then◌else◌}
+use Rattle.std.proofs.Common.{◌≡◌, ℕ, suc, Bool, true, false, List, [], ◌∷◌, ◌++◌, length, map, Some, slice_get, refl, ap, ◌∙◌, arith}
 use Rattle.std.specs.List.{All, AllByRecursion}
 use Rattle.std.proofs.lemmas.List.Elements.{All-head, All-tail}
 use Rattle.dsa_descriptor.specs.declared.descriptor.Descriptor.{Descriptor}
 use Rattle.dsa_descriptor.specs.Descriptors.{fields}
 use Rattle.dsa_descriptor.specs.Fields.{Fields}
-use Rattle.dsa_ranges.specs.Ranges.{Conflicts, ConflictAt}
+use Rattle.dsa_ranges.specs.Ranges.{Conflicts}
 use Rattle.dsa_image.specs.Memory.{Memory, HoldsRanges}
 use Rattle.dsa_image.specs.Effects.{done, fold_done}
 use Rattle.dsa_image.proofs.Executed.{fold_done-append}
 use Rattle.dsa_resume.specs.declared.status.Ended.{Ended}
 use Rattle.dsa_resume.specs.declared.status.Ended.TheVariants.{Waiting, Finished, Failed}
 use Rattle.dsa_resume.specs.Ended.{ended_of, is_any, has_finished, is_left, has_failed, is_waiting}
-use Rattle.dsa_resume.specs.Left.{those, left_of}
+use Rattle.dsa_resume.specs.Left.{those}
 use Rattle.dsa_resume.specs.Laws.{HasEnded, MayComeFirst, AreRecorded, ResumesInOrder, ResumesFailedFirst}
 use Rattle.dsa_resume.proofs.Fine.{IsFine, all_fine, passed}
 use Rattle.dsa_resume.proofs.Redone.{redone}

@@ -1,5 +1,5 @@
 -- What a legal plan says of the pieces of a list whose submission stopped.
-use Rattle.std.proofs.Common.{◌≡◌, ℕ, ◌<◌, length, arith}
+use Rattle.std.proofs.Common.{◌≡◌, ◌<◌, length, arith}
 use Rattle.std.proofs.lemmas.Option.{slice_get_within}
 use Rattle.dsa_ranges.specs.Ranges.{ConflictAt}
 use Rattle.dsa_settings.specs.Epochs.{epoch_of}

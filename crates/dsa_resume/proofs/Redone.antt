@@ -1,6 +1,6 @@
 -- What pieces leave of memories that differ in bytes that they rewrite.
-use Rattle.std.proofs.Common.{◌≡◌, ◌⊎◌, inl, inr, ℕ, ◌+◌, ◌<◌, ◌≤◌, Bool, true, Option, Some, None, List, [], ◌∷◌, length, refl, sym, ap, ◌∙◌, arith}
-use Rattle.std.specs.Prelude.{cond, is_some, unwrap_or, IsSome, if◌then◌else◌}
+use Rattle.std.proofs.Common.{◌≡◌, ◌⊎◌, inl, inr, ℕ, ◌+◌, true, Option, Some, None, List, [], ◌∷◌, refl, sym, ap, ◌∙◌, arith}
+use Rattle.std.specs.Prelude.{cond, is_some, unwrap_or, IsSome}
 use Rattle.dsa_descriptor.specs.declared.op.Op.{Op}
 use Rattle.dsa_descriptor.specs.declared.op.Op.TheVariants.{Move, Fill, Compare, ComparePattern, ApplyDelta, Dualcast}
 use Rattle.dsa_descriptor.specs.declared.record.Record.{Record}
@@ -9,9 +9,9 @@ use Rattle.dsa_descriptor.specs.Spans.{InSpan}
 use Rattle.dsa_descriptor.specs.Data.{sources, record_span}
 use Rattle.dsa_ranges.specs.Ranges.{read_spans, Reads}
 use Rattle.dsa_image.specs.declared.partial.Partial.{Partial}
-use Rattle.dsa_image.specs.Memory.{Memory, Holds, byte_at, changed, SameAddresses, is_between}
+use Rattle.dsa_image.specs.Memory.{Memory, byte_at, changed, SameAddresses, is_between}
 use Rattle.dsa_image.specs.Basics.{entry_count, first_fault, patched}
-use Rattle.dsa_image.specs.Effects.{answer, new_data, effect, record_from, completion, recorded, done, fold_done}
+use Rattle.dsa_image.specs.Effects.{new_data, effect, record_from, completion, recorded, done, fold_done}
 use Rattle.dsa_image.specs.Lines.{AgreeOn}
 use Rattle.dsa_image.specs.Operations.{answer_of_op, data_of_op}
 use Rattle.dsa_image.proofs.MemoryLemmas.{same_memory, byte_at_outside, byte_at-changed, byte_at-changed_outside, Holds_cases, SameAddresses-changed, is_between-in}

@@ -1,5 +1,5 @@
 -- What is answered to the bytes of a list and of completion records, from its parts.
-use Rattle.std.proofs.Common.{◌≡◌, ◌≢◌, ◌⊎◌, inl, inr, ℕ, suc, ◌+◌, ◌*◌, ◌/◌, ◌<◌, List, ◌∷◌, ◌++◌, length, get_or, take, drop, map, Ok, Err, Vec, refl, sym, ap, ◌∙◌, append_assoc, arith, add-one, drop-cons}
+use Rattle.std.proofs.Common.{◌≡◌, ◌≢◌, ◌⊎◌, inl, inr, ℕ, suc, ◌+◌, ◌*◌, ◌/◌, ◌<◌, List, ◌∷◌, ◌++◌, length, get_or, drop, map, Ok, Err, Vec, refl, sym, ap, ◌∙◌, append_assoc, arith, add-one, drop-cons}
 use Rattle.std.specs.Simd.{first_chunks}
 use Rattle.std.specs.declared.alloc.Global.{Global}
 use Rattle.dsa_descriptor.specs.declared.descriptor.Descriptor.{Descriptor}
@@ -13,7 +13,7 @@ use Rattle.dsa_calls.specs.Planned.{ArePiecesOf, SplitsList}
 use Rattle.dsa_resume.specs.declared.fault.ResumeFault.TheVariants.{Plan, Records}
 use Rattle.dsa_resume.specs.declared.left.LeftOrder.{LeftOrder}
 use Rattle.dsa_resume.specs.Left.{left_of}
-use Rattle.dsa_resume.specs.Resumed.{completions_of, left_bytes, is_refused, lacks_records, has_left, AnswersResume}
+use Rattle.dsa_resume.specs.Resumed.{completions_of, is_refused, lacks_records, has_left, AnswersResume}
 
 -- the list has no pieces
 pub answer_refused : (s : Limits) (list records : List ℕ) (order : LeftOrder) (fault : PlanFault) → (fault ≡ Memory) ⊎ SplitsList s list (Err fault)

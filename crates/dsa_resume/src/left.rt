@@ -12,7 +12,7 @@ use std::alloc::{AllocError, Global};
 pub enum LeftOrder {
     /// As it was listed.
     AsListed,
-    /// The pieces that failed, and after them those that the device has not begun.
+    /// The pieces that failed, and after them those that wait.
     FailedFirst,
 }
 

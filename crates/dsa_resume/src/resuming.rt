@@ -18,7 +18,7 @@ use std::alloc::{AllocError, Global};
 
 /// What is left to submit of a list that was planned with these settings and submitted, by the completion records of
 /// its pieces, 32 bytes each, in the order of the pieces: the list of the pieces that have not finished, in this order.
-/// They have no fence, and can be planned.
+/// They have no fence.
 ///
 /// # Errors
 /// What planning refuses of the list before it has pieces; else [`ResumeFault::Records`];

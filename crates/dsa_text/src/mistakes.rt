@@ -28,13 +28,19 @@ struct Sofar {
     operations: usize,
     /// The owner of the first.
     owner: Option<u32>,
+    /// Whether a line before left the grammar: it counts as an operation, of an owner that is not known.
+    has_left: bool,
 }
 
 impl Sofar {
     /// What is wrong with a line, which is counted.
     fn mistake_of(&mut self, line: &[u8]) -> Option<Mistake> {
         match operation_bytes(line) {
-            Err((column, expected)) => Some(Mistake::Grammar(column, expected)),
+            Err((column, expected)) => {
+                self.operations = self.operations.saturating_add(1);
+                self.has_left = true;
+                Some(Mistake::Grammar(column, expected))
+            }
             Ok(None) => None,
             Ok(Some(entry)) => self.fault_of(&entry).map(Mistake::Operation),
         }
@@ -47,7 +53,7 @@ impl Sofar {
         let first = *self.owner.get_or_insert(owner);
         match Descriptor::read(entry) {
             Err(fault) => Some(ListFault::Field(index, fault)),
-            Ok(_) if owner != first => Some(ListFault::MixedPasid(index)),
+            Ok(_) if owner != first && !self.has_left => Some(ListFault::MixedPasid(index)),
             Ok(_) => None,
         }
     }
@@ -107,6 +113,7 @@ fn others_of(alloc: Global, text: &[u8], known: usize) -> Result<Others, AllocEr
     let mut sofar = Sofar {
         operations: 0,
         owner: None,
+        has_left: false,
     };
     for (at, line) in text.split(|byte| *byte == b'\n').enumerate() {
         let number = at.saturating_add(1);

@@ -1,4 +1,4 @@
-use Rattle.std.proofs.Common.{◌≡◌, ℕ, ◌+◌, ◌-◌, ◌<◌, ◌≤◌, length, slice_index, refl, subst, arith}
+use Rattle.std.proofs.Common.{◌≡◌, ℕ, ◌+◌, ◌-◌, length, refl, subst, arith}
 use Rattle.dsa_plan.specs.Settings.{tariff_of}
 use Rattle.dsa_plan.specs.Chain.{IsLastBelow, LeadsTo}
 use Rattle.dsa_search.specs.Filled.{HasOffers, past_reach}

@@ -1,6 +1,6 @@
-use Rattle.std.proofs.Common.{◌≡◌, ℕ, ◌+◌, ◌-◌, ◌<◌, ◌≤◌, List, Bool, true, length, slice_set, sym, ap, ◌∙◌, subst, refl, arith}
+use Rattle.std.proofs.Common.{◌≡◌, ◌-◌, ◌<◌, true, length, slice_set, ◌∙◌, refl, arith}
 use Rattle.std.proofs.lemmas.List.{length-set}
-use Rattle.dsa_plan.specs.Chain.{GoForward, LeadsTo, HasChainFences}
+use Rattle.dsa_plan.specs.Chain.{LeadsTo}
 use Rattle.dsa_plan.proofs.Chains.{LeadsTo-same, LeadsTo-read, LeadsTo-read_none, Reaches-from_start}
 use Rattle.dsa_search.proofs.Grouping.{group_starts, group_fenced, group_done}
 use Rattle.dsa_search.proofs.plan.set_fences.Goals as goal

@@ -1,4 +1,4 @@
-use Rattle.std.proofs.Common.{ℕ, ◌≡◌, ◌-◌, length}
+use Rattle.std.proofs.Common.{◌≡◌, ◌-◌, length}
 use Rattle.dsa_search.specs.Back.{IsGroupSoFar}
 use Rattle.dsa_search.proofs.plan.set_fences.Given as goal
 

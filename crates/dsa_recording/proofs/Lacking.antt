@@ -53,8 +53,8 @@ module _ (pre es post : List (List ℕ)) (s : Submission) (within : IsWithin es 
 -- ---- in submissions
 
 module _ (pre es post : List (List ℕ)) (ss : List Submission) (within : AllByRecursion (IsWithin es) ss) (move : AllByRecursion Moves ss) where
-  lacks_there : (before behind : List Submission) → LacksSome es ss → LacksSome (pre ++ (es ++ post)) (before ++ (map (moved (length pre)) ss ++ behind))
-  lacks_there before behind lacks =
+  lacks_there : (before rest : List Submission) → LacksSome es ss → LacksSome (pre ++ (es ++ post)) (before ++ (map (moved (length pre)) ss ++ rest))
+  lacks_there before rest lacks =
       let i : ℕ = lacks.number in
       let s : Submission = lacks.submission in
       let map_there : slice_get (map (moved (length pre)) ss) i ≡ Some (moved (length pre) s) = slice_get-map (moved (length pre)) ss i ∙ ap (option_map (moved (length pre))) lacks.there in
@@ -62,7 +62,7 @@ module _ (pre es post : List (List ℕ)) (ss : List Submission) (within : AllByR
       record {
         number = length before + i;
         submission = moved (length pre) s;
-        there = get_middle before (map (moved (length pre)) ss) behind i lt ∙ map_there;
+        there = get_middle before (map (moved (length pre)) ss) rest i lt ∙ map_there;
         lacks = foreign_there pre es post s (all_at (IsWithin es) ss i s within lacks.there) (all_at Moves ss i s move lacks.there) lacks.lacks;
       }
 

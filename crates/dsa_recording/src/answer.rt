@@ -16,6 +16,7 @@ ghost use Rattle.dsa_recording.specs.Totals.{HasSums};
 use crate::accepted::{Accepted, is_accepted};
 use crate::assumptions::Assumptions;
 use crate::detail::{Detail, detail_of, has_all_fences};
+use crate::entry::Header;
 use crate::findings::{Finding, FindingKind};
 use crate::foreign::STAGING_HINT;
 use crate::keys::key_text;
@@ -25,7 +26,6 @@ use crate::report::{Report, audit_recording};
 use crate::stream::StreamFault;
 use crate::words::{Denied, Severity, severity_of, severity_with};
 use crate::written::Written;
-use dsa_descriptor::u32_at;
 use dsa_settings::Settings;
 use std::alloc::{AllocError, Global};
 
@@ -269,7 +269,7 @@ pub(crate) fn fault_text(
         StreamFault::CutOff(at) => {
             let (all, _) = bytes.as_chunks::<64>();
             let size = match all.get(at) {
-                Some(entry) => u32_at(entry, 32),
+                Some(entry) => Header::of(entry).size,
                 None => 0,
             };
             let there = all.len().saturating_sub(at).saturating_sub(1);

@@ -7,14 +7,16 @@ ghost use Rattle.dsa_recording.specs.declared.findings.Place.TheVariants as Plac
 ghost use Rattle.dsa_recording.specs.Reports.{reported_by};
 ghost use Rattle.dsa_recording.specs.Details.{finding_at, is_in_record, named_by, overlap_of, shared_records, IsBehind, IsFlawAt, IsOfHead, IsOfMember, IsHeadCause, IsMemberCause, HasEntry, Describes, IsPlaced, IsDetail, IsRight};
 
+use crate::entry::Header;
 use crate::findings::{Finding, FindingKind, Flaw, Place};
 use crate::overlaps::overlap;
 use crate::report::Report;
 use crate::stream::Submission;
 use crate::submission::{Audited, head_at};
 use arrayvec::ArrayVec;
+use bitflags::Flags;
 use dsa_audit::{FencePlace, Member, Unseen, hazard_between};
-use dsa_descriptor::{u32_at, u64_at};
+use dsa_descriptor::FlagWord;
 use dsa_ranges::Hazard;
 
 /// What is found of an entry.
@@ -198,11 +200,11 @@ fn head_cause(kind: FindingKind) -> Option<Cause>
 fn is_in_record(entry: &[u8; 64], address: u64) -> bool
     ensures { result ≡ is_in_record address entry.now }
 {
-    if u32_at(entry, 4) % (1 << 24) & 0x04 != 0x04 {
+    let header = Header::of(entry);
+    if !header.flags.contains(FlagWord::RECORD_VALID) {
         return false;
     }
-    let record = u64_at(entry, 8);
-    record <= address && address - record < 32
+    header.record_at <= address && address - header.record_at < 32
 }
 
 /// Of a missing fence, whose completion record has the address: the submission's first member is entry `first`, and the
@@ -269,11 +271,10 @@ fn head_detail(
     let Some(cause) = head_cause(kind) else {
         return None;
     };
-    let code = u32_at(&all[entry], 4) >> 24;
-    let owner = u32_at(&all[entry], 0);
+    let Header { code, owner, .. } = Header::of(&all[entry]);
     Some(Detail {
         entry,
-        code: code as u8,
+        code,
         submission: number,
         first: submission.first,
         size: submission.size,
@@ -310,20 +311,20 @@ fn member_detail(
     if member >= submission.size || entry >= all.len() || head >= all.len() {
         return None;
     }
-    let code = u32_at(&all[entry], 4) >> 24;
+    let Header { code, owner, .. } = Header::of(&all[entry]);
     let Some(cause) = member_cause(operands, member, kind) else {
         return None;
     };
     Some(Detail {
         entry,
-        code: code as u8,
+        code,
         submission: number,
         first: submission.first,
         size: submission.size,
         place: Place::Member(member),
         is_batch: submission.is_batch,
-        owner: u32_at(&all[entry], 0),
-        head_owner: u32_at(&all[head], 0),
+        owner,
+        head_owner: Header::of(&all[head]).owner,
         cause,
         records: shared_records(all, submission.first, entry, cause),
         overlap: overlap_of(operands, member, cause),

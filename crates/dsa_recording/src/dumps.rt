@@ -4,7 +4,8 @@ ghost use Rattle.std.specs.Prelude.{◌≡◌, ◌≤◌, ◌++◌, Some, None, 
 ghost use Rattle.dsa_recording.specs.declared.dumps.StagingFault.TheVariants.{Memory};
 ghost use Rattle.dsa_recording.specs.Dumps.{covers, part_of, bytes_at, with_members, stream_of, longest_stream, StagesStream, IsStagingFault, IsUnstaged};
 
-use dsa_descriptor::{u32_at, u64_at};
+use crate::entry::Header;
+use dsa_descriptor::u64_at;
 use std::alloc::{AllocError, Global};
 
 /// The most bytes of a recording with the members of its batches.
@@ -74,10 +75,11 @@ fn bytes_at(dumps: &[Dump], at: u64, size: u64) -> Option<&[u8]>
 fn members_of<'a>(dumps: &'a [Dump], entry: &[u8; 64]) -> Option<&'a [u8]>
     ensures { option_map (λ part. entry.now ++ part.now) result ≡ with_members dumps.now entry.now }
 {
-    if u32_at(entry, 4) >> 24 != 1 {
+    let header = Header::of(entry);
+    if header.code != 1 {
         return Some(&[]);
     }
-    bytes_at(dumps, u64_at(entry, 16), 64 * u64::from(u32_at(entry, 32)))
+    bytes_at(dumps, u64_at(entry, 16), 64 * u64::from(header.size))
 }
 
 /// The entries of a portal with their members, or the first entry for which there are none.

@@ -5,8 +5,9 @@ ghost use Rattle.dsa_descriptor.specs.Places.{code_at};
 ghost use Rattle.dsa_recording.specs.Furthers.{code_name};
 ghost use Rattle.dsa_recording.specs.EntryWords.{batch_words, bytes_words, copy_words, create_words, data_words, descriptor_words, further_words, in_brackets, operation_words, other_words, seed_words};
 
+use crate::entry::Header;
 use crate::further::{Further, code_name, further_at};
-use dsa_descriptor::{Span, op_at, u32_at, u64_at};
+use dsa_descriptor::{Span, op_at, u64_at};
 use dsa_lines::op_text;
 use std::alloc::{AllocError, Global};
 
@@ -106,7 +107,7 @@ fn further_text(alloc: Global, further: Further) -> Result<String, AllocError>
 fn batch_text(alloc: Global, entry: &[u8; 64]) -> Result<String, AllocError>
     ensures { IfOk result (λ s. string_bytes s ≡ batch_words entry.now) }
 {
-    let (size, list) = (u32_at(entry, 32), u64_at(entry, 16));
+    let (size, list) = (Header::of(entry).size, u64_at(entry, 16));
     format!(in alloc; "batch of {size} at 0x{list:x}")
 }
 
@@ -133,11 +134,11 @@ pub(crate) fn operation_text(alloc: Global, code: u8) -> Result<String, AllocErr
 fn other_text(alloc: Global, entry: &[u8; 64]) -> Result<String, AllocError>
     ensures { IfOk result (λ s. string_bytes s ≡ other_words entry.now) }
 {
-    let code = u32_at(entry, 4) >> 24;
+    let code = Header::of(entry).code;
     match code {
         0 => String::from_str(alloc, "no-op"),
         1 => batch_text(alloc, entry),
-        _ => operation_text(alloc, code as u8),
+        _ => operation_text(alloc, code),
     }
 }
 
@@ -146,7 +147,7 @@ pub fn descriptor_text(alloc: Global, entry: &[u8; 64]) -> Result<String, AllocE
     ensures { IfOk result (λ s. string_bytes s ≡ descriptor_words entry.now) }
 {
     if let Some(op) = op_at(entry) {
-        return op_text(alloc, &op, u32_at(entry, 32));
+        return op_text(alloc, &op, Header::of(entry).size);
     }
     match further_at(entry) {
         Some(further) => further_text(alloc, further),

@@ -6,9 +6,11 @@ ghost use Rattle.dsa_recording.specs.Furthers.{further_at};
 ghost use Rattle.dsa_recording.specs.Failures.{checks_result, can_further_fail, can_op_fail, can_fault, can_fail, AreFallible};
 
 use crate::assumptions::Assumptions;
+use crate::entry::Header;
 use crate::further::{Further, further_at};
+use bitflags::Flags;
 use dsa_audit::Member;
-use dsa_descriptor::{Op, op_at, u32_at};
+use dsa_descriptor::{FlagWord, Op, op_at};
 use std::alloc::{AllocError, Global};
 
 /// Whether an operation that no plan has can fail by its result.
@@ -30,7 +32,7 @@ fn can_further_fail(entry: &[u8; 64], is_checked: bool) -> bool
 fn can_op_fail(entry: &[u8; 64]) -> bool
     ensures { result ≡ can_op_fail (op_at entry.now) (further_at entry.now) (flags_at entry.now) }
 {
-    let is_checked = u32_at(entry, 4) % (1 << 24) & 0x80 == 0x80;
+    let is_checked = Header::of(entry).flags.contains(FlagWord::CHECK_RESULT);
     match op_at(entry) {
         None => can_further_fail(entry, is_checked),
         Some(Op::Move { .. } | Op::Fill { .. } | Op::Dualcast { .. }) => false,
@@ -43,8 +45,9 @@ fn can_op_fail(entry: &[u8; 64]) -> bool
 fn can_fault(resident: bool, entry: &[u8; 64]) -> bool
     ensures { result ≡ can_fault resident (code_at entry.now) (flags_at entry.now) }
 {
-    let blocks = u32_at(entry, 4) % (1 << 24) & 0x02 == 0x02;
-    u32_at(entry, 4) >> 24 != 0 && !resident && !blocks
+    let header = Header::of(entry);
+    let blocks = header.flags.contains(FlagWord::BLOCK_ON_FAULT);
+    header.code != 0 && !resident && !blocks
 }
 
 /// Whether a member can fail, so that the next fence stops the rest of its batch: a compare that is checked, a delta, one

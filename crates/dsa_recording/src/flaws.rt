@@ -5,9 +5,11 @@ ghost use Rattle.dsa_ranges.specs.Ranges.{SpansConflict};
 ghost use Rattle.dsa_recording.specs.Entries.{entry_targets, entry_writes, records_of};
 ghost use Rattle.dsa_recording.specs.Flaws.{list_spans, IsInOwnDescriptor, OverwritesBatch, HasDataOverRecord, HasMisalignedRecord, AreFlaws, AreAllFlaws};
 
+use crate::entry::Header;
 use crate::member::{operands_of, records_of, touched_by};
 use arrayvec::ArrayVec;
-use dsa_descriptor::{Span, u32_at, u64_at};
+use bitflags::Flags;
+use dsa_descriptor::{FlagWord, Span, u64_at};
 use dsa_ranges::{Touched, in_conflict};
 use std::alloc::{AllocError, Global};
 
@@ -30,7 +32,7 @@ fn list_spans(head: &[u8; 64]) -> ArrayVec<Span, 3>
     let mut spans = ArrayVec::new();
     spans.push(Span {
         first: u64_at(head, 16),
-        len: 64 * u64::from(u32_at(head, 32)),
+        len: 64 * u64::from(Header::of(head).size),
     });
     spans
 }
@@ -84,7 +86,7 @@ fn record_meets_list(head: &[u8; 64], entry: &[u8; 64]) -> bool
 fn is_in_own_descriptor(head: &[u8; 64], k: usize, entry: &[u8; 64]) -> bool
     ensures { IsTrue result ↔ IsInOwnDescriptor head.now k entry.now }
 {
-    let (list, record) = (u64_at(head, 16), u64_at(entry, 8));
+    let (list, record) = (u64_at(head, 16), Header::of(entry).record_at);
     if record < list {
         return false;
     }
@@ -132,7 +134,8 @@ fn has_data_over_record(entry: &[u8; 64]) -> bool
 pub(crate) fn has_misaligned_record(entry: &[u8; 64]) -> bool
     ensures { IsTrue result ↔ HasMisalignedRecord entry.now }
 {
-    u32_at(entry, 4) % (1 << 24) & 0x04 == 0x04 && u64_at(entry, 8) % 32 != 0
+    let header = Header::of(entry);
+    header.flags.contains(FlagWord::RECORD_VALID) && header.record_at % 32 != 0
 }
 
 /// All that is wrong with an entry beside fences. If it is in a batch, it is member `k` of that, which has the descriptor

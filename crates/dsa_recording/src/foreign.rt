@@ -4,9 +4,10 @@ ghost use Rattle.std.specs.Prelude.{◌≢◌, ◌↔◌, All, IfOk, IsTrue, Mat
 ghost use Rattle.dsa_recording.specs.Foreign.{HasForeign, HasOwnMembers, IsForeign, LacksMembers, LacksSome};
 ghost use Rattle.dsa_recording.specs.Submissions.{IsWithin};
 
+use crate::entry::Header;
 use crate::stream::{StreamFault, Submission, read_stream};
 use crate::submission::head_at;
-use dsa_descriptor::{agree_on_owner, u32_at};
+use dsa_descriptor::agree_on_owner;
 use std::alloc::{AllocError, Global};
 
 /// What to do if members of batches are lacking.
@@ -29,7 +30,7 @@ fn is_foreign(head: &[u8; 64], entry: &[u8; 64]) -> bool
     if *entry == [0; 64] {
         return false;
     }
-    if u32_at(entry, 4) >> 24 == 1 {
+    if Header::of(entry).code == 1 {
         return true;
     }
     !agree_on_owner(head, entry)

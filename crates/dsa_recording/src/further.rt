@@ -1,11 +1,12 @@
 //! Operations beyond those of a plan: what they read and write, and their names.
 
 ghost use Rattle.std.specs.Prelude.{◌≡◌, ◌≤◌, ◌∷◌, []};
-ghost use Rattle.dsa_descriptor.specs.Places.{flags_at};
 ghost use Rattle.dsa_recording.specs.Furthers.{first_data, second_data, drain_at, create_delta_at, seed_at, block_at, insert_at, has_whole_fields, on_fields, strip_at, further_at, seed_spans, read_by, written_by, code_name};
 
+use crate::entry::Header;
 use arrayvec::ArrayVec;
-use dsa_descriptor::{Span, u32_at, u64_at};
+use bitflags::Flags;
+use dsa_descriptor::{FlagWord, Span, u32_at, u64_at};
 
 /// An operation that no plan has, with all that it reads and writes beside its completion record.
 #[derive(Clone, Copy, Debug, PartialEq, Eq)]
@@ -131,32 +132,28 @@ impl Further {
     }
 }
 
-/// The flags of an entry.
-pub(crate) fn flags_of(entry: &[u8; 64]) -> u32
-    ensures { result ≡ flags_at entry.now }
-{
-    u32_at(entry, 4) % (1 << 24)
-}
+/// That the seed of a checksum is in memory, at an address of the descriptor (specification 341204, CRC generation).
+const SEED_IN_MEMORY: FlagWord = FlagWord(0x01_0000);
 
 /// The first data of an entry.
 fn first_data(entry: &[u8; 64]) -> Span
     ensures { result ≡ first_data entry.now }
 {
-    Span::of(u64_at(entry, 16), u32_at(entry, 32))
+    Span::of(u64_at(entry, 16), Header::of(entry).size)
 }
 
 /// The second data of an entry.
 fn second_data(entry: &[u8; 64]) -> Span
     ensures { result ≡ second_data entry.now }
 {
-    Span::of(u64_at(entry, 24), u32_at(entry, 32))
+    Span::of(u64_at(entry, 24), Header::of(entry).size)
 }
 
 /// The operation of a drain, if it reads no address back.
 fn drain_at(entry: &[u8; 64]) -> Option<Further>
     ensures { result ≡ drain_at entry.now }
 {
-    if flags_of(entry) >> 16 == 0 {
+    if Header::of(entry).flags.0 >> 16 == 0 {
         Some(Further::Drain)
     } else {
         None
@@ -178,7 +175,7 @@ fn create_delta_at(entry: &[u8; 64]) -> Further
 fn seed_at(entry: &[u8; 64]) -> Option<Span>
     ensures { result ≡ seed_at entry.now }
 {
-    if flags_of(entry) & 0x01_0000 == 0x01_0000 {
+    if Header::of(entry).flags.contains(SEED_IN_MEMORY) {
         Some(Span::of(u64_at(entry, 48), 4))
     } else {
         None
@@ -207,14 +204,14 @@ fn block_at(entry: &[u8; 64]) -> u32
 fn has_whole_fields(entry: &[u8; 64]) -> bool
     ensures { result ≡ has_whole_fields entry.now }
 {
-    u32_at(entry, 32) % (block_at(entry) + 8) == 0
+    Header::of(entry).size % (block_at(entry) + 8) == 0
 }
 
 /// The operation of an entry that inserts fields, if its source has whole blocks.
 fn insert_at(entry: &[u8; 64]) -> Option<Further>
     ensures { result ≡ insert_at entry.now }
 {
-    let (size, block) = (u32_at(entry, 32), block_at(entry));
+    let (size, block) = (Header::of(entry).size, block_at(entry));
     if size % block != 0 {
         return None;
     }
@@ -232,7 +229,7 @@ fn insert_at(entry: &[u8; 64]) -> Option<Further>
 fn strip_at(entry: &[u8; 64]) -> Further
     ensures { result ≡ strip_at entry.now }
 {
-    let size = u32_at(entry, 32);
+    let size = Header::of(entry).size;
     let fields = 8 * (size / (block_at(entry) + 8));
     Further::DifStrip {
         src: first_data(entry),
@@ -258,7 +255,7 @@ pub fn further_at(entry: &[u8; 64]) -> Option<Further>
 {
     let (first, second) = (first_data(entry), second_data(entry));
     let seed = seed_at(entry);
-    match u32_at(entry, 4) >> 24 {
+    match Header::of(entry).code {
         0x02 => drain_at(entry),
         0x07 => Some(create_delta_at(entry)),
         0x0a => Some(Further::TranslationFetch),

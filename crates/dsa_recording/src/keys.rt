@@ -6,11 +6,11 @@ ghost use Rattle.dsa_recording.specs.Furthers.{code_name};
 ghost use Rattle.dsa_recording.specs.Keys.{batch_key, cause_key, entry_key, flaw_key, hazard_key, key_words, member_key, name_or_code, operation_name, other_key, others_key, place_key};
 
 use crate::detail::{Cause, Detail, named_by};
+use crate::entry::Header;
 use crate::entry_words::operation_text;
 use crate::findings::{Flaw, Place};
 use crate::further::code_name;
 use crate::words::unseen_text;
-use dsa_descriptor::u32_at;
 use dsa_ranges::HazardKind;
 use std::alloc::{AllocError, Global};
 
@@ -48,8 +48,8 @@ fn entry_key(alloc: Global, all: &[[u8; 64]], number: usize) -> Result<String, A
     let Some(entry) = all.get(number) else {
         return Ok(String::new(alloc));
     };
-    let (code, size) = (u32_at(entry, 4) >> 24, u32_at(entry, 32));
-    let name = operation_name(alloc, code as u8)?;
+    let Header { code, size, .. } = Header::of(entry);
+    let name = operation_name(alloc, code)?;
     format!(in alloc; "{name}, {size} bytes")
 }
 

@@ -7,11 +7,13 @@ ghost use Rattle.dsa_descriptor.specs.Places.{code_at, op_at, pasid_at, privileg
 ghost use Rattle.dsa_lines.specs.Text.{line_text};
 ghost use Rattle.dsa_recording.specs.Listings.{record_in_list, stand_in, is_clear, expecting_zero, is_apart_from_added, left_out, operation_line, plain_words, barrier_for, fence_line, known_line, member_line, member_lines, listing_text, AreEntries, StandInsConflict, ListingIsRead};
 
+use crate::entry::{Header, RECORD_REQUESTED};
 use crate::entry_words::operation_text;
 use crate::report::Report;
 use crate::words::unseen_text;
+use bitflags::Flags;
 use dsa_audit::{FenceUse, Member};
-use dsa_descriptor::{Op, Span, op_at, u32_at, u64_at};
+use dsa_descriptor::{Op, Span, op_at};
 use dsa_ranges::Touched;
 use std::alloc::{AllocError, Global};
 
@@ -23,8 +25,9 @@ fn record_in_list(entry: &[u8; 64], number: usize) -> u64
     requires { number < 2 ^ 58 }
     ensures { result ≡ record_in_list number entry.now }
 {
-    if u32_at(entry, 4) % (1 << 24) & 0x0c == 0x0c {
-        return u64_at(entry, 8);
+    let header = Header::of(entry);
+    if header.flags.contains(RECORD_REQUESTED) {
+        return header.record_at;
     }
     RECORDS + 32 * number as u64
 }
@@ -97,11 +100,11 @@ fn stand_in_text(
     ensures { IfOk result (λ line. string_bytes line ≡
         line_text (stand_in number entry.now op.now)) }
 {
-    let owner = u32_at(entry, 0);
+    let Header { owner, size, .. } = Header::of(entry);
     let record_at = record_in_list(entry, number);
     let (pasid, privileged) = (owner % (1 << 20), owner >> 31 == 1);
     let op = expecting_zero(*op);
-    dsa_lines::operation_line(alloc, &op, u32_at(entry, 32), record_at, pasid, privileged)
+    dsa_lines::operation_line(alloc, &op, size, record_at, pasid, privileged)
 }
 
 /// The line of the operation of an entry, with the entry's number.
@@ -135,8 +138,7 @@ fn plain_line(alloc: Global, number: usize, entry: &[u8; 64]) -> Result<String, 
     ensures { IfOk result (λ line. string_bytes line ≡
         left_out number (plain_words (code_at entry.now))) }
 {
-    let code = u32_at(entry, 4) >> 24;
-    let why = plain_text(alloc, code as u8)?;
+    let why = plain_text(alloc, Header::of(entry).code)?;
     left_out(alloc, number, &why)
 }
 
@@ -179,8 +181,7 @@ fn member_line(
     match member {
         Member::Known(touched) => known_line(alloc, count, number, entry, touched),
         Member::Unknown(why) => {
-            let code = u32_at(entry, 4) >> 24;
-            let words = unseen_text(alloc, *why, code as u8)?;
+            let words = unseen_text(alloc, *why, Header::of(entry).code)?;
             left_out(alloc, number, &words)
         }
     }

@@ -8,10 +8,12 @@ ghost use Rattle.dsa_audit.specs.declared.member.Unseen.{Unseen};
 ghost use Rattle.dsa_recording.specs.Furthers.{further_at};
 ghost use Rattle.dsa_recording.specs.Entries.{records_of, entry_reads, entry_results, entry_targets, entry_writes, is_checksum, status_records, value_records, Applies, IsFirstReason, IsMember, IsOperands, IsRecord, IsStatus, action_of};
 
+use crate::entry::Header;
 use crate::further::further_at;
 use arrayvec::ArrayVec;
+use bitflags::Flags;
 use dsa_audit::{Action, Member, Unseen};
-use dsa_descriptor::{Span, agree_on_owner, are_addressable, op_at, record_span, u32_at, u64_at};
+use dsa_descriptor::{FlagWord, Span, agree_on_owner, are_addressable, op_at, record_span};
 use dsa_ranges::Touched;
 
 /// All reasons, in the order in which they are looked for.
@@ -30,8 +32,9 @@ pub(crate) fn records_of(entry: &[u8; 64]) -> ArrayVec<Span, 3>
     ensures short { length result.items ≤ 1 }
 {
     let mut writes = ArrayVec::new();
-    if u32_at(entry, 4) % (1 << 24) & 0x04 == 0x04 {
-        writes.push(record_span(u64_at(entry, 8)));
+    let header = Header::of(entry);
+    if header.flags.contains(FlagWord::RECORD_VALID) {
+        writes.push(record_span(header.record_at));
     }
     writes
 }
@@ -40,7 +43,7 @@ pub(crate) fn records_of(entry: &[u8; 64]) -> ArrayVec<Span, 3>
 fn is_checksum(entry: &[u8; 64]) -> bool
     ensures { result ≡ is_checksum entry.now }
 {
-    let code = u32_at(entry, 4) >> 24;
+    let code = Header::of(entry).code;
     code == 0x10 || code == 0x11
 }
 
@@ -70,7 +73,7 @@ fn sources_of(entry: &[u8; 64]) -> ArrayVec<Span, 2>
     ensures { result.items ≡ entry_reads entry.now }
 {
     if let Some(op) = op_at(entry) {
-        return op.sources(u32_at(entry, 32));
+        return op.sources(Header::of(entry).size);
     }
     match further_at(entry) {
         Some(further) => further.sources(),
@@ -83,7 +86,7 @@ fn targets_of(entry: &[u8; 64]) -> ArrayVec<Span, 2>
     ensures { result.items ≡ entry_targets entry.now }
 {
     if let Some(op) = op_at(entry) {
-        return op.targets(u32_at(entry, 32));
+        return op.targets(Header::of(entry).size);
     }
     match further_at(entry) {
         Some(further) => further.targets(),
@@ -122,7 +125,7 @@ pub(crate) fn action_of(entry: &[u8; 64]) -> Action
 {
     Action {
         op: op_at(entry),
-        size: u32_at(entry, 32),
+        size: Header::of(entry).size,
     }
 }
 
@@ -185,13 +188,13 @@ fn is_unknown(entry: &[u8; 64]) -> bool
 fn applies(head: &[u8; 64], entry: &[u8; 64], why: Unseen) -> bool
     ensures { IsTrue result ↔ Applies head.now entry.now why }
 {
-    let code = u32_at(entry, 4) >> 24;
+    let Header { code, size, .. } = Header::of(entry);
     match why {
         Unseen::Blank => *entry == [0; 64],
         Unseen::Operation => code != 0 && code != 1 && is_unknown(entry),
         Unseen::Nested => code == 1,
         Unseen::Owner => !agree_on_owner(head, entry),
-        Unseen::Empty => code != 0 && code != 2 && u32_at(entry, 32) == 0,
+        Unseen::Empty => code != 0 && code != 2 && size == 0,
         Unseen::Wrap => !is_addressable(entry),
     }
 }

@@ -7,6 +7,7 @@ ghost use Rattle.dsa_recording.specs.Totals.{HasSums};
 
 use crate::costs::{has_price, submission_cost};
 use crate::detail::has_all_fences;
+use crate::entry::Header;
 use crate::entry_words::descriptor_text;
 use crate::further::code_name;
 use crate::marks::bar_before;
@@ -17,7 +18,7 @@ use crate::submission::Audited;
 use crate::totals::{totals_of, totals_text};
 use crate::words::unseen_text;
 use dsa_audit::Member;
-use dsa_descriptor::{op_at, u32_at};
+use dsa_descriptor::op_at;
 use dsa_drawing::{Bar, Buffer, Column, Group, Layout, MOST_ROWS, op_name};
 use dsa_settings::Settings;
 use std::alloc::{AllocError, Global};
@@ -81,8 +82,8 @@ fn entry_name(alloc: Global, entry: &[u8; 64]) -> Result<String, AllocError> {
     if let Some(op) = op_at(entry) {
         return String::from_str(alloc, op_name(&op));
     }
-    let code = u32_at(entry, 4) >> 24;
-    let name = code_name(code as u8);
+    let code = Header::of(entry).code;
+    let name = code_name(code);
     if name.is_empty() {
         format!(in alloc; "0x{code:02x}")
     } else {
@@ -109,8 +110,8 @@ fn drawn_member(
             has_record: !records_of(entry).is_empty(),
         }),
         Member::Unknown(why) => {
-            let code = u32_at(entry, 4) >> 24;
-            let (reason, unseen) = (unseen_name(*why), unseen_text(alloc, *why, code as u8)?);
+            let code = Header::of(entry).code;
+            let (reason, unseen) = (unseen_name(*why), unseen_text(alloc, *why, code)?);
             Ok(Column {
                 number,
                 name: format!(in alloc; "{name} ({reason})")?,

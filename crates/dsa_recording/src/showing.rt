@@ -1,45 +1,47 @@
 //! Of which members of a batch software can see that they have ended.
 
 ghost use Rattle.std.specs.Prelude.{◌≡◌, length, IfOk};
-ghost use Rattle.dsa_descriptor.specs.Places.{flags_at, op_at};
+ghost use Rattle.dsa_descriptor.specs.Places.{op_at};
 ghost use Rattle.dsa_recording.specs.Furthers.{further_at};
 ghost use Rattle.dsa_recording.specs.Showing.{writes_further, asks_interrupt, has_record, requests_record, writes_record, is_signal, writes_data, can_write, is_awaited_whole, is_marker, shows_beside_batch, can_show, AreVisible};
 
 use crate::assumptions::{Assumptions, Await};
+use crate::entry::{Header, RECORD_REQUESTED};
 use crate::failure::can_fail;
-use crate::further::{Further, flags_of, further_at};
+use crate::further::{Further, further_at};
+use bitflags::Flags;
 use dsa_audit::Member;
-use dsa_descriptor::{Op, op_at, u32_at};
+use dsa_descriptor::{FlagWord, Op, op_at};
 use std::alloc::{AllocError, Global};
 
 /// Whether the device raises an interrupt when the descriptor has ended.
-fn asks_interrupt(flags: u32) -> bool
-    ensures { result ≡ asks_interrupt flags }
+fn asks_interrupt(flags: FlagWord) -> bool
+    ensures { result ≡ asks_interrupt flags.0 }
 {
-    flags & 0x10 == 0x10
+    flags.contains(FlagWord::REQUEST_INTERRUPT)
 }
 
 /// Whether the descriptor requests a completion record.
-fn requests_record(flags: u32) -> bool
-    ensures { result ≡ requests_record flags }
+fn requests_record(flags: FlagWord) -> bool
+    ensures { result ≡ requests_record flags.0 }
 {
-    flags & 0x0c == 0x0c
+    flags.contains(RECORD_REQUESTED)
 }
 
 /// Whether a member can write its record: it requests it, or can fail and has one.
 fn writes_record(assumptions: Assumptions, member: &Member, entry: &[u8; 64]) -> bool
     ensures { result ≡ writes_record assumptions member.now entry.now }
 {
-    let flags = flags_of(entry);
+    let flags = Header::of(entry).flags;
     let is_written = requests_record(flags) || can_fail(assumptions, member, entry);
-    flags & 0x04 == 0x04 && is_written
+    flags.contains(FlagWord::RECORD_VALID) && is_written
 }
 
 /// Whether a member raises an interrupt, or can write its record.
 fn is_signal(assumptions: Assumptions, member: &Member, entry: &[u8; 64]) -> bool
     ensures { result ≡ is_signal assumptions member.now entry.now }
 {
-    asks_interrupt(flags_of(entry)) || writes_record(assumptions, member, entry)
+    asks_interrupt(Header::of(entry).flags) || writes_record(assumptions, member, entry)
 }
 
 /// Whether an operation that no plan has writes data.
@@ -82,16 +84,17 @@ fn can_write(member: &Member, entry: &[u8; 64]) -> bool
 fn is_awaited_whole(head: &[u8; 64]) -> bool
     ensures { result ≡ is_awaited_whole head.now }
 {
-    asks_interrupt(flags_of(head)) || requests_record(flags_of(head))
+    let flags = Header::of(head).flags;
+    asks_interrupt(flags) || requests_record(flags)
 }
 
 /// Whether software sees the end of a member beside that of its batch: by an interrupt, or the record of a no-op.
 fn shows_beside_batch(assumptions: Assumptions, member: &Member, entry: &[u8; 64]) -> bool
     ensures { result ≡ shows_beside_batch assumptions member.now entry.now }
 {
-    let code = u32_at(entry, 4) >> 24;
+    let Header { code, flags, .. } = Header::of(entry);
     let is_marker = code == 0 || code == 1;
-    asks_interrupt(flags_of(entry)) || is_marker && writes_record(assumptions, member, entry)
+    asks_interrupt(flags) || is_marker && writes_record(assumptions, member, entry)
 }
 
 /// Whether software can see that a member has ended, whose batch has the descriptor `head`.

@@ -6,9 +6,10 @@ ghost use Rattle.dsa_recording.specs.Dumps.{AnswersPortal, AnswersStaged};
 
 use crate::answer::{AuditAnswer, AuditOptions, audit_bytes};
 use crate::dumps::{Dump, LONGEST_STREAM, StagingFault, stage};
+use crate::entry::Header;
 use crate::forms::is_text;
 use crate::input::{bytes_of_text_input, refusal};
-use dsa_descriptor::{u32_at, u64_at};
+use dsa_descriptor::u64_at;
 use dsa_settings::Settings;
 use std::alloc::{AllocError, Global};
 
@@ -26,7 +27,7 @@ fn staging_text(alloc: Global, portal: &[u8], fault: StagingFault) -> Result<Str
         }
         StagingFault::Unstaged(at) => {
             let (size, address) = match all.get(at) {
-                Some(entry) => (u32_at(entry, 32), u64_at(entry, 16)),
+                Some(entry) => (Header::of(entry).size, u64_at(entry, 16)),
                 None => (0, 0),
             };
             format!(in alloc;

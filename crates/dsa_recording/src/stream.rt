@@ -6,7 +6,7 @@ ghost use Rattle.dsa_recording.specs.declared.stream.StreamFault.{StreamFault};
 ghost use Rattle.dsa_recording.specs.declared.stream.StreamFault.TheVariants.{Memory};
 ghost use Rattle.dsa_recording.specs.Streams.{submission_at, end_of, ReadsUpTo, ReadsStream, IsStreamFault, IsStop};
 
-use dsa_descriptor::u32_at;
+use crate::entry::Header;
 use std::alloc::{AllocError, AllocFailed, Global};
 
 /// A submission of a recording: a batch or a lone descriptor.
@@ -54,15 +54,15 @@ pub(crate) fn submission_at(all: &[[u8; 64]], at: usize) -> Option<Submission>
     ensures { MatchOption result (length all.now < end_of (submission_at all.now at))
         (λ s. (s ≡ submission_at all.now at) × (at < end_of s) × (end_of s ≤ length all.now)) }
 {
-    let entry = &all[at];
-    if u32_at(entry, 4) >> 24 != 1 {
+    let header = Header::of(&all[at]);
+    if header.code != 1 {
         return Some(Submission {
             first: at,
             size: 1,
             is_batch: false,
         });
     }
-    let size = u32_at(entry, 32) as usize;
+    let size = header.size as usize;
     if size > all.len() - (at + 1) {
         return None;
     }

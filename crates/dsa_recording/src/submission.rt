@@ -5,14 +5,16 @@ ghost use Rattle.dsa_recording.specs.Entries.{action_of};
 ghost use Rattle.dsa_recording.specs.Submissions.{head_at, is_fenced, IsWithin, AreMembers, AreOperands, IsAudited, AreAudited};
 
 use crate::assumptions::Assumptions;
+use crate::entry::Header;
 use crate::failure::fallible_of;
 use crate::flaws::{Flaws, all_flaws, has_misaligned_record};
 use crate::member::{action_of, member_of, operands_member};
 use crate::shared::shared_in;
 use crate::showing::visible_of;
 use crate::stream::Submission;
+use bitflags::Flags;
 use dsa_audit::{Action, Audit, Effects, Member, audit_fences};
-use dsa_descriptor::u32_at;
+use dsa_descriptor::FlagWord;
 use std::alloc::{AllocError, Global};
 
 /// A submission whose fences are audited.
@@ -59,7 +61,7 @@ pub(crate) fn head_at(submission: Submission) -> usize
 fn is_fenced(entry: &[u8; 64]) -> bool
     ensures { result ≡ is_fenced entry.now }
 {
-    u32_at(entry, 4) % (1 << 24) % 2 == 1
+    Header::of(entry).flags.contains(FlagWord::FENCE)
 }
 
 /// Whether each of the entries is fenced.

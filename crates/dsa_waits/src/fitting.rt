@@ -12,8 +12,7 @@ use crate::event::{Event, Queue};
 use crate::lines::{Line, LinesFault, Submitting, read_lines};
 use crate::recorded::{course_of, head_at};
 use crate::search::missing_waits;
-use dsa_descriptor::u32_at;
-use dsa_recording::Submission;
+use dsa_recording::{Header, Submission};
 use std::alloc::{AllocError, AllocFailed, Global};
 
 /// Why the line of an event does not fit a recording.
@@ -77,11 +76,11 @@ fn members_of(submission: Submission) -> usize
 }
 
 /// The operation code of a submission's descriptor.
-fn code_of(all: &[[u8; 64]], submission: Submission) -> u32
+fn code_of(all: &[[u8; 64]], submission: Submission) -> u8
     requires { head_at submission < length all.now }
     ensures { result ≡ code_at (slice_index_or all.now (head_at submission) []) }
 {
-    u32_at(&all[head_at(submission)], 4) >> 24
+    Header::of(&all[head_at(submission)]).code
 }
 
 /// Why the line of the submission after the first `made` ones does not fit.

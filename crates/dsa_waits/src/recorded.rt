@@ -1,7 +1,6 @@
 //! The course of a recording.
 
 ghost use Rattle.std.specs.Prelude.{◌≡◌, ◌<◌, ◌≤◌, All, IfOk, OnOk, if◌then◌else◌, length};
-ghost use Rattle.dsa_descriptor.specs.Places.{flags_at};
 ghost use Rattle.dsa_recording.specs.Entries.{records_of};
 ghost use Rattle.dsa_recording.specs.Streams.{ReadsUpTo, end_of};
 ghost use Rattle.dsa_recording.specs.Submissions.{head_at, is_fenced};
@@ -12,31 +11,25 @@ ghost use Rattle.dsa_waits.specs.Waits.{IsCourse, made_before};
 use crate::course::{Course, Entry, Made};
 use crate::event::{Event, Queue};
 use arrayvec::ArrayVec;
+use bitflags::Flags;
 use dsa_audit::Member;
-use dsa_descriptor::{Span, record_span, u32_at, u64_at};
+use dsa_descriptor::{FlagWord, Span, record_span, u64_at};
 use dsa_ranges::Touched;
-use dsa_recording::{Submission, member_of};
+use dsa_recording::{Header, RECORD_REQUESTED, Submission, member_of};
 use std::alloc::{AllocError, Global};
-
-/// The flags of an entry.
-fn flags_of(entry: &[u8; 64]) -> u32
-    ensures { result ≡ flags_at entry.now }
-{
-    u32_at(entry, 4) % (1 << 24)
-}
 
 /// Whether the entry asks for a completion record.
 fn asks_record(entry: &[u8; 64]) -> bool
     ensures { result ≡ asks_record entry.now }
 {
-    flags_of(entry) & 0x0c == 0x0c
+    Header::of(entry).flags.contains(RECORD_REQUESTED)
 }
 
 /// Whether the entry has a fence.
 fn is_fenced(entry: &[u8; 64]) -> bool
     ensures { result ≡ is_fenced entry.now }
 {
-    flags_of(entry) % 2 == 1
+    Header::of(entry).flags.contains(FlagWord::FENCE)
 }
 
 /// The entry of a submission's descriptor.
@@ -58,7 +51,7 @@ fn list_spans(head: &[u8; 64]) -> ArrayVec<Span, 3>
     if asks_record(head) {
         reads.push(Span {
             first: u64_at(head, 16),
-            len: 64 * u64::from(u32_at(head, 32)),
+            len: 64 * u64::from(Header::of(head).size),
         });
     }
     reads
@@ -69,8 +62,9 @@ fn records_of(head: &[u8; 64]) -> ArrayVec<Span, 3>
     ensures { result.items ≡ records_of head.now }
 {
     let mut writes = ArrayVec::new();
-    if flags_of(head) & 0x04 == 0x04 {
-        writes.push(record_span(u64_at(head, 8)));
+    let header = Header::of(head);
+    if header.flags.contains(FlagWord::RECORD_VALID) {
+        writes.push(record_span(header.record_at));
     }
     writes
 }
@@ -186,7 +180,7 @@ fn made_with(all: &[[u8; 64]], submission: Submission, queue: Queue, is_watched:
         first,
         end: submission.first + submission.size,
         queue,
-        is_drain: u32_at(&all[first], 4) >> 24 == 2,
+        is_drain: Header::of(&all[first]).code == 2,
         is_watched,
     }
 }

@@ -1,5 +1,8 @@
 -- What the parts of a recording come to, part by part.
 use Rattle.std.proofs.Common.{◌≡◌, ◌≢◌, ℕ, ◌+◌, inl, inr, true, false, List, [], ◌∷◌, ◌++◌, Option, Some, None, length, map, is_some, take, drop, take-append-drop, refl, sym, ap, subst, ◌∙◌, arith, length-append, append-nil, append_assoc}
+use Rattle.std.proofs.KnownBytes.{Consumes-trans}
+use Rattle.std.proofs.Math.Seq.{take-append_seam}
+use Rattle.std.specs.Io.KnownBytes.{Consumes}
 use Rattle.std.specs.Prelude.{Result, Ok, Err, OnOk}
 use Rattle.dsa_descriptor.specs.Lists.{entries}
 use Rattle.dsa_recording.specs.declared.answer.AuditAnswer.{AuditAnswer}
@@ -12,7 +15,9 @@ use Rattle.dsa_recording.specs.Forms.{IsText}
 use Rattle.dsa_recording.specs.Inputs.{AnswersInput}
 use Rattle.dsa_recording.specs.Inputs.SpellsRecording.{as_it_stands}
 use Rattle.dsa_recording.specs.Foreign.{AnswersEntries, HasOwnMembers, LacksMembers}
-use Rattle.dsa_recording.specs.Parts.{HasStatus, HasStatusAfter, IsSoFarBy}
+use Rattle.dsa_recording.specs.declared.reading.ReadFault.{ReadFault}
+use Rattle.dsa_recording.specs.declared.reading.ReadFault.TheVariants.{Failed, TooLong, Memory as NoMemory}
+use Rattle.dsa_recording.specs.Parts.{AnswersRead, AnswersWhole, HasStatus, HasStatusAfter, IsReadWhole, IsSoFarBy}
 use Rattle.dsa_recording.specs.Streams.{IsStreamFault, ReadsStream, ReadsUpTo, end_of, submission_at}
 use Rattle.dsa_recording.proofs.Chain.{whole_not_cut}
 use Rattle.dsa_recording.proofs.Extended.{reads_first, reads_second, status_joined}
@@ -105,3 +110,19 @@ read_on first more bytes buffer next part kept now there filled size whole is is
     ap (λ (l : List ℕ). l ++ kept) (part_is ∙ ap (take size) is) ∙ (ap (λ (l : List ℕ). take size buffer ++ l) (kept_is ∙ ap (drop size) is') ∙ take-append-drop size buffer) in
     sym (append_assoc first more next) ∙ (ap (λ (l : List ℕ). l ++ next) (whole ∙ ap (λ (l : List ℕ). bytes ++ l) (sym cut))
     ∙ (ap (λ (l : List ℕ). l ++ next) (sym (append_assoc bytes part kept)) ∙ (append_assoc (bytes ++ part) kept next ∙ ap (λ (l : List ℕ). (bytes ++ part) ++ l) (sym filled_is))))
+
+-- a recording that begins with a part which is a text is read as a whole
+is_read_whole : (options : AuditOptions) (first more : List ℕ) → IsText first → length first ≡ 1048576 → IsReadWhole options (first ++ more)
+is_read_whole options first more text full =
+    let part : take 1048576 (first ++ more) ≡ first = ap (λ n. take n (first ++ more)) (sym full) ∙ take-append_seam first more in
+    inr (subst IsText (sym part) text)
+
+-- what is read of it after that part is what is read of all
+pub read_whole : (options : AuditOptions) (old middle new : Option (List ℕ)) (first : List ℕ) (result : Result AuditAnswer ReadFault)
+    → Consumes old middle first → IsText first → length first ≡ 1048576 → AnswersWhole options first middle new result → AnswersRead options old new result
+read_whole options old middle new first (Ok answer) begun text full (more, read, ended, answers) =
+    (first ++ more, Consumes-trans old middle new first more begun read, ended, answers)
+read_whole options old middle new first (Err Failed) begun text full x = tt
+read_whole options old middle new first (Err TooLong) begun text full (more, read, long) =
+    (first ++ more, Consumes-trans old middle new first more begun read, long, is_read_whole options first more text full)
+read_whole options old middle new first (Err NoMemory) begun text full x = tt

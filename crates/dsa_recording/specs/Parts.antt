@@ -1,5 +1,5 @@
 -- A recording that comes in parts, each of whole submissions (this project's choice).
-use Rattle.std.specs.Prelude.{ℕ, ◌≡◌, ◌+◌, ◌≤◌, ◌⊎◌, max, Bool, false, IsTrue, List, ◌++◌, length, Option, Some, None, Result, Ok, Err}
+use Rattle.std.specs.Prelude.{ℕ, ◌≡◌, ◌+◌, ◌≤◌, ◌⊎◌, max, Bool, false, IsTrue, List, ◌++◌, length, take, Option, Some, None, Result, Ok, Err}
 use Rattle.std.specs.Io.KnownBytes.{Consumes, IsAtEnd}
 use Rattle.dsa_descriptor.specs.Lists.{entries}
 use Rattle.dsa_recording.specs.declared.answer.AuditAnswer.{AuditAnswer}
@@ -12,6 +12,7 @@ use Rattle.dsa_recording.specs.declared.reading.ReadFault.{ReadFault}
 use Rattle.dsa_recording.specs.declared.reading.ReadFault.TheVariants.{Failed, TooLong, Memory}
 use Rattle.dsa_recording.specs.Answers.{IsStatusOf}
 use Rattle.dsa_recording.specs.Foreign.{HasOwnMembers, LacksMembers}
+use Rattle.dsa_recording.specs.Forms.{IsText}
 use Rattle.dsa_recording.specs.Inputs.{AnswersInput}
 use Rattle.dsa_recording.specs.Reports.{IsReport, Reported}
 
@@ -19,13 +20,26 @@ use Rattle.dsa_recording.specs.Reports.{IsReport, Reported}
 abbrev pub longest_recording : ℕ
 longest_recording = 67108864
 
+-- a recording of bytes is audited in parts for the format
+abbrev pub IsStreamed : AuditFormat → Type 0
+IsStreamed Text = Unit
+IsStreamed Json = Unit
+IsStreamed Picture = ⊥
+IsStreamed Listed = ⊥
+IsStreamed Keys = Unit
+
+-- what begins so is read as a whole: bytes to draw or to list, and a text, of which the first MiB is looked at
+abbrev pub IsReadWhole : AuditOptions → List ℕ → Type 0
+IsReadWhole options bytes = (¬ IsStreamed options.format) ⊎ IsText (take 1048576 bytes)
+
 -- what a reading came to: the answer to all that the reader gave up to its end; or it gave too much for a whole; or it
 -- failed, or memory ran out
 abbrev pub AnswersRead : AuditOptions → Option (List ℕ) → Option (List ℕ) → Result AuditAnswer ReadFault → Type 0
 AnswersRead options old new (Ok answer) =
     (input : List ℕ) × Consumes old new input × IsAtEnd new × AnswersInput options input answer
 AnswersRead options old new (Err Failed) = Unit
-AnswersRead options old new (Err TooLong) = (bytes : List ℕ) × Consumes old new bytes × (length bytes ≡ longest_recording + 1)
+AnswersRead options old new (Err TooLong) =
+    (bytes : List ℕ) × Consumes old new bytes × (length bytes ≡ longest_recording + 1) × IsReadWhole options bytes
 AnswersRead options old new (Err Memory) = Unit
 
 -- the bytes are a recording, and this is the status of its report
@@ -35,14 +49,6 @@ pub record HasStatus (options : AuditOptions) (bytes : List ℕ) (status : ℕ) 
   pub is_status : IsStatusOf options (entries bytes) report status
 
 -- ---- for private clauses
-
--- a recording of bytes is audited in parts for the format
-abbrev pub IsStreamed : AuditFormat → Type 0
-IsStreamed Text = Unit
-IsStreamed Json = Unit
-IsStreamed Picture = ⊥
-IsStreamed Listed = ⊥
-IsStreamed Keys = Unit
 
 -- a part raises the status to its own
 pub record HasStatusAfter (options : AuditOptions) (part : List ℕ) (old new : ℕ) : Type 0 where

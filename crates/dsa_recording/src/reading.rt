@@ -1,7 +1,6 @@
 //! The answer to a recording that is read, as bytes in parts.
 
 ghost use Rattle.std.specs.Prelude.{◌≡◌, ◌↔◌, ◌≤◌, IsTrue, length};
-ghost use Rattle.std.specs.Io.KnownBytes.{IsAtEnd};
 ghost use Rattle.dsa_recording.specs.declared.reading.ReadFault.TheVariants.{Memory};
 ghost use Rattle.dsa_recording.specs.Forms.{IsText};
 ghost use Rattle.dsa_recording.specs.Parts.{AnswersAfter, AnswersRead, AnswersWhole, Fills, IsStreamed};
@@ -73,23 +72,20 @@ fn is_streamed(format: AuditFormat) -> bool
     }
 }
 
-/// The answer to a recording of bytes that begins with these, and after them has what the reader gives, if that has not
-/// ended.
+/// The answer to a recording of bytes that begins with these, and after them has what the reader gives.
 fn audit_parts<R: Read>(
     alloc: Global,
     reader: &mut R,
     first: Vec<u8>,
-    ended: bool,
     settings: &Settings,
     options: AuditOptions<'_>,
 ) -> Result<AuditAnswer, ReadFault>
     requires format { IsStreamed options.format }
     requires bytes { ¬ IsText first.items }
-    requires end { IsTrue ended → IsAtEnd (R.remaining reader.old) }
     ensures { AnswersAfter options.entry first.items
         (R.remaining reader.old) (R.remaining reader.new) result }
 {
-    let (mut buffer, mut ended) = (first, ended);
+    let (mut buffer, mut ended) = (first, false);
     let mut parts = Parts::new(alloc);
     for _ in 0..u64::MAX {
         if ended {
@@ -105,24 +101,19 @@ fn audit_parts<R: Read>(
     Err(ReadFault::Failed)
 }
 
-/// The answer to a recording that begins with these bytes, and after them has what the reader gives, if that has not ended.
-/// It is read as a whole.
+/// The answer to a recording that begins with these bytes, and after them has what the reader gives. It is read as
+/// a whole.
 fn audit_whole<R: Read>(
     alloc: Global,
     reader: &mut R,
     first: Vec<u8>,
-    ended: bool,
     settings: &Settings,
     options: AuditOptions<'_>,
 ) -> Result<AuditAnswer, ReadFault>
     requires few { length first.items ≤ PART }
-    requires end { IsTrue ended → IsAtEnd (R.remaining reader.old) }
     ensures { AnswersWhole options.entry first.items
         (R.remaining reader.old) (R.remaining reader.new) result }
 {
-    if ended {
-        return Ok(audit(alloc, &first, settings, options)?);
-    }
     let mut all = first;
     if fill(reader, &mut all, LONGEST + 1)? {
         return Ok(audit(alloc, &all, settings, options)?);
@@ -142,12 +133,14 @@ pub fn audit_read<R: Read>(
     ensures { AnswersRead options.entry (R.remaining reader.old) (R.remaining reader.new) result }
 {
     let mut first = Vec::new(alloc);
-    let ended = fill(reader, &mut first, PART)?;
+    if fill(reader, &mut first, PART)? {
+        return Ok(audit(alloc, &first, settings, options)?);
+    }
     if !is_streamed(options.format) {
-        return audit_whole(alloc, reader, first, ended, settings, options);
+        return audit_whole(alloc, reader, first, settings, options);
     }
     if is_text(&first) {
-        return audit_whole(alloc, reader, first, ended, settings, options);
+        return audit_whole(alloc, reader, first, settings, options);
     }
-    audit_parts(alloc, reader, first, ended, settings, options)
+    audit_parts(alloc, reader, first, settings, options)
 }

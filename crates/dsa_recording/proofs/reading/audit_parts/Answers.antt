@@ -1,4 +1,5 @@
-use Rattle.std.proofs.Common.{[], append-nil, refl, ◌∙◌}
+use Rattle.std.proofs.Common.{[], append-nil, refl, sym, ◌∙◌}
+use Rattle.std.proofs.lemmas.Bool.{true≢false}
 use Rattle.std.proofs.lemmas.List.{take_rest}
 use Rattle.std.proofs.KnownBytes.{Consumes-nil, Consumes-trans}
 use Rattle.dsa_recording.proofs.Streamed.{answered, read_on}
@@ -7,7 +8,7 @@ use Rattle.dsa_recording.proofs.reading.audit_parts.Goals as goal
 pub loop-init : goal.loop-init
 loop-init g c = record {
   read = ([], [], Consumes-nil _, append-nil c.args.first.items, c.new-parts.ensures c.args.options);
-  end = c.requires.end;
+  end = λ no. absurd (true≢false (sym no));
 }
 
 pub returns-then-ended : goal.returns-then-ended

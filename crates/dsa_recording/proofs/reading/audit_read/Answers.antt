@@ -15,7 +15,7 @@ returns-then-is_text g c =
     let most : length first ≤ max 1048576 0 = subst (λ n. length first ≤ max 1048576 n) none filled.5 in
     let full : length first ≡ 1048576 = omega arith in
     read_whole c.args.options _ _ _ first c.audit_whole-then-is_text.result
-      (subst (λ xs. Consumes (g.R.Read.remaining c.args.reader.now) (g.R.Read.remaining c.fill.new.reader) xs) (sym all) filled.1)
-      (subst IsText c.deref-2.ensures.value (c.if-is_text.ensures.0 refl))
-      full
-      c.audit_whole-then-is_text.ensures
+    (subst (λ xs. Consumes (g.R.Read.remaining c.args.reader.now) (g.R.Read.remaining c.fill.new.reader) xs) (sym all) filled.1)
+    (subst IsText c.deref-2.ensures.value (c.if-is_text.ensures.0 refl))
+    full
+    c.audit_whole-then-is_text.ensures

@@ -1,7 +1,7 @@
 -- A prepared submission as an array of rows of ten words each, which can be copied, shared and kept in a file (this
 -- project's choice). The rows are, in this order: the header, the regions, the ties, the entries of the portal, the entries
 -- of the staging area.
-use Rattle.std.specs.Prelude.{◌≡◌, ⊤, ℕ, ◌+◌, ◌-◌, ◌^◌, ◌<◌, ◌≤◌, ◌==◌, List, [], ◌∷◌, ◌++◌, drop, length, map, slice_index, slice_index_or, take, if◌then◌else◌}
+use Rattle.std.specs.Prelude.{◌≡◌, ⊤, ℕ, ◌+◌, ◌-◌, ◌^◌, ◌<◌, ◌≤◌, ◌↔◌, ◌==◌, List, [], ◌∷◌, ◌++◌, drop, length, map, slice_index, slice_index_or, take, if◌then◌else◌}
 use Rattle.std.specs.Int.{w64, from_le_bytes, to_le_bytes}
 use Rattle.dsa_descriptor.specs.declared.span.Span.{Span}
 use Rattle.dsa_descriptor.specs.Pieces.{most_pieces}
@@ -11,7 +11,8 @@ use Rattle.dsa_prepared.specs.declared.row.Row.{Row}
 use Rattle.dsa_prepared.specs.declared.tie.Tie.{Tie}
 use Rattle.dsa_prepared.specs.declared.word.Word.{Word}
 use Rattle.dsa_prepared.specs.declared.word.Word.TheVariants.{InRegion, InStaging, Fixed}
-use Rattle.dsa_prepared.specs.Sound.{IsSound}
+use Rattle.dsa_prepared.specs.Entries.{word_value}
+use Rattle.dsa_prepared.specs.Sound.{HasValue, IsSound, IsWithin}
 use Rattle.dsa_prepared.specs.Templates.{Template, template}
 
 -- ---- reading
@@ -109,6 +110,17 @@ pub record HaveHeader (rows : List Row) : Type 0 where
 pub record ArePrepared (rows : List Row) : Type 0 where
   pub header : HaveHeader rows
   pub sound : IsSound (template_in rows)
+
+-- words of this kind may have values up to `last` (private clauses alone cite this and the next ones)
+abbrev pub IsBound : List Span → ℕ → ℕ → Type 0
+IsBound rs kind last = (value : ℕ) → value < 2 ^ 64 → (IsWithin rs (word_in kind value) ↔ (value ≤ last))
+
+-- ---- filling
+
+-- words of this kind count from `origin`: a region's base, the staging area's address, or 0
+abbrev pub IsOrigin : List ℕ → ℕ → ℕ → ℕ → Type 0
+IsOrigin bases staging kind origin =
+    (value : ℕ) → HasValue bases staging (word_in kind value) → word_value bases staging (word_in kind value) ≡ origin + value
 
 -- ---- writing
 

@@ -14,7 +14,7 @@ ghost use Rattle.dsa_prepared.specs.Filling.{AllBelow, IsFirstNot, LiesBetween, 
 
 use crate::fault::FillFault;
 use crate::reading::{header_word, portal_rows, region_rows, staging_rows, tie_rows};
-use crate::row::Row;
+use crate::row::{Origins, Row};
 use crate::tie::Tie;
 use dsa_descriptor::Span;
 use dsa_settings::STAGED_LEN;
@@ -209,8 +209,9 @@ fn put_entries(buffer: &mut [u8], entries: &[Row], bases: &[u64], staging: u64)
     ensures { ArePut bases.now staging (map entry_in entries.now) (length entries.now)
         buffer.old buffer.new }
 {
+    let mut known = Origins::of_numbers();
     for k in 0..entries.len() {
-        entries[k].fill(bases, staging, buffer, 64 * k);
+        known = entries[k].fill(known, bases, staging, buffer, 64 * k);
     }
 }
 

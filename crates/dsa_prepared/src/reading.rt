@@ -1,8 +1,8 @@
 //! Reading the rows of a prepared submission.
 
-ghost use Rattle.std.specs.Prelude.{◌≡◌, ◌+◌, ◌^◌, ◌<◌, ◌≤◌, ◌↔◌, All, IsTrue, length, map};
+ghost use Rattle.std.specs.Prelude.{◌≡◌, ℕ, ◌+◌, ◌^◌, ◌<◌, ◌≤◌, ◌↔◌, All, IsTrue, MatchOption, length, map};
 ghost use Rattle.dsa_descriptor.specs.Pieces.{most_pieces};
-ghost use Rattle.dsa_prepared.specs.Rows.{ArePrepared, HaveHeader, entry_in, header_word, portal_rows, region_in, region_rows, staging_at, staging_rows, tie_in, tie_rows, unit_in, word_in};
+ghost use Rattle.dsa_prepared.specs.Rows.{ArePrepared, HaveHeader, IsBound, entry_in, header_word, portal_rows, region_in, region_rows, staging_at, staging_rows, tie_in, tie_rows, unit_in, word_in};
 ghost use Rattle.dsa_prepared.specs.Preparing.{region_at};
 ghost use Rattle.dsa_prepared.specs.Sound.{AreUnits, AreWithin, IsTieWithin, IsUnit, IsWithin};
 
@@ -142,20 +142,67 @@ fn is_within(regions: &[Row], region: u64, offset: u64) -> bool
     offset < regions[region as usize].words[1]
 }
 
-/// Whether the word's offset lies in its region, or in the staging area. One comparison tells the kinds of regions from the
-/// others, since 0 and 1 less 2 wrap to numbers that no region has.
-#[inline(always)]
-fn word_lies(regions: &[Row], kind: u64, value: u64) -> bool
-    requires { length regions.now + 1 < 2 ^ 64 }
-    ensures { IsTrue result ↔ IsWithin (map region_in regions.now) (word_in kind value) }
-{
-    if kind.wrapping_sub(2) < regions.len() as u64 {
-        return is_within(regions, kind - 2, value);
-    }
-    kind == 0 || (kind == 1 && value < STAGING_END)
+/// The greatest value that words of one kind may have.
+#[derive(Clone, Copy)]
+struct Bound {
+    kind: u64,
+    last: u64,
 }
 
-/// The same of the operation's own word, which is most often a number: that is tested first.
+/// The bound of words of this kind. None, if they may have no value. One comparison tells the kinds of regions from the others,
+/// since 0 and 1 less 2 wrap to numbers that no region has.
+#[inline(always)]
+fn bound_of(regions: &[Row], kind: u64) -> Option<Bound>
+    requires { length regions.now + 1 < 2 ^ 64 }
+    ensures { MatchOption result
+        ((value : ℕ) → ¬ IsWithin (map region_in regions.now) (word_in kind value))
+        (λ b. IsBound (map region_in regions.now) kind b.last × (b.kind ≡ kind)) }
+{
+    if kind.wrapping_sub(2) < regions.len() as u64 {
+        let len = regions[(kind - 2) as usize].words[1];
+        if len == 0 {
+            return None;
+        }
+        return Some(Bound {
+            kind,
+            last: len - 1,
+        });
+    }
+    match kind {
+        0 => Some(Bound {
+            kind,
+            last: u64::MAX,
+        }),
+        1 => Some(Bound {
+            kind,
+            last: STAGING_END - 1,
+        }),
+        _ => None,
+    }
+}
+
+/// The bound of a word of this kind and value, if its offset lies in its region or in the staging area: the known one, if
+/// that is of the same kind, as it is from entry to entry of most lists.
+#[inline(always)]
+fn bound_of_word(regions: &[Row], known: Bound, kind: u64, value: u64) -> Option<Bound>
+    requires few { length regions.now + 1 < 2 ^ 64 }
+    requires known { IsBound (map region_in regions.now) known.kind known.last }
+    ensures { MatchOption result (¬ IsWithin (map region_in regions.now) (word_in kind value))
+        (λ b. IsBound (map region_in regions.now) b.kind b.last
+        × IsWithin (map region_in regions.now) (word_in kind value)) }
+{
+    let mut bound = known;
+    if kind != known.kind {
+        bound = bound_of(regions, kind)?;
+    }
+    if value > bound.last {
+        return None;
+    }
+    Some(bound)
+}
+
+/// Whether the offset of the operation's own word lies in its region or in the staging area. Most often the word is a number:
+/// that is tested first.
 #[inline(always)]
 fn own_word_lies(regions: &[Row], kind: u64, value: u64) -> bool
     requires { length regions.now + 1 < 2 ^ 64 }
@@ -164,36 +211,67 @@ fn own_word_lies(regions: &[Row], kind: u64, value: u64) -> bool
     if kind == 0 {
         return true;
     }
-    word_lies(regions, kind, value)
+    match bound_of(regions, kind) {
+        Some(bound) => value <= bound.last,
+        None => false,
+    }
 }
 
-/// Whether each word of the entry does.
+/// The bounds of an entry's words, but for the operation's own.
+#[derive(Clone, Copy)]
+struct Bounds {
+    completion: Bound,
+    first: Bound,
+    second: Bound,
+}
+
+/// The bounds of the entry's words, if each word's offset lies in its region or in the staging area.
 #[inline(always)]
-fn entry_lies(regions: &[Row], entry: &Row) -> bool
-    requires { length regions.now + 1 < 2 ^ 64 }
-    ensures { IsTrue result ↔ AreWithin (map region_in regions.now) (entry_in entry.now) }
+fn bounds_of(regions: &[Row], known: Bounds, entry: &Row) -> Option<Bounds>
+    requires few { length regions.now + 1 < 2 ^ 64 }
+    requires completion { IsBound
+        (map region_in regions.now) known.completion.kind known.completion.last }
+    requires first { IsBound (map region_in regions.now) known.first.kind known.first.last }
+    requires second { IsBound (map region_in regions.now) known.second.kind known.second.last }
+    ensures { MatchOption result (¬ AreWithin (map region_in regions.now) (entry_in entry.now))
+        (λ b. IsBound (map region_in regions.now) b.completion.kind b.completion.last
+        × IsBound (map region_in regions.now) b.first.kind b.first.last
+        × IsBound (map region_in regions.now) b.second.kind b.second.last
+        × AreWithin (map region_in regions.now) (entry_in entry.now)) }
 {
-    if !word_lies(regions, entry.words[2], entry.words[3]) {
-        return false;
+    let words = &entry.words;
+    let completion = bound_of_word(regions, known.completion, words[2], words[3])?;
+    let first = bound_of_word(regions, known.first, words[4], words[5])?;
+    let second = bound_of_word(regions, known.second, words[6], words[7])?;
+    if !own_word_lies(regions, words[8], words[9]) {
+        return None;
     }
-    if !word_lies(regions, entry.words[4], entry.words[5]) {
-        return false;
-    }
-    if !word_lies(regions, entry.words[6], entry.words[7]) {
-        return false;
-    }
-    own_word_lies(regions, entry.words[8], entry.words[9])
+    Some(Bounds {
+        completion,
+        first,
+        second,
+    })
 }
 
-/// Whether each entry does.
+/// Whether the offsets of the words of each entry lie in their regions or in the staging area.
 fn entries_lie(regions: &[Row], entries: &[Row]) -> bool
     requires { length regions.now + 1 < 2 ^ 64 }
     ensures { IsTrue result ↔
         All (AreWithin (map region_in regions.now)) (map entry_in entries.now) }
 {
+    let number = Bound {
+        kind: 0,
+        last: u64::MAX,
+    };
+    let mut known = Bounds {
+        completion: number,
+        first: number,
+        second: number,
+    };
     for k in 0..entries.len() {
-        if !entry_lies(regions, &entries[k]) {
-            return false;
+        match bounds_of(regions, known, &entries[k]) {
+            Some(bounds) => known = bounds,
+            None => return false,
         }
     }
     true

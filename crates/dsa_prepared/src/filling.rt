@@ -6,7 +6,7 @@ ghost use Rattle.dsa_descriptor.specs.Spans.{Apart};
 ghost use Rattle.dsa_plan.specs.Settings.{Limits};
 ghost use Rattle.dsa_settings.specs.Staging.{staging_area};
 ghost use Rattle.dsa_prepared.specs.declared.fault.FillFault.{FillFault};
-ghost use Rattle.dsa_prepared.specs.Rows.{ArePrepared, entry_in, region_in, template_in, tie_in, unit_in};
+ghost use Rattle.dsa_prepared.specs.Rows.{ArePrepared, HaveHeader, entry_in, header_word, region_in, template_in, tie_in, unit_in};
 ghost use Rattle.dsa_prepared.specs.Sound.{ArePut, AreUnits, HasValues, IsUnit};
 ghost use Rattle.dsa_prepared.specs.Templates.{filled_portal, filled_staging};
 ghost use Rattle.dsa_prepared.specs.Preparing.{IsPreparedOf, region_at};
@@ -249,8 +249,85 @@ fn buffer_fault(
     None
 }
 
+/// Whether all regions go where they may, by one look at each: the bases rise or fall with the regions, and the staging area
+/// lies above or below them all. It can say no of others that may.
+#[inline(always)]
+fn are_in_place(regions: &[Row], bases: &[u64], area: Span) -> bool
+    requires based { length bases.now ≡ length regions.now }
+    requires units { AreUnits (map unit_in regions.now) }
+    ensures { IsTrue result →
+        AllBelow (length regions.now) (FitsAt (map region_in regions.now) bases.now)
+        × AllBelow (length regions.now)
+        (IsAlignedBase (map region_in regions.now) (map unit_in regions.now) bases.now)
+        × AllBelow (length regions.now)
+        (IsApartFromEarlier (map region_in regions.now) bases.now)
+        × AllBelow (length regions.now) (IsClearAt (map region_in regions.now) bases.now area) }
+{
+    let (mut bottom, mut top) = (u64::MAX, 0);
+    for i in 0..regions.len() {
+        let region = new_region(regions, bases, i);
+        let Some(end) = region.first.checked_add(region.len) else {
+            return false;
+        };
+        if region.first < top && end > bottom {
+            return false;
+        }
+        if !is_aligned(bases[i], regions[i].region().first, regions[i].unit()) {
+            return false;
+        }
+        bottom = bottom.min(region.first);
+        top = top.max(end);
+    }
+    is_beside(area, bottom, u128::from(top))
+}
+
+/// Where the descriptors of the pieces may be staged.
+#[inline(always)]
+fn area_of(rows: &[Row], staging: u64) -> Span
+    requires { HaveHeader rows.now }
+    ensures { result ≡ staging_area staging (header_word rows.now 6) }
+{
+    Span {
+        first: staging,
+        len: STAGED_LEN * header_word(rows, 6) as u64,
+    }
+}
+
+/// Whether the submission can be filled, by one look at each region and each tie. It can say no of others that can.
+#[inline(always)]
+fn can_fill(rows: &[Row], bases: &[u64], staging: u64) -> bool
+    requires prepared { ArePrepared rows.now }
+    requires based { HasBases (template_in rows.now) bases.now }
+    ensures { IsTrue result → CanFill (template_in rows.now) bases.now staging }
+{
+    if !is_staging(staging) {
+        return false;
+    }
+    match first_untied(tie_rows(rows), bases) {
+        Some(_) => return false,
+        None => (),
+    }
+    are_in_place(region_rows(rows), bases, area_of(rows, staging))
+}
+
 /// The first cause of where the regions and the staging area go.
 fn base_fault(rows: &[Row], bases: &[u64], staging: u64) -> Option<FillFault>
+    requires prepared { ArePrepared rows.now }
+    requires based { HasBases (template_in rows.now) bases.now }
+    ensures { MatchOption result (CanFill (template_in rows.now) bases.now staging)
+        (λ fault. (portal_len staging_len : ℕ) →
+        HasRoom (template_in rows.now) portal_len staging_len →
+        IsFirstFillFault (template_in rows.now) bases.now staging portal_len staging_len fault) }
+{
+    if can_fill(rows, bases, staging) {
+        return None;
+    }
+    first_base_fault(rows, bases, staging)
+}
+
+/// The same, by a look at all regions for each cause in its order.
+#[inline(never)]
+fn first_base_fault(rows: &[Row], bases: &[u64], staging: u64) -> Option<FillFault>
     requires prepared { ArePrepared rows.now }
     requires based { HasBases (template_in rows.now) bases.now }
     ensures { MatchOption result (CanFill (template_in rows.now) bases.now staging)
@@ -279,10 +356,7 @@ fn base_fault(rows: &[Row], bases: &[u64], staging: u64) -> Option<FillFault>
         Some((region, earlier)) => return Some(FillFault::RegionsMeet(region, earlier)),
         None => (),
     }
-    let area = Span {
-        first: staging,
-        len: STAGED_LEN * header_word(rows, 6) as u64,
-    };
+    let area = area_of(rows, staging);
     match first_in_area(regions, bases, area) {
         Some(region) => return Some(FillFault::StagingMeets(region)),
         None => (),

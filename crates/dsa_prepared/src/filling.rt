@@ -6,7 +6,7 @@ ghost use Rattle.dsa_descriptor.specs.Spans.{Apart};
 ghost use Rattle.dsa_plan.specs.Settings.{Limits};
 ghost use Rattle.dsa_settings.specs.Staging.{staging_area};
 ghost use Rattle.dsa_prepared.specs.declared.fault.FillFault.{FillFault};
-ghost use Rattle.dsa_prepared.specs.Rows.{ArePrepared, HaveHeader, entry_in, header_word, region_in, template_in, tie_in, unit_in};
+ghost use Rattle.dsa_prepared.specs.Rows.{AreOrigins, ArePrepared, HasKinds, HaveHeader, entry_in, header_word, region_in, row_at, template_in, tie_in, unit_in};
 ghost use Rattle.dsa_prepared.specs.Sound.{ArePut, AreUnits, HasValues, IsUnit};
 ghost use Rattle.dsa_prepared.specs.Templates.{filled_portal, filled_staging};
 ghost use Rattle.dsa_prepared.specs.Preparing.{IsPreparedOf, region_at};
@@ -200,6 +200,38 @@ fn is_staging(staging: u64) -> bool
     staging <= 1 << 63 && staging % 64 == 0
 }
 
+/// Writes the bytes of the entries from `start` on, as long as their words are of these kinds: up to which entry. Most lists
+/// have the same regions in entry after entry.
+#[inline(always)]
+fn put_alike(
+    buffer: &mut [u8],
+    entries: &[Row],
+    start: usize,
+    origins: &Origins,
+    bases: &[u64],
+    staging: u64,
+) -> usize
+    requires room { 64 * length entries.now ≤ length buffer.old }
+    requires inside { start < length entries.now }
+    requires kinds { HasKinds (row_at entries.now start) origins.now }
+    requires origins { AreOrigins bases.now staging origins.now }
+    requires values { All (HasValues bases.now staging) (map entry_in entries.now) }
+    ensures further { start < result }
+    ensures inside { result ≤ length entries.now }
+    ensures count { length buffer.new ≡ length buffer.old }
+    ensures put { (before : List ℕ) →
+        ArePut bases.now staging (map entry_in entries.now) start before buffer.old →
+        ArePut bases.now staging (map entry_in entries.now) result before buffer.new }
+{
+    for k in start..entries.len() {
+        if !entries[k].has_kinds(origins) {
+            return k;
+        }
+        entries[k].fill(origins, bases, staging, buffer, 64 * k);
+    }
+    entries.len()
+}
+
 /// Writes the bytes of the entries at the front of the buffer, and leaves the rest of it. It stays a call, so that its loop
 /// has all registers: in the caller it would read the bases' place from the stack for each word.
 #[inline(never)]
@@ -209,9 +241,10 @@ fn put_entries(buffer: &mut [u8], entries: &[Row], bases: &[u64], staging: u64)
     ensures { ArePut bases.now staging (map entry_in entries.now) (length entries.now)
         buffer.old buffer.new }
 {
-    let mut known = Origins::of_numbers();
-    for k in 0..entries.len() {
-        known = entries[k].fill(known, bases, staging, buffer, 64 * k);
+    let mut k = 0;
+    while k < entries.len() {
+        let origins = entries[k].origins(bases, staging);
+        k = put_alike(buffer, entries, k, &origins, bases, staging);
     }
 }
 

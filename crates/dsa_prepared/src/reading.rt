@@ -2,7 +2,7 @@
 
 ghost use Rattle.std.specs.Prelude.{◌≡◌, ℕ, ◌+◌, ◌^◌, ◌<◌, ◌≤◌, ◌↔◌, All, IsTrue, MatchOption, length, map};
 ghost use Rattle.dsa_descriptor.specs.Pieces.{most_pieces};
-ghost use Rattle.dsa_prepared.specs.Rows.{ArePrepared, HaveHeader, IsBound, entry_in, header_word, portal_rows, region_in, region_rows, staging_at, staging_rows, tie_in, tie_rows, unit_in, word_in};
+ghost use Rattle.dsa_prepared.specs.Rows.{AreBounds, ArePrepared, HaveHeader, IsBound, entry_in, header_word, portal_rows, region_in, region_rows, row_at, staging_at, staging_rows, tie_in, tie_rows, unit_in, word_in};
 ghost use Rattle.dsa_prepared.specs.Preparing.{region_at};
 ghost use Rattle.dsa_prepared.specs.Sound.{AreUnits, AreWithin, IsTieWithin, IsUnit, IsWithin};
 
@@ -181,76 +181,96 @@ fn bound_of(regions: &[Row], kind: u64) -> Option<Bound>
     }
 }
 
-/// The bound of a word of this kind and value, if its offset lies in its region or in the staging area: the known one, if
-/// that is of the same kind, as it is from entry to entry of most lists.
+/// The bound of a word of this kind and value, if its offset lies in its region or in the staging area.
 #[inline(always)]
-fn bound_of_word(regions: &[Row], known: Bound, kind: u64, value: u64) -> Option<Bound>
-    requires few { length regions.now + 1 < 2 ^ 64 }
-    requires known { IsBound (map region_in regions.now) known.kind known.last }
+fn bound_of_word(regions: &[Row], kind: u64, value: u64) -> Option<Bound>
+    requires { length regions.now + 1 < 2 ^ 64 }
     ensures { MatchOption result (¬ IsWithin (map region_in regions.now) (word_in kind value))
         (λ b. IsBound (map region_in regions.now) b.kind b.last
         × IsWithin (map region_in regions.now) (word_in kind value)) }
 {
-    let mut bound = known;
-    if kind != known.kind {
-        bound = bound_of(regions, kind)?;
-    }
+    let bound = bound_of(regions, kind)?;
     if value > bound.last {
         return None;
     }
     Some(bound)
 }
 
-/// Whether the offset of the operation's own word lies in its region or in the staging area. Most often the word is a number:
-/// that is tested first.
-#[inline(always)]
-fn own_word_lies(regions: &[Row], kind: u64, value: u64) -> bool
-    requires { length regions.now + 1 < 2 ^ 64 }
-    ensures { IsTrue result ↔ IsWithin (map region_in regions.now) (word_in kind value) }
-{
-    if kind == 0 {
-        return true;
-    }
-    match bound_of(regions, kind) {
-        Some(bound) => value <= bound.last,
-        None => false,
-    }
-}
-
-/// The bounds of an entry's words, but for the operation's own.
+/// The bounds of an entry's words.
 #[derive(Clone, Copy)]
 struct Bounds {
     completion: Bound,
     first: Bound,
     second: Bound,
+    own: Bound,
 }
 
 /// The bounds of the entry's words, if each word's offset lies in its region or in the staging area.
 #[inline(always)]
-fn bounds_of(regions: &[Row], known: Bounds, entry: &Row) -> Option<Bounds>
-    requires few { length regions.now + 1 < 2 ^ 64 }
-    requires completion { IsBound
-        (map region_in regions.now) known.completion.kind known.completion.last }
-    requires first { IsBound (map region_in regions.now) known.first.kind known.first.last }
-    requires second { IsBound (map region_in regions.now) known.second.kind known.second.last }
+fn bounds_of(regions: &[Row], entry: &Row) -> Option<Bounds>
+    requires { length regions.now + 1 < 2 ^ 64 }
     ensures { MatchOption result (¬ AreWithin (map region_in regions.now) (entry_in entry.now))
-        (λ b. IsBound (map region_in regions.now) b.completion.kind b.completion.last
-        × IsBound (map region_in regions.now) b.first.kind b.first.last
-        × IsBound (map region_in regions.now) b.second.kind b.second.last
+        (λ b. AreBounds (map region_in regions.now) b
         × AreWithin (map region_in regions.now) (entry_in entry.now)) }
 {
     let words = &entry.words;
-    let completion = bound_of_word(regions, known.completion, words[2], words[3])?;
-    let first = bound_of_word(regions, known.first, words[4], words[5])?;
-    let second = bound_of_word(regions, known.second, words[6], words[7])?;
-    if !own_word_lies(regions, words[8], words[9]) {
-        return None;
-    }
+    let completion = bound_of_word(regions, words[2], words[3])?;
+    let first = bound_of_word(regions, words[4], words[5])?;
+    let second = bound_of_word(regions, words[6], words[7])?;
+    let own = bound_of_word(regions, words[8], words[9])?;
     Some(Bounds {
         completion,
         first,
         second,
+        own,
     })
+}
+
+/// Whether the word is of the kind of the bound, and within it.
+#[inline(always)]
+fn is_bounded(bound: Bound, kind: u64, value: u64) -> bool
+    ensures kind { IsTrue result → kind ≡ bound.kind }
+    ensures value { IsTrue result → value ≤ bound.last }
+{
+    kind == bound.kind && value <= bound.last
+}
+
+/// Whether the entry's words are of the kinds of the bounds, and within them.
+#[inline(always)]
+fn are_bounded(regions: &[Row], bounds: Bounds, entry: &Row) -> bool
+    requires { AreBounds (map region_in regions.now) bounds }
+    ensures { IsTrue result → AreWithin (map region_in regions.now) (entry_in entry.now) }
+{
+    let words = &entry.words;
+    if !is_bounded(bounds.completion, words[2], words[3]) {
+        return false;
+    }
+    if !is_bounded(bounds.first, words[4], words[5]) {
+        return false;
+    }
+    if !is_bounded(bounds.second, words[6], words[7]) {
+        return false;
+    }
+    is_bounded(bounds.own, words[8], words[9])
+}
+
+/// From `start` on, the first entry whose words are not of the kinds of the bounds, or not within them. Most lists have the
+/// same regions in entry after entry.
+#[inline(always)]
+fn first_unbounded(regions: &[Row], bounds: Bounds, entries: &[Row], start: usize) -> usize
+    requires bounds { AreBounds (map region_in regions.now) bounds }
+    requires inside { start ≤ length entries.now }
+    ensures further { start ≤ result }
+    ensures inside { result ≤ length entries.now }
+    ensures lie { (k : ℕ) → start ≤ k → k < result → AreWithin (map region_in regions.now)
+        (entry_in (row_at entries.now k)) }
+{
+    for k in start..entries.len() {
+        if !are_bounded(regions, bounds, &entries[k]) {
+            return k;
+        }
+    }
+    entries.len()
 }
 
 /// Whether the offsets of the words of each entry lie in their regions or in the staging area.
@@ -259,18 +279,10 @@ fn entries_lie(regions: &[Row], entries: &[Row]) -> bool
     ensures { IsTrue result ↔
         All (AreWithin (map region_in regions.now)) (map entry_in entries.now) }
 {
-    let number = Bound {
-        kind: 0,
-        last: u64::MAX,
-    };
-    let mut known = Bounds {
-        completion: number,
-        first: number,
-        second: number,
-    };
-    for k in 0..entries.len() {
-        match bounds_of(regions, known, &entries[k]) {
-            Some(bounds) => known = bounds,
+    let mut k = 0;
+    while k < entries.len() {
+        match bounds_of(regions, &entries[k]) {
+            Some(bounds) => k = first_unbounded(regions, bounds, entries, k + 1),
             None => return false,
         }
     }

@@ -1,10 +1,10 @@
 //! Rows of ten words, of which a prepared submission is an array.
 
-ghost use Rattle.std.specs.Prelude.{◌≡◌, ℕ, ◌+◌, ◌≤◌, List, ◌++◌, drop, length, take};
+ghost use Rattle.std.specs.Prelude.{◌≡◌, ◌+◌, ◌≤◌, ◌↔◌, ◌++◌, drop, length, take, IsTrue};
 ghost use Rattle.dsa_prepared.specs.Entries.{filled_entry, word_value};
 ghost use Rattle.dsa_prepared.specs.Sound.{HasValue, HasValues};
 ghost use Rattle.std.specs.Int.{w64, from_le_bytes, to_le_bytes};
-ghost use Rattle.dsa_prepared.specs.Rows.{AreNumbered, IsNumbered, IsOrigin, entry_in, entry_row, kind_of, region_in, region_row, tie_in, tie_row, unit_in, value_of, word_in};
+ghost use Rattle.dsa_prepared.specs.Rows.{AreNumbered, AreOrigins, HasKinds, IsNumbered, IsOrigin, entry_in, entry_row, kind_of, region_in, region_row, tie_in, tie_row, unit_in, value_of, word_in};
 
 use crate::entry::Entry;
 use crate::tie::Tie;
@@ -26,62 +26,27 @@ pub(crate) struct Origin {
     pub(crate) origin: u64,
 }
 
+/// What words of this kind count from, as that of this value does: the region's base, the staging area's address, or 0.
+#[inline(always)]
+fn origin_of(kind: u64, value: u64, bases: &[u64], staging: u64) -> Origin
+    requires { HasValue bases.now staging (word_in kind value) }
+    ensures kind { result.kind ≡ kind }
+    ensures origin { IsOrigin bases.now staging result.kind result.origin }
+{
+    if kind >= 2 {
+        let origin = bases[(kind - 2) as usize];
+        return Origin { kind, origin };
+    }
+    let origin = if kind == 1 { staging } else { 0 };
+    Origin { kind, origin }
+}
+
 /// What the words of an entry count from, but for the operation's own.
 #[derive(Clone, Copy)]
 pub(crate) struct Origins {
     pub(crate) completion: Origin,
     pub(crate) first: Origin,
     pub(crate) second: Origin,
-}
-
-impl Origins {
-    /// Those of words that are numbers.
-    pub(crate) fn of_numbers() -> Origins
-        ensures { (bases : List ℕ) (staging : ℕ) →
-            IsOrigin bases staging result.completion.kind result.completion.origin
-            × IsOrigin bases staging result.first.kind result.first.origin
-            × IsOrigin bases staging result.second.kind result.second.origin }
-    {
-        let number = Origin { kind: 0, origin: 0 };
-        Origins {
-            completion: number,
-            first: number,
-            second: number,
-        }
-    }
-}
-
-/// What words of this kind count from, as that of this value does: the region's base, the staging area's address, or 0.
-#[inline(always)]
-fn origin_of(kind: u64, value: u64, bases: &[u64], staging: u64) -> u64
-    requires { HasValue bases.now staging (word_in kind value) }
-    ensures { IsOrigin bases.now staging kind result }
-{
-    if kind >= 2 {
-        return bases[(kind - 2) as usize];
-    }
-    if kind == 1 {
-        return staging;
-    }
-    0
-}
-
-/// What words of this kind count from: the known origin, if that is of the same kind, as it is from entry to entry of most
-/// lists.
-#[inline(always)]
-fn origin_for(known: Origin, kind: u64, value: u64, bases: &[u64], staging: u64) -> Origin
-    requires known { IsOrigin bases.now staging known.kind known.origin }
-    requires has { HasValue bases.now staging (word_in kind value) }
-    ensures kind { result.kind ≡ kind }
-    ensures origin { IsOrigin bases.now staging kind result.origin }
-{
-    if kind == known.kind {
-        return known;
-    }
-    Origin {
-        kind,
-        origin: origin_of(kind, value, bases, staging),
-    }
 }
 
 /// The number that the operation's own word stands for: most often its value, which is tested first.
@@ -93,7 +58,7 @@ fn own_value_in(kind: u64, value: u64, bases: &[u64], staging: u64) -> u64
     if kind == 0 {
         return value;
     }
-    origin_of(kind, value, bases, staging) + value
+    origin_of(kind, value, bases, staging).origin + value
 }
 
 /// Writes the number over the eight bytes from the place on. A loop, which is compiled to one store.
@@ -163,39 +128,57 @@ impl Row {
         }
     }
 
+    /// What the words of the entry that the row says count from, where the regions have these bases and the staging area this
+    /// address.
+    #[inline(always)]
+    pub(crate) fn origins(&self, bases: &[u64], staging: u64) -> Origins
+        requires { HasValues bases.now staging (entry_in self.now) }
+        ensures origins { AreOrigins bases.now staging result }
+        ensures kinds { HasKinds self.now result }
+    {
+        let words = &self.words;
+        Origins {
+            completion: origin_of(words[2], words[3], bases, staging),
+            first: origin_of(words[4], words[5], bases, staging),
+            second: origin_of(words[6], words[7], bases, staging),
+        }
+    }
+
+    /// Whether the words of the entry that the row says are of these kinds.
+    #[inline(always)]
+    pub(crate) fn has_kinds(&self, origins: &Origins) -> bool
+        ensures { IsTrue result ↔ HasKinds self.now origins.now }
+    {
+        let words = &self.words;
+        words[2] == origins.completion.kind
+            && words[4] == origins.first.kind
+            && words[6] == origins.second.kind
+    }
+
     /// Writes the bytes of the entry that the row says over those from the place on, where the regions have these bases and
-    /// the staging area this address. The answer is the origins of its words.
+    /// the staging area this address, and its words count from these origins.
     #[inline(always)]
     pub(crate) fn fill(
         &self,
-        known: Origins,
+        origins: &Origins,
         bases: &[u64],
         staging: u64,
         buffer: &mut [u8],
         place: usize,
-    ) -> Origins
+    )
+        requires kinds { HasKinds self.now origins.now }
+        requires origins { AreOrigins bases.now staging origins.now }
         requires values { HasValues bases.now staging (entry_in self.now) }
         requires room { place + 64 ≤ length buffer.old }
-        requires completion { IsOrigin bases.now staging
-            known.completion.kind known.completion.origin }
-        requires first { IsOrigin bases.now staging known.first.kind known.first.origin }
-        requires second { IsOrigin bases.now staging known.second.kind known.second.origin }
-        ensures written { buffer.new ≡ take place buffer.old
+        ensures { buffer.new ≡ take place buffer.old
             ++ (filled_entry bases.now staging (entry_in self.now)
             ++ drop (place + 64) buffer.old) }
-        ensures completion { IsOrigin bases.now staging
-            result.completion.kind result.completion.origin }
-        ensures first { IsOrigin bases.now staging result.first.kind result.first.origin }
-        ensures second { IsOrigin bases.now staging result.second.kind result.second.origin }
     {
         let words = &self.words;
-        let completion = origin_for(known.completion, words[2], words[3], bases, staging);
-        let first = origin_for(known.first, words[4], words[5], bases, staging);
-        let second = origin_for(known.second, words[6], words[7], bases, staging);
         put(buffer, place, words[0]);
-        put(buffer, place + 8, completion.origin + words[3]);
-        put(buffer, place + 16, first.origin + words[5]);
-        put(buffer, place + 24, second.origin + words[7]);
+        put(buffer, place + 8, origins.completion.origin + words[3]);
+        put(buffer, place + 16, origins.first.origin + words[5]);
+        put(buffer, place + 24, origins.second.origin + words[7]);
         put(buffer, place + 32, words[1]);
         put(
             buffer,
@@ -204,11 +187,6 @@ impl Row {
         );
         put(buffer, place + 48, 0);
         put(buffer, place + 56, 0);
-        Origins {
-            completion,
-            first,
-            second,
-        }
     }
 }
 

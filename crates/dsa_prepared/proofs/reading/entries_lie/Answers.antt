@@ -1,5 +1,5 @@
-use Rattle.std.proofs.Common.{below_more, refl, map, arith}
-use Rattle.std.proofs.lemmas.Bool.{false≢true}
+use Rattle.std.proofs.Common.{inl, inr, refl, map, arith}
+use Rattle.std.proofs.lemmas.Bool.{cases_lt, cases_eq, false≢true}
 use Rattle.dsa_prepared.specs.Sound.{AreWithin}
 use Rattle.dsa_prepared.specs.Rows.{region_in, entry_in}
 use Rattle.dsa_prepared.proofs.RowChecks.{all_read, one_read}
@@ -12,9 +12,15 @@ returns-in-None c = (
 )
 
 pub loop-k-preserved : goal.loop-k-preserved
-loop-k-preserved c =
-    let made = c.in-Some.ensures in
-    record { lie = below_more _ _ c.loop-k.invariant.lie made.3; completion = made.0; first = made.1; second = made.2 }
+loop-k-preserved c = λ j lt.
+    elim (cases_lt j c.loop-k.k) [
+      | inl early ↦ c.loop-k.invariant j early
+      | inr late ↦
+          elim (cases_eq j c.loop-k.k) [
+            | inl here ↦ rw here c.in-Some.ensures.1
+            | inr past ↦ c.first_unbounded-k.ensures.lie j (omega (arith, late, past)) lt
+          ]
+    ]
 
 pub returns : goal.returns
-returns c = (λ yes. all_read (AreWithin (map region_in c.args.regions.now)) entry_in c.args.entries.now (λ k lt. c.loop-k.invariant.lie k (omega (arith, lt, c.loop-k-test.false))), λ all. refl)
+returns c = (λ yes. all_read (AreWithin (map region_in c.args.regions.now)) entry_in c.args.entries.now (λ k lt. c.loop-k.invariant k (omega (arith, lt, c.loop-k-test.false))), λ all. refl)

@@ -1,27 +1,27 @@
 use Rattle.std.proofs.Common.{◌≡◌, ◌+◌, ◌++◌, List, ℕ, [], take, drop, get_or, refl, sym, ap, ◌∙◌, arith}
 use Rattle.std.specs.Int.{w64, to_le_bytes}
 use Rattle.std.proofs.lemmas.List.{take-append-drop}
-use Rattle.dsa_prepared.proofs.Put.{word_more}
+use Rattle.dsa_prepared.proofs.Put.{word_counts, word_more}
 use Rattle.dsa_prepared.proofs.row.Row.fill.Goals as goal
 
-pub returns-clause-written : goal.returns-clause-written
-returns-clause-written c =
+pub returns : goal.returns
+returns c =
     let old : List ℕ = c.args.buffer.now in
     let place : ℕ = c.args.place in
     let words : List ℕ = c.args.self.now.words in
     let here : place ≡ place + 0 = omega arith in
     let none : old ≡ take place old ++ ([] ++ drop (place + 0) old) = sym (take-append-drop place old) ∙ ap (λ (n : ℕ). take place old ++ drop n old) here in
     let part0 : List ℕ = to_le_bytes w64 (get_or words 0 0) in
-    let part1 : List ℕ = to_le_bytes w64 (c.origin_for-completion.result.origin + get_or words 3 0) in
-    let part2 : List ℕ = to_le_bytes w64 (c.origin_for-first.result.origin + get_or words 5 0) in
-    let part3 : List ℕ = to_le_bytes w64 (c.origin_for-second.result.origin + get_or words 7 0) in
+    let part1 : List ℕ = to_le_bytes w64 (c.args.origins.now.completion.origin + get_or words 3 0) in
+    let part2 : List ℕ = to_le_bytes w64 (c.args.origins.now.first.origin + get_or words 5 0) in
+    let part3 : List ℕ = to_le_bytes w64 (c.args.origins.now.second.origin + get_or words 7 0) in
     let part4 : List ℕ = to_le_bytes w64 (get_or words 1 0) in
     let part5 : List ℕ = to_le_bytes w64 c.own_value_in.result in
     let part6 : List ℕ = to_le_bytes w64 0 in
     let part7 : List ℕ = to_le_bytes w64 0 in
-    let completion = sym (c.origin_for-completion.ensures.origin (get_or words 3 0) c.requires.values.completion) in
-    let first = sym (c.origin_for-first.ensures.origin (get_or words 5 0) c.requires.values.first) in
-    let second = sym (c.origin_for-second.ensures.origin (get_or words 7 0) c.requires.values.second) in
+    let completion = sym (word_counts c.args.bases.now c.args.staging (get_or words 2 0) c.args.origins.now.completion.kind c.args.origins.now.completion.origin (get_or words 3 0) c.requires.origins.completion c.requires.kinds.completion c.requires.values.completion) in
+    let first = sym (word_counts c.args.bases.now c.args.staging (get_or words 4 0) c.args.origins.now.first.kind c.args.origins.now.first.origin (get_or words 5 0) c.requires.origins.first c.requires.kinds.first c.requires.values.first) in
+    let second = sym (word_counts c.args.bases.now c.args.staging (get_or words 6 0) c.args.origins.now.second.kind c.args.origins.now.second.origin (get_or words 7 0) c.requires.origins.second c.requires.kinds.second c.requires.values.second) in
     let done0 : List ℕ = [] in
     let done1 : List ℕ = done0 ++ part0 in
     let done2 : List ℕ = done1 ++ part1 in

@@ -15,13 +15,14 @@ ghost use Rattle.dsa_prepared.specs.Filling.{AllBelow, IsFirstNot, LiesBetween, 
 use crate::fault::FillFault;
 use crate::reading::{header_word, portal_rows, region_rows, staging_rows, tie_rows};
 use crate::row::{Origins, Row};
+use crate::sorted::are_apart;
 use crate::tie::Tie;
 use dsa_descriptor::Span;
 use dsa_settings::STAGED_LEN;
 
 /// The region of that number at its new base.
 #[inline(always)]
-fn new_region(regions: &[Row], bases: &[u64], region: usize) -> Span
+pub(crate) fn new_region(regions: &[Row], bases: &[u64], region: usize) -> Span
     requires inside { region < length regions.now }
     requires based { region < length bases.now }
     ensures { result ≡ new_region (map region_in regions.now) bases.now region }
@@ -156,6 +157,22 @@ fn first_met(regions: &[Row], bases: &[u64], region: usize, bottom: u64, top: u1
 
 /// The first region that has an address in common with an earlier one, and the first such.
 fn first_meeting(regions: &[Row], bases: &[u64]) -> Option<(usize, usize)>
+    requires { length bases.now ≡ length regions.now }
+    ensures { MatchOption result
+        (AllBelow (length regions.now)
+        (IsApartFromEarlier (map region_in regions.now) bases.now))
+        (λ p. IsFirstNot (length regions.now)
+        (IsApartFromEarlier (map region_in regions.now) bases.now) p.0
+        × IsFirstNot p.0 (AreApartAt (map region_in regions.now) bases.now p.0) p.1) }
+{
+    if are_apart(regions, bases) {
+        return None;
+    }
+    first_meeting_by_pairs(regions, bases)
+}
+
+/// The same, by a look at each two regions of which the later one lies among the earlier ones.
+fn first_meeting_by_pairs(regions: &[Row], bases: &[u64]) -> Option<(usize, usize)>
     requires { length bases.now ≡ length regions.now }
     ensures { MatchOption result
         (AllBelow (length regions.now)

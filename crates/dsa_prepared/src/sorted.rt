@@ -7,6 +7,9 @@ ghost use Rattle.dsa_prepared.specs.Rows.{region_in};
 use crate::filling::new_region;
 use crate::row::Row;
 
+/// The fewest regions that are sorted: of fewer, a look at each two is faster.
+const FEWEST_SORTED: usize = 17;
+
 /// The most regions that are sorted. Their numbers lie on the stack, since filling allocates nothing.
 const MOST_SORTED: usize = 1024;
 
@@ -83,8 +86,8 @@ fn are_ranks(order: &[u16], ranks: &[u16]) -> bool
     true
 }
 
-/// Whether no two regions have an address in common. It can say no of others, if there are more than are sorted or one is
-/// empty.
+/// Whether no two regions have an address in common. It can say no of others, if there are too few or too many to
+/// sort, or one is empty.
 #[inline(never)]
 pub(crate) fn are_apart(regions: &[Row], bases: &[u64]) -> bool
     requires { length bases.now ≡ length regions.now }
@@ -92,6 +95,9 @@ pub(crate) fn are_apart(regions: &[Row], bases: &[u64]) -> bool
         (IsApartFromEarlier (map region_in regions.now) bases.now) }
 {
     let count = regions.len();
+    if count < FEWEST_SORTED {
+        return false;
+    }
     if count > MOST_SORTED {
         return false;
     }

@@ -256,8 +256,8 @@ def main(words):
         sys.exit(0)
     make.need_proved("libdsa_c.a")
     with tempfile.TemporaryDirectory() as WORK:
-        parts = [header, examples, calls, fenced, resumed, texts, chains, prepared, regions, tracked, flights, in_flight, recorder]
-        parts += [random_lists, speed]
+        parts = [header, examples, calls, fenced, resumed, texts, chains, prepared, regions, tracked, flights]
+        parts += [in_flight, recorder, random_lists, speed]
         for part in named(parts, words):
             part()
 

@@ -10,7 +10,8 @@
 
 enum { MOST = 400, MOST_BATCH = 128 };
 
-static uint8_t list[64 * MOST], portal[64 * MOST], staging[80 * MOST], other_portal[64 * MOST], other_staging[80 * MOST];
+static uint8_t list[64 * MOST], portal[64 * MOST], staging[80 * MOST];
+static uint8_t other_portal[64 * MOST], other_staging[80 * MOST];
 static uint64_t target[MOST], source[MOST], table[MOST_BATCH], costs[MOST + 1];
 static uint64_t seed;
 
@@ -90,7 +91,8 @@ static uint64_t least_cost(uint64_t n, const struct dsa_settings *s)
     return costs[n];
 }
 
-static void fail(const char *what, uint64_t shape, uint64_t n, const struct dsa_settings *s, uint64_t got, uint64_t wanted)
+static void fail(const char *what, uint64_t shape, uint64_t n, const struct dsa_settings *s, uint64_t got,
+                 uint64_t wanted)
 {
     printf("%s: shape %" PRIu64 ", %" PRIu64 " moves, batch %" PRIu64 ", prices %" PRIu64 " %" PRIu64 " %" PRIu64
            ": %" PRIu64 ", not %" PRIu64 "\n",
@@ -114,8 +116,8 @@ static void one_list(void)
         table[k] = s.batch;
     if (dsa_plan_list(&s, table, 0, list, 64 * n, portal, sizeof portal, staging, sizeof staging, &one, &r))
         fail("refused", shape, n, &s, r.number, 0);
-    if (dsa_plan_list(&sized, table, s.greatest_batch - 1, list, 64 * n, other_portal, sizeof other_portal, other_staging,
-                      sizeof other_staging, &other, &r))
+    if (dsa_plan_list(&sized, table, s.greatest_batch - 1, list, 64 * n, other_portal, sizeof other_portal,
+                      other_staging, sizeof other_staging, &other, &r))
         fail("refused with a table", shape, n, &s, r.number, 0);
     costs[0] = 0;
     if (one.cost != least_cost(n, &s))

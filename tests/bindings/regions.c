@@ -1,5 +1,5 @@
-/* Fills one prepared move over many regions whose bases are in any order, some of which meet, and compares each answer with
- * a plain look at each two: regions FILLS SEED. */
+/* Fills one prepared move over many regions whose bases are in any order, some of which meet, and compares each answer
+ * with a plain look at each two: regions FILLS SEED. */
 #include <inttypes.h>
 #include <stdio.h>
 #include <stdlib.h>
@@ -27,8 +27,8 @@ static void put(uint8_t *at, uint64_t value)
         at[i] = (uint8_t)(value >> (8 * i));
 }
 
-/* Regions of up to 4,096 bytes, some of them empty, and bases in old order, in the opposite one or shuffled; at times two
- * of them meet, or one lies in the staging area. */
+/* Regions of up to 4,096 bytes, some of them empty, and bases in old order, in the opposite one or shuffled; at times
+ * two of them meet, or one lies in the staging area. */
 static void make(uint64_t n)
 {
     uint64_t order = below(4);
@@ -53,7 +53,8 @@ static int meet(uint64_t a, uint64_t a_len, uint64_t b, uint64_t b_len)
     return a_len > 0 && b_len > 0 && a < b + b_len && b < a + a_len;
 }
 
-/* The first cause, by a look at each two: its number and indices. Only the first region, which has the record, has a unit. */
+/* The first cause, by a look at each two: its number and indices. Only the first region, which has the record, has a
+ * unit. */
 static struct dsa_refusal wanted(uint64_t n)
 {
     struct dsa_refusal r = {0};
@@ -91,8 +92,8 @@ static void one_fill(void)
         code = dsa_fill(rows, info.rows, bases, n, STAGING, portal, sizeof portal, staging, sizeof staging, &r);
     const struct dsa_refusal w = wanted(n);
     if (code != w.number || (code != 0 && (r.first != w.first || r.second != w.second))) {
-        printf("%" PRIu64 " regions: %u %" PRIu64 " %" PRIu64 ", not %u %" PRIu64 " %" PRIu64 "\n", n, code, r.first, r.second,
-               w.number, w.first, w.second);
+        printf("%" PRIu64 " regions: %u %" PRIu64 " %" PRIu64 ", not %u %" PRIu64 " %" PRIu64 "\n", n, code, r.first,
+               r.second, w.number, w.first, w.second);
         exit(EXIT_FAILURE);
     }
 }

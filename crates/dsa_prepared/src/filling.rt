@@ -137,8 +137,8 @@ fn is_beside(region: Span, bottom: u64, top: u128) -> bool
     region.end() <= u128::from(bottom)
 }
 
-/// The same as [`first_earlier`], where the earlier regions lie from `bottom` to before `top`. It looks at them where the
-/// region does not lie beside all of them: not at all, if bases rise or fall with the regions.
+/// The same as [`first_earlier`], where the earlier regions lie from `bottom` to before `top`. It looks at them where
+/// the region does not lie beside all of them: not at all, if bases rise or fall with the regions.
 #[inline(always)]
 fn first_met(regions: &[Row], bases: &[u64], region: usize, bottom: u64, top: u128) -> Option<usize>
     requires inside { region < length regions.now }
@@ -217,8 +217,8 @@ fn is_staging(staging: u64) -> bool
     staging <= 1 << 63 && staging % 64 == 0
 }
 
-/// Writes the bytes of the entries from `start` on, as long as their words are of these kinds: up to which entry. Most lists
-/// have the same regions in entry after entry.
+/// Writes the bytes of the entries from `start` on, as long as their words are of these kinds: up to which entry.
+/// Most lists have the same regions in entry after entry.
 #[inline(always)]
 fn put_alike(
     buffer: &mut [u8],
@@ -249,8 +249,8 @@ fn put_alike(
     entries.len()
 }
 
-/// Writes the bytes of the entries at the front of the buffer, and leaves the rest of it. It stays a call, so that its loop
-/// has all registers: in the caller it would read the bases' place from the stack for each word.
+/// Writes the bytes of the entries at the front of the buffer, and leaves the rest of it. It stays a call, so that
+/// its loop has all registers: in the caller it would read the bases' place from the stack for each word.
 #[inline(never)]
 fn put_entries(buffer: &mut [u8], entries: &[Row], bases: &[u64], staging: u64)
     requires room { 64 * length entries.now ≤ length buffer.old }
@@ -299,8 +299,8 @@ fn buffer_fault(
     None
 }
 
-/// Whether all regions go where they may, by one look at each: the bases rise or fall with the regions, and the staging area
-/// lies above or below them all. It can say no of others that may.
+/// Whether all regions go where they may, by one look at each: the bases rise or fall with the regions, and the
+/// staging area lies above or below them all. It can say no of others that may.
 #[inline(always)]
 fn are_in_place(regions: &[Row], bases: &[u64], area: Span) -> bool
     requires based { length bases.now ≡ length regions.now }

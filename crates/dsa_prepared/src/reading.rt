@@ -149,8 +149,8 @@ struct Bound {
     last: u64,
 }
 
-/// The bound of words of this kind. None, if they may have no value. One comparison tells the kinds of regions from the others,
-/// since 0 and 1 less 2 wrap to numbers that no region has.
+/// The bound of words of this kind. None, if they may have no value. One comparison tells the kinds of regions from
+/// the others, since 0 and 1 less 2 wrap to numbers that no region has.
 #[inline(always)]
 fn bound_of(regions: &[Row], kind: u64) -> Option<Bound>
     requires { length regions.now + 1 < 2 ^ 64 }
@@ -254,8 +254,8 @@ fn are_bounded(regions: &[Row], bounds: Bounds, entry: &Row) -> bool
     is_bounded(bounds.own, words[8], words[9])
 }
 
-/// From `start` on, the first entry whose words are not of the kinds of the bounds, or not within them. Most lists have the
-/// same regions in entry after entry.
+/// From `start` on, the first entry whose words are not of the kinds of the bounds, or not within them. Most lists
+/// have the same regions in entry after entry.
 #[inline(always)]
 fn first_unbounded(regions: &[Row], bounds: Bounds, entries: &[Row], start: usize) -> usize
     requires bounds { AreBounds (map region_in regions.now) bounds }

@@ -128,8 +128,8 @@ impl Row {
         }
     }
 
-    /// What the words of the entry that the row says count from, where the regions have these bases and the staging area this
-    /// address.
+    /// What the words of the entry that the row says count from, where the regions have these bases and the staging
+    /// area this address.
     #[inline(always)]
     pub(crate) fn origins(&self, bases: &[u64], staging: u64) -> Origins
         requires { HasValues bases.now staging (entry_in self.now) }
@@ -155,8 +155,8 @@ impl Row {
             && words[6] == origins.second.kind
     }
 
-    /// Writes the bytes of the entry that the row says over those from the place on, where the regions have these bases and
-    /// the staging area this address, and its words count from these origins.
+    /// Writes the bytes of the entry that the row says over those from the place on, where the regions have these
+    /// bases and the staging area this address, and its words count from these origins.
     #[inline(always)]
     pub(crate) fn fill(
         &self,

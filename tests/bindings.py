@@ -137,6 +137,16 @@ def prepared():
     tried("the ring of docs/USING.md", [compiled("bindings/c/ring.c")], block_after("docs/USING.md", "It prints", ""))
 
 
+def chains():
+    """Random chains cost what a plain model says, and have the plan that a table of equal prices leads to."""
+    tried("chains", [compiled("tests/bindings/chains.c"), os.environ.get("CHAINS", "20000"), "20261127"])
+
+
+def regions():
+    """Bases in any order are refused as a look at each two regions says, around the counts that are sorted."""
+    tried("regions", [compiled("tests/bindings/regions.c"), os.environ.get("REGIONS", "5000"), "20261127"])
+
+
 def tracked():
     """Calls of a tracker on words that nobody began, and sequences of them by the Python module beside a model."""
     source, count = "tests/bindings/tracked.c", os.environ.get("TRACKED", "2000")
@@ -246,8 +256,8 @@ def main(words):
         sys.exit(0)
     make.need_proved("libdsa_c.a")
     with tempfile.TemporaryDirectory() as WORK:
-        parts = [header, examples, calls, fenced, resumed, texts, prepared, tracked, flights, in_flight, recorder]
-        parts += [random_lists, speed]
+        parts = [header, examples, calls, fenced, resumed, texts, chains, prepared, regions, tracked, flights]
+        parts += [in_flight, recorder, random_lists, speed]
         for part in named(parts, words):
             part()
 

@@ -27,3 +27,4 @@ pub mod RowLists
 pub mod RowChecks
 pub mod RowParts
 pub mod FencedFilled
+pub mod Ranked

@@ -8,7 +8,8 @@ use Rattle.dsa_descriptor.specs.Spans.{Apart, span}
 use Rattle.dsa_prepared.specs.declared.word.Word.{Word}
 use Rattle.dsa_prepared.specs.declared.word.Word.TheVariants.{InRegion, InStaging, Fixed}
 use Rattle.dsa_prepared.specs.declared.entry.Entry.{Entry}
-use Rattle.dsa_prepared.specs.Entries.{filled, filled_entry}
+use Rattle.dsa_prepared.specs.Entries.{filled, filled_entry, word_value}
+use Rattle.dsa_prepared.specs.Rows.{IsOrigin, word_in}
 use Rattle.dsa_prepared.specs.Sound.{ArePut, HasValue, HasValues, IsWithin, AreWithin}
 use Rattle.dsa_prepared.specs.Templates.{Template, filled_portal, filled_staging}
 use Rattle.dsa_prepared.specs.Filling.{AllBelow, FitsAt, IsStaging, written}
@@ -121,6 +122,11 @@ buffers_written t bases staging portal new_portal area mid new_area count batche
 pub beside_apart : (s t : Span) (bottom top : ℕ) → (top ≤ s.first) ⊎ (s.first + s.len ≤ bottom) → bottom ≤ t.first → t.first + t.len ≤ top → Apart s t
 beside_apart s t bottom top (inl above) low high address a b = omega (arith, above, high, a.0, b.1)
 beside_apart s t bottom top (inr below) low high address a b = omega (arith, below, low, a.1, b.0)
+
+-- a word counts from the origin of its kind
+pub word_counts : (bases : List ℕ) (staging kind other origin value : ℕ) → IsOrigin bases staging other origin → kind ≡ other → HasValue bases staging (word_in kind value) → word_value bases staging (word_in kind value) ≡ origin + value
+word_counts bases staging kind other origin value is same has =
+    subst (λ (n : ℕ). HasValue bases staging (word_in n value) → word_value bases staging (word_in n value) ≡ origin + value) (sym same) (is value) has
 
 -- one byte more of those that are written from a place on
 pub byte_more : (old bytes now : List ℕ) (place k : ℕ) (v : ℕ) → now ≡ take place old ++ (take k bytes ++ drop (place + k) old) → k < length bytes → place + k < length old → v ≡ get_or bytes k 0 →

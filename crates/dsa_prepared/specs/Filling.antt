@@ -83,6 +83,14 @@ abbrev pub LiesBetween : List Span → List ℕ → ℕ → ℕ → ℕ → Type
 LiesBetween rs bases bottom top i =
     (bottom ≤ (new_region rs bases i).first) × ((new_region rs bases i).first + (new_region rs bases i).len ≤ top)
 
+-- the first `count` of these are numbers of regions, each of which ends before the next one begins (the same)
+pub record AreRising (rs : List Span) (bases : List ℕ) (order : List ℕ) (count : ℕ) : Type 0 where
+  pub inside : (p : ℕ) → p < count → slice_index order p < length rs
+  pub rise :
+      (p q : ℕ) → p < q → q < count →
+      (new_region rs bases (slice_index order p)).first + (new_region rs bases (slice_index order p)).len
+      ≤ (new_region rs bases (slice_index order q)).first
+
 -- ---- refusals, in their order
 
 -- there is a base for each region, and the buffers have room

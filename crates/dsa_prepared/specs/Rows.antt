@@ -1,17 +1,20 @@
 -- A prepared submission as an array of rows of ten words each, which can be copied, shared and kept in a file (this
 -- project's choice). The rows are, in this order: the header, the regions, the ties, the entries of the portal, the entries
 -- of the staging area.
-use Rattle.std.specs.Prelude.{◌≡◌, ⊤, ℕ, ◌+◌, ◌-◌, ◌^◌, ◌<◌, ◌≤◌, ◌==◌, List, [], ◌∷◌, ◌++◌, drop, length, map, slice_index, slice_index_or, take, if◌then◌else◌}
+use Rattle.std.specs.Prelude.{◌≡◌, ⊤, ℕ, ◌+◌, ◌-◌, ◌^◌, ◌<◌, ◌≤◌, ◌↔◌, ◌==◌, List, [], ◌∷◌, ◌++◌, drop, length, map, slice_index, slice_index_or, take, if◌then◌else◌}
 use Rattle.std.specs.Int.{w64, from_le_bytes, to_le_bytes}
 use Rattle.dsa_descriptor.specs.declared.span.Span.{Span}
 use Rattle.dsa_descriptor.specs.Pieces.{most_pieces}
 use Rattle.dsa_descriptor.specs.Spans.{span}
 use Rattle.dsa_prepared.specs.declared.entry.Entry.{Entry}
+use Rattle.dsa_prepared.specs.declared.reading.Bounds.{Bounds}
+use Rattle.dsa_prepared.specs.declared.row.Origins.{Origins}
 use Rattle.dsa_prepared.specs.declared.row.Row.{Row}
 use Rattle.dsa_prepared.specs.declared.tie.Tie.{Tie}
 use Rattle.dsa_prepared.specs.declared.word.Word.{Word}
 use Rattle.dsa_prepared.specs.declared.word.Word.TheVariants.{InRegion, InStaging, Fixed}
-use Rattle.dsa_prepared.specs.Sound.{IsSound}
+use Rattle.dsa_prepared.specs.Entries.{word_value}
+use Rattle.dsa_prepared.specs.Sound.{HasValue, IsSound, IsWithin}
 use Rattle.dsa_prepared.specs.Templates.{Template, template}
 
 -- ---- reading
@@ -19,6 +22,10 @@ use Rattle.dsa_prepared.specs.Templates.{Template, template}
 -- the row's word of that number, from 0
 abbrev pub word_of : Row → ℕ → ℕ
 word_of row k = slice_index row.words k
+
+-- the row of that number
+abbrev pub row_at : List Row → ℕ → Row
+row_at rows k = slice_index_or rows k (record { words = [] })
 
 -- a region: its first address, its length, and its unit
 abbrev pub region_in : Row → Span
@@ -109,6 +116,36 @@ pub record HaveHeader (rows : List Row) : Type 0 where
 pub record ArePrepared (rows : List Row) : Type 0 where
   pub header : HaveHeader rows
   pub sound : IsSound (template_in rows)
+
+-- words of this kind may have values up to `last` (private clauses alone cite this and the next ones)
+abbrev pub IsBound : List Span → ℕ → ℕ → Type 0
+IsBound rs kind last = (value : ℕ) → value < 2 ^ 64 → (IsWithin rs (word_in kind value) ↔ (value ≤ last))
+
+-- those of the words of an entry
+pub record AreBounds (rs : List Span) (b : Bounds) : Type 0 where
+  pub completion : IsBound rs b.completion.kind b.completion.last
+  pub first : IsBound rs b.first.kind b.first.last
+  pub second : IsBound rs b.second.kind b.second.last
+  pub own : IsBound rs b.own.kind b.own.last
+
+-- ---- filling
+
+-- words of this kind count from `origin`: a region's base, the staging area's address, or 0
+abbrev pub IsOrigin : List ℕ → ℕ → ℕ → ℕ → Type 0
+IsOrigin bases staging kind origin =
+    (value : ℕ) → HasValue bases staging (word_in kind value) → word_value bases staging (word_in kind value) ≡ origin + value
+
+-- those of the words of an entry, but for the operation's own
+pub record AreOrigins (bases : List ℕ) (staging : ℕ) (o : Origins) : Type 0 where
+  pub completion : IsOrigin bases staging o.completion.kind o.completion.origin
+  pub first : IsOrigin bases staging o.first.kind o.first.origin
+  pub second : IsOrigin bases staging o.second.kind o.second.origin
+
+-- the words of the row's entry, but for the operation's own, are of these kinds
+pub record HasKinds (row : Row) (o : Origins) : Type 0 where
+  pub completion : word_of row 2 ≡ o.completion.kind
+  pub first : word_of row 4 ≡ o.first.kind
+  pub second : word_of row 6 ≡ o.second.kind
 
 -- ---- writing
 

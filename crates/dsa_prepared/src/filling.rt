@@ -6,7 +6,7 @@ ghost use Rattle.dsa_descriptor.specs.Spans.{Apart};
 ghost use Rattle.dsa_plan.specs.Settings.{Limits};
 ghost use Rattle.dsa_settings.specs.Staging.{staging_area};
 ghost use Rattle.dsa_prepared.specs.declared.fault.FillFault.{FillFault};
-ghost use Rattle.dsa_prepared.specs.Rows.{ArePrepared, entry_in, region_in, template_in, tie_in, unit_in};
+ghost use Rattle.dsa_prepared.specs.Rows.{AreOrigins, ArePrepared, HasKinds, HaveHeader, entry_in, header_word, region_in, row_at, template_in, tie_in, unit_in};
 ghost use Rattle.dsa_prepared.specs.Sound.{ArePut, AreUnits, HasValues, IsUnit};
 ghost use Rattle.dsa_prepared.specs.Templates.{filled_portal, filled_staging};
 ghost use Rattle.dsa_prepared.specs.Preparing.{IsPreparedOf, region_at};
@@ -14,14 +14,15 @@ ghost use Rattle.dsa_prepared.specs.Filling.{AllBelow, IsFirstNot, LiesBetween, 
 
 use crate::fault::FillFault;
 use crate::reading::{header_word, portal_rows, region_rows, staging_rows, tie_rows};
-use crate::row::Row;
+use crate::row::{Origins, Row};
+use crate::sorted::are_apart;
 use crate::tie::Tie;
 use dsa_descriptor::Span;
 use dsa_settings::STAGED_LEN;
 
 /// The region of that number at its new base.
 #[inline(always)]
-fn new_region(regions: &[Row], bases: &[u64], region: usize) -> Span
+pub(crate) fn new_region(regions: &[Row], bases: &[u64], region: usize) -> Span
     requires inside { region < length regions.now }
     requires based { region < length bases.now }
     ensures { result ≡ new_region (map region_in regions.now) bases.now region }
@@ -136,8 +137,8 @@ fn is_beside(region: Span, bottom: u64, top: u128) -> bool
     region.end() <= u128::from(bottom)
 }
 
-/// The same as [`first_earlier`], where the earlier regions lie from `bottom` to before `top`. It looks at them where the
-/// region does not lie beside all of them: not at all, if bases rise or fall with the regions.
+/// The same as [`first_earlier`], where the earlier regions lie from `bottom` to before `top`. It looks at them where
+/// the region does not lie beside all of them: not at all, if bases rise or fall with the regions.
 #[inline(always)]
 fn first_met(regions: &[Row], bases: &[u64], region: usize, bottom: u64, top: u128) -> Option<usize>
     requires inside { region < length regions.now }
@@ -156,6 +157,22 @@ fn first_met(regions: &[Row], bases: &[u64], region: usize, bottom: u64, top: u1
 
 /// The first region that has an address in common with an earlier one, and the first such.
 fn first_meeting(regions: &[Row], bases: &[u64]) -> Option<(usize, usize)>
+    requires { length bases.now ≡ length regions.now }
+    ensures { MatchOption result
+        (AllBelow (length regions.now)
+        (IsApartFromEarlier (map region_in regions.now) bases.now))
+        (λ p. IsFirstNot (length regions.now)
+        (IsApartFromEarlier (map region_in regions.now) bases.now) p.0
+        × IsFirstNot p.0 (AreApartAt (map region_in regions.now) bases.now p.0) p.1) }
+{
+    if are_apart(regions, bases) {
+        return None;
+    }
+    first_meeting_by_pairs(regions, bases)
+}
+
+/// The same, by a look at each two regions of which the later one lies among the earlier ones.
+fn first_meeting_by_pairs(regions: &[Row], bases: &[u64]) -> Option<(usize, usize)>
     requires { length bases.now ≡ length regions.now }
     ensures { MatchOption result
         (AllBelow (length regions.now)
@@ -200,8 +217,40 @@ fn is_staging(staging: u64) -> bool
     staging <= 1 << 63 && staging % 64 == 0
 }
 
-/// Writes the bytes of the entries at the front of the buffer, and leaves the rest of it. It stays a call, so that its loop
-/// has all registers: in the caller it would read the bases' place from the stack for each word.
+/// Writes the bytes of the entries from `start` on, as long as their words are of these kinds: up to which entry.
+/// Most lists have the same regions in entry after entry.
+#[inline(always)]
+fn put_alike(
+    buffer: &mut [u8],
+    entries: &[Row],
+    start: usize,
+    origins: &Origins,
+    bases: &[u64],
+    staging: u64,
+) -> usize
+    requires room { 64 * length entries.now ≤ length buffer.old }
+    requires inside { start < length entries.now }
+    requires kinds { HasKinds (row_at entries.now start) origins.now }
+    requires origins { AreOrigins bases.now staging origins.now }
+    requires values { All (HasValues bases.now staging) (map entry_in entries.now) }
+    ensures further { start < result }
+    ensures inside { result ≤ length entries.now }
+    ensures count { length buffer.new ≡ length buffer.old }
+    ensures put { (before : List ℕ) →
+        ArePut bases.now staging (map entry_in entries.now) start before buffer.old →
+        ArePut bases.now staging (map entry_in entries.now) result before buffer.new }
+{
+    for k in start..entries.len() {
+        if !entries[k].has_kinds(origins) {
+            return k;
+        }
+        entries[k].fill(origins, bases, staging, buffer, 64 * k);
+    }
+    entries.len()
+}
+
+/// Writes the bytes of the entries at the front of the buffer, and leaves the rest of it. It stays a call, so that
+/// its loop has all registers: in the caller it would read the bases' place from the stack for each word.
 #[inline(never)]
 fn put_entries(buffer: &mut [u8], entries: &[Row], bases: &[u64], staging: u64)
     requires room { 64 * length entries.now ≤ length buffer.old }
@@ -209,8 +258,10 @@ fn put_entries(buffer: &mut [u8], entries: &[Row], bases: &[u64], staging: u64)
     ensures { ArePut bases.now staging (map entry_in entries.now) (length entries.now)
         buffer.old buffer.new }
 {
-    for k in 0..entries.len() {
-        entries[k].fill(bases, staging, buffer, 64 * k);
+    let mut k = 0;
+    while k < entries.len() {
+        let origins = entries[k].origins(bases, staging);
+        k = put_alike(buffer, entries, k, &origins, bases, staging);
     }
 }
 
@@ -248,8 +299,85 @@ fn buffer_fault(
     None
 }
 
+/// Whether all regions go where they may, by one look at each: the bases rise or fall with the regions, and the
+/// staging area lies above or below them all. It can say no of others that may.
+#[inline(always)]
+fn are_in_place(regions: &[Row], bases: &[u64], area: Span) -> bool
+    requires based { length bases.now ≡ length regions.now }
+    requires units { AreUnits (map unit_in regions.now) }
+    ensures { IsTrue result →
+        AllBelow (length regions.now) (FitsAt (map region_in regions.now) bases.now)
+        × AllBelow (length regions.now)
+        (IsAlignedBase (map region_in regions.now) (map unit_in regions.now) bases.now)
+        × AllBelow (length regions.now)
+        (IsApartFromEarlier (map region_in regions.now) bases.now)
+        × AllBelow (length regions.now) (IsClearAt (map region_in regions.now) bases.now area) }
+{
+    let (mut bottom, mut top) = (u64::MAX, 0);
+    for i in 0..regions.len() {
+        let region = new_region(regions, bases, i);
+        let Some(end) = region.first.checked_add(region.len) else {
+            return false;
+        };
+        if region.first < top && end > bottom {
+            return false;
+        }
+        if !is_aligned(bases[i], regions[i].region().first, regions[i].unit()) {
+            return false;
+        }
+        bottom = bottom.min(region.first);
+        top = top.max(end);
+    }
+    is_beside(area, bottom, u128::from(top))
+}
+
+/// Where the descriptors of the pieces may be staged.
+#[inline(always)]
+fn area_of(rows: &[Row], staging: u64) -> Span
+    requires { HaveHeader rows.now }
+    ensures { result ≡ staging_area staging (header_word rows.now 6) }
+{
+    Span {
+        first: staging,
+        len: STAGED_LEN * header_word(rows, 6) as u64,
+    }
+}
+
+/// Whether the submission can be filled, by one look at each region and each tie. It can say no of others that can.
+#[inline(always)]
+fn can_fill(rows: &[Row], bases: &[u64], staging: u64) -> bool
+    requires prepared { ArePrepared rows.now }
+    requires based { HasBases (template_in rows.now) bases.now }
+    ensures { IsTrue result → CanFill (template_in rows.now) bases.now staging }
+{
+    if !is_staging(staging) {
+        return false;
+    }
+    match first_untied(tie_rows(rows), bases) {
+        Some(_) => return false,
+        None => (),
+    }
+    are_in_place(region_rows(rows), bases, area_of(rows, staging))
+}
+
 /// The first cause of where the regions and the staging area go.
 fn base_fault(rows: &[Row], bases: &[u64], staging: u64) -> Option<FillFault>
+    requires prepared { ArePrepared rows.now }
+    requires based { HasBases (template_in rows.now) bases.now }
+    ensures { MatchOption result (CanFill (template_in rows.now) bases.now staging)
+        (λ fault. (portal_len staging_len : ℕ) →
+        HasRoom (template_in rows.now) portal_len staging_len →
+        IsFirstFillFault (template_in rows.now) bases.now staging portal_len staging_len fault) }
+{
+    if can_fill(rows, bases, staging) {
+        return None;
+    }
+    first_base_fault(rows, bases, staging)
+}
+
+/// The same, by a look at all regions for each cause in its order.
+#[inline(never)]
+fn first_base_fault(rows: &[Row], bases: &[u64], staging: u64) -> Option<FillFault>
     requires prepared { ArePrepared rows.now }
     requires based { HasBases (template_in rows.now) bases.now }
     ensures { MatchOption result (CanFill (template_in rows.now) bases.now staging)
@@ -278,10 +406,7 @@ fn base_fault(rows: &[Row], bases: &[u64], staging: u64) -> Option<FillFault>
         Some((region, earlier)) => return Some(FillFault::RegionsMeet(region, earlier)),
         None => (),
     }
-    let area = Span {
-        first: staging,
-        len: STAGED_LEN * header_word(rows, 6) as u64,
-    };
+    let area = area_of(rows, staging);
     match first_in_area(regions, bases, area) {
         Some(region) => return Some(FillFault::StagingMeets(region)),
         None => (),

@@ -13,6 +13,7 @@ mod prepared;
 mod preparing;
 mod reading;
 mod row;
+mod sorted;
 mod template;
 mod tie;
 mod word;

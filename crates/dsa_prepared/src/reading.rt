@@ -1,8 +1,8 @@
 //! Reading the rows of a prepared submission.
 
-ghost use Rattle.std.specs.Prelude.{◌≡◌, ◌+◌, ◌^◌, ◌<◌, ◌≤◌, ◌↔◌, All, IsTrue, length, map};
+ghost use Rattle.std.specs.Prelude.{◌≡◌, ℕ, ◌+◌, ◌^◌, ◌<◌, ◌≤◌, ◌↔◌, All, IsTrue, MatchOption, length, map};
 ghost use Rattle.dsa_descriptor.specs.Pieces.{most_pieces};
-ghost use Rattle.dsa_prepared.specs.Rows.{ArePrepared, HaveHeader, entry_in, header_word, portal_rows, region_in, region_rows, staging_at, staging_rows, tie_in, tie_rows, unit_in, word_in};
+ghost use Rattle.dsa_prepared.specs.Rows.{AreBounds, ArePrepared, HaveHeader, IsBound, entry_in, header_word, portal_rows, region_in, region_rows, row_at, staging_at, staging_rows, tie_in, tie_rows, unit_in, word_in};
 ghost use Rattle.dsa_prepared.specs.Preparing.{region_at};
 ghost use Rattle.dsa_prepared.specs.Sound.{AreUnits, AreWithin, IsTieWithin, IsUnit, IsWithin};
 
@@ -142,58 +142,148 @@ fn is_within(regions: &[Row], region: u64, offset: u64) -> bool
     offset < regions[region as usize].words[1]
 }
 
-/// Whether the word's offset lies in its region, or in the staging area. One comparison tells the kinds of regions from the
-/// others, since 0 and 1 less 2 wrap to numbers that no region has.
+/// The greatest value that words of one kind may have.
+#[derive(Clone, Copy)]
+struct Bound {
+    kind: u64,
+    last: u64,
+}
+
+/// The bound of words of this kind. None, if they may have no value. One comparison tells the kinds of regions from
+/// the others, since 0 and 1 less 2 wrap to numbers that no region has.
 #[inline(always)]
-fn word_lies(regions: &[Row], kind: u64, value: u64) -> bool
+fn bound_of(regions: &[Row], kind: u64) -> Option<Bound>
     requires { length regions.now + 1 < 2 ^ 64 }
-    ensures { IsTrue result ↔ IsWithin (map region_in regions.now) (word_in kind value) }
+    ensures { MatchOption result
+        ((value : ℕ) → ¬ IsWithin (map region_in regions.now) (word_in kind value))
+        (λ b. IsBound (map region_in regions.now) kind b.last × (b.kind ≡ kind)) }
 {
     if kind.wrapping_sub(2) < regions.len() as u64 {
-        return is_within(regions, kind - 2, value);
+        let len = regions[(kind - 2) as usize].words[1];
+        if len == 0 {
+            return None;
+        }
+        return Some(Bound {
+            kind,
+            last: len - 1,
+        });
     }
-    kind == 0 || (kind == 1 && value < STAGING_END)
+    match kind {
+        0 => Some(Bound {
+            kind,
+            last: u64::MAX,
+        }),
+        1 => Some(Bound {
+            kind,
+            last: STAGING_END - 1,
+        }),
+        _ => None,
+    }
 }
 
-/// The same of the operation's own word, which is most often a number: that is tested first.
+/// The bound of a word of this kind and value, if its offset lies in its region or in the staging area.
 #[inline(always)]
-fn own_word_lies(regions: &[Row], kind: u64, value: u64) -> bool
+fn bound_of_word(regions: &[Row], kind: u64, value: u64) -> Option<Bound>
     requires { length regions.now + 1 < 2 ^ 64 }
-    ensures { IsTrue result ↔ IsWithin (map region_in regions.now) (word_in kind value) }
+    ensures { MatchOption result (¬ IsWithin (map region_in regions.now) (word_in kind value))
+        (λ b. IsBound (map region_in regions.now) b.kind b.last
+        × IsWithin (map region_in regions.now) (word_in kind value)) }
 {
-    if kind == 0 {
-        return true;
+    let bound = bound_of(regions, kind)?;
+    if value > bound.last {
+        return None;
     }
-    word_lies(regions, kind, value)
+    Some(bound)
 }
 
-/// Whether each word of the entry does.
+/// The bounds of an entry's words.
+#[derive(Clone, Copy)]
+struct Bounds {
+    completion: Bound,
+    first: Bound,
+    second: Bound,
+    own: Bound,
+}
+
+/// The bounds of the entry's words, if each word's offset lies in its region or in the staging area.
 #[inline(always)]
-fn entry_lies(regions: &[Row], entry: &Row) -> bool
+fn bounds_of(regions: &[Row], entry: &Row) -> Option<Bounds>
     requires { length regions.now + 1 < 2 ^ 64 }
-    ensures { IsTrue result ↔ AreWithin (map region_in regions.now) (entry_in entry.now) }
+    ensures { MatchOption result (¬ AreWithin (map region_in regions.now) (entry_in entry.now))
+        (λ b. AreBounds (map region_in regions.now) b
+        × AreWithin (map region_in regions.now) (entry_in entry.now)) }
 {
-    if !word_lies(regions, entry.words[2], entry.words[3]) {
-        return false;
-    }
-    if !word_lies(regions, entry.words[4], entry.words[5]) {
-        return false;
-    }
-    if !word_lies(regions, entry.words[6], entry.words[7]) {
-        return false;
-    }
-    own_word_lies(regions, entry.words[8], entry.words[9])
+    let words = &entry.words;
+    let completion = bound_of_word(regions, words[2], words[3])?;
+    let first = bound_of_word(regions, words[4], words[5])?;
+    let second = bound_of_word(regions, words[6], words[7])?;
+    let own = bound_of_word(regions, words[8], words[9])?;
+    Some(Bounds {
+        completion,
+        first,
+        second,
+        own,
+    })
 }
 
-/// Whether each entry does.
+/// Whether the word is of the kind of the bound, and within it.
+#[inline(always)]
+fn is_bounded(bound: Bound, kind: u64, value: u64) -> bool
+    ensures kind { IsTrue result → kind ≡ bound.kind }
+    ensures value { IsTrue result → value ≤ bound.last }
+{
+    kind == bound.kind && value <= bound.last
+}
+
+/// Whether the entry's words are of the kinds of the bounds, and within them.
+#[inline(always)]
+fn are_bounded(regions: &[Row], bounds: Bounds, entry: &Row) -> bool
+    requires { AreBounds (map region_in regions.now) bounds }
+    ensures { IsTrue result → AreWithin (map region_in regions.now) (entry_in entry.now) }
+{
+    let words = &entry.words;
+    if !is_bounded(bounds.completion, words[2], words[3]) {
+        return false;
+    }
+    if !is_bounded(bounds.first, words[4], words[5]) {
+        return false;
+    }
+    if !is_bounded(bounds.second, words[6], words[7]) {
+        return false;
+    }
+    is_bounded(bounds.own, words[8], words[9])
+}
+
+/// From `start` on, the first entry whose words are not of the kinds of the bounds, or not within them. Most lists
+/// have the same regions in entry after entry.
+#[inline(always)]
+fn first_unbounded(regions: &[Row], bounds: Bounds, entries: &[Row], start: usize) -> usize
+    requires bounds { AreBounds (map region_in regions.now) bounds }
+    requires inside { start ≤ length entries.now }
+    ensures further { start ≤ result }
+    ensures inside { result ≤ length entries.now }
+    ensures lie { (k : ℕ) → start ≤ k → k < result → AreWithin (map region_in regions.now)
+        (entry_in (row_at entries.now k)) }
+{
+    for k in start..entries.len() {
+        if !are_bounded(regions, bounds, &entries[k]) {
+            return k;
+        }
+    }
+    entries.len()
+}
+
+/// Whether the offsets of the words of each entry lie in their regions or in the staging area.
 fn entries_lie(regions: &[Row], entries: &[Row]) -> bool
     requires { length regions.now + 1 < 2 ^ 64 }
     ensures { IsTrue result ↔
         All (AreWithin (map region_in regions.now)) (map entry_in entries.now) }
 {
-    for k in 0..entries.len() {
-        if !entry_lies(regions, &entries[k]) {
-            return false;
+    let mut k = 0;
+    while k < entries.len() {
+        match bounds_of(regions, &entries[k]) {
+            Some(bounds) => k = first_unbounded(regions, bounds, entries, k + 1),
+            None => return false,
         }
     }
     true

@@ -1,10 +1,10 @@
 //! Rows of ten words, of which a prepared submission is an array.
 
-ghost use Rattle.std.specs.Prelude.{◌≡◌, ◌+◌, ◌≤◌, ◌++◌, drop, length, take};
+ghost use Rattle.std.specs.Prelude.{◌≡◌, ◌+◌, ◌≤◌, ◌↔◌, ◌++◌, drop, length, take, IsTrue};
 ghost use Rattle.dsa_prepared.specs.Entries.{filled_entry, word_value};
 ghost use Rattle.dsa_prepared.specs.Sound.{HasValue, HasValues};
 ghost use Rattle.std.specs.Int.{w64, from_le_bytes, to_le_bytes};
-ghost use Rattle.dsa_prepared.specs.Rows.{AreNumbered, IsNumbered, entry_in, entry_row, kind_of, region_in, region_row, tie_in, tie_row, unit_in, value_of, word_in};
+ghost use Rattle.dsa_prepared.specs.Rows.{AreNumbered, AreOrigins, HasKinds, IsNumbered, IsOrigin, entry_in, entry_row, kind_of, region_in, region_row, tie_in, tie_row, unit_in, value_of, word_in};
 
 use crate::entry::Entry;
 use crate::tie::Tie;
@@ -19,23 +19,37 @@ pub struct Row {
     pub words: [u64; 10],
 }
 
-/// The number that a word of this kind and value stands for, where the regions have these bases and the staging area this
-/// address.
-#[inline(always)]
-fn value_in(kind: u64, value: u64, bases: &[u64], staging: u64) -> u64
-    requires { HasValue bases.now staging (word_in kind value) }
-    ensures { result ≡ word_value bases.now staging (word_in kind value) }
-{
-    if kind >= 2 {
-        return bases[(kind - 2) as usize] + value;
-    }
-    if kind == 1 {
-        return staging + value;
-    }
-    value
+/// What words of one kind count from.
+#[derive(Clone, Copy)]
+pub(crate) struct Origin {
+    pub(crate) kind: u64,
+    pub(crate) origin: u64,
 }
 
-/// The same for the operation's own word, which is most often a number: that is tested first.
+/// What words of this kind count from, as that of this value does: the region's base, the staging area's address, or 0.
+#[inline(always)]
+fn origin_of(kind: u64, value: u64, bases: &[u64], staging: u64) -> Origin
+    requires { HasValue bases.now staging (word_in kind value) }
+    ensures kind { result.kind ≡ kind }
+    ensures origin { IsOrigin bases.now staging result.kind result.origin }
+{
+    if kind >= 2 {
+        let origin = bases[(kind - 2) as usize];
+        return Origin { kind, origin };
+    }
+    let origin = if kind == 1 { staging } else { 0 };
+    Origin { kind, origin }
+}
+
+/// What the words of an entry count from, but for the operation's own.
+#[derive(Clone, Copy)]
+pub(crate) struct Origins {
+    pub(crate) completion: Origin,
+    pub(crate) first: Origin,
+    pub(crate) second: Origin,
+}
+
+/// The number that the operation's own word stands for: most often its value, which is tested first.
 #[inline(always)]
 fn own_value_in(kind: u64, value: u64, bases: &[u64], staging: u64) -> u64
     requires { HasValue bases.now staging (word_in kind value) }
@@ -44,7 +58,7 @@ fn own_value_in(kind: u64, value: u64, bases: &[u64], staging: u64) -> u64
     if kind == 0 {
         return value;
     }
-    value_in(kind, value, bases, staging)
+    origin_of(kind, value, bases, staging).origin + value
 }
 
 /// Writes the number over the eight bytes from the place on. A loop, which is compiled to one store.
@@ -114,10 +128,46 @@ impl Row {
         }
     }
 
-    /// Writes the bytes of the entry that the row says over those from the place on, where the regions have these bases and
-    /// the staging area this address.
+    /// What the words of the entry that the row says count from, where the regions have these bases and the staging
+    /// area this address.
     #[inline(always)]
-    pub(crate) fn fill(&self, bases: &[u64], staging: u64, buffer: &mut [u8], place: usize)
+    pub(crate) fn origins(&self, bases: &[u64], staging: u64) -> Origins
+        requires { HasValues bases.now staging (entry_in self.now) }
+        ensures origins { AreOrigins bases.now staging result }
+        ensures kinds { HasKinds self.now result }
+    {
+        let words = &self.words;
+        Origins {
+            completion: origin_of(words[2], words[3], bases, staging),
+            first: origin_of(words[4], words[5], bases, staging),
+            second: origin_of(words[6], words[7], bases, staging),
+        }
+    }
+
+    /// Whether the words of the entry that the row says are of these kinds.
+    #[inline(always)]
+    pub(crate) fn has_kinds(&self, origins: &Origins) -> bool
+        ensures { IsTrue result ↔ HasKinds self.now origins.now }
+    {
+        let words = &self.words;
+        words[2] == origins.completion.kind
+            && words[4] == origins.first.kind
+            && words[6] == origins.second.kind
+    }
+
+    /// Writes the bytes of the entry that the row says over those from the place on, where the regions have these
+    /// bases and the staging area this address, and its words count from these origins.
+    #[inline(always)]
+    pub(crate) fn fill(
+        &self,
+        origins: &Origins,
+        bases: &[u64],
+        staging: u64,
+        buffer: &mut [u8],
+        place: usize,
+    )
+        requires kinds { HasKinds self.now origins.now }
+        requires origins { AreOrigins bases.now staging origins.now }
         requires values { HasValues bases.now staging (entry_in self.now) }
         requires room { place + 64 ≤ length buffer.old }
         ensures { buffer.new ≡ take place buffer.old
@@ -126,21 +176,9 @@ impl Row {
     {
         let words = &self.words;
         put(buffer, place, words[0]);
-        put(
-            buffer,
-            place + 8,
-            value_in(words[2], words[3], bases, staging),
-        );
-        put(
-            buffer,
-            place + 16,
-            value_in(words[4], words[5], bases, staging),
-        );
-        put(
-            buffer,
-            place + 24,
-            value_in(words[6], words[7], bases, staging),
-        );
+        put(buffer, place + 8, origins.completion.origin + words[3]);
+        put(buffer, place + 16, origins.first.origin + words[5]);
+        put(buffer, place + 24, origins.second.origin + words[7]);
         put(buffer, place + 32, words[1]);
         put(
             buffer,

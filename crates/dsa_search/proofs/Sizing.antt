@@ -1,18 +1,18 @@
 -- Rows of counts within blocks of pieces, and chains that go on from one piece to the next.
-use Rattle.std.proofs.Common.{ℕ, ◌≡◌, ◌≢◌, ◌+◌, ◌-◌, ◌*◌, ◌/◌, ◌<◌, ◌≤◌, ◌⊎◌, inl, inr, min, List, length, refl, ◌∙◌, slice_index, arith}
+use Rattle.std.proofs.Common.{ℕ, ◌≡◌, ◌≢◌, ◌+◌, ◌-◌, ◌*◌, ◌/◌, ◌<◌, ◌≤◌, ◌⊎◌, inl, inr, min, List, length, refl, sym, subst, ap, ◌∙◌, slice_index, arith}
 use Rattle.std.proofs.lemmas.Bool.{cases_lt, cases_eq}
 use Rattle.dsa_plan.specs.Chain.{Pairs, GoForward, LeadsTo, IsLastBelow, HasCountBelow}
 use Rattle.dsa_plan.proofs.Chains.{LeadsTo-same}
 use Rattle.std.proofs.Math.Nat.{mul-le-mul_left}
-use Rattle.dsa_plan.specs.Plan.{Tariff}
+use Rattle.dsa_plan.specs.Plan.{Tariff, price_of}
 use Rattle.dsa_plan.proofs.Fences.{price_of-batch}
 use Rattle.dsa_plan.specs.Settings.{ArePrices, greatest_price}
 use Rattle.dsa_search.specs.Entries.{IsChainCost, MakesEntry}
 use Rattle.dsa_search.specs.Filled.{HasOffers, unreached}
-use Rattle.dsa_search.proofs.Filling.{offers_each}
+use Rattle.dsa_search.proofs.Filling.{offers_alike, offers_each}
 use Rattle.dsa_plan.proofs.Joined.{last_fits, last_joined, last_led, count_one_more, count_none}
-use Rattle.dsa_plan.specs.Settings.{sized_tariff}
-use Rattle.dsa_search.specs.Sized.{past_block, HasRows}
+use Rattle.dsa_plan.specs.Settings.{Limits, batch_price, sized_tariff, tariff_of}
+use Rattle.dsa_search.specs.Sized.{past_block, HasRows, IsSheetOf}
 
 pub past_block_later : (x : ℕ) → (x < past_block x) × (past_block x ≤ x + 64)
 unfolding past_block
@@ -211,3 +211,25 @@ module _ (lone fence : ℕ) (table : List ℕ) (pairs : Pairs) (forward : GoForw
       let close = past_block_later piece in
       let at : 64 * piece + (end + 63 - past) + (k - end) ≡ 64 * piece + (k + 63 - past) = omega (arith, close) in
       rw at (omega arith))
+
+-- the prices of a sheet are those of its settings
+module _ (s : Limits) (pairs own : Pairs) (rows lasts : List ℕ) (lone fence : ℕ) (table : List ℕ) (sheet : IsSheetOf s pairs own rows lasts lone fence table) where
+  sheet_prices : (size count : ℕ) → 0 < size → size ≤ s.greatest_batch → price_of (tariff_of s) size count ≡ price_of (sized_tariff lone fence table) size count
+  sheet_prices size count some fits =
+      elim (cases_eq size 1) [
+        | inl one ↦ rw one (sym sheet.lone_are)
+        | inr more ↦
+            let table_is : slice_index table (size - 2) ≡ batch_price s.batch size = sheet.table_are size (omega (arith, some, more)) fits in
+            let fences : fence * count ≡ s.fence * count = ap (λ (x : ℕ). x * count) sheet.fence_are in
+            omega (arith, price_of-batch (tariff_of s) size count more, price_of-batch (sized_tariff lone fence table) size count more, table_is, fences)
+      ]
+
+  pub offers_on_sheet : (start end : ℕ) (costs : List ℕ) → HasOffers s.greatest_batch (tariff_of s) own start end costs → HasOffers (length table + 1) (sized_tariff lone fence table) own start end costs
+  offers_on_sheet start end costs h =
+      subst (λ (z : ℕ). HasOffers z (sized_tariff lone fence table) own start end costs) (sym sheet.table_size)
+      (offers_alike s.greatest_batch (tariff_of s) (sized_tariff lone fence table) own sheet_prices start end costs h)
+
+  pub offers_off_sheet : (start end : ℕ) (costs : List ℕ) → HasOffers (length table + 1) (sized_tariff lone fence table) own start end costs → HasOffers s.greatest_batch (tariff_of s) own start end costs
+  offers_off_sheet start end costs h =
+      offers_alike s.greatest_batch (sized_tariff lone fence table) (tariff_of s) own (λ size count some fits. sym (sheet_prices size count some fits)) start end costs
+      (subst (λ (z : ℕ). HasOffers z (sized_tariff lone fence table) own start end costs) sheet.table_size h)

@@ -2,7 +2,7 @@
 use Rattle.std.specs.Prelude.{ℕ, ◌≡◌, ◌+◌, ◌-◌, ◌*◌, ◌/◌, ◌<◌, ◌≤◌, List, length, slice_index}
 use Rattle.dsa_descriptor.specs.Pieces.{most_pieces}
 use Rattle.dsa_plan.specs.Chain.{Pairs, GoForward, IsLastBelow, HasCountBelow}
-use Rattle.dsa_plan.specs.Settings.{ArePrices, greatest_price}
+use Rattle.dsa_plan.specs.Settings.{Limits, ArePrices, batch_price, greatest_price}
 
 -- the pieces are parted into blocks of 64: the first piece past that of x
 unfoldable pub past_block : ℕ → ℕ
@@ -30,3 +30,12 @@ pub record IsSheet (pairs : Pairs) (rows lasts : List ℕ) (lone fence : ℕ) (t
   pub prices : ArePrices table
   pub lone_is : lone ≤ greatest_price
   pub fence_is : fence ≤ greatest_price
+
+-- the same for settings: these pairs, and the prices of the settings for each size
+pub record IsSheetOf (s : Limits) (pairs : Pairs) (own : Pairs) (rows lasts : List ℕ) (lone fence : ℕ) (table : List ℕ) : Type 0 where
+  pub sheet : IsSheet own rows lasts lone fence table
+  pub pairs_are : own ≡ pairs
+  pub lone_are : lone ≡ s.lone
+  pub fence_are : fence ≡ s.fence
+  pub table_size : length table + 1 ≡ s.greatest_batch
+  pub table_are : (size : ℕ) → 2 ≤ size → size ≤ s.greatest_batch → slice_index table (size - 2) ≡ batch_price s.batch size

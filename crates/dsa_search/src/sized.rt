@@ -2,7 +2,7 @@
 
 ghost use Rattle.std.specs.Prelude.{◌≡◌, ◌⊎◌, ℕ, ◌+◌, ◌-◌, ◌*◌, ◌<◌, ◌≤◌, min, length, slice_index, IfOk};
 ghost use Rattle.dsa_descriptor.specs.Pieces.{most_pieces};
-ghost use Rattle.dsa_plan.specs.Chain.{GoForward, IsLastBelow};
+ghost use Rattle.dsa_plan.specs.Chain.{GoForward, IsLastBelow, Reaches};
 ghost use Rattle.dsa_search.specs.Filled.{HasOffers, IsFilled, past_reach, unreached};
 ghost use Rattle.dsa_plan.specs.Settings.{ArePrices, greatest_price, sized_tariff};
 ghost use Rattle.dsa_search.specs.Sized.{HasRows, IsSheet, past_block};
@@ -16,19 +16,19 @@ const BLOCK: usize = 64;
 
 /// The pairs of pieces, the rows that count the pairs of their chains, and what groups cost.
 #[derive(Clone, Copy)]
-struct CostSheet<'a> {
+pub(crate) struct CostSheet<'a> {
     /// For each piece the conflicting pair from it on that ends first.
-    pairs: &'a [Option<(u32, u32)>],
+    pub(crate) pairs: &'a [Option<(u32, u32)>],
     /// For each piece the counts of its chain at the ends up to past its block.
-    rows: &'a [u8],
+    pub(crate) rows: &'a [u8],
     /// For each piece the last one of its block on its chain.
-    lasts: &'a [u32],
+    pub(crate) lasts: &'a [u32],
     /// The price of a lone descriptor.
-    lone: u64,
+    pub(crate) lone: u64,
     /// The price of a fence.
-    fence: u64,
+    pub(crate) fence: u64,
     /// The prices of batches, from that of two pieces on.
-    table: &'a [u64],
+    pub(crate) table: &'a [u64],
 }
 
 /// The first piece past the block of this one.
@@ -101,6 +101,21 @@ fn lesser(one: u64, other: u64) -> u64
     } else {
         one
     }
+}
+
+/// The rows of all pieces, and for each piece the last one of its block on its chain.
+pub(crate) fn rows_of(
+    alloc: Global,
+    pairs: &[Option<(u32, u32)>],
+) -> Result<(Vec<u8>, Vec<u32>), AllocError>
+    requires forward { GoForward pairs.now }
+    requires few { length pairs.now ≤ most_pieces }
+    ensures { IfOk result (λ made. HasRows pairs.now 0 made.0.items made.1.items) }
+{
+    let mut rows = vec![in alloc; 0u8; BLOCK * pairs.len()]?;
+    let mut lasts = vec![in alloc; 0u32; pairs.len()]?;
+    fill_rows(pairs, &mut rows, &mut lasts);
+    Ok((rows, lasts))
 }
 
 /// Lowers the costs of the ends from `from` to below `to`: to this cost, the price of the group's size and its fences, whose
@@ -187,6 +202,8 @@ fn offer_row(
     ensures chain { let g = sheet.now in
         result.2 < past_reach (length g.table.now + 1) (length g.pairs.now) start →
         IsLastBelow g.pairs.now start result.2 result.1 result.0 }
+    ensures reached { Reaches sheet.now.pairs.now start result.1 result.0 }
+    ensures below { result.0 < result.2 }
 {
     let (piece, fences) = chain;
     let reach = sheet.pairs.len().min(start + sheet.table.len() + 1);
@@ -233,6 +250,8 @@ fn offer_run(
         (length g.table.now + 1) (sized_tariff g.lone g.fence g.table.now)
         g.pairs.now start result.2 costs.new }
     ensures chain { IsLastBelow sheet.now.pairs.now start result.2 result.1 result.0 }
+    ensures reached { Reaches sheet.now.pairs.now start result.1 result.0 }
+    ensures below { result.0 < result.2 }
 {
     let (piece, fences) = chain;
     let reach = sheet.pairs.len().min(start + sheet.table.len() + 1);
@@ -241,6 +260,46 @@ fn offer_run(
     lower_run(costs, sheet.table, start, end, last + 1, cost);
     let (next, count) = chain_step(sheet.pairs, piece, fences, last);
     (next, count, last + 1)
+}
+
+/// Offers each end from `end` on that a group from `start` reaches the cost with that group. The chain is that of `start`
+/// before `end`; the answer is a piece that it reaches in the reach of `start`, and the number of its pairs.
+pub(crate) fn offer_ends(
+    sheet: &CostSheet,
+    start: usize,
+    chain: (usize, u64),
+    end: usize,
+    costs: &mut [u64],
+) -> (usize, u64)
+    requires sheet { let g = sheet.now in
+        IsSheet g.pairs.now g.rows.now g.lasts.now g.lone g.fence g.table.now }
+    requires inside { start < length sheet.now.pairs.now }
+    requires late { start + 2 ≤ end }
+    requires within { let g = sheet.now in
+        end ≤ past_reach (length g.table.now + 1) (length g.pairs.now) start }
+    requires chain { IsLastBelow sheet.now.pairs.now start end chain.1 chain.0 }
+    requires offers { let g = sheet.now in HasOffers
+        (length g.table.now + 1) (sized_tariff g.lone g.fence g.table.now)
+        g.pairs.now start end costs.old }
+    ensures offers { let g = sheet.now in HasOffers
+        (length g.table.now + 1) (sized_tariff g.lone g.fence g.table.now) g.pairs.now start
+        (past_reach (length g.table.now + 1) (length g.pairs.now) start) costs.new }
+    ensures reached { Reaches sheet.now.pairs.now start result.1 result.0 }
+    ensures below { let g = sheet.now in
+        result.0 < past_reach (length g.table.now + 1) (length g.pairs.now) start }
+{
+    let reach = sheet.pairs.len().min(start + sheet.table.len() + 1);
+    let (mut chain, mut end) = (chain, end);
+    while end <= reach {
+        let (piece, fences, further) = if end <= block_end(chain.0) {
+            offer_row(sheet, start, chain, end, costs)
+        } else {
+            offer_run(sheet, start, chain, end, costs)
+        };
+        chain = (piece, fences);
+        end = further;
+    }
+    chain
 }
 
 /// Offers each end that one group from `start` reaches the cost with that group.
@@ -257,18 +316,8 @@ fn offer_sizes(sheet: &CostSheet, start: usize, costs: &mut [u64])
 {
     let cost = costs[start] + sheet.lone;
     lower(costs, start + 1, start + 2, cost);
-    let reach = sheet.pairs.len().min(start + sheet.table.len() + 1);
-    let mut chain = chain_step(sheet.pairs, start, 0, start + 1);
-    let mut end = start + 2;
-    while end <= reach {
-        let (piece, fences, further) = if end <= block_end(chain.0) {
-            offer_row(sheet, start, chain, end, costs)
-        } else {
-            offer_run(sheet, start, chain, end, costs)
-        };
-        chain = (piece, fences);
-        end = further;
-    }
+    let chain = chain_step(sheet.pairs, start, 0, start + 1);
+    offer_ends(sheet, start, chain, start + 2, costs);
 }
 
 /// Fills in the costs: each start in turn offers its groups.
@@ -307,9 +356,7 @@ pub(crate) fn least_costs_by_size(
         (λ costs. IsFilled (length table.now + 1) (sized_tariff lone fence table.now)
         pairs.now costs.items) }
 {
-    let mut rows = vec![in alloc; 0u8; BLOCK * pairs.len()]?;
-    let mut lasts = vec![in alloc; 0u32; pairs.len()]?;
-    fill_rows(pairs, &mut rows, &mut lasts);
+    let (rows, lasts) = rows_of(alloc, pairs)?;
     let mut costs = vec![in alloc; UNREACHED; pairs.len() + 1]?;
     costs[0] = 0;
     let sheet = CostSheet {

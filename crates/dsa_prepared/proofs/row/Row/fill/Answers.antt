@@ -1,7 +1,7 @@
 use Rattle.std.proofs.Common.{◌≡◌, ◌+◌, ◌++◌, List, ℕ, [], take, drop, get_or, refl, sym, ap, ◌∙◌, arith}
 use Rattle.std.specs.Int.{w64, to_le_bytes}
 use Rattle.std.proofs.lemmas.List.{take-append-drop}
-use Rattle.dsa_prepared.proofs.Put.{word_more}
+use Rattle.dsa_prepared.proofs.Put.{word_counts, word_more}
 use Rattle.dsa_prepared.proofs.row.Row.fill.Goals as goal
 
 pub returns : goal.returns
@@ -12,13 +12,16 @@ returns c =
     let here : place ≡ place + 0 = omega arith in
     let none : old ≡ take place old ++ ([] ++ drop (place + 0) old) = sym (take-append-drop place old) ∙ ap (λ (n : ℕ). take place old ++ drop n old) here in
     let part0 : List ℕ = to_le_bytes w64 (get_or words 0 0) in
-    let part1 : List ℕ = to_le_bytes w64 c.value_in.result in
-    let part2 : List ℕ = to_le_bytes w64 c.value_in-2.result in
-    let part3 : List ℕ = to_le_bytes w64 c.value_in-3.result in
+    let part1 : List ℕ = to_le_bytes w64 (c.args.origins.now.completion.origin + get_or words 3 0) in
+    let part2 : List ℕ = to_le_bytes w64 (c.args.origins.now.first.origin + get_or words 5 0) in
+    let part3 : List ℕ = to_le_bytes w64 (c.args.origins.now.second.origin + get_or words 7 0) in
     let part4 : List ℕ = to_le_bytes w64 (get_or words 1 0) in
     let part5 : List ℕ = to_le_bytes w64 c.own_value_in.result in
     let part6 : List ℕ = to_le_bytes w64 0 in
     let part7 : List ℕ = to_le_bytes w64 0 in
+    let completion = sym (word_counts c.args.bases.now c.args.staging (get_or words 2 0) c.args.origins.now.completion.kind c.args.origins.now.completion.origin (get_or words 3 0) c.requires.origins.completion c.requires.kinds.completion c.requires.values.completion) in
+    let first = sym (word_counts c.args.bases.now c.args.staging (get_or words 4 0) c.args.origins.now.first.kind c.args.origins.now.first.origin (get_or words 5 0) c.requires.origins.first c.requires.kinds.first c.requires.values.first) in
+    let second = sym (word_counts c.args.bases.now c.args.staging (get_or words 6 0) c.args.origins.now.second.kind c.args.origins.now.second.origin (get_or words 7 0) c.requires.origins.second c.requires.kinds.second c.requires.values.second) in
     let done0 : List ℕ = [] in
     let done1 : List ℕ = done0 ++ part0 in
     let done2 : List ℕ = done1 ++ part1 in
@@ -35,5 +38,5 @@ returns c =
     let six : c.put-6.new.buffer ≡ take place old ++ ((done5 ++ part5) ++ drop (place + 48) old) = word_more old c.put-5.new.buffer c.put-6.new.buffer done5 part5 place 40 (place + 40) five refl refl (omega (arith, c.requires.room)) c.put-6.ensures in
     let seven : c.put-7.new.buffer ≡ take place old ++ ((done6 ++ part6) ++ drop (place + 56) old) = word_more old c.put-6.new.buffer c.put-7.new.buffer done6 part6 place 48 (place + 48) six refl refl (omega (arith, c.requires.room)) c.put-7.ensures in
     let eight : c.put-8.new.buffer ≡ take place old ++ ((done7 ++ part7) ++ drop (place + 64) old) = word_more old c.put-7.new.buffer c.put-8.new.buffer done7 part7 place 56 (place + 56) seven refl refl (omega (arith, c.requires.room)) c.put-8.ensures in
-    eight ∙ (λ i. take place old ++ ((part0 ++ (to_le_bytes w64 (c.value_in.ensures i) ++ (to_le_bytes w64 (c.value_in-2.ensures i) ++ (to_le_bytes w64 (c.value_in-3.ensures i)
+    eight ∙ (λ i. take place old ++ ((part0 ++ (to_le_bytes w64 (completion i) ++ (to_le_bytes w64 (first i) ++ (to_le_bytes w64 (second i)
     ++ (part4 ++ (to_le_bytes w64 (c.own_value_in.ensures i) ++ (part6 ++ part7))))))) ++ drop (place + 64) old))

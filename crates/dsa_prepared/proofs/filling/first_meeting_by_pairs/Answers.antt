@@ -2,7 +2,7 @@ use Rattle.std.proofs.Common.{◌≡◌, map, below_more, ap, arith}
 use Rattle.dsa_descriptor.specs.declared.span.Span.{Span}
 use Rattle.dsa_prepared.specs.Filling.{AllBelow, IsApartFromEarlier, LiesBetween, new_region}
 use Rattle.dsa_prepared.specs.Rows.{region_in}
-use Rattle.dsa_prepared.proofs.filling.first_meeting.Goals as goal
+use Rattle.dsa_prepared.proofs.filling.first_meeting_by_pairs.Goals as goal
 
 pub returns-in-Some : goal.returns-in-Some
 returns-in-Some c =

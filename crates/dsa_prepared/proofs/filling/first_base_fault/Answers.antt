@@ -1,6 +1,7 @@
 use Rattle.std.proofs.Common.{◌≡◌, ◌*◌, ℕ, List, map, length, sym, ap, subst, ◌∙◌}
 use Rattle.std.proofs.lemmas.Bool.{false≢true}
 use Rattle.std.proofs.lemmas.List.{get_or-map}
+use Rattle.dsa_descriptor.specs.declared.span.Span.{Span}
 use Rattle.dsa_descriptor.specs.Spans.{span}
 use Rattle.dsa_prepared.specs.declared.row.Row.{Row}
 use Rattle.dsa_prepared.specs.declared.tie.Tie.{Tie}
@@ -8,7 +9,7 @@ use Rattle.dsa_prepared.proofs.RowChecks.{no_row}
 use Rattle.dsa_prepared.specs.Filling.{AllBelow, tie_at, FitsAt, IsAlignedBase, IsTiedAt, AreApartAt, IsApartFromEarlier, IsClearAt, IsFirstNot, AllFit, AllAligned, AllTied, AllApart, AllClear}
 use Rattle.dsa_prepared.specs.Rows.{region_in, unit_in, tie_in, region_rows, tie_rows, header_word, template_in}
 use Rattle.dsa_prepared.proofs.RowParts.{all_of, first_of}
-use Rattle.dsa_prepared.proofs.filling.base_fault.Goals as goal
+use Rattle.dsa_prepared.proofs.filling.first_base_fault.Goals as goal
 
 pub returns-in-Some : goal.returns-in-Some
 returns-in-Some c =
@@ -74,8 +75,7 @@ returns-in-Some-first_in_area c =
     let aligned : AllAligned (template_in rows) bases = all_of (λ (rs : List Row). IsAlignedBase (map region_in rs) (map unit_in rs) bases) region_in found whole is c.in-None-first_misaligned.ensures in
     let tied : AllTied (template_in rows) bases = all_of (λ (ts : List Row). IsTiedAt (map tie_in ts) bases) tie_in c.tie_rows-ties.result.now (tie_rows rows) c.tie_rows-ties.ensures.value c.in-None-first_untied.ensures in
     let apart : AllApart (template_in rows) bases = all_of (λ (rs : List Row). IsApartFromEarlier (map region_in rs) bases) region_in found whole is c.in-None-first_meeting.ensures in
-    let count : c.header_word.result ≡ header_word rows 6 = c.header_word.ensures in
-    let here = subst (λ (n : ℕ). IsFirstNot (length found) (IsClearAt (map region_in found) bases (span c.args.staging (96 * n))) c.in-Some-first_in_area.region) count c.in-Some-first_in_area.ensures in
+    let here = subst (λ (area : Span). IsFirstNot (length found) (IsClearAt (map region_in found) bases area) c.in-Some-first_in_area.region) c.area_of-area.ensures c.in-Some-first_in_area.ensures in
     let first = first_of (λ (rs : List Row). IsClearAt (map region_in rs) bases (span c.args.staging (96 * header_word rows 6))) region_in found whole c.in-Some-first_in_area.region is here in
     λ portal_len staging_len room. ((c.requires.based, room), fit, aligned, tied, apart, first)
 
@@ -90,9 +90,8 @@ returns-then-is_staging c =
     let aligned : AllAligned (template_in rows) bases = all_of (λ (rs : List Row). IsAlignedBase (map region_in rs) (map unit_in rs) bases) region_in found whole is c.in-None-first_misaligned.ensures in
     let tied : AllTied (template_in rows) bases = all_of (λ (ts : List Row). IsTiedAt (map tie_in ts) bases) tie_in c.tie_rows-ties.result.now (tie_rows rows) c.tie_rows-ties.ensures.value c.in-None-first_untied.ensures in
     let apart : AllApart (template_in rows) bases = all_of (λ (rs : List Row). IsApartFromEarlier (map region_in rs) bases) region_in found whole is c.in-None-first_meeting.ensures in
-    let count : c.header_word.result ≡ header_word rows 6 = c.header_word.ensures in
     let clear : AllClear (template_in rows) bases c.args.staging = all_of (λ (rs : List Row). IsClearAt (map region_in rs) bases (span c.args.staging (96 * header_word rows 6))) region_in found whole is
-    (subst (λ (n : ℕ). AllBelow (length found) (IsClearAt (map region_in found) bases (span c.args.staging (96 * n)))) count c.in-None-first_in_area.ensures) in
+    (subst (λ (area : Span). AllBelow (length found) (IsClearAt (map region_in found) bases area)) c.area_of-area.ensures c.in-None-first_in_area.ensures) in
     record { fit = fit; aligned = aligned; tied = tied; apart = apart; clear = clear; address = c.is_staging.ensures.0 c.if-is_staging.true }
 
 pub returns-else-is_staging : goal.returns-else-is_staging
@@ -106,7 +105,6 @@ returns-else-is_staging c =
     let aligned : AllAligned (template_in rows) bases = all_of (λ (rs : List Row). IsAlignedBase (map region_in rs) (map unit_in rs) bases) region_in found whole is c.in-None-first_misaligned.ensures in
     let tied : AllTied (template_in rows) bases = all_of (λ (ts : List Row). IsTiedAt (map tie_in ts) bases) tie_in c.tie_rows-ties.result.now (tie_rows rows) c.tie_rows-ties.ensures.value c.in-None-first_untied.ensures in
     let apart : AllApart (template_in rows) bases = all_of (λ (rs : List Row). IsApartFromEarlier (map region_in rs) bases) region_in found whole is c.in-None-first_meeting.ensures in
-    let count : c.header_word.result ≡ header_word rows 6 = c.header_word.ensures in
     let clear : AllClear (template_in rows) bases c.args.staging = all_of (λ (rs : List Row). IsClearAt (map region_in rs) bases (span c.args.staging (96 * header_word rows 6))) region_in found whole is
-    (subst (λ (n : ℕ). AllBelow (length found) (IsClearAt (map region_in found) bases (span c.args.staging (96 * n)))) count c.in-None-first_in_area.ensures) in
+    (subst (λ (area : Span). AllBelow (length found) (IsClearAt (map region_in found) bases area)) c.area_of-area.ensures c.in-None-first_in_area.ensures) in
     λ portal_len staging_len room. ((c.requires.based, room), fit, aligned, tied, apart, clear, λ at. absurd (false≢true (sym c.if-is_staging.false ∙ c.is_staging.ensures.1 at)))

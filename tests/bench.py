@@ -3,10 +3,10 @@
 system time and the minor page faults, and greatest peak memory of each, the ratio of the times, and whether the answers
 are equal. By hand, on a quiet machine; it is no test.
 
-    tests/bench.py OTHER [JOB ..]      OTHER: the other program; JOB: the beginning of a job's name
+    tests/bench.py [--json FILE] OTHER [JOB ..]    OTHER: the other program; JOB: the beginning of a job's name
 
-Jobs are made in processes of their own: the peak memory of a program can't be seen below that of the process that
-started it.
+With --json the rows are written to FILE, too. Jobs are made in processes of their own: the peak memory of a program
+can't be seen below that of the process that started it.
 """
 
 import json
@@ -210,8 +210,12 @@ def make(name, program, path):
             file.write(text_of(JOBS[name](program)))
 
 
+# The columns of a row: the member of each figure, for this program and the other one, and how the table names it.
+COLUMNS = {'wall': 'ms', 'system': 'system ms', 'faults': 'faults', 'peak': 'MiB'}
+
+
 def row(name, own, other, folder):
-    """Makes a job, runs both programs on it by turns, and answers a row of the table."""
+    """Makes a job, runs both programs on it by turns, and answers what was measured of each."""
     job = os.path.join(folder, 'job')
     lines = [os.path.join(folder, which) for which in ('own', 'other')]
     subprocess.run([sys.executable, '-B', __file__, '--make', name, own, job], check=True)
@@ -219,27 +223,58 @@ def row(name, own, other, folder):
     for _ in range(RUNS):
         for k, tried in enumerate((own, other)):
             runs[k].append(measured(tried, job, lines[k]))
-    (wall, system, faults, _), (their_wall, their_system, their_faults, _) = map(min, runs)
-    peak, their_peak = (max(run[3] for run in its) for its in runs)
-    return '| %s | %.0f | %.0f | %.2f | %.0f | %.0f | %d | %d | %.0f | %.0f | %s |' % (
-        name, wall, their_wall, wall / their_wall, system, their_system, faults, their_faults, peak, their_peak,
-        'equal' if same(*lines) else 'DIFFER')
+    found = []
+    for its in runs:
+        wall, system, faults, _ = min(its)
+        peak = max(run[3] for run in its)
+        found.append({'wall': round(wall, 1), 'system': round(system, 1), 'faults': faults, 'peak': round(peak)})
+    return {'job': name, 'own': found[0], 'other': found[1], 'equal': same(*lines)}
 
 
-def main(other, *wanted):
+def cells(found):
+    """The cells of a row of the table."""
+    own, other = found['own'], found['other']
+    yield found['job']
+    for member in COLUMNS:
+        yield f'{own[member]:.0f}'
+        yield f'{other[member]:.0f}'
+        if member == 'wall':
+            yield f'{own[member] / other[member]:.2f}'
+    yield 'equal' if found['equal'] else 'DIFFER'
+
+
+def show(cells):
+    print('| %s |' % ' | '.join(cells), flush=True)
+
+
+def measure(other, wanted):
+    """Measures each wanted job and prints its row as it comes; answers the rows."""
     names = [n for n in (*JOBS, *LONGEST_JOBS) if not wanted or any(n.startswith(w) for w in wanted)]
-    print('| job | dsa, ms | other, ms | ratio | dsa, system ms | other, system ms | dsa, faults | other, faults'
-          ' | dsa, MiB | other, MiB | answers |')
-    print('|---|---|---|---|---|---|---|---|---|---|---|')
+    heads = [f'{which}, {unit}' for unit in COLUMNS.values() for which in ('dsa', 'other')]
+    show(['job', *heads[:2], 'ratio', *heads[2:], 'answers'])
+    show(['---'] * (len(heads) + 3))
+    rows = []
     with tempfile.TemporaryDirectory() as folder:
         for name in names:
-            print(row(name, program('dsa'), other, folder), flush=True)
+            rows.append(row(name, program('dsa'), other, folder))
+            show(cells(rows[-1]))
+    return rows
+
+
+def main(words):
+    path = None
+    if words[0] == '--json':
+        path, words = words[1], words[2:]
+    rows = measure(words[0], words[1:])
+    if path:
+        with open(path, 'w', encoding='ascii') as file:
+            json.dump(rows, file)
 
 
 if __name__ == '__main__':
     if sys.argv[1:2] == ['--make']:
         make(*sys.argv[2:])
-    elif len(sys.argv) > 1 and not sys.argv[1].startswith('-'):
-        main(*sys.argv[1:])
+    elif len(sys.argv) > (3 if sys.argv[1:2] == ['--json'] else 1):
+        main(sys.argv[1:])
     else:
         sys.exit(__doc__)

@@ -1,0 +1,171 @@
+#!/usr/bin/env -S python3 -B
+"""Measures what docs/SPEED.md says, by hand and on a quiet machine, and writes each group to a file of docs/figures:
+
+    tests/measure.py short_lists filling in_flight small_jobs audits
+    tests/measure.py jobs longest OTHER      beside another program of the same jobs
+
+`tests/figures.py --write` makes the tables of the pages anew from these files. Times are of the built programs and the
+built archive. Instructions are counted by callgrind, and do not depend on what else the machine does."""
+
+import json
+import os
+import re
+import subprocess
+import sys
+import tempfile
+import time
+from datetime import date
+from pathlib import Path
+
+import bench
+from audit import moves_apart
+from common import ROOT, compiler, program, stop
+
+FOLDER = ROOT / "docs/figures"
+LENGTHS = ("8", "32", "64")
+CALL = "dsa_plan_list"
+GIB = 2**30
+
+
+def machine():
+    """What the figures of a file are of."""
+    models = re.findall(r"^model name\s*: (.*)$", Path("/proc/cpuinfo").read_text(), re.M)
+    found = {"date": date.today().isoformat(), "processor": models[0] if models else "unknown"}
+    return found | {"processors": os.cpu_count(), "load": round(os.getloadavg()[0], 1)}
+
+
+def compiled(name, folder):
+    """Builds a caller in C over the archive; answers where the program is."""
+    path, source = f"{folder}/{name}", ROOT / f"tests/bindings/{name}.c"
+    flags = ["-std=c11", "-D_GNU_SOURCE", "-O2", "-g", "-I", ROOT / "bindings/c"]
+    sources = [source, ROOT / "bindings/c/memory.c", ROOT / "crates/dsa_c/out/libdsa_c.a"]
+    subprocess.run([compiler(), *flags, *sources, "-o", path], check=True)
+    return path
+
+
+def lines_of(name, rounds):
+    """What a caller in C prints of so many rounds."""
+    with tempfile.TemporaryDirectory() as folder:
+        return subprocess.run([compiled(name, folder), rounds], stdout=subprocess.PIPE, text=True, check=True).stdout
+
+
+def least(rows, place):
+    return min(row.pop(place) for row in rows)
+
+
+# ---- from C
+
+
+def instructions(caller, kind, length, folder):
+    """The instructions of CALL for each move of a list, of one round of 4,096 moves; without `memset`, of which callgrind
+    counts an instruction for each byte."""
+    out = f"{folder}/callgrind"
+    command = ["valgrind", "--tool=callgrind", f"--toggle-collect={CALL}", f"--callgrind-out-file={out}"]
+    subprocess.run([*command, caller, "1", kind, length], check=True, capture_output=True)
+    shown = subprocess.run(["callgrind_annotate", "--auto=no", "--threshold=100", out], stdout=subprocess.PIPE, text=True, check=True)
+    counts = re.findall(r"^ *([\d,]+) \([ \d.]+%\)  (.*)$", shown.stdout, re.M)
+    total = sum(int(count.replace(",", "")) for count, name in counts if ":" in name and "memset" not in name)
+    return round(total / (4096 // int(length) * int(length)))
+
+
+def short_lists():
+    """Planning short lists: nanoseconds and instructions for each move, and what copying its descriptor takes."""
+    form = r"^(\S.*?) +(\d+) moves: plan +([\d.]+) .* at each fourth +([\d.]+), copy +([\d.]+);"
+    rows = []
+    with tempfile.TemporaryDirectory() as folder:
+        caller = compiled("speed", folder)
+        ran = subprocess.run([caller, "1600"], stdout=subprocess.PIPE, text=True, check=True).stdout
+        for kind, length, plan, barriers, copy in re.findall(form, ran, re.M):
+            if length in LENGTHS:
+                row = {"kind": kind, "moves": int(length), "ns": float(plan), "barriers": float(barriers)}
+                row["instructions"] = instructions(caller, kind, length, folder)
+                rows.append(row | {"copy": float(copy)})
+    return {"copy": least(rows, "copy"), "rows": rows}
+
+
+def filling():
+    """Filling a prepared list: nanoseconds for each of 32 moves, beside copying as many bytes by 32."""
+    form = r"^ ?(\d+) regions, bases (.*): plan +([\d.]+) .* fill +([\d.]+), copy by 32 bytes +([\d.]+),"
+    found = re.findall(form, lines_of("fill_speed", "400"), re.M)
+    rows = [{"regions": int(n), "bases": bases, "ns": float(fill), "plan": float(plan), "copy": float(copy)}
+            for n, bases, plan, fill, copy in found]
+    return {"copy": least(rows, "copy"), "rows": rows}
+
+
+def in_flight():
+    """Tracking lists in flight: nanoseconds for each move, beside planning them and comparing all pairs of spans."""
+    form = r"^(\S.*?) +(\d+) moves, +(\d+) in flight: track +([\d.]+) .* plan +([\d.]+), compare all +([\d.]+),"
+    found = re.findall(form, lines_of("track_speed", "50"), re.M)
+    rows = [{"kind": kind, "moves": int(moves), "flight": int(flight), "ns": float(track), "plan": float(plan),
+             "compare": float(compare)} for kind, moves, flight, track, plan, compare in found]
+    return {"rows": rows}
+
+
+# ---- jobs
+
+
+def small_jobs():
+    """Small jobs a second: by dsa_jobs, and by a process of dsa for each, started by a shell."""
+    job, many, few = (ROOT / "examples/plan.job").read_bytes().strip() + b"\n", 200_000, 1_000
+    start = time.monotonic()
+    subprocess.run([program("dsa_jobs")], input=job * many, stdout=subprocess.DEVNULL, check=True)
+    lines = many / (time.monotonic() - start)
+    loop = f"for i in $(seq {few}); do {program('dsa')} < examples/plan.job; done"
+    start = time.monotonic()
+    subprocess.run(["sh", "-c", loop], stdout=subprocess.DEVNULL, check=True, cwd=ROOT)
+    return {"lines": round(lines), "processes": round(few / (time.monotonic() - start))}
+
+
+def jobs(other):
+    """Large jobs beside another program."""
+    return {"rows": bench.measure(other, [name for name in bench.JOBS])}
+
+
+def longest(other):
+    """The longest texts beside another program."""
+    return {"rows": bench.measure(other, ["longest"])}
+
+
+# ---- audits
+
+
+def of_a_gibibyte(block):
+    """The processor seconds and the peak in MB of an audit of a block again and again, up to a gibibyte."""
+    child = subprocess.Popen([program("dsa_text"), "audit"], stdin=subprocess.PIPE, stdout=subprocess.DEVNULL)
+    many = block * (2**20 // len(block))
+    for _ in range(GIB // len(many)):
+        child.stdin.write(many)
+    child.stdin.close()
+    _, _, usage = os.wait4(child.pid, 0)
+    return {"seconds": round(usage.ru_utime + usage.ru_stime, 1), "peak": round(usage.ru_maxrss / 1000)}
+
+
+def audits():
+    """Audits of 65,472 members as JSON, and of a gibibyte in batches of 31 moves."""
+    ran = subprocess.run([ROOT / "tests/audit.py", "speed"], stdout=subprocess.PIPE, text=True, check=True).stdout
+    found = re.findall(r"^(\d+) batch(?:es)? of (\d+), (.*): ([\d.]+) s, (\d+) findings", ran, re.M)
+    rows = [{"batches": int(count), "members": name, "seconds": float(took)} for count, _, name, took, _ in found]
+    plain = of_a_gibibyte(moves_apart(31))
+    guarded = of_a_gibibyte(moves_apart(31, lambda k: k == 16))
+    return {"rows": rows, "plain": plain, "guarded": guarded}
+
+
+GROUPS = {it.__name__: it for it in (short_lists, filling, in_flight, small_jobs, audits)}
+BESIDE = {it.__name__: it for it in (jobs, longest)}
+
+
+def main(words):
+    names = [word for word in words if word in GROUPS or word in BESIDE]
+    others = [word for word in words if word not in names]
+    if not names or len(others) != any(name in BESIDE for name in names):
+        stop(__doc__)
+    FOLDER.mkdir(exist_ok=True)
+    for name in names:
+        found = machine()
+        found |= GROUPS[name]() if name in GROUPS else BESIDE[name](*others)
+        (FOLDER / f"{name}.json").write_text(json.dumps(found, indent=1) + "\n")
+        print(f"docs/figures/{name}.json", flush=True)
+
+
+if __name__ == "__main__":
+    main(sys.argv[1:])

@@ -20,14 +20,20 @@ def figures(name):
 
 
 def source(found):
-    """When and on what the figures were measured."""
+    """When the figures were measured, and beside what."""
     copy = f", copying a descriptor {found['copy']} ns" if "copy" in found else ""
-    return f"{found['date']}, {found['processors']} processors ({found['processor']}), load {found['load']}{copy}:\n\n"
+    return f"{found['date']}, load {found['load']}{copy}:\n\n"
+
+
+def machine():
+    """What all figures were measured on."""
+    every = [json.loads(path.read_text()) for path in sorted(FOLDER.glob("*.json"))]
+    return "; ".join(sorted({f"{it['processors']} processors {it['processor']}" for it in every})) + "\n"
 
 
 def table(heads, rows):
-    lines = [heads, ["---"] * len(heads), *rows]
-    return "".join(f"| {' | '.join(map(str, cells))} |\n" for cells in lines)
+    lines = [f"| {' | '.join(map(str, cells))} |\n" for cells in (heads, *rows)]
+    return lines[0] + "|" + "---|" * len(heads) + "\n" + "".join(lines[1:])
 
 
 def span(values, form="{:.0f}"):
@@ -69,8 +75,8 @@ def rows_of_jobs(found):
 
 def jobs():
     found = figures("jobs")
-    heads = ["job", "ms", "other", "ratio", "system ms", "other", "new pages", "other", "MiB", "other"]
-    return source(found) + table(heads, rows_of_jobs(found))
+    rows = [[*cells[:4], *cells[6:]] for cells in rows_of_jobs(found)]
+    return source(found) + table(["job", "ms", "other", "ratio", "new pages", "other", "MiB", "other"], rows)
 
 
 def longest():
@@ -126,7 +132,8 @@ def summary():
     ])
 
 
-TABLES = {it.__name__: it for it in (short_lists, filling, small_jobs, jobs, longest, audits, in_flight, summary)}
+MADE = (machine, short_lists, filling, small_jobs, jobs, longest, audits, in_flight, summary)
+TABLES = {it.__name__: it for it in MADE}
 
 
 def rewritten(text):

@@ -15,6 +15,7 @@ import sys
 import tempfile
 import time
 from datetime import date
+from itertools import product
 from pathlib import Path
 
 import bench
@@ -22,6 +23,7 @@ from audit import moves_apart
 from common import ROOT, compiler, program, stop
 
 FOLDER = ROOT / "docs/figures"
+KINDS = ("apart", "two areas", "shuffled", "chained", "random")
 LENGTHS = ("8", "32", "64")
 CALL = "dsa_plan_list"
 GIB = 2**30
@@ -57,29 +59,30 @@ def least(rows, place):
 
 
 def instructions(caller, kind, length, folder):
-    """The instructions of CALL for each move of a list, of one round of 4,096 moves; without `memset`, of which callgrind
-    counts an instruction for each byte."""
+    """The instructions of CALL for each move of a list, of one round of 4,096 moves; without `memset`, of which
+    callgrind counts an instruction for each byte."""
     out = f"{folder}/callgrind"
     command = ["valgrind", "--tool=callgrind", f"--toggle-collect={CALL}", f"--callgrind-out-file={out}"]
     subprocess.run([*command, caller, "1", kind, length], check=True, capture_output=True)
-    shown = subprocess.run(["callgrind_annotate", "--auto=no", "--threshold=100", out], stdout=subprocess.PIPE, text=True, check=True)
-    counts = re.findall(r"^ *([\d,]+) \([ \d.]+%\)  (.*)$", shown.stdout, re.M)
+    show = ["callgrind_annotate", "--auto=no", "--threshold=100", out]
+    shown = subprocess.run(show, stdout=subprocess.PIPE, text=True, check=True).stdout
+    counts = re.findall(r"^ *([\d,]+) \([ \d.]+%\)  (.*)$", shown, re.M)
     total = sum(int(count.replace(",", "")) for count, name in counts if ":" in name and "memset" not in name)
     return round(total / (4096 // int(length) * int(length)))
 
 
 def short_lists():
     """Planning short lists: nanoseconds and instructions for each move, and what copying its descriptor takes."""
-    form = r"^(\S.*?) +(\d+) moves: plan +([\d.]+) .* at each fourth +([\d.]+), copy +([\d.]+);"
+    form = r"^.* moves: plan +([\d.]+) .* at each fourth +([\d.]+), copy +([\d.]+);"
     rows = []
     with tempfile.TemporaryDirectory() as folder:
         caller = compiled("speed", folder)
-        ran = subprocess.run([caller, "1600"], stdout=subprocess.PIPE, text=True, check=True).stdout
-        for kind, length, plan, barriers, copy in re.findall(form, ran, re.M):
-            if length in LENGTHS:
-                row = {"kind": kind, "moves": int(length), "ns": float(plan), "barriers": float(barriers)}
-                row["instructions"] = instructions(caller, kind, length, folder)
-                rows.append(row | {"copy": float(copy)})
+        for kind, length in product(KINDS, LENGTHS):
+            command = [caller, "1600", kind, length]
+            ran = subprocess.run(command, stdout=subprocess.PIPE, text=True, check=True)
+            plan, barriers, copy = map(float, re.match(form, ran.stdout).groups())
+            row = {"kind": kind, "moves": int(length), "ns": plan, "barriers": barriers, "copy": copy}
+            rows.append(row | {"instructions": instructions(caller, kind, length, folder)})
     return {"copy": least(rows, "copy"), "rows": rows}
 
 
@@ -89,7 +92,7 @@ def filling():
     found = re.findall(form, lines_of("fill_speed", "400"), re.M)
     rows = [{"regions": int(n), "bases": bases, "ns": float(fill), "plan": float(plan), "copy": float(copy)}
             for n, bases, plan, fill, copy in found]
-    return {"copy": least(rows, "copy"), "rows": rows}
+    return {"rows": rows}
 
 
 def in_flight():
@@ -116,14 +119,22 @@ def small_jobs():
     return {"lines": round(lines), "processes": round(few / (time.monotonic() - start))}
 
 
+def beside(other, names):
+    """What bench.py measures of jobs beside another program, in a process of its own, which has a smaller peak."""
+    with tempfile.TemporaryDirectory() as folder:
+        path = f"{folder}/rows"
+        subprocess.run([ROOT / "tests/bench.py", "--json", path, other, *names], check=True)
+        return {"rows": json.loads(Path(path).read_text())}
+
+
 def jobs(other):
     """Large jobs beside another program."""
-    return {"rows": bench.measure(other, [name for name in bench.JOBS])}
+    return beside(other, list(bench.JOBS))
 
 
 def longest(other):
     """The longest texts beside another program."""
-    return {"rows": bench.measure(other, ["longest"])}
+    return beside(other, list(bench.LONGEST_JOBS))
 
 
 # ---- audits
@@ -163,7 +174,7 @@ def main(words):
     for name in names:
         found = machine()
         found |= GROUPS[name]() if name in GROUPS else BESIDE[name](*others)
-        (FOLDER / f"{name}.json").write_text(json.dumps(found, indent=1) + "\n")
+        (FOLDER / f"{name}.json").write_text(json.dumps(found, indent=2) + "\n")
         print(f"docs/figures/{name}.json", flush=True)
 
 

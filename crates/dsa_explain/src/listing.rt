@@ -373,8 +373,8 @@ fn push_line_of_run(
     }
 }
 
-/// Writes the lines of a run that begins with a piece, after which these come: of its groups, of the fence before it, and
-/// of its pieces.
+/// Writes the lines of a run that begins with a piece, after which these come: of its groups, of the fence before it,
+/// and of its pieces.
 fn push_run_lines(
     alloc: Global,
     text: &mut String,
@@ -440,8 +440,9 @@ fn push_cells(
     Ok(())
 }
 
-/// The explanation of a plan in words: a line for each group, fence and piece, and one for the costs. Pieces of one operation
-/// that follow each other without a fence share a line, and so do groups of them that are alike, unless all is to be named.
+/// The explanation of a plan in words: a line for each group, fence and piece, and one for the costs. Pieces of one
+/// operation that follow each other without a fence share a line, and so do groups of them that are alike, unless all
+/// is to be named.
 pub fn explanation_text(
     alloc: Global,
     explanation: &Explanation,

@@ -44,8 +44,8 @@ fn are_as_large(pieces: &[Descriptor], before: usize, index: usize) -> bool
     }
 }
 
-/// Whether the piece at this index and the one so many before it are of one operation, as many of its pieces apart, and of
-/// one size.
+/// Whether the piece at this index and the one so many before it are of one operation, as many of its pieces apart,
+/// and of one size.
 fn repeats(listing: &Listing<'_>, count: usize, index: usize) -> bool
     ensures { result ≡ repeats (listed listing.now) count index }
 {
@@ -74,8 +74,8 @@ fn are_alike(before: &GroupCost, group: &GroupCost) -> bool
         && group.fences == 0
 }
 
-/// Whether the group of this number, which begins with the piece at this index, is like the one before it, and all pieces of
-/// both are of its operation.
+/// Whether the group of this number, which begins with the piece at this index, is like the one before it, and all
+/// pieces of both are of its operation.
 fn repeats_group(listing: &Listing<'_>, index: usize, number: usize) -> bool
     ensures { result ≡ repeats_group (listed listing.now) index
         (slice_get listing.now.groups.now (number - 1))

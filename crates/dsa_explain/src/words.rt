@@ -288,7 +288,7 @@ pub(crate) fn name_of(names: &[String], origin: Option<Origin>) -> &str
     }
 }
 
-/// The words of a piece: its canonical line, of a split operation which of its pieces it is, and the name of the operation.
+/// The words of a piece: its canonical line, of a split operation which of its pieces it is, and the operation's name.
 pub(crate) fn piece_text(
     alloc: Global,
     d: &Descriptor,

@@ -5,14 +5,15 @@ from bisect import bisect_right
 from dataclasses import dataclass, field
 from xml.etree import ElementTree
 
+import folded
+
 MOST_COLUMNS, MOST_ROWS = 24, 48
 SVG = "{http://www.w3.org/2000/svg}"
 KINDS = {"read after write": "RAW", "write after read": "WAR", "write after write": "WAW"}
 GROUP = re.compile(r"group (\d+): (?:lone submission|batch of (\d+)(?: \(full\))?, (\d+) fences?, \d+ epochs?), cost (\d+)")
 FENCE = re.compile(r"  -- fence, cost \d+: (.*)")
 REASON = r"(a barrier, and )?(\d+) after (\d+), (.*) at (0x[0-9a-f]+)(?: \(record of \d+\))?(?:, and (\d+) more)?"
-PIECE = re.compile(r"  (\d+): (\w+) (.*)")
-PART = re.compile(r"(.*) \(operation (\d+), piece (\d+) of (\d+)\)")
+PIECE = re.compile(r"  (\d+): (\w+) (.*), record 0x[^(#]*( \(operation (\d+), piece (\d+) of (\d+)\))?( # .*)?")
 ADDRESS = r"(0x[0-9a-f]+)"
 BARS = ("fence", "missing", "needless", "kept")
 
@@ -260,11 +261,14 @@ def spans_of(word, rest):
 
 
 def comments_of(text):
-    """The comment of each operation of a text, and the buffers that comments name."""
+    """The comment of each operation of a text, and the buffers that comments name. One with a character that a terminal
+    obeys is none."""
     comments, buffers = [], {}
     for line in text.split("\n"):
         before, _, comment = line.partition("#")
         words, comment = before.replace(",", " ").split(), comment.strip()
+        if re.search("[\0-\x08\x0a-\x1f\x7f-\x9f]", comment):
+            comment = ""
         if words and words[0] not in ("barrier", "batch"):
             comments.append(comment)
         elif not words and (found := re.fullmatch(r"(0x[0-9a-f]+|\d+):\s*(.*)", comment)):
@@ -278,16 +282,15 @@ def columns_of(words, text):
     for line in words.splitlines():
         if not (found := PIECE.fullmatch(line)):
             continue
-        number, word, rest = int(found[1]), found[2], found[3]
-        part = PART.fullmatch(rest)
-        name = "compare pattern" if " with pattern " in rest else word
-        comment, title = "", line.strip()
-        if comments is not None:
-            comment = comments[int(part[2]) if part else split_index(columns)]
-        if comment:
-            name, title = comment, f"{title} # {comment}"
-        columns.append(Column(title, number, f"{name} {part[3]}/{part[4]}" if part else name, *spans_of(word, rest)))
-        columns[-1].operation = int(part[2]) if part else split_index(columns[:-1])
+        number, word, rest, part = int(found[1]), found[2], found[3], found[4] or ""
+        operation = int(found[5]) if part else split_index(columns)
+        comment = comments[operation] if comments is not None else ""
+        name = comment or ("compare pattern" if " with pattern " in rest else word)
+        title = f"{number}: {word} {rest}{part}" + f" # {comment}" * bool(comment)
+        if (found[8] or "") != f" # {comment}" * bool(comment):
+            name = f"{found[8]} is said, and the comment is {comment}"
+        columns.append(Column(title, number, f"{name} {found[6]}/{found[7]}" if part else name, *spans_of(word, rest)))
+        columns[-1].operation = operation
     return columns
 
 
@@ -322,6 +325,7 @@ def bars_of(words, columns):
 
 def plan_fault(svg, words, text=None):
     """What is wrong with the picture of a plan that is explained in these words, and was planned from this text."""
+    words = folded.unfolded(words)
     columns = columns_of(words, text)
     bars = bars_of(words, columns)
     heads = [found for line in words.splitlines() if (found := GROUP.fullmatch(line))]

@@ -14,6 +14,7 @@ import tempfile
 from pathlib import Path
 
 import common
+import folded
 import golden
 import pictured
 import typed
@@ -61,7 +62,8 @@ def example(path):
     common.expect(written(f"assemble {options}", text) == list_of + "\n", f"assemble does not give the list of {path}")
     same("disassemble", written("disassemble", list_of + "\n"), path.with_suffix(".lines"))
     same("explain, of the text,", written(f"explain {options}", text), path.with_suffix(".explain"))
-    same("explain, of the job,", written("explain", own), path.with_suffix(".explain"))
+    nameless = re.sub(" # .*", "", path.with_suffix(".explain").read_text())
+    common.expect(written("explain", own) == nameless, f"explain, of the job, is not {path} without names")
     same("the picture", written(f"explain --svg {options}", text), path.with_suffix(".svg"))
     common.expect_line([program("dsa")], own, path.with_suffix(".line").read_text().rstrip("\n"))
 
@@ -70,18 +72,17 @@ def as_planned(path):
     """The plan of an example, judged and checked: explained as what was planned."""
     answer = json.loads(path.with_suffix(".line").read_text())
     rules = json.loads(path.with_suffix(".job").read_text())["settings"]
-    explained = path.with_suffix(".explain").read_text()
+    # pieces, read back from bytes to submit, no longer know the operations that they are of, nor their names
+    explained = re.sub(r" \(operation [^)]*\)| # .*", "", path.with_suffix(".explain").read_text())
     emitted = {name: answer[name] for name in ("portal", "staging")}
     check = {"do": "check", **emitted, "certificate": answer["certificate"], "settings": rules}
-    # pieces, read back from bytes to submit, no longer know the operations that they are of
-    expect("explain", json.dumps(check), re.sub(r" \(operation [^)]*\)", "", explained).rstrip("\n"))
+    expect("explain", json.dumps(check), explained.rstrip("\n"))
     common.expect(written("disassemble --portal", emitted["portal"] + "\n"), f"{path}: the portal has no text")
     staged = written("disassemble --staging", emitted["staging"] + "\n").split("\n")
     lines = [line.removeprefix("fence ") for line in staged if not line.startswith("#")]
     pieces = written("assemble", "\n".join(lines)).rstrip("\n")
     judge = {"do": "judge", "list": pieces, "plan": answer["plan"], "settings": rules}
-    shown = re.sub(r" \(operation [^)]*\)", "", explained)
-    expect("explain", json.dumps(judge), f"{shown}least {answer['cost']}: no plan costs less")
+    expect("explain", json.dumps(judge), f"{explained}least {answer['cost']}: no plan costs less")
 
 
 def examples():
@@ -301,7 +302,7 @@ def shown(moves, plan, reasons):
             if fenced:
                 rows.append(f"  -- fence, cost 3: {reasons[piece]}")
             src, dst = moves[piece]
-            rows.append(f"  {piece}: move 0x{src:x} -> 0x{dst:x}, 64 bytes")
+            rows.append(f"  {piece}: move 0x{src:x} -> 0x{dst:x}, 64 bytes, record 0x{0x2_0000 + 32 * piece:x}")
             piece += 1
         whole += cost
     lone = 10 * len(moves)
@@ -422,8 +423,8 @@ def large():
     """Texts and lists of more than 1 MiB: 65,536 moves that lie apart, which are 64 whole batches of 1,024."""
     count = 64 * 1024
     moves = [(0x1_0000_0000 + 0x1000 * k, 0x2_0000_0000 + 0x1000 * k, 0x3_0000_0000 + 32 * k) for k in range(count)]
-    lines = [f"move 0x{src:x} -> 0x{dst:x}, 64 bytes" for src, dst, _ in moves]
-    text = "".join(f"{line}, record 0x{at:x}\n" for line, (_, _, at) in zip(lines, moves))
+    lines = [f"move 0x{src:x} -> 0x{dst:x}, 64 bytes, record 0x{at:x}" for src, dst, at in moves]
+    text = "".join(f"{line}\n" for line in lines)
     listed = "".join(move(src, dst, record_at=at).bytes().hex() for src, dst, at in moves)
     rows = []
     for k, line in enumerate(lines):
@@ -436,22 +437,36 @@ def large():
     expect("assemble", text, listed)
     expect("disassemble", listed, text.rstrip("\n"))
     expect("explain", f"{' ' * (1 << 20)}\nmove 1 -> 4, 3 bytes, record 32 # after a mebibyte of blanks",
-           "group 0: lone submission, cost 10\n  0: move 0x1 -> 0x4, 3 bytes\n"
+           "group 0: lone submission, cost 10\n"
+           "  0: move 0x1 -> 0x4, 3 bytes, record 0x20 # after a mebibyte of blanks\n"
            "cost 10; 1 lone submission costs 10, saved 0")
 
 
 def split():
-    """Six hundred pieces of three hundred moves: of which move each is, and which piece of it."""
+    """Six hundred pieces of three hundred moves: of which move each is, and which piece of it; two share a line, unless
+    each has to have its own."""
     count = 300
     moves = [(0x10_0000 + 0x1000 * k, 0x1000_0000 + 0x1000 * k) for k in range(count)]
     text = "".join(f"move {src} -> {dst}, 64 bytes, record {0x2000_0000 + 64 * k}\n" for k, (src, dst) in enumerate(moves))
-    rows = [f"group 0: batch of {2 * count}, 0 fences, 1 epoch, cost 14"]
+    group = f"group 0: batch of {2 * count}, 0 fences, 1 epoch, cost 14"
+    costs = f"cost 14; {2 * count} lone submissions cost {20 * count}, saved {20 * count - 14}"
+    each, shared = [group], [group]
     for k, (src, dst) in enumerate(moves):
         for piece in (0, 1):
-            begin = f"  {2 * k + piece}: move 0x{src + 32 * piece:x} -> 0x{dst + 32 * piece:x}, 32 bytes"
-            rows.append(f"{begin} (operation {k}, piece {piece + 1} of 2)")
-    rows.append(f"cost 14; {2 * count} lone submissions cost {20 * count}, saved {20 * count - 14}")
-    expect("explain --greatest-transfer 32 --greatest-batch 1024", text, "\n".join(rows))
+            what = f"move 0x{src + 32 * piece:x} -> 0x{dst + 32 * piece:x}, 32 bytes, "
+            what += f"record 0x{0x2000_0000 + 64 * k + 32 * piece:x}"
+            each.append(f"  {2 * k + piece}: {what} (operation {k}, piece {piece + 1} of 2)")
+            if piece == 0:
+                both = f"(operation {k}, pieces 1 to 2 of 2, each 32 bytes further)"
+                shared.append(f"  {2 * k} to {2 * k + 1}: {what} {both}")
+    words = "explain --greatest-transfer 32 --greatest-batch 1024"
+    expect(words, text, "\n".join([*shared, costs]))
+    expect(f"{words} --all", text, "\n".join([*each, costs]))
+
+
+def folds():
+    """Random texts of which operations have several pieces."""
+    folded.texts(TEXT)
 
 
 def picture():
@@ -514,12 +529,15 @@ barrier # no name
 move 0x2040 -> 0x3000, 64 bytes, record 0x8040 #größer
 fill 0x4000 with 0000000000000000, 64 bytes, record 0x8060
 compare 0x4000 with pattern 0000000000000000, 64 bytes, expect 0, record 0x8080
-move 0x5000 -> 0x6000, 64 bytes, record 0x80a0 # b\x00\x1b\x7fc and a name that is too long for a column
+move 0x5000 -> 0x6000, 64 bytes, record 0x80a0 # b\tc and a name that is too long for a column
+move 0x7000 -> 0x7100, 64 bytes, record 0x80c0 # b\x1b[2Jc
 """
     words = "--greatest-transfer 64"
     drawn, told = written(f"explain --svg {words}", text), written(f"explain {words}", text)
-    fault = pictured.plan_fault(drawn, told, text.replace("\x00\x1b\x7f", "   "))
+    # a tab is drawn as a blank
+    fault = pictured.plan_fault(drawn, told.replace("\t", " "), text.replace("\t", " "))
     common.expect(not fault, f"{fault}: {drawn}")
+    common.expect("\x1b" not in drawn + told and "# b\tc" in told, f"another comment is shown: {told}")
     for part in ('a &amp; b &lt;c&gt; "d" # e', ">the log<", ">größer<", ">fill<", ">pattern<"):
         common.expect(part in drawn, f"no {part} in {drawn}")
     wild = b"move 1 -> 2, 3 bytes, record 32 # \xff\xfe\n"
@@ -625,7 +643,7 @@ def named_files():
         for words, wanted in [
             (["assemble", str(store)], listed + "\n"),
             (["disassemble", file.name], store.with_suffix(".lines").read_text()),
-            (["explain", str(job)], store.with_suffix(".explain").read_text()),
+            (["explain", str(job)], re.sub(" # .*", "", store.with_suffix(".explain").read_text())),
             (["explain", "--svg", str(store)], store.with_suffix(".svg").read_text()),
         ]:
             for given in (b"", b"move 1 -> 2, 3 bytes, record 32\n"):
@@ -764,8 +782,8 @@ def resumed():
 
 
 PARTS = [examples, lists, refusals, arguments, lines, grammar, texts, mistakes, sizes, fences, missing, shared_records]
-PARTS += [sentences, large, split, picture, pictures, reasons_drawn, names_drawn, overlaps, named_files, forms_of_bytes]
-PARTS += [members, waits, barriers, resumed, files]
+PARTS += [sentences, large, split, folds, picture, pictures, reasons_drawn, names_drawn, overlaps, named_files]
+PARTS += [forms_of_bytes, members, waits, barriers, resumed, files]
 
 
 def main(words):

@@ -176,7 +176,7 @@ fn refusals_leave_the_buffers() {
     assert_eq!((portal, staging), ([0xee; 64], [0xee; 159]));
     assert_eq!(
         refused(60, 43, 0, 1).to_string(),
-        "refused 60 Plan: the plan is not legal: 43 Unfenced: pieces 0 and 1 of one group conflict without a fence between"
+        "refused 60 Plan: the plan is not legal: 43 Unfenced: pieces 0 and 1 of one group conflict, or have a barrier between, but no fence"
     );
 }
 

@@ -10,3 +10,4 @@ pub mod Lines
 pub mod NoFloats
 pub mod Chains
 pub mod Waited
+pub mod Names

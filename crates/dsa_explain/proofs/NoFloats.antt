@@ -1,7 +1,7 @@
 -- The document of an explanation has no float.
 use Rattle.std.proofs.Common.{◌≡◌, ℕ, Bool, List, [], ◌∷◌, ◌++◌, map, true, false, refl}
 use Rattle.std.specs.Prelude.{Option, Some, None, codes}
-use Rattle.serde_json.specs.Data.{Data}
+use Rattle.serde_json.specs.Data.{Data, string}
 use Rattle.serde_json.specs.View.{items_of}
 use Rattle.serde_json.specs.Written.{has_float, items_have_float}
 use Rattle.dsa_cert.specs.Spelled.{array_of, object_of, whole}
@@ -9,8 +9,8 @@ use Rattle.dsa_descriptor.specs.declared.descriptor.Descriptor.{Descriptor}
 use Rattle.dsa_explain.specs.declared.explanation.Explanation.{Explanation}
 use Rattle.dsa_explain.specs.declared.fences.Fence.{Fence}
 use Rattle.dsa_explain.specs.declared.reason.Reason.{Reason}
-use Rattle.dsa_explain.specs.declared.words.Origin.{Origin}
 use Rattle.dsa_explain.specs.Document.{optional_value, group_value, reason_value, barrier_members, fence_value, piece_value, origin_value, explanation_value}
+use Rattle.dsa_explain.specs.Runs.{Labelling}
 use Rattle.dsa_explain.specs.Words.{record_of}
 
 -- an array has none where no item has
@@ -33,12 +33,13 @@ fence_with false pieces f = rw (items (reason_value pieces) f.named.items (reaso
 fence : (pieces : List Descriptor) (f : Fence) → has_float (fence_value pieces f) ≡ false
 fence pieces f = fence_with f.barrier pieces f
 
-pub explained : (e : Explanation) (pieces : List Descriptor) (origins : List Origin) (least : Option ℕ) → has_float (explanation_value e pieces origins least) ≡ false
-explained e pieces origins least =
+pub explained : (e : Explanation) (pieces : List Descriptor) (labels : Labelling) (least : Option ℕ) → has_float (explanation_value e pieces labels least) ≡ false
+explained e pieces labels least =
     rw (
       items (fence_value pieces) e.fences.items (fence pieces),
       items group_value e.costs.groups.items (λ group. refl),
       optional least,
-      items origin_value origins (λ origin. refl),
+      items string labels.names (λ name. refl),
+      items origin_value labels.origins (λ origin. refl),
       items piece_value pieces (λ d. refl),
     ) refl

@@ -4,13 +4,15 @@ use Rattle.serde_json.specs.Data.{Data, boolean, null, string}
 use Rattle.serde_json.specs.Written.{compact_text}
 use Rattle.dsa_cert.specs.Spelled.{whole, array_of, object_of}
 use Rattle.dsa_descriptor.specs.declared.descriptor.Descriptor.{Descriptor}
+use Rattle.dsa_descriptor.specs.Descriptors.{fields}
 use Rattle.dsa_lines.specs.Numbers.{hex}
-use Rattle.dsa_lines.specs.Text.{op_words, text_of}
+use Rattle.dsa_lines.specs.Text.{line_text}
 use Rattle.dsa_plan.specs.declared.costs.GroupCost.{GroupCost}
 use Rattle.dsa_explain.specs.declared.explanation.Explanation.{Explanation}
 use Rattle.dsa_explain.specs.declared.fences.Fence.{Fence}
+use Rattle.dsa_explain.specs.declared.labels.Origin.{Origin}
 use Rattle.dsa_explain.specs.declared.reason.Reason.{Reason}
-use Rattle.dsa_explain.specs.declared.words.Origin.{Origin}
+use Rattle.dsa_explain.specs.Runs.{Labelling}
 use Rattle.dsa_explain.specs.Words.{kind_words, record_of}
 
 -- a number that may be missing
@@ -47,9 +49,9 @@ fence_value pieces fence =
     ∷ (codes "conflicts", array_of (map (reason_value pieces) fence.named.items))
     ∷ [])
 
--- a piece: what it does
+-- a piece: its canonical line
 abbrev pub piece_value : Descriptor → Data
-piece_value d = string (text_of (op_words d.op d.size))
+piece_value d = string (line_text (fields d))
 
 -- of which operation a piece is, which of its pieces, from 1 on, and how many it has
 abbrev pub origin_value : Origin → Data
@@ -60,19 +62,21 @@ origin_value origin =
     ∷ (codes "pieces", whole origin.pieces)
     ∷ [])
 
--- an explanation, with the origins of its pieces, and the cost of the least plan where it is known
-abbrev pub explanation_value : Explanation → List Descriptor → List Origin → Option ℕ → Data
-explanation_value e pieces origins least =
+-- an explanation, with the origins of its pieces, the names of their operations, and the cost of the least plan where it is
+-- known
+abbrev pub explanation_value : Explanation → List Descriptor → Labelling → Option ℕ → Data
+explanation_value e pieces labels least =
     object_of (
     (codes "cost", whole e.costs.cost)
     ∷ (codes "fences", array_of (map (fence_value pieces) e.fences.items))
     ∷ (codes "groups", array_of (map group_value e.costs.groups.items))
     ∷ (codes "least", optional_value least)
     ∷ (codes "lone_cost", whole e.costs.lone)
-    ∷ (codes "origins", array_of (map origin_value origins))
+    ∷ (codes "names", array_of (map string labels.names))
+    ∷ (codes "origins", array_of (map origin_value labels.origins))
     ∷ (codes "pieces", array_of (map piece_value pieces))
     ∷ [])
 
 -- its compact text, as a line
-abbrev pub explanation_line : Explanation → List Descriptor → List Origin → Option ℕ → List ℕ
-explanation_line e pieces origins least = compact_text (explanation_value e pieces origins least) ++ codes "\n"
+abbrev pub explanation_line : Explanation → List Descriptor → Labelling → Option ℕ → List ℕ
+explanation_line e pieces labels least = compact_text (explanation_value e pieces labels least) ++ codes "\n"

@@ -1,6 +1,7 @@
 pub mod Reasons
 pub mod Fences
 pub mod Cells
+pub mod Runs
 pub mod Words
 pub mod Waits
 pub mod Document

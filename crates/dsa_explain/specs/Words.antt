@@ -1,19 +1,22 @@
 -- The words of an explanation (this project's choice).
-use Rattle.std.specs.Prelude.{ℕ, suc, ◌+◌, ◌-◌, ◌==◌, ◌&&◌, nat_le, nat_lt, Bool, true, false, List, [], ◌∷◌, ◌++◌, codes, decimal, drop, length, slice_get, Option, Some, None, if◌then◌else◌}
+use Rattle.std.specs.Prelude.{ℕ, suc, ◌+◌, ◌-◌, ◌==◌, ◌&&◌, nat_le, nat_lt, Bool, true, false, List, [], ◌∷◌, ◌++◌, codes, decimal, drop, length, slice_get, slice_index_or, Option, Some, None, if◌then◌else◌}
 use Rattle.std.specs.List.{flat_map}
 use Rattle.dsa_descriptor.specs.declared.descriptor.Descriptor.{Descriptor}
+use Rattle.dsa_descriptor.specs.Descriptors.{fields}
 use Rattle.dsa_ranges.specs.declared.hazards.HazardKind.{HazardKind}
 use Rattle.dsa_ranges.specs.declared.hazards.HazardKind.TheVariants.{ReadAfterWrite, WriteAfterRead, WriteAfterWrite}
 use Rattle.dsa_lines.specs.Numbers.{hex}
-use Rattle.dsa_lines.specs.Text.{op_words, text_of}
+use Rattle.dsa_lines.specs.Text.{line_text}
 use Rattle.dsa_plan.specs.Settings.{Limits}
 use Rattle.dsa_plan.specs.declared.costs.Costs.{Costs}
 use Rattle.dsa_plan.specs.declared.costs.GroupCost.{GroupCost}
 use Rattle.dsa_explain.specs.declared.cells.Cell.{Cell}
 use Rattle.dsa_explain.specs.declared.explanation.Explanation.{Explanation}
+use Rattle.dsa_explain.specs.declared.fences.Detail.{Detail}
 use Rattle.dsa_explain.specs.declared.fences.Fence.{Fence}
+use Rattle.dsa_explain.specs.declared.labels.Origin.{Origin}
 use Rattle.dsa_explain.specs.declared.reason.Reason.{Reason}
-use Rattle.dsa_explain.specs.declared.words.Origin.{Origin}
+use Rattle.dsa_explain.specs.Runs.{Labelling, Listed, continues, run_length}
 
 -- ---- the parts
 
@@ -41,18 +44,36 @@ lone_words number cost =
 abbrev pub full_words : ℕ → ℕ → List ℕ
 full_words greatest size = if size == greatest then codes " (full)" else []
 
+-- the size of a batch, its fences and epochs, and what it costs
+abbrev pub size_words : ℕ → GroupCost → List ℕ
+size_words greatest group =
+    decimal group.size ++ (full_words greatest group.size ++ (codes ", " ++ fences_words group.fences group.cost))
+
 -- a batch: its size, and what it costs
 abbrev pub batch_words : ℕ → ℕ → GroupCost → List ℕ
-batch_words greatest number group =
-    codes "group "
-    ++ (decimal number
-    ++ (codes ": batch of "
-    ++ (decimal group.size ++ (full_words greatest group.size ++ (codes ", " ++ fences_words group.fences group.cost)))))
+batch_words greatest number group = codes "group " ++ (decimal number ++ (codes ": batch of " ++ size_words greatest group))
 
 -- a group: a lone piece or a batch
 abbrev pub group_words : ℕ → ℕ → GroupCost → List ℕ
 group_words greatest number group =
     if group.size == 1 then lone_words number group.cost else batch_words greatest number group
+
+-- groups that are alike: lone pieces or batches
+abbrev pub alike_words : ℕ → GroupCost → List ℕ
+alike_words greatest group =
+    if group.size == 1
+    then codes " lone submissions, cost " ++ decimal group.cost
+    else codes " batches of " ++ size_words greatest group
+
+-- the groups of these numbers, which are alike
+abbrev pub groups_words : ℕ → ℕ → ℕ → GroupCost → List ℕ
+groups_words greatest first last group =
+    if first == last
+    then group_words greatest first group
+    else codes "groups "
+    ++ (decimal first
+    ++ (codes " to "
+    ++ (decimal last ++ (codes ": " ++ (decimal (last + 1 - first) ++ (alike_words greatest group ++ codes " each"))))))
 
 -- the two pieces of a conflict, its kind and an address of it
 abbrev pub conflict_words : Reason → List ℕ
@@ -108,9 +129,39 @@ origin_words (Some origin) =
     then codes " (operation " ++ (decimal origin.operation ++ (codes ", piece " ++ (decimal origin.piece ++ (codes " of " ++ (decimal origin.pieces ++ codes ")")))))
     else []
 
--- what a piece does, and of which operation it is
-abbrev pub piece_words : Descriptor → Option Origin → List ℕ
-piece_words d origin = text_of (op_words d.op d.size) ++ origin_words origin
+-- how far each piece of a run is from the one before: lower, if it runs down
+abbrev pub step_words : ℕ → Bool → List ℕ
+step_words size is_down = codes ", each " ++ (decimal size ++ (if is_down then codes " bytes lower)" else codes " bytes further)"))
+
+-- which pieces of their operation the pieces of a run are
+abbrev pub parts_words : ℕ → Origin → List ℕ
+parts_words more origin =
+    codes ", pieces "
+    ++ (decimal origin.piece ++ (codes " to " ++ (decimal (origin.piece + more) ++ (codes " of " ++ decimal origin.pieces))))
+
+-- of which operation the pieces of a run are, and how far apart
+abbrev pub origins_words : ℕ → ℕ → Bool → Option Origin → List ℕ
+origins_words more size is_down None = []
+origins_words more size is_down (Some origin) =
+    codes " (operation " ++ (decimal origin.operation ++ (parts_words more origin ++ step_words size is_down))
+
+-- the name of an operation, as the comment of its line
+abbrev pub name_words : List ℕ → List ℕ
+name_words [] = []
+name_words (c ∷ cs) = codes " # " ++ c ∷ cs
+
+-- the name of the operation that a piece is of, if it has one
+abbrev pub name_of : List (List ℕ) → Option Origin → List ℕ
+name_of names None = []
+name_of names (Some origin) = slice_index_or names origin.operation []
+
+-- a piece: its canonical line, of which operation it is, and the name of that
+abbrev pub piece_words : Descriptor → Option Origin → List ℕ → List ℕ
+piece_words d origin name = line_text (fields d) ++ (origin_words origin ++ name_words name)
+
+-- a run of a piece and so many more: what the first one does, of which operation they are, and the name of that
+abbrev pub run_words : ℕ → Bool → Descriptor → Option Origin → List ℕ → List ℕ
+run_words more is_down d origin name = line_text (fields d) ++ (origins_words more d.size is_down origin ++ name_words name)
 
 -- what is saved, or how much less lone submissions cost
 abbrev pub saved_words : ℕ → ℕ → List ℕ
@@ -128,15 +179,15 @@ cost_words costs pieces =
 
 -- ---- the lines
 
--- the line of a group, before its first piece
-abbrev pub line_of_group : ℕ → ℕ → Option GroupCost → List ℕ
-line_of_group greatest number None = []
-line_of_group greatest number (Some group) = group_words greatest number group ++ codes "\n"
+-- the line of the groups of these numbers, before the first piece
+abbrev pub line_of_groups : ℕ → ℕ → ℕ → Option GroupCost → List ℕ
+line_of_groups greatest first last None = []
+line_of_groups greatest first last (Some group) = groups_words greatest first last group ++ codes "\n"
 
--- the line of the group that begins with this piece, if one does
-abbrev pub group_line : ℕ → List GroupCost → Cell → List ℕ
-group_line greatest groups cell =
-    if cell.column == 0 then line_of_group greatest cell.row (slice_get groups cell.row) else []
+-- the line of the groups that a run has until the group `last`, if its first piece begins a group
+abbrev pub group_line : ℕ → List GroupCost → Cell → ℕ → List ℕ
+group_line greatest groups first last =
+    if first.column == 0 then line_of_groups greatest first.row last (slice_get groups first.row) else []
 
 -- the lines of the first of these fences, before a fenced piece
 abbrev pub line_of_fence : ℕ → List Descriptor → Option Fence → List ℕ
@@ -155,22 +206,63 @@ fence_line price pieces fences cell =
 abbrev pub fences_left : List Fence → Cell → List Fence
 fences_left fences cell = if cell.fenced then drop 1 fences else fences
 
--- the line of a piece
-abbrev pub piece_line : ℕ → Option Descriptor → Option Origin → List ℕ
-piece_line index None origin = []
-piece_line index (Some d) origin = codes "  " ++ (decimal index ++ (codes ": " ++ (piece_words d origin ++ codes "\n")))
+-- the line of a piece that shares it with none
+abbrev pub piece_line : ℕ → Descriptor → Option Origin → List ℕ → List ℕ
+piece_line index d origin name = codes "  " ++ (decimal index ++ (codes ": " ++ (piece_words d origin name ++ codes "\n")))
+
+-- the line of a run
+abbrev pub run_line : ℕ → ℕ → Bool → Descriptor → Option Origin → List ℕ → List ℕ
+run_line index more is_down d origin name =
+    codes "  "
+    ++ (decimal index
+    ++ (codes " to " ++ (decimal (index + more) ++ (codes ": " ++ (run_words more is_down d origin name ++ codes "\n")))))
+
+-- the line of the piece of this index and so many more
+abbrev pub pieces_line : ℕ → ℕ → Bool → Option Descriptor → Option Origin → List ℕ → List ℕ
+pieces_line index more is_down None origin name = []
+pieces_line index more is_down (Some d) origin name =
+    if more == 0 then piece_line index d origin name else run_line index more is_down d origin name
+
+-- the pieces run down, as those of an operation whose regions overlap may: the record of the next one is lower
+abbrev pub is_lower : Option Descriptor → Option Descriptor → Bool
+is_lower None next = false
+is_lower (Some d) None = false
+is_lower (Some d) (Some next) = nat_lt next.record_at d.record_at
+
+-- the line of a run, which begins with the piece of this index
+abbrev pub line_of_run : Listed → ℕ → ℕ → List ℕ
+line_of_run x index more =
+    pieces_line index more (is_lower (slice_get x.pieces index) (slice_get x.pieces (index + 1))) (slice_get x.pieces index)
+    (slice_get x.labels.origins index) (name_of x.labels.names (slice_get x.labels.origins index))
+
+-- the group of a cell, if there is one
+abbrev pub row_or : ℕ → Option Cell → ℕ
+row_or row None = row
+row_or row (Some cell) = cell.row
+
+-- the group that a run ends in
+abbrev pub last_row : Cell → List Cell → ℕ → ℕ
+last_row first cells more = if more == 0 then first.row else row_or first.row (slice_get cells (more - 1))
+
+-- the lines of a run: of its groups, of the fence before it, and of its pieces
+abbrev pub run_lines : Listed → ℕ → List Fence → Cell → List Cell → ℕ → List ℕ
+run_lines x index fences cell cells more =
+    group_line x.limits.greatest_batch x.groups cell (last_row cell cells more)
+    ++ (fence_line x.limits.fence x.pieces fences cell ++ line_of_run x index more)
+
+-- the lines that begin with the piece of this index: none if it shares that of the piece before it
+abbrev pub lines_at : Listed → ℕ → List Fence → Cell → List Cell → List ℕ
+lines_at x index fences cell cells =
+    if continues x x.detail index cell then [] else run_lines x index fences cell cells (run_length x (suc index) cells)
 
 -- the lines of the pieces from this index on, of their groups and of their fences
-abbrev pub cell_lines : Limits → List GroupCost → List Descriptor → List Origin → ℕ → List Fence → List Cell → List ℕ
-cell_lines s groups pieces origins index fences [] = []
-cell_lines s groups pieces origins index fences (cell ∷ cells) =
-    group_line s.greatest_batch groups cell
-    ++ (fence_line s.fence pieces fences cell
-    ++ (piece_line index (slice_get pieces index) (slice_get origins index)
-    ++ cell_lines s groups pieces origins (suc index) (fences_left fences cell) cells))
+abbrev pub cell_lines : Listed → ℕ → List Fence → List Cell → List ℕ
+cell_lines x index fences [] = []
+cell_lines x index fences (cell ∷ cells) =
+    lines_at x index fences cell cells ++ cell_lines x (suc index) (fences_left fences cell) cells
 
 -- an explanation in words, under settings: the lines of its pieces, and one of its costs
-abbrev pub explanation_words : Limits → Explanation → List Descriptor → List Origin → List ℕ
-explanation_words s e pieces origins =
-    cell_lines s e.costs.groups.items pieces origins 0 e.fences.items e.cells.items
+abbrev pub explanation_words : Limits → Detail → Explanation → List Descriptor → Labelling → List ℕ
+explanation_words s detail e pieces labels =
+    cell_lines (record { limits = s; detail = detail; groups = e.costs.groups.items; pieces = pieces; labels = labels }) 0 e.fences.items e.cells.items
     ++ (cost_words e.costs (length pieces) ++ codes "\n")

@@ -1,18 +1,21 @@
 //! The document of an explanation.
 
 ghost use Rattle.std.specs.Prelude.{◌≡◌, false, map, IfOk, string_bytes};
+ghost use Rattle.serde_json.specs.Data.{string};
 ghost use Rattle.serde_json.specs.View.{view};
 ghost use Rattle.serde_json.specs.Written.{has_float};
 ghost use Rattle.dsa_cert.specs.Spelled.{array_of};
 ghost use Rattle.dsa_explain.specs.Document.{explanation_line, explanation_value, fence_value, group_value, optional_value, origin_value, piece_value, reason_value};
+ghost use Rattle.dsa_explain.specs.Runs.{labelling};
 ghost use Rattle.dsa_explain.specs.Words.{record_of};
 
 use crate::explanation::Explanation;
 use crate::fences::Fence;
+use crate::labels::{Labels, Origin};
 use crate::reason::Reason;
-use crate::words::{Origin, kind_text, record_of};
+use crate::words::{kind_text, record_of};
 use dsa_descriptor::Descriptor;
-use dsa_lines::op_text;
+use dsa_lines::line_of;
 use dsa_plan::GroupCost;
 use serde_json::{Value, json};
 use std::alloc::{AllocError, Global};
@@ -111,11 +114,11 @@ fn fences_json(alloc: Global, pieces: &[Descriptor], fences: &[Fence]) -> Result
     Ok(Value::Array(values))
 }
 
-/// The text of a piece.
+/// The canonical line of a piece.
 fn piece_json(alloc: Global, d: &Descriptor) -> Result<Value, AllocError>
     ensures { IfOk result (λ value. view value ≡ piece_value d.now) }
 {
-    Ok(Value::String(op_text(alloc, &d.op, d.size)?))
+    Ok(Value::String(line_of(alloc, d)?))
 }
 
 /// The array of the pieces.
@@ -149,22 +152,35 @@ fn origins_json(alloc: Global, origins: &[Origin]) -> Result<Value, AllocError>
     Ok(Value::Array(values))
 }
 
+/// The array of the names of operations.
+fn names_json(alloc: Global, names: &[String]) -> Result<Value, AllocError>
+    ensures { IfOk result (λ value. view value ≡
+        array_of (map string (map string_bytes names.now))) }
+{
+    let mut values = Vec::with_capacity(alloc, names.len())?;
+    for name in names {
+        values.push(Value::String(name.clone()?))?;
+    }
+    Ok(Value::Array(values))
+}
+
 /// The object of an explanation.
 fn explanation_json(
     alloc: Global,
     explanation: &Explanation,
     pieces: &[Descriptor],
-    origins: &[Origin],
+    labels: &Labels<'_>,
     least: Option<u64>,
 ) -> Result<Value, AllocError>
     ensures { IfOk result (λ value. view value ≡
-        explanation_value explanation.now pieces.now origins.now least) }
+        explanation_value explanation.now pieces.now (labelling labels.now) least) }
 {
     let (cost, lone) = (explanation.costs.cost, explanation.costs.lone);
     let fences = fences_json(alloc, pieces, &explanation.fences)?;
     let groups = groups_json(alloc, &explanation.costs.groups)?;
     let least = optional_json(least);
-    let origins = origins_json(alloc, origins)?;
+    let names = names_json(alloc, labels.names)?;
+    let origins = origins_json(alloc, labels.origins)?;
     let pieces = pieces_json(alloc, pieces)?;
     json!(in alloc; {
         "cost": cost,
@@ -172,6 +188,7 @@ fn explanation_json(
         "groups": groups,
         "least": least,
         "lone_cost": lone,
+        "names": names,
         "origins": origins,
         "pieces": pieces
     })
@@ -186,13 +203,13 @@ pub fn explanation_line(
     alloc: Global,
     explanation: &Explanation,
     pieces: &[Descriptor],
-    origins: &[Origin],
+    labels: &Labels<'_>,
     least: Option<u64>,
 ) -> Result<String, AllocError>
     ensures { IfOk result (λ s. string_bytes s ≡
-        explanation_line explanation.now pieces.now origins.now least) }
+        explanation_line explanation.now pieces.now (labelling labels.now) least) }
 {
-    let value = explanation_json(alloc, explanation, pieces, origins, least)?;
+    let value = explanation_json(alloc, explanation, pieces, labels, least)?;
     let mut line = value.to_string(alloc)?;
     line.push_str("\n")?;
     Ok(line)

@@ -6,9 +6,12 @@ mod cells;
 mod document;
 mod explanation;
 mod fences;
+mod labels;
 mod laws;
+mod listing;
 mod picture;
 mod reason;
+mod runs;
 mod waits;
 mod words;
 
@@ -19,10 +22,12 @@ pub use dsa_drawing::{Buffer, MOST_ROWS};
 pub use dsa_plan::{Costs, GroupCost, plan_costs};
 pub use explanation::{ExplainFault, Explanation, explain};
 pub use fences::{Detail, Fence, fences_of};
+pub use labels::{Labels, Origin};
 pub use laws::{
     cells_are_pieces_and_fences, each_fence_once, group_costs_add_up, least_plans_save,
 };
-pub use picture::{Names, draw};
+pub use listing::explanation_text;
+pub use picture::draw;
 pub use reason::Reason;
 pub use waits::{Waits, WaitsFault, group_waits, waits_text};
-pub use words::{Origin, explanation_text, kind_text};
+pub use words::kind_text;

@@ -5,9 +5,11 @@ ghost use Rattle.dsa_drawing.specs.Pictures.{IsPicture};
 
 use crate::explanation::Explanation;
 use crate::fences::Fence;
-use crate::words::{Origin, cost_text, fence_text, group_text, piece_text};
+use crate::labels::{Labels, Origin};
+use crate::words::{cost_text, fence_text, group_text, push_origin};
 use dsa_descriptor::Descriptor;
 use dsa_drawing::{Bar, BarKind, Buffer, Column, Group, Layout, Separated, hazard_name, op_name};
+use dsa_lines::op_text;
 use dsa_plan::{Costs, GroupCost, Settings};
 use dsa_ranges::touched;
 use std::alloc::{AllocError, Global};
@@ -17,15 +19,6 @@ const LEGEND: &str = "R: reads, W: writes; bar: fence; red: the conflict that it
 
 /// The kinds of conflicts.
 const KINDS: &str = "RAW: read after write; WAR: write after read; WAW: write after write";
-
-/// Names from the comments of a text.
-#[derive(Debug, Drop)]
-pub struct Names {
-    /// That of each operation, empty if it has none.
-    pub operations: Vec<String>,
-    /// Those of buffers.
-    pub buffers: Vec<Buffer>,
-}
 
 /// A group of this number.
 fn drawn_group(
@@ -63,9 +56,8 @@ fn drawn_groups(
 }
 
 /// The comment of a piece's operation, if it has one.
-fn comment_of<'a>(names: Option<&'a Names>, origin: Option<Origin>) -> Option<&'a str> {
-    let operation = origin?.operation;
-    let comment = names?.operations.get(operation)?;
+fn comment_of(names: &[String], origin: Option<Origin>) -> Option<&str> {
+    let comment = names.get(origin?.operation)?;
     if comment.is_empty() {
         None
     } else {
@@ -97,7 +89,8 @@ fn piece_title(
     comment: Option<&str>,
     origin: Option<Origin>,
 ) -> Result<String, AllocError> {
-    let words = piece_text(alloc, d, origin)?;
+    let mut words = op_text(alloc, &d.op, d.size)?;
+    push_origin(alloc, &mut words, origin)?;
     match comment {
         Some(comment) => format!(in alloc; "{number}: {words} # {comment}"),
         None => format!(in alloc; "{number}: {words}"),
@@ -108,13 +101,12 @@ fn piece_title(
 fn drawn_pieces(
     alloc: Global,
     pieces: &[Descriptor],
-    origins: &[Origin],
-    names: Option<&Names>,
+    labels: &Labels<'_>,
 ) -> Result<Vec<Column>, AllocError> {
     let mut columns = Vec::new(alloc);
     for (number, d) in pieces.iter().enumerate() {
-        let origin = origins.get(number).copied();
-        let comment = comment_of(names, origin);
+        let origin = labels.origins.get(number).copied();
+        let comment = comment_of(labels.names, origin);
         columns.push(Column {
             number,
             name: piece_name(alloc, d, comment, origin)?,
@@ -204,14 +196,6 @@ fn notes_of(alloc: Global, costs: &str, has_fences: bool) -> Result<Vec<String>,
     Ok(notes)
 }
 
-/// The names of buffers.
-fn buffers_of(names: Option<&Names>) -> &[Buffer] {
-    match names {
-        Some(names) => names.buffers.as_slice(),
-        None => &[],
-    }
-}
-
 /// The picture of a plan as SVG, in black, white, grey and red and without scripts: its pieces in columns by their groups,
 /// with the names that comments give them, buffers in rows, and its fences with the first of their conflicts. The costs are
 /// at the end, with the least cost if that is given and below the plan's.
@@ -219,8 +203,8 @@ pub fn draw(
     alloc: Global,
     explanation: &Explanation,
     pieces: &[Descriptor],
-    origins: &[Origin],
-    names: Option<&Names>,
+    labels: &Labels<'_>,
+    buffers: &[Buffer],
     settings: &Settings,
     least: Option<u64>,
 ) -> Result<String, AllocError>
@@ -229,9 +213,9 @@ pub fn draw(
     let costs = costs_drawn(alloc, &explanation.costs, pieces.len(), least)?;
     let layout = Layout {
         groups: drawn_groups(alloc, settings.greatest_batch(), &explanation.costs.groups)?,
-        columns: drawn_pieces(alloc, pieces, origins, names)?,
+        columns: drawn_pieces(alloc, pieces, labels)?,
         bars: drawn_fences(alloc, pieces, &explanation.fences)?,
-        buffers: buffers_of(names),
+        buffers,
         notes: notes_of(alloc, &costs, !explanation.fences.is_empty())?,
         title: costs,
     };

@@ -5,7 +5,8 @@ ghost use Rattle.dsa_descriptor.specs.Descriptors.{fields};
 ghost use Rattle.dsa_explain.specs.declared.waits.WaitsFault.TheVariants.{Memory};
 ghost use Rattle.dsa_explain.specs.Waits.{AreSets, AreWaits, RefusesWaits, awaited_words, chains_of, has_group, longest, longest_in, saved_words, set_words, waits_line, waits_lines, waits_words};
 
-use crate::words::{plural, push_line};
+use crate::listing::push_line;
+use crate::words::plural;
 use dsa_descriptor::Descriptor;
 use dsa_plan::Plan;
 use dsa_tracker::{Slots, TrackFault, Tracker};

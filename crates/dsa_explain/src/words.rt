@@ -1,28 +1,16 @@
 //! The words of an explanation.
 
-ghost use Rattle.std.specs.Prelude.{◌≡◌, ◌++◌, [], IfOk, OnOk, Some, codes, decimal, drop, slice_get, string_bytes, if◌then◌else◌};
-ghost use Rattle.dsa_explain.specs.Words.{batch_words, cell_lines, conflict_words, cost_words, explanation_words, fence_line, fence_words, fences_left, fences_words, full_words, further_lines, group_line, group_words, is_in_record, kind_words, line_of_fence, lone_words, more_words, need_words, origin_words, piece_line, piece_words, pieces_words, plural, reason_words, record_of, record_words, saved_words};
+ghost use Rattle.std.specs.Prelude.{◌≡◌, ◌+◌, ◌++◌, [], IfOk, OnOk, Some, codes, decimal, map, slice_get, string_bytes, if◌then◌else◌};
+ghost use Rattle.dsa_explain.specs.Words.{alike_words, batch_words, conflict_words, cost_words, fence_words, fences_words, full_words, group_words, groups_words, is_in_record, kind_words, lone_words, more_words, name_of, name_words, need_words, origin_words, piece_words, pieces_words, plural, reason_words, record_of, record_words, saved_words, size_words};
 
-use crate::cells::Cell;
-use crate::explanation::Explanation;
 use crate::fences::Fence;
+use crate::labels::Origin;
 use crate::reason::Reason;
 use dsa_descriptor::Descriptor;
-use dsa_lines::op_text;
-use dsa_plan::{Costs, GroupCost, Settings};
+use dsa_lines::line_of;
+use dsa_plan::{Costs, GroupCost};
 use dsa_ranges::HazardKind;
 use std::alloc::{AllocError, Global};
-
-/// Of which operation a piece is, where that was split.
-#[derive(Clone, Copy, Debug, PartialEq, Eq)]
-pub struct Origin {
-    /// The index of the operation.
-    pub operation: usize,
-    /// Which of its pieces this is, from 1 on.
-    pub piece: usize,
-    /// How many pieces it has.
-    pub pieces: usize,
-}
 
 /// The name of a kind of hazard.
 pub fn kind_text(kind: HazardKind) -> &'static str
@@ -59,14 +47,6 @@ fn lone_text(alloc: Global, number: usize, cost: u64) -> Result<String, AllocErr
     format!(in alloc; "group {number}: lone submission, cost {cost}")
 }
 
-/// The words of a batch up to its size.
-fn batch_front(alloc: Global, number: usize, size: usize) -> Result<String, AllocError>
-    ensures { IfOk result (λ s. string_bytes s ≡ codes "group " ++
-        (decimal number ++ (codes ": batch of " ++ decimal size))) }
-{
-    format!(in alloc; "group {number}: batch of {size}")
-}
-
 /// That a batch is as large as it may be.
 fn full_text(greatest: u64, size: usize) -> &'static str
     ensures { result.now ≡ full_words greatest size }
@@ -78,7 +58,17 @@ fn full_text(greatest: u64, size: usize) -> &'static str
     }
 }
 
-/// The words of a batch: its size, its fences and the epochs that they part it into, and its cost.
+/// The size of a batch, its fences and the epochs that they part it into, and its cost.
+fn size_text(alloc: Global, greatest: u64, group: &GroupCost) -> Result<String, AllocError>
+    ensures { IfOk result (λ s. string_bytes s ≡ size_words greatest group.now) }
+{
+    let fences = fences_text(alloc, group.fences, group.cost)?;
+    let (size, full) = (group.size, full_text(greatest, group.size));
+    let fences = fences.as_str();
+    format!(in alloc; "{size}{full}, {fences}")
+}
+
+/// The words of a batch.
 fn batch_text(
     alloc: Global,
     greatest: u64,
@@ -87,12 +77,9 @@ fn batch_text(
 ) -> Result<String, AllocError>
     ensures { IfOk result (λ s. string_bytes s ≡ batch_words greatest number group.now) }
 {
-    let mut text = batch_front(alloc, number, group.size)?;
-    let fences = fences_text(alloc, group.fences, group.cost)?;
-    text.push_str(full_text(greatest, group.size))?;
-    text.push_str(", ")?;
-    text.push_str(&fences)?;
-    Ok(text)
+    let size = size_text(alloc, greatest, group)?;
+    let size = size.as_str();
+    format!(in alloc; "group {number}: batch of {size}")
 }
 
 /// The words of a group; `greatest` is the size of the largest batch.
@@ -109,6 +96,38 @@ pub fn group_text(
     } else {
         batch_text(alloc, greatest, number, group)
     }
+}
+
+/// The words of groups that are alike: lone pieces or batches.
+fn alike_text(alloc: Global, greatest: u64, group: &GroupCost) -> Result<String, AllocError>
+    ensures { IfOk result (λ s. string_bytes s ≡ alike_words greatest group.now) }
+{
+    if group.size == 1 {
+        let cost = group.cost;
+        return format!(in alloc; " lone submissions, cost {cost}");
+    }
+    let size = size_text(alloc, greatest, group)?;
+    let size = size.as_str();
+    format!(in alloc; " batches of {size}")
+}
+
+/// The words of the groups of these numbers, which are alike.
+pub(crate) fn groups_text(
+    alloc: Global,
+    greatest: u64,
+    first: usize,
+    last: usize,
+    group: &GroupCost,
+) -> Result<String, AllocError>
+    ensures { IfOk result (λ s. string_bytes s ≡ groups_words greatest first last group.now) }
+{
+    if first == last {
+        return group_text(alloc, greatest, first, group);
+    }
+    let count = (last as u128 + 1).saturating_sub(first as u128);
+    let alike = alike_text(alloc, greatest, group)?;
+    let alike = alike.as_str();
+    format!(in alloc; "groups {first} to {last}: {count}{alike} each")
 }
 
 /// The words of a conflict: its two pieces, the kind of hazard and the address.
@@ -155,7 +174,11 @@ fn push_record(alloc: Global, text: &mut String, piece: Option<usize>) -> Result
 }
 
 /// The words of a conflict that a fence separates.
-fn reason_text(alloc: Global, pieces: &[Descriptor], reason: &Reason) -> Result<String, AllocError>
+pub(crate) fn reason_text(
+    alloc: Global,
+    pieces: &[Descriptor],
+    reason: &Reason,
+) -> Result<String, AllocError>
     ensures { IfOk result (λ s. string_bytes s ≡ reason_words pieces.now reason.now) }
 {
     let mut text = conflict_text(alloc, reason)?;
@@ -223,7 +246,11 @@ pub fn fence_text(alloc: Global, pieces: &[Descriptor], fence: &Fence) -> Result
 }
 
 /// Writes which of its operation's pieces a piece is, where that was split.
-fn push_origin(alloc: Global, text: &mut String, origin: Option<Origin>) -> Result<(), AllocError>
+pub(crate) fn push_origin(
+    alloc: Global,
+    text: &mut String,
+    origin: Option<Origin>,
+) -> Result<(), AllocError>
     ensures { OnOk result (string_bytes text.new ≡ string_bytes text.old ++ origin_words origin) }
 {
     let Some(origin) = origin else {
@@ -237,16 +264,42 @@ fn push_origin(alloc: Global, text: &mut String, origin: Option<Origin>) -> Resu
     text.push_str(&part)
 }
 
-/// The words of a piece: what it does, and of a split operation which of its pieces it is.
-pub fn piece_text(
+/// Writes the name of an operation, as the comment of its line.
+pub(crate) fn push_name(text: &mut String, name: &str) -> Result<(), AllocError>
+    ensures { OnOk result (string_bytes text.new ≡ string_bytes text.old ++ name_words name.now) }
+{
+    if name.is_empty() {
+        return Ok(());
+    }
+    text.push_str(" # ")?;
+    text.push_str(name)
+}
+
+/// The name of the operation that a piece is of; empty if it has none.
+pub(crate) fn name_of(names: &[String], origin: Option<Origin>) -> &str
+    ensures { result.now ≡ name_of (map string_bytes names.now) origin }
+{
+    let Some(origin) = origin else {
+        return "";
+    };
+    match names.get(origin.operation) {
+        Some(name) => name.as_str(),
+        None => "",
+    }
+}
+
+/// The words of a piece: its canonical line, of a split operation which of its pieces it is, and the operation's name.
+pub(crate) fn piece_text(
     alloc: Global,
     d: &Descriptor,
     origin: Option<Origin>,
+    name: &str,
 ) -> Result<String, AllocError>
-    ensures { IfOk result (λ s. string_bytes s ≡ piece_words d.now origin) }
+    ensures { IfOk result (λ s. string_bytes s ≡ piece_words d.now origin name.now) }
 {
-    let mut text = op_text(alloc, &d.op, d.size)?;
+    let mut text = line_of(alloc, d)?;
     push_origin(alloc, &mut text, origin)?;
+    push_name(&mut text, name)?;
     Ok(text)
 }
 
@@ -306,222 +359,5 @@ pub fn cost_text(alloc: Global, costs: &Costs, pieces: usize) -> Result<String, 
     push_lone(alloc, &mut text, costs.lone)?;
     let saved = saved_text(alloc, costs.cost, costs.lone)?;
     text.push_str(&saved)?;
-    Ok(text)
-}
-
-/// Writes a line.
-pub(crate) fn push_line(text: &mut String, line: &str) -> Result<(), AllocError>
-    ensures { OnOk result (string_bytes text.new ≡ string_bytes text.old ++
-        (line.now ++ codes "\n")) }
-{
-    text.push_str(line)?;
-    text.push_str("\n")
-}
-
-/// Writes the line of a group.
-fn push_group_line(
-    alloc: Global,
-    text: &mut String,
-    greatest: u64,
-    number: usize,
-    group: &GroupCost,
-) -> Result<(), AllocError>
-    ensures { OnOk result (string_bytes text.new ≡ string_bytes text.old ++
-        (group_words greatest number group.now ++ codes "\n")) }
-{
-    let words = group_text(alloc, greatest, number, group)?;
-    push_line(text, &words)
-}
-
-/// Writes the line of the group that begins with a piece.
-fn push_group(
-    alloc: Global,
-    text: &mut String,
-    greatest: u64,
-    groups: &[GroupCost],
-    cell: &Cell,
-) -> Result<(), AllocError>
-    ensures { OnOk result (string_bytes text.new ≡ string_bytes text.old ++
-        group_line greatest groups.now cell.now) }
-{
-    if cell.column != 0 {
-        return Ok(());
-    }
-    match groups.get(cell.row) {
-        Some(group) => push_group_line(alloc, text, greatest, cell.row, group),
-        None => Ok(()),
-    }
-}
-
-/// The line of a fence up to its conflict.
-fn fence_front(alloc: Global, price: u64) -> Result<String, AllocError>
-    ensures { IfOk result (λ s. string_bytes s ≡ codes "  -- fence, cost " ++
-        (decimal price ++ codes ": ")) }
-{
-    format!(in alloc; "  -- fence, cost {price}: ")
-}
-
-/// Writes the line of a further conflict of a fence.
-fn push_further(
-    alloc: Global,
-    text: &mut String,
-    pieces: &[Descriptor],
-    reason: &Reason,
-) -> Result<(), AllocError>
-    ensures { OnOk result (string_bytes text.new ≡ string_bytes text.old ++
-        (codes "     and " ++ (reason_words pieces.now reason.now ++ codes "\n"))) }
-{
-    let words = reason_text(alloc, pieces, reason)?;
-    text.push_str("     and ")?;
-    push_line(text, &words)
-}
-
-/// Writes the lines of further conflicts of a fence.
-fn push_all_further(
-    alloc: Global,
-    text: &mut String,
-    pieces: &[Descriptor],
-    reasons: &[Reason],
-) -> Result<(), AllocError>
-    ensures { OnOk result (string_bytes text.new ≡ string_bytes text.old ++
-        further_lines pieces.now reasons.now) }
-{
-    for reason in reasons {
-        push_further(alloc, text, pieces, reason)?;
-    }
-    Ok(())
-}
-
-/// The conflicts behind the first one.
-fn behind_first(named: &[Reason]) -> &[Reason]
-    ensures { result.now ≡ drop 1 named.now }
-{
-    match named {
-        [_, behind @ ..] => behind,
-        [] => named,
-    }
-}
-
-/// Writes the lines of a fence.
-fn push_fence_line(
-    alloc: Global,
-    text: &mut String,
-    pieces: &[Descriptor],
-    fence: &Fence,
-    price: u64,
-) -> Result<(), AllocError>
-    ensures { OnOk result (string_bytes text.new ≡ string_bytes text.old ++
-        line_of_fence price pieces.now (Some fence.now)) }
-{
-    let front = fence_front(alloc, price)?;
-    let words = fence_text(alloc, pieces, fence)?;
-    text.push_str(&front)?;
-    push_line(text, &words)?;
-    push_all_further(alloc, text, pieces, behind_first(&fence.named))
-}
-
-/// Writes the lines of the first of these fences before a fenced piece, and answers those behind it.
-fn push_fence<'a>(
-    alloc: Global,
-    text: &mut String,
-    pieces: &[Descriptor],
-    fences: &'a [Fence],
-    cell: &Cell,
-    price: u64,
-) -> Result<&'a [Fence], AllocError>
-    ensures line { OnOk result (string_bytes text.new ≡ string_bytes text.old ++
-        fence_line price pieces.now fences.now cell.now) }
-    ensures left { IfOk result (λ left. left.now ≡ fences_left fences.now cell.now) }
-{
-    if !cell.fenced {
-        return Ok(fences);
-    }
-    let [fence, left @ ..] = fences else {
-        return Ok(fences);
-    };
-    push_fence_line(alloc, text, pieces, fence, price)?;
-    Ok(left)
-}
-
-/// The line of a piece up to its operation.
-fn piece_front(alloc: Global, index: usize) -> Result<String, AllocError>
-    ensures { IfOk result (λ s. string_bytes s ≡ codes "  " ++ (decimal index ++ codes ": ")) }
-{
-    format!(in alloc; "  {index}: ")
-}
-
-/// Writes the line of a piece.
-fn push_piece_line(
-    alloc: Global,
-    text: &mut String,
-    index: usize,
-    d: &Descriptor,
-    origin: Option<Origin>,
-) -> Result<(), AllocError>
-    ensures { OnOk result (string_bytes text.new ≡ string_bytes text.old ++
-        piece_line index (Some d.now) origin) }
-{
-    let front = piece_front(alloc, index)?;
-    let words = piece_text(alloc, d, origin)?;
-    text.push_str(&front)?;
-    push_line(text, &words)
-}
-
-/// Writes the line of the piece of this index.
-fn push_piece(
-    alloc: Global,
-    text: &mut String,
-    pieces: &[Descriptor],
-    origins: &[Origin],
-    index: usize,
-) -> Result<(), AllocError>
-    ensures { OnOk result (string_bytes text.new ≡ string_bytes text.old ++
-        piece_line index (slice_get pieces.now index) (slice_get origins.now index)) }
-{
-    let origin = origins.get(index).copied();
-    match pieces.get(index) {
-        Some(d) => push_piece_line(alloc, text, index, d, origin),
-        None => Ok(()),
-    }
-}
-
-/// Writes the lines of the pieces, of their groups and of their fences.
-fn push_cells(
-    alloc: Global,
-    text: &mut String,
-    explanation: &Explanation,
-    pieces: &[Descriptor],
-    origins: &[Origin],
-    settings: &Settings,
-) -> Result<(), AllocError>
-    ensures { OnOk result (string_bytes text.new ≡ string_bytes text.old ++
-        cell_lines settings.now explanation.now.costs.groups.items pieces.now origins.now 0
-        explanation.now.fences.items explanation.now.cells.items) }
-{
-    let groups = explanation.costs.groups.as_slice();
-    let mut left = explanation.fences.as_slice();
-    for (index, cell) in explanation.cells.iter().enumerate() {
-        push_group(alloc, text, settings.greatest_batch(), groups, cell)?;
-        left = push_fence(alloc, text, pieces, left, cell, settings.fence())?;
-        push_piece(alloc, text, pieces, origins, index)?;
-    }
-    Ok(())
-}
-
-/// The explanation of a plan in words: a line for each group, fence and piece, and one for the costs.
-pub fn explanation_text(
-    alloc: Global,
-    explanation: &Explanation,
-    pieces: &[Descriptor],
-    origins: &[Origin],
-    settings: &Settings,
-) -> Result<String, AllocError>
-    ensures { IfOk result (λ s. string_bytes s ≡
-        explanation_words settings.now explanation.now pieces.now origins.now) }
-{
-    let mut text = String::new(alloc);
-    push_cells(alloc, &mut text, explanation, pieces, origins, settings)?;
-    let costs = cost_text(alloc, &explanation.costs, pieces.len())?;
-    push_line(&mut text, &costs)?;
     Ok(text)
 }

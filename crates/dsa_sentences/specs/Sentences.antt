@@ -40,7 +40,7 @@ of_plans n =
     if n == 40 then codes "the sizes of the groups do not add up to the number of pieces" else
     if n == 41 then codes "group # is empty or larger than the greatest batch" else
     if n == 42 then codes "the first of group # is fenced" else
-    if n == 43 then codes "pieces # and $ of one group conflict without a fence between" else
+    if n == 43 then codes "pieces # and $ of one group conflict, or have a barrier between, but no fence" else
     if n == 44 then codes "the portal's length is no multiple of 64" else
     if n == 45 then codes "the number of descriptors in the batch entry of group # is outside 2 to the greatest batch, or a byte is not the one of its place" else
     if n == 46 then codes "the staging's length is not 64 for each piece in a batch and 32 for each batch, or there are more than 65,536 pieces" else

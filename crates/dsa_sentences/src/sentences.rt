@@ -63,7 +63,7 @@ fn of_plans(number: u64) -> &'static str
         40 => "the sizes of the groups do not add up to the number of pieces",
         41 => "group # is empty or larger than the greatest batch",
         42 => "the first of group # is fenced",
-        43 => "pieces # and $ of one group conflict without a fence between",
+        43 => "pieces # and $ of one group conflict, or have a barrier between, but no fence",
         44 => "the portal's length is no multiple of 64",
         45 =>
             "the number of descriptors in the batch entry of group # is outside 2 to the greatest batch, or a byte is not the one of its place",

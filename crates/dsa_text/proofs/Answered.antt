@@ -6,7 +6,7 @@ use Rattle.std.proofs.lemmas.Result.{IfOk-weaker}
 use Rattle.dsa_descriptor.specs.declared.descriptor.Descriptor.{Descriptor}
 use Rattle.dsa_descriptor.specs.Descriptors.{fields}
 use Rattle.dsa_descriptor.specs.Fields.{Fields}
-use Rattle.dsa_explain.specs.declared.words.Origin.{Origin}
+use Rattle.dsa_explain.specs.Runs.{Labelling, labelling}
 use Rattle.dsa_plan.specs.Plan.{Plan}
 use Rattle.dsa_plan.specs.Settings.{Limits}
 use Rattle.dsa_lines.specs.declared.fault.TextFault.{TextFault}
@@ -24,11 +24,10 @@ use Rattle.dsa_explain.specs.declared.explanation.ExplainFault.{ExplainFault}
 use Rattle.dsa_explain.specs.Explained.{Explains}
 use Rattle.dsa_text.specs.declared.answer.Answer.{Answer}
 use Rattle.dsa_text.specs.Refusals.{IsRefusal, NamesCause, explain_cause}
-use Rattle.dsa_text.specs.Explained.{AnswersJudged, ExplainsList, PlansMarked, TellsJudged, marks_of_pieces, is_drawn, is_planned, is_refused_list, is_spelled, is_told, is_untold, is_waiting}
-use Rattle.dsa_text.specs.Origins.{origins_from}
+use Rattle.dsa_text.specs.Explained.{AnswersJudged, ExplainsList, PlansMarked, TellsJudged, labels_of, marks_of_pieces, is_drawn, is_planned, is_refused_list, is_spelled, is_told, is_untold, is_waiting}
 use Rattle.dsa_text.specs.declared.form.Form.{Form}
 use Rattle.dsa_text.specs.declared.shown.Subject.{Subject}
-use Rattle.dsa_text.specs.Shown.{AnswersPlan, AnswersSubject, ShowsPlan, TellsPlan, form_of, is_shown, is_too_large, is_unfit, is_untracked}
+use Rattle.dsa_text.specs.Shown.{AnswersPlan, AnswersSubject, ShowsPlan, TellsPlan, form_of, is_shown, is_too_large, is_unfit, is_untracked, unlabelled}
 use Rattle.clap.specs.declared.parser.matches.ArgMatches.{ArgMatches}
 use Rattle.dsa_text.specs.Options.{IsFlag}
 use Rattle.dsa_text.specs.Inputs.{ExplainsAs, ExplainsInput, is_job}
@@ -53,33 +52,33 @@ same_fault shown lines TextMemory e = e
 -- ---- a plan
 
 -- the plan that is shown, seen by what its parts are equal to
-pub subject_answered : {E : Type 0} (r : Result Answer E) (s : Limits) (x : Subject) (plan : Plan) (ds : List Descriptor) (bs : List Bool) (os : List Origin) (least : Option ℕ) (form : Form)
-    → x.plan.now ≡ plan → x.pieces.now ≡ ds → x.barriers.now ≡ bs → x.origins.now ≡ os → x.least ≡ least
+pub subject_answered : {E : Type 0} (r : Result Answer E) (s : Limits) (x : Subject) (plan : Plan) (ds : List Descriptor) (bs : List Bool) (os : Labelling) (least : Option ℕ) (form : Form)
+    → x.plan.now ≡ plan → x.pieces.now ≡ ds → x.barriers.now ≡ bs → labelling x.labels ≡ os → x.least ≡ least
     → IfOk r (AnswersSubject s x form) → IfOk r (AnswersPlan s plan ds bs os least form)
 subject_answered r s x plan ds bs os least form e f g h k answers =
-    let first = subst (λ (p : Plan). IfOk r (AnswersPlan s p x.pieces.now x.barriers.now x.origins.now x.least form)) e answers in
-    let second = subst (λ (p : List Descriptor). IfOk r (AnswersPlan s plan p x.barriers.now x.origins.now x.least form)) f first in
-    let third = subst (λ (p : List Bool). IfOk r (AnswersPlan s plan ds p x.origins.now x.least form)) g second in
-    let fourth = subst (λ (p : List Origin). IfOk r (AnswersPlan s plan ds bs p x.least form)) h third in
+    let first = subst (λ (p : Plan). IfOk r (AnswersPlan s p x.pieces.now x.barriers.now (labelling x.labels) x.least form)) e answers in
+    let second = subst (λ (p : List Descriptor). IfOk r (AnswersPlan s plan p x.barriers.now (labelling x.labels) x.least form)) f first in
+    let third = subst (λ (p : List Bool). IfOk r (AnswersPlan s plan ds p (labelling x.labels) x.least form)) g second in
+    let fourth = subst (λ (p : Labelling). IfOk r (AnswersPlan s plan ds bs p x.least form)) h third in
     subst (λ (n : Option ℕ). IfOk r (AnswersPlan s plan ds bs os n form)) k fourth
 
 -- the answer of a plan, seen by what its pieces, barriers and origins are equal to
-pub plan_answered : {E : Type 0} (r : Result Answer E) (s : Limits) (plan : Plan) (ds ds' : List Descriptor) (bs bs' : List Bool) (os os' : List Origin) (least : Option ℕ) (form : Form)
+pub plan_answered : {E : Type 0} (r : Result Answer E) (s : Limits) (plan : Plan) (ds ds' : List Descriptor) (bs bs' : List Bool) (os os' : Labelling) (least : Option ℕ) (form : Form)
     → ds ≡ ds' → bs ≡ bs' → os ≡ os' → IfOk r (AnswersPlan s plan ds bs os least form) → IfOk r (AnswersPlan s plan ds' bs' os' least form)
 plan_answered r s plan ds ds' bs bs' os os' least form e f g answers =
     let first = subst (λ (p : List Descriptor). IfOk r (AnswersPlan s plan p bs os least form)) e answers in
     let second = subst (λ (p : List Bool). IfOk r (AnswersPlan s plan ds' p os least form)) f first in
-    subst (λ (p : List Origin). IfOk r (AnswersPlan s plan ds' bs' p least form)) g second
+    subst (λ (p : Labelling). IfOk r (AnswersPlan s plan ds' bs' p least form)) g second
 
 -- the same of words
-pub subject_told : (s : Limits) (detail : Detail) (x : Subject) (plan : Plan) (ds : List Descriptor) (bs : List Bool) (os : List Origin) (text : List ℕ)
-    → x.plan.now ≡ plan → x.pieces.now ≡ ds → x.barriers.now ≡ bs → x.origins.now ≡ os
-    → TellsPlan s detail x.plan.now x.pieces.now x.barriers.now x.origins.now text → TellsPlan s detail plan ds bs os text
+pub subject_told : (s : Limits) (detail : Detail) (x : Subject) (plan : Plan) (ds : List Descriptor) (bs : List Bool) (os : Labelling) (text : List ℕ)
+    → x.plan.now ≡ plan → x.pieces.now ≡ ds → x.barriers.now ≡ bs → labelling x.labels ≡ os
+    → TellsPlan s detail x.plan.now x.pieces.now x.barriers.now (labelling x.labels) text → TellsPlan s detail plan ds bs os text
 subject_told s detail x plan ds bs os text e f g h tells =
-    let first = subst (λ (p : Plan). TellsPlan s detail p x.pieces.now x.barriers.now x.origins.now text) e tells in
-    let second = subst (λ (p : List Descriptor). TellsPlan s detail plan p x.barriers.now x.origins.now text) f first in
-    let third = subst (λ (p : List Bool). TellsPlan s detail plan ds p x.origins.now text) g second in
-    subst (λ (p : List Origin). TellsPlan s detail plan ds bs p text) h third
+    let first = subst (λ (p : Plan). TellsPlan s detail p x.pieces.now x.barriers.now (labelling x.labels) text) e tells in
+    let second = subst (λ (p : List Descriptor). TellsPlan s detail plan p x.barriers.now (labelling x.labels) text) f first in
+    let third = subst (λ (p : List Bool). TellsPlan s detail plan ds p (labelling x.labels) text) g second in
+    subst (λ (p : Labelling). TellsPlan s detail plan ds bs p text) h third
 
 -- and of why it is not explained
 pub subject_untold : (s : Limits) (detail : Detail) (x : Subject) (plan : Plan) (ds : List Descriptor) (bs : List Bool) (fault : ExplainFault)
@@ -95,7 +94,7 @@ refused_beside : (fault : PlanFault) (a b : Answer) → b.status ≡ a.status �
 refused_beside fault a b status text r =
     record { status = status ∙ r.status; cause = subst (λ (t : List ℕ). NamesCause fault t) (sym (ap string_bytes text)) r.cause }
 
-pub plan_beside : (s : Limits) (plan : Plan) (ds : List Descriptor) (bs : List Bool) (origins : List Origin) (least : Option ℕ) (form : Form) (a b : Answer)
+pub plan_beside : (s : Limits) (plan : Plan) (ds : List Descriptor) (bs : List Bool) (origins : Labelling) (least : Option ℕ) (form : Form) (a b : Answer)
     → b.status ≡ a.status → b.text ≡ a.text → AnswersPlan s plan ds bs origins least form a → AnswersPlan s plan ds bs origins least form b
 plan_beside s plan ds bs origins least form a b status text (is_shown z shows) =
     is_shown (status ∙ z) (subst (λ (t : List ℕ). ShowsPlan form s plan ds bs origins least t) (sym (ap string_bytes text)) shows)
@@ -109,31 +108,31 @@ plan_beside s plan ds bs origins least form a b status text (is_untracked fault 
 pub judged_beside : (s : Limits) (plan : Plan) (ds : List Descriptor) (cost : ℕ) (form : Form) (a b : Answer)
     → b.status ≡ a.status → b.text ≡ a.text → AnswersJudged s plan ds cost form a → AnswersJudged s plan ds cost form b
 judged_beside s plan ds cost form a b status text (is_drawn least drawn is answers) =
-    is_drawn least drawn is (plan_beside s plan ds [] [] least form a b status text answers)
+    is_drawn least drawn is (plan_beside s plan ds [] unlabelled least form a b status text answers)
 judged_beside s plan ds cost form a b status text (is_spelled least spelled is answers) =
-    is_spelled least spelled is (plan_beside s plan ds [] [] least form a b status text answers)
+    is_spelled least spelled is (plan_beside s plan ds [] unlabelled least form a b status text answers)
 judged_beside s plan ds cost form a b status text (is_waiting waits answers) =
-    is_waiting waits (plan_beside s plan ds [] [] None form a b status text answers)
+    is_waiting waits (plan_beside s plan ds [] unlabelled None form a b status text answers)
 judged_beside s plan ds cost form a b status text (is_told detail told z tells) =
     is_told detail told (status ∙ z) (subst (λ (t : List ℕ). TellsJudged s detail plan ds cost t) (sym (ap string_bytes text)) tells)
 judged_beside s plan ds cost form a b status text (is_untold detail told fault explains r) =
     is_untold detail told fault explains (refused_beside (explain_cause fault) a b status text r)
 
 -- of planned operations, for a list that spells them
-pub operations_planned : {E : Type 0} (list : List ℕ) (bs : List Bool) (s : Limits) (form : Form) (ds : List Descriptor) (p : Submission) (r : Result Answer E) → IsListOf list ds
+pub operations_planned : {E : Type 0} (list : List ℕ) (bs : List Bool) (names : List (List ℕ)) (s : Limits) (form : Form) (ds : List Descriptor) (p : Submission) (r : Result Answer E) → IsListOf list ds
     → PlansMarked bs s (map fields ds) (Ok p)
-    → IfOk r (AnswersPlan s p.plan p.pieces (marks_of_pieces s (map fields ds) bs) (origins_from s.greatest_transfer 0 (map fields ds)) (Some p.cost) form) → IfOk r (ExplainsList list bs s form)
-operations_planned list bs s form ds p r listed says answers = IfOk-weaker r _ _ (λ a shown. is_planned ds p listed says shown) answers
+    → IfOk r (AnswersPlan s p.plan p.pieces (marks_of_pieces s (map fields ds) bs) (labels_of s (map fields ds) names) (Some p.cost) form) → IfOk r (ExplainsList list bs names s form)
+operations_planned list bs names s form ds p r listed says answers = IfOk-weaker r _ _ (λ a shown. is_planned ds p listed says shown) answers
 
 -- barriers change no refusal
 refused_alike : (bs : List Bool) (s : Limits) (fs : List Fields) (fault : PlanFault) → PlansMarked bs s fs (Err fault) → PlansOperations s fs (Err fault)
 refused_alike [] s fs fault says = says
 refused_alike (b ∷ bs) s fs fault says = says
 
-pub operations_refused : {E : Type 0} (list : List ℕ) (bs : List Bool) (s : Limits) (form : Form) (ds : List Descriptor) (fault : PlanFault) (r : Result Answer E) → IsListOf list ds
-    → OrMemory {X = Submission} {Y = Submission} (λ p. p) (PlansMarked bs s (map fields ds)) (Err fault) → IfOk r (IsRefusal fault) → IfOk r (ExplainsList list bs s form)
-operations_refused list bs s form ds fault r listed (inl is) h = IfOk-weaker r _ _ (λ a x. is_refused_list fault (inl is) x) h
-operations_refused list bs s form ds fault r listed (inr says) h =
+pub operations_refused : {E : Type 0} (list : List ℕ) (bs : List Bool) (names : List (List ℕ)) (s : Limits) (form : Form) (ds : List Descriptor) (fault : PlanFault) (r : Result Answer E) → IsListOf list ds
+    → OrMemory {X = Submission} {Y = Submission} (λ p. p) (PlansMarked bs s (map fields ds)) (Err fault) → IfOk r (IsRefusal fault) → IfOk r (ExplainsList list bs names s form)
+operations_refused list bs names s form ds fault r listed (inl is) h = IfOk-weaker r _ _ (λ a x. is_refused_list fault (inl is) x) h
+operations_refused list bs names s form ds fault r listed (inr says) h =
     IfOk-weaker r _ _ (λ a x. is_refused_list fault (inr (inr (ds, listed, refused_alike bs s (map fields ds) fault says))) x) h
 
 -- operations with no marks, and with some

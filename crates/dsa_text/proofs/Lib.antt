@@ -5,3 +5,4 @@ pub mod Answered
 pub mod Spelled
 pub mod Fenced
 pub mod WhatIsLeft
+pub mod Named

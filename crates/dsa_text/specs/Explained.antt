@@ -22,12 +22,14 @@ use Rattle.dsa_splitter.specs.Pieces.{piece_barriers}
 use Rattle.dsa_explain.specs.declared.fences.Detail.{Detail}
 use Rattle.dsa_explain.specs.declared.explanation.ExplainFault.{ExplainFault}
 use Rattle.dsa_explain.specs.Explained.{Explains}
+use Rattle.dsa_explain.specs.Runs.{Labelling}
 use Rattle.dsa_text.specs.declared.answer.Answer.{Answer}
 use Rattle.dsa_text.specs.declared.form.Form.{Form}
 use Rattle.dsa_text.specs.declared.form.Form.TheVariants.{Words, Picture, Json, Waits}
 use Rattle.dsa_text.specs.Refusals.{IsRefusal, RefusesText, explain_cause}
+use Rattle.dsa_text.specs.Comments.{names_of}
 use Rattle.dsa_text.specs.Origins.{origins_from}
-use Rattle.dsa_text.specs.Shown.{AnswersPlan, TellsPlan}
+use Rattle.dsa_text.specs.Shown.{AnswersPlan, TellsPlan, unlabelled}
 
 -- an allocation failed, or this is a cause
 abbrev pub MemoryOr : (PlanFault → Type 0) → PlanFault → Type 0
@@ -45,18 +47,23 @@ abbrev pub marks_of_pieces : Limits → List Fields → List Bool → List Bool
 marks_of_pieces s fs [] = []
 marks_of_pieces s fs (mark ∷ marks) = piece_barriers s.greatest_transfer fs (mark ∷ marks)
 
--- refused where `plan_list` refuses the list, for its cause; else the plan of the list and its barriers, and which piece is
--- of which operation
-pub data ExplainsList (list : List ℕ) (barriers : List Bool) (s : Limits) (form : Form) (a : Answer) : Type 0 where
-  is_refused_list : (fault : PlanFault) → MemoryOr (λ f. Plans list s (Err f)) fault → IsRefusal fault a → ExplainsList list barriers s form a
-  is_planned : (ds : List Descriptor) (p : Submission) → IsListOf list ds → PlansMarked barriers s (map fields ds) (Ok p)
-      → AnswersPlan s p.plan p.pieces (marks_of_pieces s (map fields ds) barriers) (origins_from s.greatest_transfer 0 (map fields ds)) (Some p.cost) form a
-      → ExplainsList list barriers s form a
+-- the labels of the pieces of operations with these names
+abbrev pub labels_of : Limits → List Fields → List (List ℕ) → Labelling
+labels_of s fs names = record { origins = origins_from s.greatest_transfer 0 fs; names = names }
 
--- refused where the text spells no list; else that of the list and the barriers that it spells
+-- refused where `plan_list` refuses the list, for its cause; else the plan of the list and its barriers, with which piece is
+-- of which operation, and these names of the operations
+pub data ExplainsList (list : List ℕ) (barriers : List Bool) (names : List (List ℕ)) (s : Limits) (form : Form) (a : Answer) : Type 0 where
+  is_refused_list : (fault : PlanFault) → MemoryOr (λ f. Plans list s (Err f)) fault → IsRefusal fault a → ExplainsList list barriers names s form a
+  is_planned : (ds : List Descriptor) (p : Submission) → IsListOf list ds → PlansMarked barriers s (map fields ds) (Ok p)
+      → AnswersPlan s p.plan p.pieces (marks_of_pieces s (map fields ds) barriers) (labels_of s (map fields ds) names) (Some p.cost) form a
+      → ExplainsList list barriers names s form a
+
+-- refused where the text spells no list; else that of the list and the barriers that it spells, with the comments of its
+-- operations as their names
 pub data ExplainsText (text : List ℕ) (keep_fences : Bool) (s : Limits) (form : Form) (a : Answer) : Type 0 where
   is_refused_text : (fault : TextFault) → Assembles (λ bytes. bytes) (lines_of text) (Err fault) → RefusesText fault a → ExplainsText text keep_fences s form a
-  is_assembled : (list : List ℕ) → IsListing (lines_of text) list → ExplainsList list (barriers_of keep_fences (lines_of text)) s form a
+  is_assembled : (list : List ℕ) → IsListing (lines_of text) list → ExplainsList list (barriers_of keep_fences (lines_of text)) (names_of (lines_of text)) s form a
       → ExplainsText text keep_fences s form a
 
 -- ---- the plan that bytes submit
@@ -66,7 +73,7 @@ pub data ExplainsText (text : List ℕ) (keep_fences : Bool) (s : Limits) (form 
 pub data ExplainsChecked (portal staging : List ℕ) (s : Limits) (c : Contents) (form : Form) (a : Answer) : Type 0 where
   is_refused_check : (fault : PlanFault) → MemoryOr (λ f. Checks portal staging s c (Err f)) fault → IsRefusal fault a → ExplainsChecked portal staging s c form a
   is_checked : (cost : ℕ) (plan : Plan) (ds : List Descriptor) → IsEmission s portal staging plan ds → IsShownLeast s (map fields ds) plan c cost
-      → AnswersPlan s plan ds [] [] (Some cost) form a → ExplainsChecked portal staging s c form a
+      → AnswersPlan s plan ds [] unlabelled (Some cost) form a → ExplainsChecked portal staging s c form a
 
 -- ---- a plan of one's own
 
@@ -88,16 +95,16 @@ IsLeastCost s fs (Some least) = (p : Submission) × PlansOperations s fs (Ok p) 
 pub record TellsJudged (s : Limits) (detail : Detail) (plan : Plan) (pieces : List Descriptor) (cost : ℕ) (text : List ℕ) : Type 0 where
   pub words : List ℕ
   pub least : Option ℕ
-  pub tells : TellsPlan s detail plan pieces [] [] words
+  pub tells : TellsPlan s detail plan pieces [] unlabelled words
   pub is_least : IsLeastCost s (map fields pieces) least
   pub text_is : text ≡ words ++ least_words cost least
 
 -- a judged plan as a picture, as JSON or in words, with the least cost, or by its waits; or refused for the cause that
 -- `explain` finds, which can only be an allocation failure
 pub data AnswersJudged (s : Limits) (plan : Plan) (pieces : List Descriptor) (cost : ℕ) (form : Form) (a : Answer) : Type 0 where
-  is_drawn : (least : Option ℕ) → form ≡ Picture → IsLeastCost s (map fields pieces) least → AnswersPlan s plan pieces [] [] least form a → AnswersJudged s plan pieces cost form a
-  is_spelled : (least : Option ℕ) → form ≡ Json → IsLeastCost s (map fields pieces) least → AnswersPlan s plan pieces [] [] least form a → AnswersJudged s plan pieces cost form a
-  is_waiting : form ≡ Waits → AnswersPlan s plan pieces [] [] None form a → AnswersJudged s plan pieces cost form a
+  is_drawn : (least : Option ℕ) → form ≡ Picture → IsLeastCost s (map fields pieces) least → AnswersPlan s plan pieces [] unlabelled least form a → AnswersJudged s plan pieces cost form a
+  is_spelled : (least : Option ℕ) → form ≡ Json → IsLeastCost s (map fields pieces) least → AnswersPlan s plan pieces [] unlabelled least form a → AnswersJudged s plan pieces cost form a
+  is_waiting : form ≡ Waits → AnswersPlan s plan pieces [] unlabelled None form a → AnswersJudged s plan pieces cost form a
   is_told : (detail : Detail) → form ≡ Words detail → a.status ≡ 0 → TellsJudged s detail plan pieces cost (string_bytes a.text) → AnswersJudged s plan pieces cost form a
   is_untold : (detail : Detail) → form ≡ Words detail → (fault : ExplainFault) → Explains s detail pieces [] plan (Err fault) → IsRefusal (explain_cause fault) a → AnswersJudged s plan pieces cost form a
 

@@ -14,7 +14,7 @@ use Rattle.dsa_text.specs.Explained.{ExplainsChecked, ExplainsJudged, ExplainsLi
 -- of a job to plan, to judge or to check what that of its members answers; one to replay or to run is
 -- refused
 abbrev pub ExplainsJob : Job → Form → Answer → Type 0
-ExplainsJob (Plan job) form a = ExplainsList job.list.items [] job.settings form a
+ExplainsJob (Plan job) form a = ExplainsList job.list.items [] [] job.settings form a
 ExplainsJob (Judge job) form a = ExplainsJudged job.list.items job.plan job.settings form a
 ExplainsJob (Check job) form a =
     ExplainsChecked job.portal.items job.staging.items job.settings (contents job.certificate) form a

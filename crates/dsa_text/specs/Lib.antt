@@ -1,5 +1,6 @@
 pub mod Refusals
 pub mod Origins
+pub mod Comments
 pub mod Shown
 pub mod Explained
 pub mod Jobs

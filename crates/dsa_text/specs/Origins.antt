@@ -2,7 +2,7 @@
 use Rattle.std.specs.Prelude.{ℕ, zero, suc, List, [], ◌∷◌, ◌++◌}
 use Rattle.dsa_descriptor.specs.Fields.{Fields}
 use Rattle.dsa_splitter.specs.Pieces.{piece_count}
-use Rattle.dsa_explain.specs.declared.words.Origin.{Origin}
+use Rattle.dsa_explain.specs.declared.labels.Origin.{Origin}
 
 -- the first pieces of an operation that has so many, numbered from 1 on
 abbrev pub first_origins : ℕ → ℕ → ℕ → List Origin

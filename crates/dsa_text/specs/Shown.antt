@@ -1,5 +1,5 @@
 -- What explaining a plan of pieces answers (this project's choice).
-use Rattle.std.specs.Prelude.{◌≡◌, ◌<◌, ◌≤◌, ℕ, Bool, List, ◌++◌, codes, decimal, length, map, string_bytes, Option, Err, if◌then◌else◌}
+use Rattle.std.specs.Prelude.{◌≡◌, ◌<◌, ◌≤◌, ℕ, Bool, List, [], ◌++◌, codes, decimal, length, map, string_bytes, Option, Err, if◌then◌else◌}
 use Rattle.dsa_descriptor.specs.declared.descriptor.Descriptor.{Descriptor}
 use Rattle.dsa_descriptor.specs.Descriptors.{fields}
 use Rattle.dsa_plan.specs.Plan.{Plan}
@@ -8,9 +8,9 @@ use Rattle.dsa_explain.specs.declared.fences.Detail.{Detail}
 use Rattle.dsa_explain.specs.declared.fences.Detail.TheVariants.{First, All as Every}
 use Rattle.dsa_explain.specs.declared.explanation.ExplainFault.{ExplainFault}
 use Rattle.dsa_explain.specs.declared.explanation.Explanation.{Explanation}
-use Rattle.dsa_explain.specs.declared.words.Origin.{Origin}
 use Rattle.dsa_explain.specs.Explained.{CanBeExplained, Explains, IsExplanationOf}
 use Rattle.dsa_drawing.specs.Pictures.{IsPicture}
+use Rattle.dsa_explain.specs.Runs.{Labelling, labelling}
 use Rattle.dsa_explain.specs.Words.{explanation_words}
 use Rattle.dsa_explain.specs.Document.{explanation_line}
 use Rattle.dsa_explain.specs.declared.waits.WaitsFault.TheVariants.{Track}
@@ -44,19 +44,23 @@ form_of svg json waits all =
 abbrev pub most_rows : ℕ
 most_rows = 1024
 
+-- the labels of pieces that are of no known operations
+abbrev pub unlabelled : Labelling
+unlabelled = record { origins = []; names = [] }
+
 -- the text is the explanation of the plan in words, and the plan can be explained
-pub record TellsPlan (s : Limits) (detail : Detail) (plan : Plan) (pieces : List Descriptor) (barriers : List Bool) (origins : List Origin) (text : List ℕ) : Type 0 where
+pub record TellsPlan (s : Limits) (detail : Detail) (plan : Plan) (pieces : List Descriptor) (barriers : List Bool) (labels : Labelling) (text : List ℕ) : Type 0 where
   pub can : CanBeExplained s pieces barriers plan
   pub explanation : Explanation
   pub is : IsExplanationOf s detail pieces barriers plan explanation
-  pub words : text ≡ explanation_words s explanation pieces origins
+  pub words : text ≡ explanation_words s detail explanation pieces labels
 
 -- the text is the line of the explanation in JSON, with all conflicts and what the least plan costs, where that is known
-pub record SpellsPlan (s : Limits) (plan : Plan) (pieces : List Descriptor) (barriers : List Bool) (origins : List Origin) (least : Option ℕ) (text : List ℕ) : Type 0 where
+pub record SpellsPlan (s : Limits) (plan : Plan) (pieces : List Descriptor) (barriers : List Bool) (labels : Labelling) (least : Option ℕ) (text : List ℕ) : Type 0 where
   pub can : CanBeExplained s pieces barriers plan
   pub explanation : Explanation
   pub is : IsExplanationOf s Every pieces barriers plan explanation
-  pub line : text ≡ explanation_line explanation pieces origins least
+  pub line : text ≡ explanation_line explanation pieces labels least
 
 -- the text is a picture, and the plan can be explained and has few groups
 pub record DrawsPlan (s : Limits) (plan : Plan) (pieces : List Descriptor) (barriers : List Bool) (text : List ℕ) : Type 0 where
@@ -73,11 +77,11 @@ pub record TellsWaits (s : Limits) (plan : Plan) (pieces : List Descriptor) (bar
   pub words : text ≡ waits_words slots sets
 
 -- the plan in a form
-abbrev pub ShowsPlan : Form → Limits → Plan → List Descriptor → List Bool → List Origin → Option ℕ → List ℕ → Type 0
-ShowsPlan (Words detail) s plan pieces barriers origins least text = TellsPlan s detail plan pieces barriers origins text
-ShowsPlan Picture s plan pieces barriers origins least text = DrawsPlan s plan pieces barriers text
-ShowsPlan Json s plan pieces barriers origins least text = SpellsPlan s plan pieces barriers origins least text
-ShowsPlan Waits s plan pieces barriers origins least text = TellsWaits s plan pieces barriers text
+abbrev pub ShowsPlan : Form → Limits → Plan → List Descriptor → List Bool → Labelling → Option ℕ → List ℕ → Type 0
+ShowsPlan (Words detail) s plan pieces barriers labels least text = TellsPlan s detail plan pieces barriers labels text
+ShowsPlan Picture s plan pieces barriers labels least text = DrawsPlan s plan pieces barriers text
+ShowsPlan Json s plan pieces barriers labels least text = SpellsPlan s plan pieces barriers labels least text
+ShowsPlan Waits s plan pieces barriers labels least text = TellsWaits s plan pieces barriers text
 
 -- the message where a plan has too many groups to draw
 abbrev pub too_many_groups : ℕ → List ℕ
@@ -91,14 +95,14 @@ untracked fault =
 
 -- A plan that can be explained has status 0, and is shown. Refused is one that can't be, for the cause
 -- that `explain` finds, one with too many groups to draw, and one of which a tracker refuses the groups.
-pub data AnswersPlan (s : Limits) (plan : Plan) (pieces : List Descriptor) (barriers : List Bool) (origins : List Origin) (least : Option ℕ) (form : Form) (a : Answer) : Type 0 where
-  is_shown : a.status ≡ 0 → ShowsPlan form s plan pieces barriers origins least (string_bytes a.text) → AnswersPlan s plan pieces barriers origins least form a
-  is_unfit : (fault : ExplainFault) → Explains s (detail_of form) pieces barriers plan (Err fault) → IsRefusal (explain_cause fault) a → AnswersPlan s plan pieces barriers origins least form a
+pub data AnswersPlan (s : Limits) (plan : Plan) (pieces : List Descriptor) (barriers : List Bool) (labels : Labelling) (least : Option ℕ) (form : Form) (a : Answer) : Type 0 where
+  is_shown : a.status ≡ 0 → ShowsPlan form s plan pieces barriers labels least (string_bytes a.text) → AnswersPlan s plan pieces barriers labels least form a
+  is_unfit : (fault : ExplainFault) → Explains s (detail_of form) pieces barriers plan (Err fault) → IsRefusal (explain_cause fault) a → AnswersPlan s plan pieces barriers labels least form a
   is_too_large : form ≡ Picture → CanBeExplained s pieces barriers plan → most_rows < length plan → a.status ≡ 1
-      → string_bytes a.text ≡ too_many_groups (length plan) → AnswersPlan s plan pieces barriers origins least form a
+      → string_bytes a.text ≡ too_many_groups (length plan) → AnswersPlan s plan pieces barriers labels least form a
   is_untracked : (fault : TrackFault) → form ≡ Waits → CanBeExplained s pieces barriers plan → RefusesWaits s.staging plan (map fields pieces) (Track fault)
-      → a.status ≡ 1 → string_bytes a.text ≡ untracked fault → AnswersPlan s plan pieces barriers origins least form a
+      → a.status ≡ 1 → string_bytes a.text ≡ untracked fault → AnswersPlan s plan pieces barriers labels least form a
 
 -- the plan that is shown in a form
 abbrev pub AnswersSubject : Limits → Subject → Form → Answer → Type 0
-AnswersSubject s x form a = AnswersPlan s x.plan.now x.pieces.now x.barriers.now x.origins.now x.least form a
+AnswersSubject s x form a = AnswersPlan s x.plan.now x.pieces.now x.barriers.now (labelling x.labels) x.least form a

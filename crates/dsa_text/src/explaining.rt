@@ -11,13 +11,13 @@ ghost use Rattle.dsa_calls.specs.declared.fault.PlanFault.TheVariants.{Memory};
 ghost use Rattle.dsa_calls.specs.Checked.{Checks, ChecksPlan};
 ghost use Rattle.dsa_calls.specs.Lists.{IsListOf, OrMemory};
 ghost use Rattle.dsa_calls.specs.Planned.{submission_of};
-ghost use Rattle.dsa_text.specs.Explained.{ExplainsChecked, ExplainsList, ExplainsText, PlansMarked, marks_of_pieces};
-ghost use Rattle.dsa_text.specs.Origins.{origins_from};
+ghost use Rattle.dsa_text.specs.Comments.{names_from};
+ghost use Rattle.dsa_text.specs.Explained.{ExplainsChecked, ExplainsList, ExplainsText, PlansMarked, labels_of, marks_of_pieces};
 ghost use Rattle.dsa_text.specs.Refusals.{IsRefusal};
 ghost use Rattle.dsa_text.specs.Shown.{AnswersPlan};
 
 use crate::answer::Answer;
-use crate::comments::names_of;
+use crate::comments::comments_in;
 use crate::form::Form;
 use crate::kept::{barrier_notes, joined, unkept_notes};
 use crate::origins::origins_of;
@@ -27,6 +27,7 @@ use crate::shown::{Subject, answer_plan, plain};
 use crate::unplanned::{Source, unplanned};
 use dsa_calls::{PlanFault, Planned, check_plan, plan_operations, plan_operations_with};
 use dsa_descriptor::{Descriptor, read_list};
+use dsa_explain::Labels;
 use dsa_lines::{parse_operations, text_barriers};
 use dsa_plan::{Certificate, Plan, Settings, read_emission};
 use dsa_splitter::piece_barriers;
@@ -78,19 +79,22 @@ fn answer_planned(
 ) -> Result<Answer, AllocError>
     ensures { IfOk result (AnswersPlan settings.now planned.now.plan planned.now.pieces.items
         (marks_of_pieces settings.now (map fields operations.now) marks.now)
-        (origins_from settings.now.greatest_transfer 0 (map fields operations.now))
+        (labels_of settings.now (map fields operations.now) (names_from source.entry))
         (Some planned.now.cost) form) }
 {
     let barriers = marks_of_pieces(alloc, operations, marks, settings)?;
     let origins = origins_of(alloc, operations, settings)?;
-    let found = names_of(alloc, source, form)?;
-    let names = found.as_ref();
+    let comments = comments_in(alloc, source)?;
+    let labels = Labels {
+        origins: &origins,
+        names: &comments.names,
+    };
     let subject = Subject {
         plan: &planned.plan,
         pieces: &planned.pieces,
         barriers: &barriers,
-        origins: &origins,
-        names,
+        labels,
+        buffers: &comments.buffers,
         least: Some(planned.cost),
     };
     answer_plan(alloc, &subject, settings, form)
@@ -109,7 +113,7 @@ fn answer_with_warnings(
 ) -> Result<Answer, AllocError>
     ensures { IfOk result (AnswersPlan settings.now planned.now.plan planned.now.pieces.items
         (marks_of_pieces settings.now (map fields operations.now) marks.now)
-        (origins_from settings.now.greatest_transfer 0 (map fields operations.now))
+        (labels_of settings.now (map fields operations.now) (names_from source.entry))
         (Some planned.now.cost) form) }
 {
     let answer = answer_planned(alloc, operations, marks, planned, settings, form, source)?;
@@ -132,7 +136,7 @@ fn explain_operations(
 ) -> Result<Answer, AllocError>
     requires { HaveOneOwner (map fields operations.now) }
     ensures { (list : List ℕ) → IsListOf list operations.now →
-        IfOk result (ExplainsList list marks.now settings.now form) }
+        IfOk result (ExplainsList list marks.now (names_from source.entry) settings.now form) }
 {
     match plan_marked(alloc, operations, marks, settings) {
         Ok(planned) => {
@@ -149,7 +153,7 @@ pub fn explain_list(
     settings: &Settings,
     form: Form,
 ) -> Result<Answer, AllocError>
-    ensures { IfOk result (ExplainsList list.now [] settings.now form) }
+    ensures { IfOk result (ExplainsList list.now [] [] settings.now form) }
 {
     match read_list(alloc, list) {
         Ok(operations) => {

@@ -1,5 +1,6 @@
 //! Laws of the explanation of a planned list.
 
+ghost use Rattle.dsa_text.specs.Comments.{OneNameEach};
 ghost use Rattle.dsa_text.specs.Laws.{MarkedFencesAreNeeded, PlannedFencesAreNeeded};
 
 /// Each fence of a plan that planning answers separates a conflict of the fenced piece with an earlier one, which no
@@ -13,4 +14,10 @@ pub fn planned_fences_are_needed()
 #[tactic(auto, using(crate::proofs::PlannedNeeded::marked_needed))]
 pub fn marked_fences_are_needed()
     ensures { MarkedFencesAreNeeded }
+{}
+
+/// A text that spells operations has a name for each, which may be empty.
+#[tactic(auto, using(crate::proofs::Named::one_name_each))]
+pub fn one_name_each()
+    ensures { OneNameEach }
 {}

@@ -244,7 +244,11 @@ fn disassemble_command<'a>(alloc: Global) -> Result<Command<'a>, AllocError> {
 /// The command `explain`.
 fn explain_command<'a>(alloc: Global) -> Result<Command<'a>, AllocError> {
     let options = settings_options(alloc)?;
-    let all = flag(alloc, "all", "name every conflict that a fence separates");
+    let all = flag(
+        alloc,
+        "all",
+        "name every conflict that a fence separates, and each piece by itself",
+    );
     let json = flag(alloc, "json", "write the explanation as JSON");
     let waits = flag(
         alloc,

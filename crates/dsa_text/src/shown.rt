@@ -4,28 +4,29 @@ ghost use Rattle.std.specs.Prelude.{◌≡◌, [], IfOk, MatchResult, Err, strin
 ghost use Rattle.dsa_explain.specs.Explained.{Explains};
 ghost use Rattle.dsa_explain.specs.declared.fences.Detail.TheVariants.{All as Every};
 ghost use Rattle.dsa_text.specs.declared.form.Form.TheVariants.{Json, Picture, Waits, Words};
-ghost use Rattle.dsa_text.specs.Shown.{AnswersSubject, SpellsPlan, TellsPlan, too_many_groups, untracked};
+ghost use Rattle.dsa_explain.specs.Runs.{labelling};
+ghost use Rattle.dsa_text.specs.Shown.{AnswersSubject, SpellsPlan, TellsPlan, too_many_groups, unlabelled, untracked};
 
 use crate::answer::Answer;
 use crate::form::Form;
 use dsa_descriptor::Descriptor;
 use dsa_explain::{
-    Detail, ExplainFault, MOST_ROWS, Names, Origin, WaitsFault, draw, explain, explanation_line,
-    explanation_text, group_waits, waits_text,
+    Buffer, Detail, ExplainFault, Labels, MOST_ROWS, Origin, WaitsFault, draw, explain,
+    explanation_line, explanation_text, group_waits, waits_text,
 };
 use dsa_plan::{Plan, Settings};
 use dsa_tracker::TrackFault;
 use std::alloc::{AllocError, Global};
 
-/// What is shown: a plan of pieces and their barriers, of which operation each piece is, what comments
-/// name, and what the least plan costs, where that is known.
+/// What is shown: a plan of pieces and their barriers, of which operation each piece is, what operations
+/// and buffers are called, and what the least plan costs, where that is known.
 #[derive(Clone, Copy, Debug)]
 pub(crate) struct Subject<'a> {
     pub(crate) plan: &'a Plan,
     pub(crate) pieces: &'a [Descriptor],
     pub(crate) barriers: &'a [bool],
-    pub(crate) origins: &'a [Origin],
-    pub(crate) names: Option<&'a Names>,
+    pub(crate) labels: Labels<'a>,
+    pub(crate) buffers: &'a [Buffer],
     pub(crate) least: Option<u64>,
 }
 
@@ -34,15 +35,19 @@ pub(crate) fn plain<'a>(plan: &'a Plan, pieces: &'a [Descriptor], least: Option<
     ensures plan { result.plan.now ≡ plan.now }
     ensures pieces { result.pieces.now ≡ pieces.now }
     ensures barriers { result.barriers.now ≡ [] }
-    ensures origins { result.origins.now ≡ [] }
+    ensures labels { labelling result.labels ≡ unlabelled }
     ensures least { result.least ≡ least }
 {
+    let origins: &[Origin] = &[];
+    let names: &[String] = &[];
+    let buffers: &[Buffer] = &[];
+    let labels = Labels { origins, names };
     Subject {
         plan,
         pieces,
         barriers: [].as_slice(),
-        origins: [].as_slice(),
-        names: None,
+        labels,
+        buffers,
         least,
     }
 }
@@ -56,7 +61,7 @@ pub(crate) fn plan_words(
 ) -> Result<String, ExplainFault>
     ensures { MatchResult result
         (λ s. TellsPlan settings.now detail subject.now.plan.now subject.now.pieces.now
-        subject.now.barriers.now subject.now.origins.now (string_bytes s))
+        subject.now.barriers.now (labelling subject.now.labels) (string_bytes s))
         (λ fault. Explains settings.now detail subject.now.pieces.now subject.now.barriers.now
         subject.now.plan.now (Err fault)) }
 {
@@ -64,11 +69,17 @@ pub(crate) fn plan_words(
         plan,
         pieces,
         barriers,
-        origins,
         ..
     } = *subject;
     let explanation = explain(alloc, plan, pieces, barriers, settings, detail)?;
-    match explanation_text(alloc, &explanation, pieces, origins, settings) {
+    match explanation_text(
+        alloc,
+        &explanation,
+        pieces,
+        &subject.labels,
+        settings,
+        detail,
+    ) {
         Ok(text) => Ok(text),
         Err(_) => Err(ExplainFault::Memory),
     }
@@ -97,7 +108,8 @@ fn plan_line(
 ) -> Result<String, ExplainFault>
     ensures { MatchResult result
         (λ s. SpellsPlan settings.now subject.now.plan.now subject.now.pieces.now
-        subject.now.barriers.now subject.now.origins.now subject.now.least (string_bytes s))
+        subject.now.barriers.now (labelling subject.now.labels) subject.now.least
+        (string_bytes s))
         (λ fault. Explains settings.now Every subject.now.pieces.now subject.now.barriers.now
         subject.now.plan.now (Err fault)) }
 {
@@ -105,12 +117,11 @@ fn plan_line(
         plan,
         pieces,
         barriers,
-        origins,
         least,
         ..
     } = *subject;
     let explanation = explain(alloc, plan, pieces, barriers, settings, Detail::All)?;
-    match explanation_line(alloc, &explanation, pieces, origins, least) {
+    match explanation_line(alloc, &explanation, pieces, &subject.labels, least) {
         Ok(line) => Ok(line),
         Err(_) => Err(ExplainFault::Memory),
     }
@@ -152,9 +163,9 @@ fn answer_picture(
         plan,
         pieces,
         barriers,
-        origins,
-        names,
+        buffers,
         least,
+        ..
     } = *subject;
     let explanation = match explain(alloc, plan, pieces, barriers, settings, Detail::First) {
         Ok(explanation) => explanation,
@@ -164,7 +175,15 @@ fn answer_picture(
     if groups > MOST_ROWS {
         return too_many_groups(alloc, groups);
     }
-    let picture = draw(alloc, &explanation, pieces, origins, names, settings, least)?;
+    let picture = draw(
+        alloc,
+        &explanation,
+        pieces,
+        &subject.labels,
+        buffers,
+        settings,
+        least,
+    )?;
     Ok(Answer::done(picture))
 }
 

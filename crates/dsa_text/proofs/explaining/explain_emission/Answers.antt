@@ -4,14 +4,15 @@ use Rattle.dsa_descriptor.specs.Descriptors.{fields}
 use Rattle.dsa_plan.specs.Certificate.{contents}
 use Rattle.dsa_calls.proofs.CheckedOnce.{one_plan_checked}
 use Rattle.dsa_text.specs.Explained.{is_refused_check, is_checked}
+use Rattle.dsa_text.specs.Shown.{unlabelled}
 use Rattle.dsa_text.proofs.Answered.{subject_answered, same_cause}
 use Rattle.dsa_text.proofs.explaining.explain_emission.Goals as goal
 
 pub returns-in-Ok-clause-answer : goal.returns-in-Ok-clause-answer
 returns-in-Ok-clause-answer c = λ portal staging emission.
     IfOk-weaker c.answer_plan.result _ _ (λ a answered. is_checked c.in-Ok.cost c.args.plan.now c.args.pieces.now emission c.in-Ok.ensures answered)
-    (subject_answered c.answer_plan.result c.args.settings.now c.plain.result c.args.plan.now c.args.pieces.now [] [] (Some c.in-Ok.cost) c.args.form
-    c.plain.ensures.plan c.plain.ensures.pieces c.plain.ensures.barriers c.plain.ensures.origins c.plain.ensures.least c.answer_plan.ensures)
+    (subject_answered c.answer_plan.result c.args.settings.now c.plain.result c.args.plan.now c.args.pieces.now [] unlabelled (Some c.in-Ok.cost) c.args.form
+    c.plain.ensures.plan c.plain.ensures.pieces c.plain.ensures.barriers c.plain.ensures.labels c.plain.ensures.least c.answer_plan.ensures)
 
 pub returns-in-Ok-clause-refused : goal.returns-in-Ok-clause-refused
 returns-in-Ok-clause-refused c = λ fault checks.

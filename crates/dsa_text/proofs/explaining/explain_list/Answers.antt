@@ -1,4 +1,4 @@
-use Rattle.std.proofs.Common.{Bool, IfOk, List, map, sym, subst}
+use Rattle.std.proofs.Common.{Bool, IfOk, List, [], map, sym, subst}
 use Rattle.std.proofs.lemmas.Result.{IfOk-weaker}
 use Rattle.dsa_descriptor.specs.declared.descriptor.Descriptor.{Descriptor}
 use Rattle.dsa_descriptor.specs.Descriptors.{fields}
@@ -16,7 +16,7 @@ pub returns-in-Ok : goal.returns-in-Ok
 returns-in-Ok c =
     let found = c.in-Ok.ensures.found in
     let listed = subst (λ (ds : List Descriptor). IsListOf c.args.list.now ds) (sym c.deref.ensures.value) (record { spelled = found.0; owner = found.1 }) in
-    subst (λ (bs : List Bool). IfOk c.explain_operations.result (ExplainsList c.args.list.now bs c.args.settings.now c.args.form)) c.as_slice-none.ensures
+    subst (λ (bs : List Bool). IfOk c.explain_operations.result (ExplainsList c.args.list.now bs [] c.args.settings.now c.args.form)) c.as_slice-none.ensures
     (c.explain_operations.ensures c.args.list.now listed)
 
 pub returns-in-Err : goal.returns-in-Err

@@ -1,11 +1,12 @@
 use Rattle.dsa_calls.specs.Planned.{submission_of}
+use Rattle.dsa_text.specs.Comments.{names_from}
 use Rattle.dsa_text.proofs.Answered.{operations_planned, operations_refused}
 use Rattle.dsa_text.proofs.explaining.explain_operations.Goals as goal
 
 pub returns-in-Ok : goal.returns-in-Ok
 returns-in-Ok c = λ list listed.
-    operations_planned list c.args.marks.now c.args.settings.now c.args.form c.args.operations.now (submission_of c.in-Ok.planned) c.answer_with_warnings.result listed c.in-Ok.ensures c.answer_with_warnings.ensures
+    operations_planned list c.args.marks.now (names_from c.args.source) c.args.settings.now c.args.form c.args.operations.now (submission_of c.in-Ok.planned) c.answer_with_warnings.result listed c.in-Ok.ensures c.answer_with_warnings.ensures
 
 pub returns-in-Err : goal.returns-in-Err
 returns-in-Err c = λ list listed.
-    operations_refused list c.args.marks.now c.args.settings.now c.args.form c.args.operations.now c.in-Err.fault c.unplanned.result listed c.in-Err.ensures c.unplanned.ensures
+    operations_refused list c.args.marks.now (names_from c.args.source) c.args.settings.now c.args.form c.args.operations.now c.in-Err.fault c.unplanned.result listed c.in-Err.ensures c.unplanned.ensures

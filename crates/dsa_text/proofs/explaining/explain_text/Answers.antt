@@ -5,6 +5,7 @@ use Rattle.dsa_descriptor.specs.Descriptors.{fields}
 use Rattle.dsa_descriptor.specs.Lists.{HaveOneOwner, list_spelling}
 use Rattle.dsa_calls.specs.Lists.{IsListOf}
 use Rattle.dsa_lines.specs.Texts.{lines_of}
+use Rattle.dsa_text.specs.Comments.{names_of}
 use Rattle.dsa_text.specs.Explained.{ExplainsList, is_assembled, is_refused_text}
 use Rattle.dsa_text.proofs.Answered.{same_fault}
 use Rattle.dsa_text.proofs.explaining.explain_text.Goals as goal
@@ -20,7 +21,7 @@ returns-in_ok-marks-in-Ok c =
     record { spelled = ap (λ (ds : List Descriptor). list_spelling (map fields ds)) (sym c.deref.ensures.value); owner = owner } in
     IfOk-weaker c.explain_operations.result _ _ (λ a h.
     is_assembled list c.in-Ok.ensures.answer
-    (subst (λ (bs : List Bool). ExplainsList list bs c.args.settings.now c.args.form a) (c.deref-in-Ok.ensures.value ∙ c.in_ok-marks-in-Ok.ensures) h))
+    (subst (λ (bs : List Bool). ExplainsList list bs (names_of (lines_of c.args.text.now)) c.args.settings.now c.args.form a) (c.deref-in-Ok.ensures.value ∙ c.in_ok-marks-in-Ok.ensures) h))
     (c.explain_operations.ensures list listed)
 
 pub returns-in-Err : goal.returns-in-Err

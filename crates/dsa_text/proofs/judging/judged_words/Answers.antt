@@ -2,6 +2,7 @@ use Rattle.std.proofs.Common.{◌≡◌, ◌++◌, ◌∙◌, [], refl, ap}
 use Rattle.std.specs.Prelude.{string_bytes}
 use Rattle.std.proofs.lemmas.Result.{IfOk-weaker}
 use Rattle.dsa_text.specs.Explained.{is_told, is_untold, least_words}
+use Rattle.dsa_text.specs.Shown.{unlabelled}
 use Rattle.dsa_text.proofs.Answered.{subject_told, subject_untold}
 use Rattle.dsa_text.proofs.judging.judged_words.Goals as goal
 
@@ -19,8 +20,8 @@ returns c =
     is_told c.args.detail refl c.done.ensures.status (record {
       words = words;
       least = c.in_ok-least.least;
-      tells = subject_told c.args.settings.now c.args.detail c.plain.result c.args.plan.now c.args.pieces.now [] [] words
-          c.plain.ensures.plan c.plain.ensures.pieces c.plain.ensures.barriers c.plain.ensures.origins c.in-Ok.ensures;
+      tells = subject_told c.args.settings.now c.args.detail c.plain.result c.args.plan.now c.args.pieces.now [] unlabelled words
+          c.plain.ensures.plan c.plain.ensures.pieces c.plain.ensures.barriers c.plain.ensures.labels c.in-Ok.ensures;
       is_least = c.in_ok-least.ensures;
       text_is = ap string_bytes c.done.ensures.text ∙ told;
     })

@@ -1,7 +1,7 @@
 use Rattle.std.proofs.Common.{◌≡◌, ◌++◌, drop}
 use Rattle.std.specs.Prelude.{string_bytes}
 use Rattle.dsa_explain.specs.Words.{further_lines}
-use Rattle.dsa_explain.proofs.words.push_all_further.Given as goal
+use Rattle.dsa_explain.proofs.listing.push_all_further.Given as goal
 
 -- the lines so far, and those of what is left, are all
 abbrev pub invariant-loop-reason : goal.invariant-loop-reason

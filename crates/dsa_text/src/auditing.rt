@@ -10,7 +10,7 @@ use crate::messages::message_with;
 use crate::numbers::parts_of;
 use crate::options::word;
 use crate::settings::{SettingsWords, settings_fault, settings_of};
-use crate::{batches, file, flag, value};
+use crate::{batches, flag, value};
 use clap::{Arg, ArgAction, ArgMatches, Command};
 use dsa_calls::PlanFault;
 use dsa_plan::Settings;
@@ -65,10 +65,22 @@ With --events it also reports missing waits: an entry that conflicts with one of
 program could not know that it had ended. Each is an error.
   dsa_text audit --events NAME.PID.events NAME.PID.dsa
 
+Several files are audited in their order, each by itself; at the end is how many have errors and how many are refused. --svg,
+--list, --staging and --events take one. The status is the greatest of theirs.
+
 The status is 0 if nothing is an error, 1 if something is: a missing fence or wait, a fence, record or batch that is
 wrong, or what --deny names; and 2 if there is no recording, or it is too large to draw. Of a list it is 0 or 2.
 Prices are in one unit of your choice. Numbers are decimal, or hexadecimal behind 0x.
 Example: dsa_text audit --deny needless,unseen recording.bin";
+
+/// The files to read.
+fn files<'a>(alloc: Global) -> Arg<'a> {
+    Arg::new(alloc, "file")
+        .value_name("FILE")
+        .num_args(1..)
+        .action(ArgAction::Append)
+        .help("what to read, each file by itself; standard input where it is - or missing")
+}
 
 /// The option of the findings that count as errors.
 fn deny<'a>(alloc: Global) -> Arg<'a> {
@@ -76,7 +88,9 @@ fn deny<'a>(alloc: Global) -> Arg<'a> {
         .long("deny")
         .value_name("KIND,..")
         .action(ArgAction::Set)
-        .help("findings that are errors too: needless, guarding, signalling, unseen")
+        .help(
+            "findings that are errors too: needless, guarding, signalling, unseen",
+        )
 }
 
 /// The option of the errors that are known.
@@ -167,7 +181,7 @@ pub(crate) fn audit_command<'a>(alloc: Global) -> Result<Command<'a>, AllocError
         "all memory is resident: no member page-faults",
     );
     let options = vec![in alloc;
-        file(alloc),
+        files(alloc),
         json,
         svg,
         list,
@@ -189,7 +203,7 @@ pub(crate) fn audit_command<'a>(alloc: Global) -> Result<Command<'a>, AllocError
 }
 
 /// How many of the words are this name.
-fn times_named(name: &str, words: &[&str]) -> usize
+pub(crate) fn times_named(name: &str, words: &[&str]) -> usize
     ensures { result ≡ count_by (λ word. bytes_eq word.now name.now) words.now }
 {
     words.iter().filter(|word| **word == name).count()
@@ -379,7 +393,7 @@ fn options_denying<'a>(
 }
 
 /// The settings and options that arguments spell, or the answer if they spell none.
-fn options_in<'a>(
+pub(crate) fn options_in<'a>(
     alloc: Global,
     matches: &ArgMatches<'_>,
     given: Given<'a>,

@@ -62,7 +62,7 @@ more there are; --all writes each. --write-accept writes a line for each kind of
   dsa_text audit --write-accept recording.bin > known.txt && dsa_text audit --accept known.txt recording.bin
 
 With --events it also reports missing waits: an entry that conflicts with one of an earlier submission of which the
-program could not know that it had ended. Each is an error.
+program could not know that it had ended. Each is an error, whatever --deny names.
   dsa_text audit --events NAME.PID.events NAME.PID.dsa
 
 Several files are audited in their order, each by itself; at the end is how many have errors and how many are refused. --svg,
@@ -89,7 +89,7 @@ fn deny<'a>(alloc: Global) -> Arg<'a> {
         .value_name("KIND,..")
         .action(ArgAction::Set)
         .help(
-            "findings that are errors too: needless, guarding, signalling, unseen",
+            "findings that are errors too: needless, guarding, signalling, unseen; waits always are",
         )
 }
 
@@ -130,10 +130,8 @@ fn events<'a>(alloc: Global) -> Result<Arg<'a>, AllocError> {
         .help(
             "report missing waits too, by the events that dsa_trace --out wrote beside the recording",
         )
-        .conflicts_with("json")?
         .conflicts_with("svg")?
         .conflicts_with("list")?
-        .conflicts_with("write-accept")?
         .conflicts_with("staging")
 }
 
@@ -217,7 +215,12 @@ fn denied_by(words: &[&str]) -> Option<Denied>
     let guarding = times_named("guarding", words);
     let signalling = times_named("signalling", words);
     let unseen = times_named("unseen", words);
-    let named = needless as u128 + guarding as u128 + signalling as u128 + unseen as u128;
+    let waits = times_named("waits", words);
+    let named = needless as u128
+        + guarding as u128
+        + signalling as u128
+        + unseen as u128
+        + waits as u128;
     if named != words.len() as u128 {
         return None;
     }
@@ -287,7 +290,7 @@ fn format_of(json: bool, svg: bool, list: bool, keys: bool) -> AuditFormat
 }
 
 /// How the report is to be written.
-fn format_in(matches: &ArgMatches<'_>) -> AuditFormat
+pub(crate) fn format_in(matches: &ArgMatches<'_>) -> AuditFormat
     ensures { IsFormat matches.now result }
 {
     let json = matches.get_flag("json");
@@ -403,7 +406,7 @@ pub(crate) fn options_in<'a>(
 {
     let Some(denied) = denied_in(alloc, matches)? else {
         let reason =
-            "error: --deny takes needless, guarding, signalling and unseen, with commas between\n";
+            "error: --deny takes needless, guarding, signalling, unseen and waits, with commas between\n";
         return Ok(Err(refusal(String::from_str(alloc, reason)?)));
     };
     match awaited_in(matches) {

@@ -1,7 +1,7 @@
 """What `dsa_text audit` says of each finding of random recordings, typed from docs/FORMATS.md: the entries that it is of
 and what they do, how many bytes conflict, its key; that a text has the first finding of each key, and with --all each;
-and that --write-accept names the errors, and --accept those that are known. Several files in one run: the report on each
-is the one that it has alone. A number is how many recordings are judged, 200 without one."""
+and that --write-accept names the errors, and --accept those that are known. Several files in one run: the report on
+each is the one that it has alone. A number is how many recordings are judged, 200 without one."""
 
 import json
 import struct
@@ -211,13 +211,14 @@ def answered(words, given=b""):
 
 
 def random_files(seed, folder):
-    """Names of files and what they have: recordings as bytes and as texts, some that are none, some that are not there, and
-    perhaps standard input."""
+    """Names of files and what they have: recordings as bytes and as texts, some that are none, some that are not there,
+    and perhaps standard input."""
     maker, found = Maker(seed), {}
     for number in range(2 + maker.random.randrange(3)):
         recording, kind = maker.recording(), maker.random.randrange(6)
         path = str(Path(folder, f"{number}.bin"))
-        found["-" if kind == 0 else path] = [recording, audit.xxd(recording).encode(), recording + b"abc"][kind % 3]
+        contents = [recording, audit.xxd(recording).encode(), recording + b"abc"]
+        found["-" if kind == 0 and "-" not in found else path] = contents[kind % 3]
         if kind == 5:
             found[path] = None
     return found
@@ -257,8 +258,8 @@ def judge_files(found, words, name):
 
 
 def files():
-    """Several files: the report on each is the one that it has alone, and their status is the greatest; errors of all that
-    are accepted leave it 0. Options of one file, and standard input twice, are refused."""
+    """Several files: the report on each is the one that it has alone, and their status is the greatest; errors of all
+    that are accepted leave it 0. Options of one file, and standard input twice, are refused."""
     seen = Counter()
     with tempfile.TemporaryDirectory() as folder:
         known = str(Path(folder, "known.txt"))

@@ -1,6 +1,7 @@
 """Runs `dsa_text audit --events` on random recordings with events, which a seed makes, and judges the missing waits by
 brute force, typed from docs/FORMATS.md: each entry is compared with each of those in flight. The same in JSON, and the
-keys of what is missing, written and accepted. Examples by hand. Events that do not fit. The words are names of parts; a number is how many random recordings are judged."""
+keys of what is missing, written and accepted. Examples by hand. Events that do not fit. The words are names of parts; a
+number is how many random recordings are judged."""
 
 import json
 import random
@@ -227,7 +228,7 @@ def judge_keys(recording, events, keys, name):
     status, out, _ = audited(recording, events, "--write-accept")
     written = out.splitlines()
     of_waits = [key for key in written if key.startswith("missing wait")]
-    right = status == 0 and of_waits == list(dict.fromkeys(keys)) and written[len(written) - len(of_waits) :] == of_waits
+    right = status == 0 and of_waits == list(dict.fromkeys(keys)) and written[-len(of_waits) :] == (of_waits or written)
     common.expect(right, f"{name}: the keys {written} are not those of {keys}")
     for known in (written, written[:-1]):
         status, out, _ = audited(recording, events, known=known)

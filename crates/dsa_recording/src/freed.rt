@@ -100,7 +100,7 @@ fn needless_by(is_batch: bool, uses: &[FenceUse]) -> usize
     uses.iter().filter(|fence| is_needless_use(**fence)).count()
 }
 
-/// What the fences of a submission of these entries are for under the assumptions. What is known of its members, and which
+/// What the fences of a submission of these entries are for under the assumptions. What its members do, and which
 /// fences are missing, rests on no assumption.
 fn reduced_under(
     alloc: Global,

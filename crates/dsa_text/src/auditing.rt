@@ -65,8 +65,8 @@ With --events it also reports missing waits: an entry that conflicts with one of
 program could not know that it had ended. Each is an error, whatever --deny names.
   dsa_text audit --events NAME.PID.events NAME.PID.dsa
 
-Several files are audited in their order, each by itself; at the end is how many have errors and how many are refused. --svg,
---list, --staging and --events take one. The status is the greatest of theirs.
+Several files are audited in their order, each by itself; the last line has how many have errors and how many are refused.
+--svg, --list, --staging and --events take one. The status is the greatest of theirs.
 
 The status is 0 if nothing is an error, 1 if something is: a missing fence or wait, a fence, record or batch that is
 wrong, or what --deny names; and 2 if there is no recording, or it is too large to draw. Of a list it is 0 or 2.

@@ -588,8 +588,8 @@ fn audit_file(
     }
 }
 
-/// Writes the answer of `audit`. Status 1 is that a fence is missing, so the report goes to standard output, and a refusal
-/// has status 2.
+/// Writes the answer of `audit`. Status 1 is that a fence is missing: the report goes to standard output. A refusal has
+/// status 2.
 fn written_audit(
     rt: &HostRuntime,
     matches: &ArgMatches<'_>,

@@ -56,10 +56,10 @@ fn found_answer(
     }
 }
 
-/// The missing waits of a recording with the text of its events: in words, as an object of JSON, or as the keys of those
-/// that are not accepted; pictures and lists have none, and are as words. The status is 0 if there are none, or all are
-/// accepted, and of keys; 1 if there are others; and 2 with the reason if the bytes are no recording, or the text has no
-/// events that fit it.
+/// The missing waits of a recording with the text of its events: in words, as an object of JSON, or as the keys of
+/// those that are not accepted; for a picture or a list in words. The status is 0 of keys, and if there are none or all
+/// are accepted; 1 if there are others; and 2 with the reason if the bytes are no recording, or the text has no events
+/// that fit it.
 pub fn answer_waits(
     alloc: Global,
     bytes: &[u8],

@@ -100,7 +100,7 @@ fn objects_of(
     Ok(text)
 }
 
-/// All missing waits as an object of JSON: the object of each, and whether the events say when the program looked at records.
+/// All missing waits as JSON: the object of each, and whether the events say when the program looked at records.
 pub(crate) fn waits_json(
     alloc: Global,
     all: &[[u8; 64]],

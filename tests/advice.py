@@ -235,7 +235,10 @@ def words():
     for options, reason in [
         ("--await nothing", "error: --await takes writes, signals or batches\n"),
         ("--await signals,batches", "error: --await takes writes, signals or batches\n"),
-        ("--deny missing", "error: --deny takes needless, guarding, signalling and unseen, with commas between\n"),
+        (
+            "--deny missing",
+            "error: --deny takes needless, guarding, signalling, unseen and waits, with commas between\n",
+        ),
     ]:
         ran = audit(CASES["plain"][0], options)
         common.expect((ran.returncode, ran.stdout, ran.stderr.decode()) == (2, b"", reason), f"{options}: {ran}")

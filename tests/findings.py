@@ -1,7 +1,7 @@
 """What `dsa_text audit` says of each finding of random recordings, typed from docs/FORMATS.md: the entries that it is of
 and what they do, how many bytes conflict, its key; that a text has the first finding of each key, and with --all each;
-and that --write-accept names the errors, and --accept those that are known. A number is how many recordings are judged,
-200 without one."""
+and that --write-accept names the errors, and --accept those that are known. Several files in one run: the report on
+each is the one that it has alone. A number is how many recordings are judged, 200 without one."""
 
 import json
 import struct
@@ -12,6 +12,7 @@ from pathlib import Path
 
 import audit
 import common
+import schema
 from audit import (
     CHECK, COMPARE, COPY_CRC, CRC, CREATE, DELTA, DRAIN, DUALCAST, FETCH, FILL, FLUSH, INSERT, MOVE, PATTERN, STRIP,
     UPDATE, Maker, data_of, further_data,
@@ -203,6 +204,89 @@ def brute_force():
     common.expect(folded > COUNT, f"only {folded} findings were folded")
 
 
+def answered(words, given=b""):
+    """The status of an audit, and what it writes to both outputs."""
+    ran = subprocess.run([TEXT, "audit", *words], input=given, capture_output=True, text=False)
+    return ran.returncode, ran.stdout.decode(), ran.stderr.decode()
+
+
+def random_files(seed, folder):
+    """Names of files and what they have: recordings as bytes and as texts, some that are none, some that are not there,
+    and perhaps standard input."""
+    maker, found = Maker(seed), {}
+    for number in range(2 + maker.random.randrange(3)):
+        recording, kind = maker.recording(), maker.random.randrange(6)
+        path = str(Path(folder, f"{number}.bin"))
+        contents = [recording, audit.xxd(recording).encode(), recording + b"abc"]
+        found["-" if kind == 0 and "-" not in found else path] = contents[kind % 3]
+        if kind == 5:
+            found[path] = None
+    return found
+
+
+def alone(name, content, words):
+    """The status of a file by itself, its report, and the reason if it has none."""
+    if content is None:
+        return 2, "", "error: the file can't be opened: there is no such file\n"
+    return answered(words, content)
+
+
+def judge_files(found, words, name):
+    """Judges a run over several files, and answers its status."""
+    names, asked = [*found], [word for word in words if word != "--json"]
+    each = [alone(file, found[file], asked) for file in names]
+    status, out, err = answered([*words, *names], found.get("-", b""))
+    statuses = [it[0] for it in each]
+    reasons = "".join(f"{file}: {reason}" for file, (_, _, reason) in zip(names, each) if reason)
+    right = (status, err) == (max(statuses), reasons)
+    common.expect(right, f"{name}, {words}: status {status} of {statuses}, and {err!r}, not {reasons!r}")
+    if "--json" in words:
+        wanted = []
+        for file, (its, _, reason) in zip(names, each):
+            report = json.loads(alone(file, found[file], words)[1] or "null")
+            wanted.append({"file": file, "status": its} | ({"error": reason[:-1]} if reason else {"report": report}))
+        got = json.loads(out)
+        common.expect(got == {"files": wanted}, f"{name}, {words}: {out[:400]}")
+        common.expect(schema.holds(schema.report_schema("audit"), got), f"{name}: the schema rejects {out[:400]}")
+    elif "--write-accept" in words:
+        common.expect(out == "".join(keys for _, keys, _ in each), f"{name}, {words}: the keys are {out!r}")
+    else:
+        wanted = "".join(f"{file}:\n{it[1]}\n" for file, it in zip(names, each) if it[0] < 2)
+        wanted += f"{len(names)} files: {statuses.count(1)} with errors, {statuses.count(2)} refused\n"
+        common.expect(out == wanted, f"{name}, {words}: wrote {out[-400:]!r}, and not {wanted[-400:]!r}")
+    return status
+
+
+def files():
+    """Several files: the report on each is the one that it has alone, and their status is the greatest; errors of all
+    that are accepted leave it 0. Options of one file, and standard input twice, are refused."""
+    seen = Counter()
+    with tempfile.TemporaryDirectory() as folder:
+        known = str(Path(folder, "known.txt"))
+        for seed in range(max(COUNT // 4, 20)):
+            found = random_files(seed, folder)
+            for path, content in found.items():
+                Path(path).unlink(missing_ok=True)
+                if path != "-" and content is not None:
+                    Path(path).write_bytes(content)
+            name = f"seed {seed}"
+            for words in ([], ["--all", "--resident"], ["--json"], ["--deny", "unseen", "--json"], ["--write-accept"]):
+                seen[judge_files(found, words, name)] += 1
+            Path(known).write_text(answered(["--write-accept", *found], found.get("-", b""))[1])
+            status = judge_files(found, ["--accept", known], name)
+            common.expect(status != 1, f"{name}: there are errors beside those that are accepted")
+        common.expect(min(seen[status] for status in range(3)) > 0, f"not each status is there: {seen}")
+        one = str(Path(folder, "one.bin"))
+        Path(one).write_bytes(Maker(1).recording())
+        for words in (["--svg"], ["--list"], ["--staging", f"0:{one}"], ["--events", one]):
+            got, wanted = answered([*words, one, one]), "error: --svg, --list, --staging and --events take one file\n"
+            common.expect(got == (2, "", wanted), f"{words} with two files: {got}")
+        got = answered(["-", one, "-"])
+        common.expect(got == (2, "", "error: standard input (-) can be named once\n"), f"- twice: {got}")
+        got = answered(["--deny", "nothing", one, one])
+        common.expect((got[0], got[1], got[2].count("\n")) == (2, "", 1), f"a word of no option: {got}")
+
+
 def unread():
     """A file of accepted keys that is missing or no text is refused."""
     with tempfile.TemporaryDirectory() as folder:
@@ -221,7 +305,7 @@ def main(words):
     TEXT = program("dsa_text")
     numbers = [int(word) for word in words if word.isdigit()]
     COUNT = numbers[-1] if numbers else COUNT
-    for part in named([brute_force, unread], [it for it in words if not it.isdigit()]):
+    for part in named([brute_force, files, unread], [it for it in words if not it.isdigit()]):
         part()
 
 

@@ -278,10 +278,15 @@ def resolved(schema, definitions):
     return own
 
 
+def report_schema(name):
+    """The schema of the reports of a command, without references."""
+    schema = json.loads(Path(f"docs/{name}.schema.json").read_text())
+    return resolved(schema, schema["$defs"])
+
+
 def reports():
     """The schemas of reports accept what the golden files of `--json` have, and nothing with a member more or less."""
-    schemas = {name: json.loads(Path(f"docs/{name}.schema.json").read_text()) for name in ("explain", "audit")}
-    schemas = {name: resolved(schema, schema["$defs"]) for name, schema in schemas.items()}
+    schemas = {name: report_schema(name) for name in ("explain", "audit")}
     seen = dict.fromkeys(schemas, 0)
     for path in sorted(Path("tests/text").glob("*.golden")):
         for case in golden.cases(path):

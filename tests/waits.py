@@ -1,7 +1,9 @@
 """Runs `dsa_text audit --events` on random recordings with events, which a seed makes, and judges the missing waits by
-brute force, typed from docs/FORMATS.md: each entry is compared with each of those in flight. Examples by hand. Events
-that do not fit. The words are names of parts; a number is how many random recordings are judged."""
+brute force, typed from docs/FORMATS.md: each entry is compared with each of those in flight. The same in JSON, and the
+keys of what is missing, written and accepted. Examples by hand. Events that do not fit. The words are names of parts; a
+number is how many random recordings are judged."""
 
+import json
 import random
 import re
 import struct
@@ -10,16 +12,18 @@ import tempfile
 from pathlib import Path
 
 import common
+import schema
 from common import named, program, run_test
 
 COUNT = 400
 TEXT = []
+NAMES = {0x00: "no-op", 0x01: "batch", 0x02: "drain", 0x03: "move", 0x04: "fill", 0x05: "compare", 0x10: "CRC"}
 NO_OP, BATCH, DRAIN, MOVE, FILL, COMPARE, CRC = 0x00, 0x01, 0x02, 0x03, 0x04, 0x05, 0x10
 VALID, REQUESTED, FENCE = 0x04, 0x08, 0x01
 KINDS = {("reads", "writes"): "read after write", ("writes", "writes"): "write after write"}
 KINDS |= {("writes", "reads"): "write after read"}
 LINE = re.compile(
-    r"entry (\d+) \((.*?)\): error: missing wait, (.*?): (\w+) what entry (\d+) \((.*?)\) (\w+), in flight, at 0x\w+ "
+    r"entry (\d+) \((.*?)\): error: missing wait, (.*?): (\w+) what entry (\d+) \((.*?)\) (\w+), in flight, at (0x\w+) "
     r"\((\d+) bytes?\)\n  entry (\d+), byte (\d+): .*\n  entry (\d+), byte (\d+): .*"
 )
 
@@ -167,30 +171,92 @@ def happen(draw, open_events, lines, made, flying):
 # ---- runs
 
 
-def audited(recording, events):
-    """The run of an audit with these events."""
+def audited(recording, events, *words, known=None):
+    """The run of an audit with these events, and these keys in the file of those that are accepted."""
     with tempfile.TemporaryDirectory() as folder:
-        file = Path(folder) / "a.events"
+        file, accepted = Path(folder) / "a.events", Path(folder) / "known.txt"
         file.write_text(events)
-        ran = subprocess.run([*TEXT, "audit", "--events", str(file)], input=recording, capture_output=True)
+        if known is not None:
+            accepted.write_text("".join(f"{key}\n" for key in known))
+            words += ("--accept", str(accepted))
+        ran = subprocess.run([*TEXT, "audit", "--events", str(file), *words], input=recording, capture_output=True)
     return ran.returncode, ran.stdout.decode(), ran.stderr.decode().replace(folder + "/", "")
+
+
+def places(recording):
+    """Of each entry its submission, its member or None, and how it is named in a key."""
+    entries, found, number = [recording[k : k + 64] for k in range(0, len(recording), 64)], [], 0
+    while len(found) < len(entries):
+        head = entries[len(found)]
+        words = lambda it: f"{NAMES[it[7]]}, {struct.unpack_from('<I', it, 32)[0]} bytes"
+        if head[7] != BATCH:
+            found.append((number, None, f"; lone: {words(head)}"))
+        else:
+            count = struct.unpack_from("<I", head, 32)[0]
+            members = entries[len(found) + 1 :][:count]
+            found.append((number, None, f"; batch of {count}"))
+            for k, it in enumerate(members):
+                found.append((number, k, f"; batch of {count}; member {k}: {words(it)}"))
+        number += 1
+    return found
+
+
+def judge_report(recording, events, waits, shown, name):
+    """What the report in JSON has of the missing waits, and what the words have; answers their keys."""
+    _, out, _ = audited(recording, events, "--json")
+    report, where, keys = json.loads(out), places(recording), []
+    common.expect(schema.holds(schema.report_schema("audit"), report), f"{name}: the schema rejects {out[:400]}")
+    got = report["waits"]
+    looks = any(line[0] in "WK" for line in events.splitlines())
+    common.expect(got["looks"] == looks, f"{name}: looks {got['looks']}")
+    common.expect([it["later"]["entry"] for it in got["missing"]] == sorted(waits), f"{name}: missing {got['missing']}")
+    for it in got["missing"]:
+        later, earlier = it["later"]["entry"], waits[it["later"]["entry"]]
+        hazard, address, bytes_there = shown[later]
+        key = f"missing wait, {hazard}{where[later][2]}{where[earlier][2]}"
+        ends = [{"entry": n, "member": where[n][1], "submission": where[n][0]} for n in (earlier, later)]
+        wanted = {"address": address, "bytes": bytes_there, "earlier": ends[0], "hazard": hazard, "key": key}
+        wanted |= {"later": ends[1], "severity": "error"}
+        numbers = [one["entry"] for one in it.pop("entries")]
+        common.expect((it, numbers) == (wanted, [later, earlier]), f"{name}: {it} of {numbers} is not {wanted}")
+        keys.append(key)
+    return keys
+
+
+def judge_keys(recording, events, keys, name):
+    """The keys of the errors are written, and what is accepted is no error."""
+    status, out, _ = audited(recording, events, "--write-accept")
+    written = out.splitlines()
+    of_waits = [key for key in written if key.startswith("missing wait")]
+    right = status == 0 and of_waits == list(dict.fromkeys(keys)) and written[-len(of_waits) :] == (of_waits or written)
+    common.expect(right, f"{name}: the keys {written} are not those of {keys}")
+    for known in (written, written[:-1]):
+        status, out, _ = audited(recording, events, known=known)
+        wanted = [("accepted" if key in known else "error") for key in keys]
+        got = re.findall(r": (\w+): missing wait", out)
+        common.expect((status, got) == (int(known != written), wanted), f"{name}, accepting {known}: {status}, {got}")
+        left = audited(recording, events, "--write-accept", known=known)[1].splitlines()
+        common.expect(left == written[len(known) :], f"{name}, accepting {known}: {left} are left")
 
 
 def judged(seed):
     """One random recording."""
     recording, events, waits = random_course(random.Random(seed))
     status, out, err = audited(recording, events)
-    found = {}
+    found, told = {}, {}
     for shown in LINE.finditer(out):
         later, earlier = int(shown[1]), int(shown[5])
-        found[later] = earlier
-        named = [int(shown[k]) for k in range(9, 13)]
-        right = KINDS.get((shown[4], shown[7])) == shown[3] and shown[8] != "0"
+        found[later], told[later] = earlier, (shown[3], shown[8], int(shown[9]))
+        named = [int(shown[k]) for k in range(10, 14)]
+        right = KINDS.get((shown[4], shown[7])) == shown[3] and shown[9] != "0"
         if not right or named != [later, 64 * later, earlier, 64 * earlier]:
             common.expect(False, f"seed {seed}: {shown[0]}")
     wanted = f"\n{len(waits)} missing wait{'s' * (len(waits) != 1)}, "
     right = found == waits and wanted in out and (status == 1 or not waits) and status < 2
     common.expect(right, f"seed {seed}: wanted {waits}, found {found}, status {status} {err}")
+    if right:
+        keys = judge_report(recording, events, waits, told, f"seed {seed}")
+        judge_keys(recording, events, keys, f"seed {seed}")
 
 
 def brute_force():

@@ -10,14 +10,16 @@ use Rattle.dsa_audit.specs.declared.audit.Audit.{Audit}
 use Rattle.dsa_audit.specs.declared.repeats.Action.{Action}
 use Rattle.dsa_audit.specs.Members.{PossibleConflict}
 use Rattle.dsa_audit.specs.Repeats.{OrderMatters, AreRepeats}
+use Rattle.dsa_audit.specs.Steps.{AreLasts}
 use Rattle.dsa_audit.specs.Audits.{HasFence, IsSeparated, CanFail, Shows, IsCorrected, IsReduced, ShareEpoch, Separates}
 
 -- the members that repeat an earlier one; the missing fences by the conflicts that are known of the operands of members,
 -- where their order matters; of all fences then, the needless ones by the conflicts that are not ruled out by all that they
--- touch, by the members that can fail, and by those that show
+-- touch, of which the last ones of the first members are at hand, by the members that can fail, and by those that show
 pub record IsAudit (actions : List Action) (operands members : List Member) (fallible visible : List Bool) (g : Group) (a : Audit) : Type 0 where
   pub repeated : AreRepeats actions operands a.repeated.items
   pub corrected : IsCorrected (OrderMatters actions operands) g a.corrected.places.items a.corrected.fences.items
+  pub lasts : AreLasts (PossibleConflict members) a.lasts.items
   pub reduced :
       IsReduced (PossibleConflict members) fallible visible a.corrected.fences.items a.reduced.uses.items
       a.reduced.fences.items

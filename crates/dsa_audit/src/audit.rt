@@ -3,7 +3,7 @@
 ghost use Rattle.std.specs.Prelude.{◌≡◌, length, IfOk};
 ghost use Rattle.dsa_audit.specs.Laws.{IsAudit, AuditsHold, AssumptionsFree, SeparatedIsLegal};
 
-use crate::lasts::{all_lasts, known_lasts, possible_lasts};
+use crate::lasts::{all_lasts, possible_lasts};
 use crate::member::Member;
 use crate::missing::{Corrected, add_missing};
 use crate::needless::{Effects, Reduced, drop_needless};
@@ -19,6 +19,9 @@ pub struct Audit {
     pub repeated: Vec<Option<usize>>,
     /// The missing fences, added to those of the batch.
     pub corrected: Corrected,
+    /// The last conflicts of the first members that are not ruled out, as [`possible_lasts`] finds them: with these
+    /// [`drop_needless`] reduces the fences again under other effects.
+    pub lasts: Vec<Option<usize>>,
     /// Of all fences then, those that are needed.
     pub reduced: Reduced,
 }
@@ -50,12 +53,13 @@ pub fn audit_fences(
     };
     let corrected = add_missing(alloc, fences, &relation, &ordered)?;
     drop(ordered);
-    let lasts = possible_lasts(alloc, members, &known_lasts(alloc, members)?)?;
+    let lasts = possible_lasts(alloc, members)?;
     let possible = PossibleConflicts { members };
     let reduced = drop_needless(alloc, &corrected.fences, &possible, &lasts, effects)?;
     Ok(Audit {
         repeated,
         corrected,
+        lasts,
         reduced,
     })
 }

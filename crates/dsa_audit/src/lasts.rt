@@ -141,9 +141,9 @@ fn last_unknown(members: &[Member], k: usize, unknown: Option<usize>) -> Option<
     }
 }
 
-/// The same as [`known_lasts`] of conflicts that are not ruled out, from those that are known: a member of which nothing is
-/// known can conflict with each other.
-pub(crate) fn possible_lasts(
+/// The last conflicts that are not ruled out, from those that are known: a member of which nothing is known can conflict
+/// with each other.
+fn lasts_with_unknown(
     alloc: Global,
     members: &[Member],
     known: &[Option<usize>],
@@ -159,6 +159,14 @@ pub(crate) fn possible_lasts(
         unknown = last_unknown(members, k, unknown);
     }
     Ok(lasts)
+}
+
+/// The same as [`known_lasts`] of conflicts that are not ruled out, for [`drop_needless`](crate::drop_needless).
+pub fn possible_lasts(alloc: Global, members: &[Member]) -> Result<Vec<Option<usize>>, AllocError>
+    ensures { IfOk result (λ lasts. AreLasts (PossibleConflict members.now) lasts.items) }
+{
+    let known = known_lasts(alloc, members)?;
+    lasts_with_unknown(alloc, members, &known)
 }
 
 /// For each member the last one before it that is known to conflict with it.

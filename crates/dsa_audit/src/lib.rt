@@ -12,7 +12,7 @@ mod repeats;
 
 pub use audit::{Audit, assumptions_free, audit_fences, audits_hold, separated_is_legal};
 pub use hazard::hazard_between;
-pub use lasts::{all_lasts, known_lasts};
+pub use lasts::{all_lasts, known_lasts, possible_lasts};
 pub use member::{Member, Unseen, are_known_to_conflict, can_conflict};
 pub use missing::{Corrected, FencePlace, add_missing};
 pub use needless::{Effects, FenceUse, Reduced, drop_needless};

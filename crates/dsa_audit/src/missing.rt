@@ -82,8 +82,8 @@ pub fn add_missing<R: Relation>(
     ensures { IfOk result
         (λ m. IsCorrected (R.conflict relation.now) fences.now m.places.items m.fences.items) }
 {
-    let mut places = Vec::new(alloc);
-    let mut corrected = Vec::new(alloc);
+    let mut places = Vec::with_capacity(alloc, fences.len())?;
+    let mut corrected = Vec::with_capacity(alloc, fences.len())?;
     let mut epoch = 0;
     for at in 0..fences.len() {
         let place = place_of(fences, relation, lasts, epoch, at);

@@ -194,8 +194,8 @@ pub fn drop_needless<R: Relation>(
         effects.entry.fallible.now effects.entry.visible.now
         fences.now t.uses.items t.fences.items) }
 {
-    let mut uses = Vec::new(alloc);
-    let mut kept = Vec::new(alloc);
+    let mut uses = Vec::with_capacity(alloc, fences.len())?;
+    let mut kept = Vec::with_capacity(alloc, fences.len())?;
     let mut epoch = 0;
     let mut given = 0;
     for at in 0..fences.len() {

@@ -25,7 +25,7 @@ use Rattle.dsa_recording.specs.Keys.{cause_key, flaw_key, hazard_key, key_words,
 use Rattle.dsa_recording.specs.Words.{unseen_words}
 
 -- two members conflict in one way
-hazard_kinds : (reads writes reads' writes' : List Span) (a b : ℕ) (k l : HazardKind)
+pub hazard_kinds : (reads writes reads' writes' : List Span) (a b : ℕ) (k l : HazardKind)
     → IsHazard reads writes reads' writes' a k → IsHazard reads writes reads' writes' b l → k ≡ l
 hazard_kinds r w s v a b ReadAfterWrite ReadAfterWrite h i = refl
 hazard_kinds r w s v a b ReadAfterWrite WriteAfterWrite (p, q) (p', q', apart) = absurd (apart a p q)

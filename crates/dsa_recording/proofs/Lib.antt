@@ -8,6 +8,7 @@ pub mod Outcomes
 pub mod Reasons
 pub mod Listed
 pub mod Pushed
+pub mod Reaudited
 pub mod Within
 pub mod Placed
 pub mod Spelled
@@ -16,7 +17,7 @@ pub mod Status
 pub mod Summed
 pub mod Inputs
 mod Accepting
-mod Keyed
+pub mod Keyed
 mod Sharing
 pub mod Begun
 pub mod Priced

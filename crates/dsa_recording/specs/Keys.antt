@@ -1,6 +1,6 @@
 -- What findings of one kind have in common (this project's choice). A key has no address and no number of an entry, so
 -- findings of one kind in like batches have one key, in another run too.
-use Rattle.std.specs.Prelude.{ℕ, ◌+◌, ◌==◌, Bool, true, false, List, [], ◌∷◌, ◌++◌, codes, decimal, slice_get, Option, Some, None, if◌then◌else◌}
+use Rattle.std.specs.Prelude.{ℕ, ◌+◌, ◌-◌, ◌==◌, nat_lt, Bool, true, false, List, [], ◌∷◌, ◌++◌, codes, decimal, slice_get, Option, Some, None, if◌then◌else◌}
 use Rattle.dsa_descriptor.specs.Places.{u32_at, code_at}
 use Rattle.dsa_ranges.specs.declared.hazards.HazardKind.{HazardKind}
 use Rattle.dsa_ranges.specs.declared.hazards.HazardKind.TheVariants.{ReadAfterWrite, WriteAfterRead, WriteAfterWrite}
@@ -11,6 +11,7 @@ use Rattle.dsa_recording.specs.declared.findings.Flaw.{Flaw}
 use Rattle.dsa_recording.specs.declared.findings.Flaw.TheVariants.{SharedRecord, OverwritesBatch, DataOverRecord, MisalignedRecord, SmallBatch, FenceWithoutEffect}
 use Rattle.dsa_recording.specs.declared.findings.Place.{Place}
 use Rattle.dsa_recording.specs.declared.findings.Place.TheVariants.{Head, Member}
+use Rattle.dsa_recording.specs.declared.stream.Submission.{Submission}
 use Rattle.dsa_recording.specs.Details.{named_by}
 use Rattle.dsa_recording.specs.EntryWords.{operation_words}
 use Rattle.dsa_recording.specs.Furthers.{code_name}
@@ -45,6 +46,13 @@ member_key es first m = codes "; member " ++ (decimal m ++ (codes ": " ++ entry_
 -- a batch of so many members
 abbrev pub batch_key : ℕ → List ℕ
 batch_key size = codes "; batch of " ++ decimal size
+
+-- an entry of a submission: the descriptor of a batch, a member, or a lone descriptor
+abbrev pub key_of_entry : List (List ℕ) → Submission → ℕ → List ℕ
+key_of_entry es s e =
+    if s.is_batch
+    then (if nat_lt e s.first then batch_key s.size else batch_key s.size ++ member_key es s.first (e - s.first))
+    else codes "; lone: " ++ entry_key (slice_get es e)
 
 -- what the finding is of, in a submission of so many members
 abbrev pub place_key : List (List ℕ) → Detail → Bool → Place → List ℕ

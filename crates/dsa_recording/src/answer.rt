@@ -10,7 +10,7 @@ ghost use Rattle.dsa_recording.specs.Keys.{key_words};
 ghost use Rattle.dsa_recording.specs.Reports.{reported_by};
 ghost use Rattle.dsa_recording.specs.Words.{severity_of, severity_with};
 ghost use Rattle.dsa_recording.specs.Listings.{AreEntries};
-ghost use Rattle.dsa_recording.specs.Submissions.{IsWithin};
+ghost use Rattle.dsa_recording.specs.Submissions.{AreAudited, IsWithin};
 ghost use Rattle.dsa_recording.specs.Totals.{HasSums};
 
 use crate::accepted::{Accepted, is_accepted};
@@ -163,6 +163,8 @@ fn report_text(
 ) -> Result<String, AllocError>
     requires sums { HasSums report.now }
     requires within { All (IsWithin all.now) report.now.submissions.items }
+    requires audited { AreAudited options.assumptions all.now
+        report.now.submissions.items report.now.audits.items }
 {
     let mut written = Written::new(alloc);
     written.add(alloc, all, report, settings, options)?;
@@ -233,6 +235,8 @@ fn answer_report(
     requires entries { AreEntries all.now report.now.submissions.items report.now.audits.items }
     requires few { length all.now ≤ 2 ^ 58 }
     requires within { All (IsWithin all.now) report.now.submissions.items }
+    requires audited { AreAudited options.assumptions all.now
+        report.now.submissions.items report.now.audits.items }
     requires placed { ArePlaced all.now (reported_by report.now) }
     ensures { IfOk result (AnswersReport options.entry all.now (reported_by report.now)) }
 {

@@ -72,7 +72,7 @@ pub(crate) fn fallible_of(
     ensures { IfOk result
         (λ fallible. AreFallible assumptions members.now entries.now fallible.items) }
 {
-    let mut fallible = Vec::new(alloc);
+    let mut fallible = Vec::with_capacity(alloc, entries.len())?;
     for k in 0..entries.len() {
         fallible.push(can_fail(assumptions, &members[k], &entries[k]))?;
     }

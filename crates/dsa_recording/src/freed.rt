@@ -2,15 +2,19 @@
 
 ghost use Rattle.std.specs.Prelude.{◌≡◌, All, IfOk};
 ghost use Rattle.std.specs.List.{AllByRecursion, count_by};
-ghost use Rattle.dsa_recording.specs.Freed.{needless_count, AreNeedless, IsFreed};
-ghost use Rattle.dsa_recording.specs.Submissions.{IsWithin};
+ghost use Rattle.dsa_recording.specs.Freed.{AreNeedless, HasAudits, HasNeedless, IsFreed, IsReducedUnder, IsSomeAudit, is_needless_use, needless_count, needless_of};
+ghost use Rattle.dsa_recording.specs.Submissions.{AreAudited, IsWithin};
 ghost use Rattle.dsa_recording.specs.Totals.{is_needless};
 
 use crate::assumptions::{Assumptions, Await};
-use crate::findings::{Finding, FindingKind, findings_of};
+use crate::failure::fallible_of;
+use crate::findings::{Finding, FindingKind};
 use crate::report::Report;
+use crate::showing::visible_of;
 use crate::stream::Submission;
-use crate::submission::audit_submissions;
+use crate::submission::{Audited, head_at};
+use crate::totals::fences_in;
+use dsa_audit::{Effects, FenceUse, PossibleConflicts, Reduced, drop_needless};
 use std::alloc::{AllocError, Global};
 
 /// What can be assumed beyond the least, in the order in which it is said.
@@ -72,19 +76,102 @@ fn needless_in(findings: &[Finding]) -> usize
         .count()
 }
 
-/// How many fences of submissions of these entries are needless under the assumptions.
-pub fn needless_under(
+/// Whether a fence may go.
+fn is_needless_use(fence: FenceUse) -> bool
+    ensures { result ≡ is_needless_use fence }
+{
+    match fence {
+        FenceUse::Needless => true,
+        FenceUse::NoFence
+        | FenceUse::Needed(_, _)
+        | FenceUse::Guarding(_)
+        | FenceUse::Signalling(_)
+        | FenceUse::GuardingAndSignalling(_, _) => false,
+    }
+}
+
+/// How many fences of a submission are needless by their uses; that of a lone descriptor has no effect.
+fn needless_by(is_batch: bool, uses: &[FenceUse]) -> usize
+    ensures { result ≡ needless_of is_batch uses.now }
+{
+    if !is_batch {
+        return 0;
+    }
+    uses.iter().filter(|fence| is_needless_use(**fence)).count()
+}
+
+/// What the fences of a submission of these entries are for under the assumptions. What its members do, and which
+/// fences are missing, rests on no assumption.
+fn reduced_under(
     alloc: Global,
     all: &[[u8; 64]],
     assumptions: Assumptions,
-    submissions: &[Submission],
-) -> Result<usize, AllocError>
-    requires { All (IsWithin all.now) submissions.now }
-    ensures { IfOk result (AreNeedless assumptions all.now submissions.now) }
+    submission: Submission,
+    audited: &Audited,
+) -> Result<Reduced, AllocError>
+    requires within { IsWithin all.now submission }
+    requires audited { IsSomeAudit all.now submission audited.now }
+    ensures { IfOk result (IsReducedUnder assumptions all.now submission audited.now) }
 {
-    let audits = audit_submissions(alloc, all, assumptions, submissions)?;
-    let findings = findings_of(alloc, &audits)?;
-    Ok(needless_in(&findings))
+    let entries = &all[submission.first..submission.first + submission.size];
+    let (head, members) = (&all[head_at(submission)], audited.members.as_slice());
+    let fallible = fallible_of(alloc, assumptions, members, entries)?;
+    let visible = visible_of(alloc, assumptions, head, members, entries)?;
+    let effects = Effects {
+        fallible: &fallible,
+        visible: &visible,
+    };
+    let (audit, possible) = (&audited.audit, PossibleConflicts { members });
+    drop_needless(
+        alloc,
+        &audit.corrected.fences,
+        &possible,
+        &audit.lasts,
+        effects,
+    )
+}
+
+/// How many fences of a submission of these entries are needless under the assumptions.
+fn needless_in_submission(
+    alloc: Global,
+    all: &[[u8; 64]],
+    assumptions: Assumptions,
+    submission: Submission,
+    audited: &Audited,
+) -> Result<usize, AllocError>
+    requires within { IsWithin all.now submission }
+    requires audited { IsSomeAudit all.now submission audited.now }
+    ensures { IfOk result (HasNeedless assumptions all.now submission) }
+{
+    if fences_in(&audited.audit.corrected.fences) == 0 {
+        return Ok(0);
+    }
+    let reduced = reduced_under(alloc, all, assumptions, submission, audited)?;
+    Ok(needless_by(audited.is_batch, &reduced.uses))
+}
+
+/// How many fences of the report's submissions are needless under the assumptions.
+fn needless_under(
+    alloc: Global,
+    all: &[[u8; 64]],
+    assumptions: Assumptions,
+    report: &Report,
+) -> Result<usize, AllocError>
+    requires within { All (IsWithin all.now) report.now.submissions.items }
+    requires audited { HasAudits all.now report.now }
+    ensures { IfOk result (AreNeedless assumptions all.now report.now.submissions.items) }
+{
+    let mut needless: usize = 0;
+    for number in 0..report.submissions.len() {
+        let (submission, audited) = (report.submissions[number], &report.audits[number]);
+        let more = needless_in_submission(alloc, all, assumptions, submission, audited)?;
+        // no memory has so many fences
+        let Some(sum) = needless.checked_add(more) else {
+            return Err(AllocError);
+        };
+        needless = sum;
+    }
+    Ok(needless)
 }
 
 /// Whether no conflict needs the fence that was found, and it stays.
@@ -125,10 +212,11 @@ fn freed_under(
     assumptions: Assumptions,
 ) -> Result<Freed, AllocError>
     requires within { All (IsWithin all.now) report.now.submissions.items }
+    requires audited { HasAudits all.now report.now }
     requires now { now ≡ needless_count report.now.findings.items }
     ensures { IfOk result (λ f. IsFreed all.now report.now f) }
 {
-    let then = needless_under(alloc, all, assumptions, &report.submissions)?;
+    let then = needless_under(alloc, all, assumptions, report)?;
     Ok(Freed {
         assumptions,
         fences: then.saturating_sub(now),
@@ -136,14 +224,16 @@ fn freed_under(
 }
 
 /// How many more fences would be needless with each set of further assumptions, of the report under these. There is none
-/// where no fence guards or signals, since only such fences can become needless.
+/// if no fence guards or signals, since only such fences can become needless.
 pub fn freed_by(
     alloc: Global,
     all: &[[u8; 64]],
     report: &Report,
     assumptions: Assumptions,
 ) -> Result<Vec<Freed>, AllocError>
-    requires { All (IsWithin all.now) report.now.submissions.items }
+    requires within { All (IsWithin all.now) report.now.submissions.items }
+    requires audited { AreAudited assumptions all.now
+        report.now.submissions.items report.now.audits.items }
     ensures { IfOk result (λ freed. AllByRecursion (IsFreed all.now report.now) freed.items) }
 {
     let mut freed = Vec::new(alloc);

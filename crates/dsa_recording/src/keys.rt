@@ -3,13 +3,14 @@
 ghost use Rattle.std.specs.Prelude.{◌≡◌, ◌++◌, IfOk, OnOk, codes, slice_get, string_bytes};
 ghost use Rattle.dsa_recording.specs.Details.{named_by};
 ghost use Rattle.dsa_recording.specs.Furthers.{code_name};
-ghost use Rattle.dsa_recording.specs.Keys.{batch_key, cause_key, entry_key, flaw_key, hazard_key, key_words, member_key, name_or_code, operation_name, other_key, others_key, place_key};
+ghost use Rattle.dsa_recording.specs.Keys.{batch_key, cause_key, entry_key, flaw_key, hazard_key, key_of_entry, key_words, member_key, name_or_code, operation_name, other_key, others_key, place_key};
 
 use crate::detail::{Cause, Detail, named_by};
 use crate::entry::Header;
 use crate::entry_words::operation_text;
 use crate::findings::{Flaw, Place};
 use crate::further::code_name;
+use crate::stream::Submission;
 use crate::words::unseen_text;
 use dsa_ranges::HazardKind;
 use std::alloc::{AllocError, Global};
@@ -71,6 +72,27 @@ fn batch_key(alloc: Global, size: usize) -> Result<String, AllocError>
     ensures { IfOk result (λ s. string_bytes s ≡ batch_key size) }
 {
     format!(in alloc; "; batch of {size}")
+}
+
+/// An entry of a submission: a lone descriptor, the descriptor of a batch, or a member.
+pub fn key_of_entry(
+    alloc: Global,
+    all: &[[u8; 64]],
+    submission: Submission,
+    entry: usize,
+) -> Result<String, AllocError>
+    ensures { IfOk result (λ s. string_bytes s ≡ key_of_entry all.now submission entry) }
+{
+    if !submission.is_batch {
+        let key = entry_key(alloc, all, entry)?;
+        return format!(in alloc; "; lone: {key}");
+    }
+    let batch = batch_key(alloc, submission.size)?;
+    if entry < submission.first {
+        return Ok(batch);
+    }
+    let member = member_key(alloc, all, submission.first, entry - submission.first)?;
+    format!(in alloc; "{batch}{member}")
 }
 
 /// A member of a batch of so many members.

@@ -43,7 +43,7 @@ pub(crate) fn unseen_name(why: Unseen) -> &'static str {
 }
 
 /// The name of a hazard.
-fn hazard_name(kind: HazardKind) -> &'static str {
+pub fn hazard_name(kind: HazardKind) -> &'static str {
     match kind {
         HazardKind::ReadAfterWrite => "read after write",
         HazardKind::WriteAfterRead => "write after read",
@@ -156,7 +156,7 @@ fn cause_json(alloc: Global, detail: &Detail, complete: bool) -> Result<Value, A
 }
 
 /// The object of an entry: its number, where its bytes begin, and what it does.
-fn entry_json(alloc: Global, number: usize, entry: &[u8; 64]) -> Result<Value, AllocError> {
+pub fn entry_json(alloc: Global, number: usize, entry: &[u8; 64]) -> Result<Value, AllocError> {
     let (operation, number) = (descriptor_text(alloc, entry)?, number as u64);
     let offset = number.saturating_mul(64);
     json!(in alloc; {"entry": number, "offset": offset, "operation": operation})

@@ -131,7 +131,7 @@ pub(crate) fn visible_of(
     ensures { IfOk result
         (λ visible. AreVisible assumptions head.now members.now entries.now visible.items) }
 {
-    let mut visible = Vec::new(alloc);
+    let mut visible = Vec::with_capacity(alloc, entries.len())?;
     for k in 0..entries.len() {
         visible.push(can_show(assumptions, head, &members[k], &entries[k]))?;
     }

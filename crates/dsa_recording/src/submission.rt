@@ -68,7 +68,7 @@ fn is_fenced(entry: &[u8; 64]) -> bool
 fn fences_of(alloc: Global, entries: &[[u8; 64]]) -> Result<Vec<bool>, AllocError>
     ensures { IfOk result (λ fences. fences.items ≡ map is_fenced entries.now) }
 {
-    let mut fences = Vec::new(alloc);
+    let mut fences = Vec::with_capacity(alloc, entries.len())?;
     for entry in entries {
         fences.push(is_fenced(entry))?;
     }
@@ -94,7 +94,7 @@ fn members_of(
 ) -> Result<Vec<Member>, AllocError>
     ensures { IfOk result (λ members. AreMembers head.now entries.now members.items) }
 {
-    let mut members = Vec::new(alloc);
+    let mut members = Vec::with_capacity(alloc, entries.len())?;
     for entry in entries {
         members.push(member_of(head, entry))?;
     }
@@ -166,7 +166,7 @@ pub fn audit_submissions(
     ensures { IfOk result
         (λ audits. AreAudited assumptions all.now submissions.now audits.items) }
 {
-    let mut audits = Vec::new(alloc);
+    let mut audits = Vec::with_capacity(alloc, submissions.len())?;
     for submission in submissions {
         let audited = audit_submission(alloc, all, assumptions, *submission)?;
         audits.push(audited)?;

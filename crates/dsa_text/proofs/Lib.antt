@@ -1,4 +1,5 @@
 mod Settled
+mod Together
 pub mod PlannedNeeded
 pub mod Refused
 pub mod Answered

@@ -32,9 +32,9 @@ times_named name words = count_by (λ word. bytes_eq word name) words
 abbrev pub findings_named : List (List ℕ) → ℕ
 findings_named words =
     times_named (codes "needless") words + times_named (codes "guarding") words + times_named (codes "signalling") words
-    + times_named (codes "unseen") words
+    + times_named (codes "unseen") words + times_named (codes "waits") words
 
--- those that words name, where each word names some
+-- those that words name, where each word names some; missing waits are errors in any case
 abbrev pub denied_by : List (List ℕ) → Option Denied
 denied_by words =
     if findings_named words == length words

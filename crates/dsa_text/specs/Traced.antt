@@ -1,26 +1,29 @@
 -- What `audit --events` answers (this project's choice).
 use Rattle.std.specs.Prelude.{ℕ, ◌≡◌, ◌⊎◌, ◌==◌, List, max, if◌then◌else◌}
 use Rattle.clap.specs.declared.parser.matches.ArgMatches.{ArgMatches}
+use Rattle.dsa_recording.specs.declared.accepted.Accepted.{Accepted}
 use Rattle.dsa_recording.specs.declared.answer.AuditAnswer.{AuditAnswer}
+use Rattle.dsa_recording.specs.declared.answer.AuditFormat.{AuditFormat}
 use Rattle.dsa_recording.specs.Forms.{IsText, SpellsBytes, SpellsNone}
 use Rattle.dsa_text.specs.declared.auditing.Given.{Given}
-use Rattle.dsa_text.specs.Audited.{AuditsInput}
+use Rattle.dsa_text.specs.Audited.{AuditsInput, IsFormat}
 use Rattle.dsa_waits.specs.Answered.{AnswersWaits}
 
 -- the missing waits of the bytes, or of those that a text of digits spells; status 2 if it spells none
-abbrev pub AnswersEvents : List ℕ → List ℕ → AuditAnswer → Type 0
-AnswersEvents input events a =
-    ((¬ IsText input) × AnswersWaits input events a)
-    ⊎ (((bytes : List ℕ) × SpellsBytes input bytes × AnswersWaits bytes events a)
+abbrev pub AnswersEvents : AuditFormat → Accepted → List ℕ → List ℕ → AuditAnswer → Type 0
+AnswersEvents format accepted input events a =
+    ((¬ IsText input) × AnswersWaits format accepted input events a)
+    ⊎ (((bytes : List ℕ) × SpellsBytes input bytes × AnswersWaits format accepted bytes events a)
     ⊎ ((a.status ≡ 2) × SpellsNone input))
 
 -- the status of a report and of missing waits after it
 abbrev pub joined_status : ℕ → ℕ → ℕ
 joined_status report waits = if waits == 2 then 2 else max report waits
 
--- that of the report, if it is 2; else that of both
+-- that of the report, if it is 2; else that of both, in the format of the options
 abbrev pub AuditsEvents : ArgMatches → Given → List ℕ → List ℕ → AuditAnswer → Type 0
 AuditsEvents m g input events a =
     (report : AuditAnswer) × AuditsInput m g input report
     × (((report.status ≡ 2) × (a.status ≡ 2))
-    ⊎ ((waits : AuditAnswer) × AnswersEvents input events waits × (a.status ≡ joined_status report.status waits.status)))
+    ⊎ ((format : AuditFormat) × (waits : AuditAnswer) × IsFormat m format
+    × AnswersEvents format g.accepted.now input events waits × (a.status ≡ joined_status report.status waits.status)))

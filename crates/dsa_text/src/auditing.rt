@@ -10,7 +10,7 @@ use crate::messages::message_with;
 use crate::numbers::parts_of;
 use crate::options::word;
 use crate::settings::{SettingsWords, settings_fault, settings_of};
-use crate::{batches, file, flag, value};
+use crate::{batches, flag, value};
 use clap::{Arg, ArgAction, ArgMatches, Command};
 use dsa_calls::PlanFault;
 use dsa_plan::Settings;
@@ -62,13 +62,25 @@ more there are; --all writes each. --write-accept writes a line for each kind of
   dsa_text audit --write-accept recording.bin > known.txt && dsa_text audit --accept known.txt recording.bin
 
 With --events it also reports missing waits: an entry that conflicts with one of an earlier submission of which the
-program could not know that it had ended. Each is an error.
+program could not know that it had ended. Each is an error, whatever --deny names.
   dsa_text audit --events NAME.PID.events NAME.PID.dsa
+
+Several files are audited in their order, each by itself; the last line has how many have errors and how many are refused.
+--svg, --list, --staging and --events take one. The status is the greatest of theirs.
 
 The status is 0 if nothing is an error, 1 if something is: a missing fence or wait, a fence, record or batch that is
 wrong, or what --deny names; and 2 if there is no recording, or it is too large to draw. Of a list it is 0 or 2.
 Prices are in one unit of your choice. Numbers are decimal, or hexadecimal behind 0x.
 Example: dsa_text audit --deny needless,unseen recording.bin";
+
+/// The files to read.
+fn files<'a>(alloc: Global) -> Arg<'a> {
+    Arg::new(alloc, "file")
+        .value_name("FILE")
+        .num_args(1..)
+        .action(ArgAction::Append)
+        .help("what to read, each file by itself; standard input where it is - or missing")
+}
 
 /// The option of the findings that count as errors.
 fn deny<'a>(alloc: Global) -> Arg<'a> {
@@ -76,7 +88,9 @@ fn deny<'a>(alloc: Global) -> Arg<'a> {
         .long("deny")
         .value_name("KIND,..")
         .action(ArgAction::Set)
-        .help("findings that are errors too: needless, guarding, signalling, unseen")
+        .help(
+            "findings that are errors too: needless, guarding, signalling, unseen; waits always are",
+        )
 }
 
 /// The option of the errors that are known.
@@ -116,10 +130,8 @@ fn events<'a>(alloc: Global) -> Result<Arg<'a>, AllocError> {
         .help(
             "report missing waits too, by the events that dsa_trace --out wrote beside the recording",
         )
-        .conflicts_with("json")?
         .conflicts_with("svg")?
         .conflicts_with("list")?
-        .conflicts_with("write-accept")?
         .conflicts_with("staging")
 }
 
@@ -167,7 +179,7 @@ pub(crate) fn audit_command<'a>(alloc: Global) -> Result<Command<'a>, AllocError
         "all memory is resident: no member page-faults",
     );
     let options = vec![in alloc;
-        file(alloc),
+        files(alloc),
         json,
         svg,
         list,
@@ -189,7 +201,7 @@ pub(crate) fn audit_command<'a>(alloc: Global) -> Result<Command<'a>, AllocError
 }
 
 /// How many of the words are this name.
-fn times_named(name: &str, words: &[&str]) -> usize
+pub(crate) fn times_named(name: &str, words: &[&str]) -> usize
     ensures { result ≡ count_by (λ word. bytes_eq word.now name.now) words.now }
 {
     words.iter().filter(|word| **word == name).count()
@@ -203,7 +215,12 @@ fn denied_by(words: &[&str]) -> Option<Denied>
     let guarding = times_named("guarding", words);
     let signalling = times_named("signalling", words);
     let unseen = times_named("unseen", words);
-    let named = needless as u128 + guarding as u128 + signalling as u128 + unseen as u128;
+    let waits = times_named("waits", words);
+    let named = needless as u128
+        + guarding as u128
+        + signalling as u128
+        + unseen as u128
+        + waits as u128;
     if named != words.len() as u128 {
         return None;
     }
@@ -273,7 +290,7 @@ fn format_of(json: bool, svg: bool, list: bool, keys: bool) -> AuditFormat
 }
 
 /// How the report is to be written.
-fn format_in(matches: &ArgMatches<'_>) -> AuditFormat
+pub(crate) fn format_in(matches: &ArgMatches<'_>) -> AuditFormat
     ensures { IsFormat matches.now result }
 {
     let json = matches.get_flag("json");
@@ -379,7 +396,7 @@ fn options_denying<'a>(
 }
 
 /// The settings and options that arguments spell, or the answer if they spell none.
-fn options_in<'a>(
+pub(crate) fn options_in<'a>(
     alloc: Global,
     matches: &ArgMatches<'_>,
     given: Given<'a>,
@@ -389,7 +406,7 @@ fn options_in<'a>(
 {
     let Some(denied) = denied_in(alloc, matches)? else {
         let reason =
-            "error: --deny takes needless, guarding, signalling and unseen, with commas between\n";
+            "error: --deny takes needless, guarding, signalling, unseen and waits, with commas between\n";
         return Ok(Err(refusal(String::from_str(alloc, reason)?)));
     };
     match awaited_in(matches) {

@@ -12,6 +12,7 @@ mod disassembling;
 mod dumps;
 mod explaining;
 mod faulty;
+mod files;
 mod form;
 mod inputs;
 mod jobs;
@@ -41,6 +42,7 @@ use crate::disassembling::{
     disassemble_fenced, disassemble_list, disassemble_portal, disassemble_staging,
 };
 use crate::dumps::dumps_in;
+use crate::files::{audit_files, refusal_together};
 use crate::inputs::{explain, refused_settings};
 use crate::messages::message_of;
 use crate::numbers::number_of;
@@ -383,9 +385,7 @@ fn written(rt: &HostRuntime, text: &str, status: u8) -> ExitCode {
 fn written_answer(rt: &HostRuntime, answer: &Answer) -> ExitCode {
     let code = written(rt, &answer.text, 0);
     if let Some(warnings) = &answer.warnings {
-        match eprint!(rt; "{warnings}") {
-            Ok(()) | Err(_) => {}
-        }
+        say(rt, warnings);
     }
     code
 }
@@ -419,11 +419,17 @@ fn arguments(rt: &HostRuntime) -> Result<Option<Vec<String>>, AllocError> {
     }
 }
 
+/// Writes a message to standard error, if that is there.
+fn say(rt: &HostRuntime, message: &str) {
+    match eprint!(rt; "{message}") {
+        Ok(()) | Err(_) => {}
+    }
+}
+
 /// Says what failed, and ends. The status tells enough where standard error is not there.
 fn failed(rt: &HostRuntime, message: &str) -> ExitCode {
-    match eprint!(rt; "{message}") {
-        Ok(()) | Err(_) => ExitCode::from(2),
-    }
+    say(rt, message);
+    ExitCode::from(2)
 }
 
 /// Why there is no text.
@@ -586,29 +592,13 @@ fn audit_file(
     }
 }
 
-/// Answers `audit`. Status 1 is that a fence is missing, so the report goes to standard output, and a refusal has status 2.
-fn audited(rt: &HostRuntime, matches: &ArgMatches<'_>) -> Result<ExitCode, AllocError> {
-    let dumps = match dumps_in(rt, matches)? {
-        Ok(dumps) => dumps,
-        Err(code) => return Ok(code),
-    };
-    let events = match events_in(rt, matches)? {
-        Ok(events) => events,
-        Err(code) => return Ok(code),
-    };
-    let accepted = match accepted_in(rt, matches)? {
-        Ok(accepted) => accepted,
-        Err(code) => return Ok(code),
-    };
-    let given = Given {
-        accepted: &accepted,
-        dumps: &dumps,
-    };
-    let answered = if dumps.is_empty() && events.is_none() {
-        audit_file(rt, matches, given)
-    } else {
-        audit_whole(rt, matches, given, events)?
-    };
+/// Writes the answer of `audit`. Status 1 is that a fence is missing: the report goes to standard output. A refusal has
+/// status 2.
+fn written_audit(
+    rt: &HostRuntime,
+    matches: &ArgMatches<'_>,
+    answered: Result<AuditAnswer, NoText>,
+) -> Result<ExitCode, AllocError> {
     match answered {
         Ok(answer) => {
             if answer.status == 2 {
@@ -620,6 +610,52 @@ fn audited(rt: &HostRuntime, matches: &ArgMatches<'_>) -> Result<ExitCode, Alloc
         Err(NoText::Refused(fault)) => Ok(failed(rt, &message_of(rt.alloc(), fault)?)),
         Err(NoText::Failed(what)) => unread(rt, file_in(matches), what),
     }
+}
+
+/// Answers `audit` of one file, or of standard input.
+fn audited(
+    rt: &HostRuntime,
+    matches: &ArgMatches<'_>,
+    accepted: &Accepted,
+) -> Result<ExitCode, AllocError> {
+    let dumps = match dumps_in(rt, matches)? {
+        Ok(dumps) => dumps,
+        Err(code) => return Ok(code),
+    };
+    let events = match events_in(rt, matches)? {
+        Ok(events) => events,
+        Err(code) => return Ok(code),
+    };
+    let given = Given {
+        accepted,
+        dumps: &dumps,
+    };
+    let answered = if dumps.is_empty() && events.is_none() {
+        audit_file(rt, matches, given)
+    } else {
+        audit_whole(rt, matches, given, events)?
+    };
+    written_audit(rt, matches, answered)
+}
+
+/// Answers `audit` of what the arguments name.
+fn audited_all(rt: &HostRuntime, matches: &ArgMatches<'_>) -> Result<ExitCode, AllocError> {
+    let names = matches.get_strs("file").unwrap_or(&[]);
+    if let Some(reason) = refusal_together(matches, names) {
+        return Ok(failed(rt, reason));
+    }
+    let accepted = match accepted_in(rt, matches)? {
+        Ok(accepted) => accepted,
+        Err(code) => return Ok(code),
+    };
+    if names.len() < 2 {
+        return audited(rt, matches, &accepted);
+    }
+    let given = Given {
+        accepted: &accepted,
+        dumps: &[],
+    };
+    Ok(ExitCode::from(audit_files(rt, matches, given, names)?))
 }
 
 /// What `resume` answers to this input of records and this text, as `disassemble` reads bytes.
@@ -669,7 +705,7 @@ fn run_resume(rt: &HostRuntime, matches: &ArgMatches<'_>) -> Result<ExitCode, Al
 
 /// Runs `audit`.
 fn run_audit(rt: &HostRuntime, matches: &ArgMatches<'_>) -> ExitCode {
-    match audited(rt, matches) {
+    match audited_all(rt, matches) {
         Ok(code) => code,
         Err(AllocError) => failed(rt, NO_MEMORY),
     }

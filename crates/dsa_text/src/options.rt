@@ -15,7 +15,7 @@ fn is_given(matches: &ArgMatches<'_>, name: &str) -> bool
 }
 
 /// Whether one of two options was given.
-fn is_either_given(matches: &ArgMatches<'_>, first: &str, second: &str) -> bool
+pub(crate) fn is_either_given(matches: &ArgMatches<'_>, first: &str, second: &str) -> bool
     ensures { IsTrue result ↔ (IsGiven matches.now first.now ⊎ IsGiven matches.now second.now) }
 {
     if is_given(matches, first) {

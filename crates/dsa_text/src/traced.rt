@@ -1,23 +1,29 @@
 //! `audit --events`: the missing waits of a recording, after the report on its fences.
 
-ghost use Rattle.std.specs.Prelude.{◌≡◌, [], IfOk};
+ghost use Rattle.std.specs.Prelude.{◌≡◌, IfOk};
 ghost use Rattle.dsa_text.specs.Traced.{AnswersEvents, AuditsEvents, joined_status};
 
-use crate::auditing::{Given, audit_input};
+use crate::auditing::{Given, audit_input, format_in};
 use clap::ArgMatches;
-use dsa_recording::{AuditAnswer, BytesFault, bytes_of_input, is_text};
+use dsa_recording::{Accepted, AuditAnswer, AuditFormat, BytesFault, bytes_of_input, is_text};
 use dsa_waits::answer_waits;
 use std::alloc::{AllocError, Global};
 
 /// The missing waits of a recording, as bytes or as a text of digits.
-fn waits_of(alloc: Global, input: &[u8], events: &[u8]) -> Result<AuditAnswer, AllocError>
-    ensures { IfOk result (AnswersEvents input.now events.now) }
+fn waits_of(
+    alloc: Global,
+    input: &[u8],
+    events: &[u8],
+    format: AuditFormat,
+    accepted: &Accepted,
+) -> Result<AuditAnswer, AllocError>
+    ensures { IfOk result (AnswersEvents format accepted.now input.now events.now) }
 {
     if !is_text(input) {
-        return answer_waits(alloc, input, events);
+        return answer_waits(alloc, input, events, format, accepted);
     }
     match bytes_of_input(alloc, input) {
-        Ok(bytes) => answer_waits(alloc, &bytes, events),
+        Ok(bytes) => answer_waits(alloc, &bytes, events, format, accepted),
         Err(BytesFault::Memory) => Err(AllocError),
         Err(BytesFault::Digit { .. }) => {
             let reason = "error: with these the recording has to be bytes, or a text of digits\n";
@@ -27,9 +33,30 @@ fn waits_of(alloc: Global, input: &[u8], events: &[u8]) -> Result<AuditAnswer, A
     }
 }
 
-/// A report, and after it the missing waits; or why the file has no events of the recording.
+/// A report with its missing waits: in JSON as a last member of its object, else after it.
+fn with_waits(
+    alloc: Global,
+    format: AuditFormat,
+    report: String,
+    waits: &str,
+) -> Result<String, AllocError> {
+    let mut text = report;
+    match format {
+        AuditFormat::Json => {
+            let object = text.strip_suffix("}\n").unwrap_or("{");
+            format!(in alloc; "{object},\"waits\":{waits}}}\n")
+        }
+        AuditFormat::Text | AuditFormat::Picture | AuditFormat::List | AuditFormat::Keys => {
+            text.push_str(waits)?;
+            Ok(text)
+        }
+    }
+}
+
+/// A report, and its missing waits; or why the file has no events of the recording.
 fn joined(
     alloc: Global,
+    format: AuditFormat,
     report: AuditAnswer,
     waits: AuditAnswer,
     file: &str,
@@ -42,8 +69,7 @@ fn joined(
         return Ok(AuditAnswer { text, status: 2 });
     }
     let status = report.status.max(waits.status);
-    let mut text = report.text;
-    text.push_str(&waits.text)?;
+    let text = with_waits(alloc, format, report.text, &waits.text)?;
     Ok(AuditAnswer { text, status })
 }
 
@@ -62,6 +88,7 @@ pub(crate) fn audit_traced(
     if report.status == 2 {
         return Ok(report);
     }
-    let waits = waits_of(alloc, input, events)?;
-    joined(alloc, report, waits, file)
+    let format = format_in(matches);
+    let waits = waits_of(alloc, input, events, format, given.accepted)?;
+    joined(alloc, format, report, waits, file)
 }

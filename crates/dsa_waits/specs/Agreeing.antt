@@ -1,7 +1,7 @@
 -- Flights that agree with a recording: each entry is a submission of a flight by itself, since a device does the entries of
 -- a batch in any order, but where a fence parts them (specification 341204, batch and fence). What agrees is this project's
 -- choice.
-use Rattle.std.specs.Prelude.{ℕ, ◌≡◌, ◌+◌, ◌<◌, nat_lt, ◌&&◌, Bool, IsTrue, List, [], ◌∷◌, length, Option, Some, slice_get, slice_set}
+use Rattle.std.specs.Prelude.{ℕ, ◌≡◌, ◌+◌, ◌<◌, nat_lt, ◌&&◌, Bool, IsTrue, List, [], ◌∷◌, length, get_or, Option, Some, None, slice_get, slice_set}
 use Rattle.dsa_image.specs.Memory.{Memory}
 use Rattle.dsa_core.specs.declared.event.Event.{Event as StepEvent}
 use Rattle.dsa_core.specs.Machine.{Machine}
@@ -11,7 +11,6 @@ use Rattle.dsa_flight.specs.Flight.{Flight, AllFitting, HasEnded, IsFlight, lane
 use Rattle.dsa_flight.specs.Laws.{EndsInTurn}
 use Rattle.dsa_audit.specs.Members.{KnownConflict}
 use Rattle.dsa_audit.specs.Steps.{AreLasts}
-use Rattle.dsa_waits.specs.Answered.{MissesNone}
 use Rattle.dsa_waits.specs.declared.course.Course.{Course}
 use Rattle.dsa_waits.specs.Waits.{IsCourse, IsMissingWait, event_at, is_before_epoch, made_before, submission_of, tells}
 
@@ -70,6 +69,10 @@ Agrees machine c subs goes m acts s = DoesAll machine c subs goes (record { reco
 -- no wait is missing
 abbrev pub MissesNoWait : Course → Type 0
 MissesNoWait c = (x y : ℕ) → x < y → ¬ IsMissingWait c x y
+
+-- no entry has a missing wait
+abbrev pub MissesNone : List (Option ℕ) → Type 0
+MissesNone waits = (k : ℕ) → k < length waits → get_or waits k None ≡ None
 
 -- so it is if the search finds none
 abbrev pub NoneFound : Type 0

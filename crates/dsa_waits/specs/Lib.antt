@@ -4,5 +4,6 @@ pub mod Lines
 pub mod Recorded
 pub mod RecordedSteps
 pub mod Fitting
+pub mod Keys
 pub mod Answered
 pub mod Agreeing

@@ -1,40 +1,73 @@
 //! What is answered of a recording with events.
 
-ghost use Rattle.std.specs.Prelude.{◌↔◌, IfOk, IsTrue};
-ghost use Rattle.dsa_waits.specs.Answered.{AnswersWaits, IsStatusOf, MissesNone};
+ghost use Rattle.std.specs.Prelude.{IfOk};
+ghost use Rattle.dsa_waits.specs.Answered.{AnswersWaits, IsStatusIn, IsStatusOf};
 
 use crate::fitting::{Found, find_waits};
+use crate::keys::are_accepted;
+use crate::report::{waits_json, waits_keys};
 use crate::words::{fault_text, waits_text};
-use dsa_recording::{AuditAnswer, StreamFault, read_stream};
+use dsa_recording::{Accepted, AuditAnswer, AuditFormat, StreamFault, Submission, read_stream};
 use std::alloc::{AllocError, Global};
 
-/// Whether no wait is missing.
-fn misses_none(waits: &[Option<usize>]) -> bool
-    ensures { IsTrue result ↔ MissesNone waits.now }
+/// The status of what was found: whether some missing wait is not accepted.
+fn status_of(
+    alloc: Global,
+    all: &[[u8; 64]],
+    submissions: &[Submission],
+    found: &Found,
+    accepted: &Accepted,
+) -> Result<u8, AllocError>
+    ensures { IfOk result (IsStatusOf accepted.now all.now submissions.now found.now) }
 {
-    for wait in waits {
-        if wait.is_some() {
-            return false;
-        }
+    if are_accepted(alloc, all, submissions, found, accepted)? {
+        return Ok(0);
     }
-    true
+    Ok(1)
 }
 
 /// The answer of what was found.
-fn found_answer(alloc: Global, all: &[[u8; 64]], found: &Found) -> Result<AuditAnswer, AllocError>
-    ensures { IfOk result (λ a. IsStatusOf found.now.waits.items a.status) }
+fn found_answer(
+    alloc: Global,
+    all: &[[u8; 64]],
+    submissions: &[Submission],
+    found: &Found,
+    format: AuditFormat,
+    accepted: &Accepted,
+) -> Result<AuditAnswer, AllocError>
+    ensures { IfOk result (λ a. IsStatusIn format accepted.now
+        all.now submissions.now found.now a.status) }
 {
-    let text = waits_text(alloc, all, found)?;
-    if misses_none(&found.waits) {
-        return Ok(AuditAnswer { text, status: 0 });
+    match format {
+        AuditFormat::Text | AuditFormat::Picture | AuditFormat::List => {
+            let text = waits_text(alloc, all, submissions, found, accepted)?;
+            let status = status_of(alloc, all, submissions, found, accepted)?;
+            Ok(AuditAnswer { text, status })
+        }
+        AuditFormat::Json => {
+            let text = waits_json(alloc, all, submissions, found, accepted)?;
+            let status = status_of(alloc, all, submissions, found, accepted)?;
+            Ok(AuditAnswer { text, status })
+        }
+        AuditFormat::Keys => {
+            let text = waits_keys(alloc, all, submissions, found, accepted)?;
+            Ok(AuditAnswer { text, status: 0 })
+        }
     }
-    Ok(AuditAnswer { text, status: 1 })
 }
 
-/// The missing waits of a recording with the text of its events. The status is 0 if there are none, 1 if there are
-/// some, and 2 with the reason if the bytes are no recording, or the text has no events that fit it.
-pub fn answer_waits(alloc: Global, bytes: &[u8], text: &[u8]) -> Result<AuditAnswer, AllocError>
-    ensures { IfOk result (AnswersWaits bytes.now text.now) }
+/// The missing waits of a recording with the text of its events: in words, as an object of JSON, or as the keys of
+/// those that are not accepted; for a picture or a list in words. The status is 0 of keys, and if there are none or all
+/// are accepted; 1 if there are others; and 2 with the reason if the bytes are no recording, or the text has no events
+/// that fit it.
+pub fn answer_waits(
+    alloc: Global,
+    bytes: &[u8],
+    text: &[u8],
+    format: AuditFormat,
+    accepted: &Accepted,
+) -> Result<AuditAnswer, AllocError>
+    ensures { IfOk result (AnswersWaits format accepted.now bytes.now text.now) }
 {
     let submissions = match read_stream(alloc, bytes) {
         Ok(submissions) => submissions,
@@ -46,7 +79,7 @@ pub fn answer_waits(alloc: Global, bytes: &[u8], text: &[u8]) -> Result<AuditAns
     };
     let (all, _) = bytes.as_chunks::<64>();
     match find_waits(alloc, all, &submissions, text) {
-        Ok(found) => found_answer(alloc, all, &found),
+        Ok(found) => found_answer(alloc, all, &submissions, &found, format, accepted),
         Err(fault) => {
             let text = fault_text(alloc, fault)?;
             Ok(AuditAnswer { text, status: 2 })

@@ -6,9 +6,11 @@ mod answer;
 mod course;
 mod event;
 mod fitting;
+mod keys;
 mod laws;
 mod lines;
 mod recorded;
+mod report;
 mod search;
 mod words;
 

@@ -6,9 +6,10 @@ ghost use Rattle.dsa_waits.specs.declared.fitting.WaitsFault.TheVariants.{Memory
 use crate::course::{Course, entry_at, made_at};
 use crate::event::Event;
 use crate::fitting::{Found, Misfit, WaitsFault};
+use crate::keys::key_of_wait;
 use dsa_audit::hazard_between;
 use dsa_ranges::{Hazard, HazardKind};
-use dsa_recording::{bytes_text, overlap, push_entry};
+use dsa_recording::{Accepted, Submission, bytes_text, overlap, push_entry};
 use std::alloc::{AllocError, Global};
 
 /// An entry: its number, its submission and what it is there.
@@ -49,6 +50,7 @@ fn wait_text(
     course: &Course,
     earlier: usize,
     later: usize,
+    severity: &str,
 ) -> Result<String, AllocError> {
     if earlier >= later || later >= course.members.len() {
         return Ok(String::new(alloc));
@@ -61,14 +63,14 @@ fn wait_text(
     let what = hazard_text(alloc, &other, hazard)?;
     let bytes = overlap(hazard, &course.members[earlier], &course.members[later]);
     let count = bytes_text(alloc, bytes)?;
-    let mut text = format!(in alloc; "{place}: error: missing wait, {what} ({count})\n")?;
+    let mut text = format!(in alloc; "{place}: {severity}: missing wait, {what} ({count})\n")?;
     push_entry(alloc, &mut text, all, later)?;
     push_entry(alloc, &mut text, all, earlier)?;
     Ok(text)
 }
 
 /// Whether some event says that the program looks at a record, or that this is seen.
-fn some_known(events: &[Event]) -> bool {
+pub(crate) fn some_known(events: &[Event]) -> bool {
     for event in events {
         if let Event::Known(_) | Event::Watched(_) = *event {
             return true;
@@ -86,28 +88,53 @@ fn plural(count: usize) -> &'static str {
     if count == 1 { "" } else { "s" }
 }
 
+/// How severe a missing wait is.
+fn severity_of(key: Option<String>, accepted: &Accepted) -> &'static str {
+    match key {
+        Some(key) => {
+            if accepted.has(&key) {
+                "accepted"
+            } else {
+                "error"
+            }
+        }
+        None => "error",
+    }
+}
+
+/// How many missing waits and submissions there are, and what that rests on.
+fn totals_text(alloc: Global, found: &Found, missing: usize) -> Result<String, AllocError> {
+    let submissions = found.course.made.len();
+    let (waits, made) = (plural(missing), plural(submissions));
+    let mut text = format!(in alloc;
+        "{missing} missing wait{waits}, {submissions} submission{made}\n"
+    )?;
+    if !some_known(&found.course.events) {
+        text.push_str(ALL_KNOWN)?;
+    }
+    Ok(text)
+}
+
 /// The lines of all missing waits, and how many there are.
 pub(crate) fn waits_text(
     alloc: Global,
     all: &[[u8; 64]],
+    submissions: &[Submission],
     found: &Found,
+    accepted: &Accepted,
 ) -> Result<String, AllocError> {
     let mut text = String::new(alloc);
     let mut missing: usize = 0;
     for (later, wait) in found.waits.iter().enumerate() {
         if let Some(earlier) = *wait {
-            text.push_str(&wait_text(alloc, all, &found.course, earlier, later)?)?;
+            let course = &found.course;
+            let key = key_of_wait(alloc, all, submissions, course, earlier, later)?;
+            let severity = severity_of(key, accepted);
+            text.push_str(&wait_text(alloc, all, course, earlier, later, severity)?)?;
             missing = missing.saturating_add(1);
         }
     }
-    let submissions = found.course.made.len();
-    let (waits, made) = (plural(missing), plural(submissions));
-    text.push_str(&format!(in alloc;
-        "{missing} missing wait{waits}, {submissions} submission{made}\n"
-    )?)?;
-    if !some_known(&found.course.events) {
-        text.push_str(ALL_KNOWN)?;
-    }
+    text.push_str(&totals_text(alloc, found, missing)?)?;
     Ok(text)
 }
 

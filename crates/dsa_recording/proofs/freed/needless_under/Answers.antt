@@ -1,9 +1,37 @@
-use Rattle.std.proofs.Common.{All, sym, subst}
-use Rattle.dsa_recording.specs.Findings.{HasAll}
-use Rattle.dsa_recording.proofs.Within.{all_have}
+use Rattle.std.proofs.Common.{◌≡◌, ℕ, ◌+◌, ◌<◌, List, length, get_or, take, subst, arith}
+use Rattle.dsa_recording.specs.declared.assumptions.Assumptions.{Assumptions}
+use Rattle.dsa_recording.specs.declared.stream.Submission.{Submission}
+use Rattle.dsa_recording.specs.declared.submission.Audited.{Audited}
+use Rattle.dsa_recording.specs.Freed.{AreNeedless, HasNeedless}
+use Rattle.dsa_recording.specs.Submissions.{AreAudited, IsAudited}
+use Rattle.dsa_recording.proofs.Reaudited.{as_many, audit_at, needless_next}
 use Rattle.dsa_recording.proofs.freed.needless_under.Goals as goal
 
-pub findings_of-requires : goal.findings_of-requires
-findings_of-requires c =
-    subst (All HasAll) (sym c.deref.ensures.value)
-    (all_have c.args.assumptions c.args.all.now c.args.submissions.now c.in_ok-audits.audits.items c.in_ok-audits.ensures)
+pub index-requires-in-loop-number : goal.index-requires-in-loop-number
+index-requires-in-loop-number c =
+    let count = as_many c.requires.audited.0 c.args.all.now c.args.report.now.submissions.items c.args.report.now.audits.items c.requires.audited.1 in
+    omega (arith, count, c.loop-number-test.true, c.len-number-end.ensures)
+
+-- what was found at a place of both lists
+there : (assumed : Assumptions) (es : List (List ℕ)) (ss : List Submission) (audits : List Audited) (k : ℕ) (s : Submission) (a : Audited) → AreAudited assumed es ss audits → k < length ss
+    → s ≡ get_or ss k s → a ≡ get_or audits k a → IsAudited assumed es s a
+there assumed es ss audits k s a all lt one other = rw (one, other) (audit_at assumed es ss audits k s a all lt)
+
+pub needless_in_submission-requires-clause-audited :
+    goal.needless_in_submission-requires-clause-audited
+needless_in_submission-requires-clause-audited c = (
+  c.requires.audited.0,
+  there c.requires.audited.0 c.args.all.now c.args.report.now.submissions.items c.args.report.now.audits.items c.loop-number.number c.index.result.now c.index-in-loop-number.result.now
+      c.requires.audited.1 (omega (arith, c.loop-number-test.true, c.len-number-end.ensures)) c.index.ensures c.index-in-loop-number.ensures,
+)
+
+-- with what one more submission has
+more : (assumed : Assumptions) (es : List (List ℕ)) (ss : List Submission) (k n m sum : ℕ) (s : Submission) → k < length ss → s ≡ get_or ss k s → sum ≡ n + m
+    → AreNeedless assumed es (take k ss) n → HasNeedless assumed es s m → AreNeedless assumed es (take (k + 1) ss) sum
+more assumed es ss k n m sum s lt one e so_far here =
+    rw e (needless_next assumed es ss k n m s lt so_far (subst (λ (t : Submission). HasNeedless assumed es t m) one here))
+
+pub loop-number-preserved : goal.loop-number-preserved
+loop-number-preserved c =
+    more c.args.assumptions c.args.all.now c.args.report.now.submissions.items c.loop-number.number c.loop-number.needless c.in_ok-more.more c.in-Some.sum c.index.result.now
+    (omega (arith, c.loop-number-test.true, c.len-number-end.ensures)) c.index.ensures c.in-Some.ensures.1 c.loop-number.invariant c.in_ok-more.ensures

@@ -3,7 +3,7 @@ use Rattle.std.proofs.lemmas.Result.{IfOk-weaker}
 use Rattle.dsa_descriptor.specs.Lists.{entries}
 use Rattle.dsa_recording.specs.declared.stream.Submission.{Submission}
 use Rattle.dsa_waits.specs.Fitting.{AreWaits}
-use Rattle.dsa_waits.specs.Answered.{HasFault}
+use Rattle.dsa_waits.specs.Answered.{HasFault, IsStatusIn}
 use Rattle.dsa_waits.proofs.answer.answer_waits.Goals as goal
 
 pub returns-in-Ok-find_waits : goal.returns-in-Ok-find_waits
@@ -14,7 +14,16 @@ returns-in-Ok-find_waits c =
     let are : AreWaits (entries c.args.bytes.now) c.in-Ok.submissions.items c.args.text.now c.in-Ok-find_waits.found =
     subst (λ (es : List (List ℕ)). AreWaits es c.in-Ok.submissions.items c.args.text.now c.in-Ok-find_waits.found) c.as_chunks.ensures.front here in
     IfOk-weaker c.found_answer.result _ _
-    (λ a h. inl (c.in-Ok.submissions.items, c.in-Ok.ensures.answer, inl (c.in-Ok-find_waits.found, are, h)))
+    (λ a h. inl (
+      c.in-Ok.submissions.items,
+      c.in-Ok.ensures.answer,
+      inl (
+        c.in-Ok-find_waits.found,
+        are,
+        subst (λ (es : List (List ℕ)). IsStatusIn c.args.format c.args.accepted.now es c.in-Ok.submissions.items c.in-Ok-find_waits.found a.status) c.as_chunks.ensures.front
+            (subst (λ (ss : List Submission). IsStatusIn c.args.format c.args.accepted.now c.as_chunks.result.0.now ss c.in-Ok-find_waits.found a.status) c.deref-in-Ok-find_waits.ensures.value h),
+      ),
+    ))
     c.found_answer.ensures
 
 pub returns : goal.returns

@@ -2,7 +2,7 @@ use Rattle.std.proofs.Common.{◌∷◌, [], ap, length, length-append, sym, sub
 use Rattle.dsa_audit.specs.Members.{PossibleConflict}
 use Rattle.dsa_audit.specs.Steps.{AreLasts}
 use Rattle.dsa_audit.proofs.LastConflicts.{more_lasts}
-use Rattle.dsa_audit.proofs.lasts.possible_lasts.Goals as goal
+use Rattle.dsa_audit.proofs.lasts.lasts_with_unknown.Goals as goal
 
 pub loop-k-preserved : goal.loop-k-preserved
 loop-k-preserved c =

@@ -2,7 +2,7 @@ use Rattle.std.proofs.Common.{◌≡◌, ◌<◌, length}
 use Rattle.dsa_conflicts.specs.Access.{IsGreatest}
 use Rattle.dsa_audit.specs.Members.{IsUnknownAt, PossibleConflict}
 use Rattle.dsa_audit.specs.Steps.{AreLasts}
-use Rattle.dsa_audit.proofs.lasts.possible_lasts.Given as goal
+use Rattle.dsa_audit.proofs.lasts.lasts_with_unknown.Given as goal
 
 abbrev pub invariant-loop-k : goal.invariant-loop-k
 invariant-loop-k l = record {

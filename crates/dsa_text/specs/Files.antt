@@ -1,0 +1,53 @@
+-- What `audit` of several files comes to (this project's choice). `Answers` says which answers there are to an input.
+use Rattle.std.specs.Prelude.{◌≡◌, ◌⊎◌, ◌<◌, ◌==◌, max, ℕ, List, [], ◌∷◌, ◌++◌, length, codes, decimal, Option}
+use Rattle.std.specs.List.{AllByRecursion, count_by}
+use Rattle.std.specs.Io.KnownBytes.{Consumes, IsAtEnd}
+use Rattle.clap.specs.declared.parser.matches.ArgMatches.{ArgMatches}
+use Rattle.dsa_recording.specs.declared.answer.AuditAnswer.{AuditAnswer}
+use Rattle.dsa_recording.specs.declared.answer.AuditOptions.{AuditOptions}
+use Rattle.dsa_recording.specs.Inputs.{AnswersInput}
+use Rattle.dsa_text.specs.Audited.{times_named}
+use Rattle.dsa_text.specs.Options.{IsGiven}
+
+-- an option is given that is of one file alone
+abbrev pub TakesOneFile : ArgMatches → Type 0
+TakesOneFile m =
+    (IsGiven m (codes "svg") ⊎ IsGiven m (codes "list")) ⊎ (IsGiven m (codes "staging") ⊎ IsGiven m (codes "events"))
+
+-- several names are refused with such an option, and if standard input is named twice
+abbrev pub AreRefusedTogether : ArgMatches → List (List ℕ) → Type 0
+AreRefusedTogether m names = (1 < length names) × (TakesOneFile m ⊎ (1 < times_named (codes "-") names))
+
+-- the answer to all that the reader of a file gave up to its end; or status 2
+abbrev pub AnswersFile : AuditOptions → Option (List ℕ) → Option (List ℕ) → AuditAnswer → Type 0
+AnswersFile options old new a =
+    (a.status ≡ 2) ⊎ ((input : List ℕ) × Consumes old new input × IsAtEnd new × AnswersInput options input a)
+
+-- an answer to what a file has; or status 2, where the file can't be opened or read
+abbrev pub IsFileAnswer : (List ℕ → AuditAnswer → Type 0) → AuditAnswer → Type 0
+IsFileAnswer Answers a = (a.status ≡ 2) ⊎ ((input : List ℕ) × Answers input a)
+
+-- the status of such an answer
+abbrev pub IsFileStatus : (List ℕ → AuditAnswer → Type 0) → ℕ → Type 0
+IsFileStatus Answers status = (a : AuditAnswer) × IsFileAnswer Answers a × (status ≡ a.status)
+
+-- those of so many files
+pub record AreFileStatuses (Answers : List ℕ → AuditAnswer → Type 0) (files : ℕ) (statuses : List ℕ) : Type 0 where
+  pub count : length statuses ≡ files
+  pub each : AllByRecursion (IsFileStatus Answers) statuses
+
+-- the greatest status, 0 if there is none
+abbrev pub greatest : List ℕ → ℕ
+greatest [] = 0
+greatest (status ∷ statuses) = max status (greatest statuses)
+
+-- the status of so many files is the greatest of theirs; or 2, where the options are refused or a report can't be written
+abbrev pub AuditsFiles : (List ℕ → AuditAnswer → Type 0) → ℕ → ℕ → Type 0
+AuditsFiles Answers files status =
+    (status ≡ 2) ⊎ ((statuses : List ℕ) × AreFileStatuses Answers files statuses × (status ≡ greatest statuses))
+
+-- the last line: how many files there are, how many of them have errors, and how many are refused
+abbrev pub summary_words : List ℕ → List ℕ
+summary_words statuses =
+    decimal (length statuses) ++ (codes " files: " ++ (decimal (count_by (λ s. s == 1) statuses) ++ (codes " with errors, "
+    ++ (decimal (count_by (λ s. s == 2) statuses) ++ codes " refused\n"))))

@@ -1,0 +1,266 @@
+//! `audit` of several files: the report on each, and what they come to.
+
+ghost use Rattle.std.specs.Prelude.{◌≡◌, ◌↔◌, ◌==◌, [], IfOk, IsTrue, MatchOption, length, map, string_bytes};
+ghost use Rattle.std.specs.List.{count_by};
+ghost use Rattle.dsa_recording.specs.Inputs.{AnswersInput};
+ghost use Rattle.dsa_text.specs.Audited.{AuditsInput};
+ghost use Rattle.dsa_text.specs.Files.{AnswersFile, AreFileStatuses, AreRefusedTogether, AuditsFiles, IsFileAnswer, TakesOneFile, greatest, summary_words};
+
+use crate::auditing::{Given, options_in, times_named};
+use crate::messages::message_of;
+use crate::options::is_either_given;
+use crate::{NoText, UNWRITTEN, file_at, say, unanswered};
+use clap::ArgMatches;
+use dsa_plan::Settings;
+use dsa_recording::{AuditAnswer, AuditFormat, AuditOptions, audit_read};
+use dsa_report::write_line;
+use serde_json::Value;
+use std::alloc::{AllocError, Global};
+use std::io;
+use std::io::Read;
+
+/// Whether an option is given that is of one file alone.
+fn takes_one_file(matches: &ArgMatches<'_>) -> bool
+    ensures { IsTrue result ↔ TakesOneFile matches.now }
+{
+    if is_either_given(matches, "svg", "list") {
+        return true;
+    }
+    is_either_given(matches, "staging", "events")
+}
+
+/// Why files of these names are refused with one another, or with the options, if they are.
+pub(crate) fn refusal_together(matches: &ArgMatches<'_>, names: &[&str]) -> Option<&'static str>
+    ensures { MatchOption result (¬ AreRefusedTogether matches.now (map (λ name. name.now) names.now))
+        (λ _. AreRefusedTogether matches.now (map (λ name. name.now) names.now)) }
+{
+    if names.len() < 2 {
+        return None;
+    }
+    if takes_one_file(matches) {
+        return Some("error: --svg, --list, --staging and --events take one file\n");
+    }
+    if times_named("-", names) > 1 {
+        return Some("error: standard input (-) can be named once\n");
+    }
+    None
+}
+
+/// The answer where a file can't be opened or read.
+fn refused(alloc: Global, reason: NoText) -> Result<AuditAnswer, AllocError>
+    ensures { IfOk result (λ a. a.status ≡ 2) }
+{
+    let text = match reason {
+        NoText::Refused(fault) => message_of(alloc, fault)?,
+        NoText::Failed(what) => format!(in alloc; "error: the file {what}\n")?,
+    };
+    Ok(AuditAnswer { text, status: 2 })
+}
+
+/// The answer to all that the reader of a file gives.
+fn answer_read<R: Read>(
+    alloc: Global,
+    reader: &mut R,
+    settings: &Settings,
+    options: AuditOptions<'_>,
+) -> Result<AuditAnswer, AllocError>
+    ensures { IfOk result
+        (AnswersFile options.entry (R.remaining reader.old) (R.remaining reader.new)) }
+{
+    match audit_read(alloc, reader, settings, options) {
+        Ok(answer) => Ok(answer),
+        Err(fault) => refused(alloc, unanswered(fault)),
+    }
+}
+
+/// The answer to the file of this name, or to standard input.
+fn answer_of(
+    rt: &HostRuntime,
+    settings: &Settings,
+    options: AuditOptions<'_>,
+    name: &str,
+) -> Result<AuditAnswer, AllocError>
+    ensures { IfOk result (IsFileAnswer (AnswersInput options.entry)) }
+{
+    if name == "-" {
+        return answer_read(rt.alloc(), &mut rt.reader(), settings, options);
+    }
+    match file_at(rt, name) {
+        Ok(mut opened) => answer_read(rt.alloc(), &mut opened, settings, options),
+        Err(reason) => refused(rt.alloc(), reason),
+    }
+}
+
+/// Writes a text to standard output, and answers whether all of it was taken.
+fn write_text(rt: &HostRuntime, text: &str) -> bool {
+    write_line(&mut io::writer(rt), text.as_bytes())
+}
+
+/// Writes a report between two texts, and answers whether all was taken.
+fn write_between(rt: &HostRuntime, before: &str, report: &str, after: &str) -> bool {
+    if !write_text(rt, before) {
+        return false;
+    }
+    if !write_text(rt, report) {
+        return false;
+    }
+    write_text(rt, after)
+}
+
+/// A text as JSON has it.
+fn quoted(alloc: Global, text: &str) -> Result<String, AllocError> {
+    Value::String(String::from_str(alloc, text)?).to_string(alloc)
+}
+
+/// Writes the object of a file: its name, its status, and its report or why there is none.
+fn write_object(
+    rt: &HostRuntime,
+    is_first: bool,
+    name: &str,
+    answer: &AuditAnswer,
+) -> Result<bool, AllocError> {
+    let alloc = rt.alloc();
+    let front = if is_first { "{\"files\":[" } else { "," };
+    let (file, status) = (quoted(alloc, name)?, answer.status);
+    let text = answer.text.as_str();
+    let line = text.strip_suffix('\n').unwrap_or(text);
+    if status == 2 {
+        let error = quoted(alloc, line)?;
+        let object = format!(in alloc;
+            "{front}{{\"error\":{error},\"file\":{file},\"status\":2}}"
+        )?;
+        return Ok(write_text(rt, &object));
+    }
+    let before = format!(in alloc; "{front}{{\"file\":{file},\"report\":")?;
+    let after = format!(in alloc; ",\"status\":{status}}}")?;
+    Ok(write_between(rt, &before, line, &after))
+}
+
+/// Writes the report on a file; why there is none goes to standard error, and in JSON also into the object of the file.
+/// Answers whether all was written to standard output.
+fn write_answer(
+    rt: &HostRuntime,
+    format: AuditFormat,
+    is_first: bool,
+    name: &str,
+    answer: &AuditAnswer,
+) -> Result<bool, AllocError> {
+    let text = answer.text.as_str();
+    let is_refused = answer.status == 2;
+    if is_refused {
+        say(rt, &format!(in rt.alloc(); "{name}: {text}")?);
+    }
+    match format {
+        AuditFormat::Json => write_object(rt, is_first, name, answer),
+        AuditFormat::Keys => Ok(is_refused || write_text(rt, text)),
+        AuditFormat::Text | AuditFormat::Picture | AuditFormat::List => {
+            if is_refused {
+                return Ok(true);
+            }
+            let before = format!(in rt.alloc(); "{name}:\n")?;
+            Ok(write_between(rt, &before, text, "\n"))
+        }
+    }
+}
+
+/// Audits each file, in order, and writes its report; the status of each, if all could be written.
+fn audit_each(
+    rt: &HostRuntime,
+    settings: &Settings,
+    options: AuditOptions<'_>,
+    names: &[&str],
+) -> Result<Option<Vec<u8>>, AllocError>
+    ensures { IfOk result (λ statuses. MatchOption statuses Unit
+        (λ s. AreFileStatuses (AnswersInput options.entry) (length names.now) s.items)) }
+{
+    let mut statuses = Vec::with_capacity(rt.alloc(), names.len())?;
+    for name in names {
+        let answer = answer_of(rt, settings, options, name)?;
+        if !write_answer(rt, options.format, statuses.is_empty(), name, &answer)? {
+            return Ok(None);
+        }
+        statuses.push(answer.status)?;
+    }
+    Ok(Some(statuses))
+}
+
+/// The greatest status.
+fn greatest(statuses: &[u8]) -> u8
+    ensures { result ≡ greatest statuses.now }
+{
+    let mut most = 0;
+    let mut rest = statuses;
+    while let [status, after @ ..] = rest {
+        most = most.max(*status);
+        rest = after;
+    }
+    most
+}
+
+/// How many files have this status.
+fn times_of(status: u8, statuses: &[u8]) -> usize
+    ensures { result ≡ count_by (λ s. s == status) statuses.now }
+{
+    statuses.iter().filter(|other| **other == status).count()
+}
+
+/// The last line of the reports: what the files come to.
+fn summary_text(alloc: Global, statuses: &[u8]) -> Result<String, AllocError>
+    ensures { IfOk result (λ s. string_bytes s ≡ summary_words statuses.now) }
+{
+    let (files, faulty) = (statuses.len(), times_of(1, statuses));
+    let refused = times_of(2, statuses);
+    format!(in alloc; "{files} files: {faulty} with errors, {refused} refused\n")
+}
+
+/// Writes what follows the reports, and answers whether all was written.
+fn write_end(rt: &HostRuntime, format: AuditFormat, statuses: &[u8]) -> Result<bool, AllocError> {
+    match format {
+        AuditFormat::Json => Ok(write_text(rt, "]}\n")),
+        AuditFormat::Keys => Ok(true),
+        AuditFormat::Text | AuditFormat::Picture | AuditFormat::List => {
+            let text = summary_text(rt.alloc(), statuses)?;
+            Ok(write_text(rt, &text))
+        }
+    }
+}
+
+/// Audits files with these options; the status is the greatest, or 2 if the reports can't be written.
+fn audit_named(
+    rt: &HostRuntime,
+    settings: &Settings,
+    options: AuditOptions<'_>,
+    names: &[&str],
+) -> Result<u8, AllocError>
+    ensures { IfOk result (AuditsFiles (AnswersInput options.entry) (length names.now)) }
+{
+    let Some(statuses) = audit_each(rt, settings, options, names)? else {
+        say(rt, UNWRITTEN);
+        return Ok(2);
+    };
+    if !write_end(rt, options.format, &statuses)? {
+        say(rt, UNWRITTEN);
+        return Ok(2);
+    }
+    Ok(greatest(&statuses))
+}
+
+/// Runs `audit` of several files, in order: each is opened, read and reported by itself. The status is the greatest; it
+/// is 2 if the options are refused or the reports can't be written.
+pub(crate) fn audit_files(
+    rt: &HostRuntime,
+    matches: &ArgMatches<'_>,
+    given: Given<'_>,
+    names: &[&str],
+) -> Result<u8, AllocError>
+    ensures { given.entry.dumps.now ≡ [] → IfOk result
+        (AuditsFiles (AuditsInput matches.now given.entry) (length names.now)) }
+{
+    match options_in(rt.alloc(), matches, given)? {
+        Ok((settings, options)) => audit_named(rt, &settings, options, names),
+        Err(refused) => {
+            say(rt, &refused.text);
+            Ok(2)
+        }
+    }
+}

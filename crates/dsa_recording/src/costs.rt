@@ -10,6 +10,7 @@ use crate::report::Report;
 use crate::submission::Audited;
 use crate::totals::{Totals, counted, fences_in};
 use dsa_settings::Settings;
+use serde::Serialize;
 use std::alloc::{AllocError, Global};
 
 /// One of the sets of fences that an audit leads through.
@@ -24,7 +25,7 @@ enum FenceSet {
 }
 
 /// What submissions cost, in the unit of the settings' prices.
-#[derive(Clone, Copy, Debug, PartialEq, Eq)]
+#[derive(Clone, Copy, Debug, PartialEq, Eq, Serialize)]
 pub struct Costs {
     /// As they were recorded.
     pub recorded: u64,

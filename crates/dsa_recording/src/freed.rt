@@ -12,9 +12,8 @@ use crate::findings::{Finding, FindingKind};
 use crate::report::Report;
 use crate::showing::visible_of;
 use crate::stream::Submission;
-use crate::submission::{Audited, head_at};
-use crate::totals::fences_in;
-use dsa_audit::{Effects, FenceUse, PossibleConflicts, Reduced, drop_needless};
+use crate::submission::audit_submissions;
+use serde::Serialize;
 use std::alloc::{AllocError, Global};
 
 /// What can be assumed beyond the least, in the order in which it is said.
@@ -42,11 +41,12 @@ const MORE: [Assumptions; 5] = [
 ];
 
 /// Assumptions, and how many more fences are needless under them.
-#[derive(Clone, Copy, Debug, PartialEq, Eq)]
+#[derive(Clone, Copy, Debug, PartialEq, Eq, Serialize)]
 pub struct Freed {
     /// What is assumed.
     pub assumptions: Assumptions,
     /// How many more fences are needless.
+    #[serde(rename = "needless")]
     pub fences: usize,
 }
 

@@ -2,18 +2,16 @@
 
 use crate::answer::{AuditOptions, severity_in};
 use crate::assumptions::Assumptions;
-use crate::costs::Costs;
 use crate::detail::{Cause, Detail, named_by};
 use crate::entry_words::descriptor_text;
 use crate::findings::{Flaw, Place};
-use crate::freed::{Freed, await_name};
 use crate::keys::key_text;
 use crate::sums::Sums;
-use crate::totals::Totals;
 use crate::words::Severity;
 use crate::written::Before;
 use dsa_audit::Unseen;
 use dsa_ranges::{Hazard, HazardKind};
+use serde::Serialize;
 use serde_json::{Value, json};
 use std::alloc::{AllocError, Global};
 
@@ -226,59 +224,32 @@ pub(crate) fn finding_json(
     })
 }
 
-/// The object of the numbers.
-fn totals_json(alloc: Global, totals: &Totals) -> Result<Value, AllocError> {
-    let (batches, lone) = (totals.batches as u64, totals.lone as u64);
-    let (descriptors, unseen) = (totals.descriptors as u64, totals.unseen as u64);
-    let (fences, missing) = (totals.fences as u64, totals.missing as u64);
-    let (needless, guarding) = (totals.needless as u64, totals.guarding as u64);
-    let (signalling, flaws) = (totals.signalling as u64, totals.flaws as u64);
-    json!(in alloc; {
-        "batches": batches,
-        "lone": lone,
-        "descriptors": descriptors,
-        "unseen": unseen,
-        "fences": fences,
-        "flaws": flaws,
-        "missing": missing,
-        "needless": needless,
-        "guarding": guarding,
-        "signalling": signalling
-    })
+/// The program that wrote a report.
+#[derive(Serialize)]
+struct Tool {
+    name: &'static str,
+    version: &'static str,
 }
 
-/// The object of the costs.
-fn costs_json(alloc: Global, costs: &Costs) -> Result<Value, AllocError> {
-    let (recorded, corrected) = (costs.recorded, costs.corrected);
-    let (reduced, unpriced) = (costs.reduced, costs.unpriced as u64);
-    json!(in alloc; {
-        "recorded": recorded,
-        "corrected": corrected,
-        "reduced": reduced,
-        "unpriced": unpriced
-    })
-}
+/// This program.
+const TOOL: Tool = Tool {
+    name: "dsa_text",
+    version: VERSION,
+};
 
-/// The object of what is assumed.
-fn assumptions_json(alloc: Global, assumptions: Assumptions) -> Result<Value, AllocError> {
-    let (awaited, resident) = (await_name(assumptions.awaited), assumptions.resident);
-    json!(in alloc; {"await": awaited, "resident": resident})
-}
-
-/// The object of the program that wrote the report.
-fn tool_json(alloc: Global) -> Result<Value, AllocError> {
-    json!(in alloc; {"name": "dsa_text", "version": VERSION})
-}
-
-/// The array of how many more fences would be needless.
-fn freed_json(alloc: Global, freed: &[Freed]) -> Result<Value, AllocError> {
-    let mut rows = Vec::new(alloc);
-    for more in freed {
-        let assumed = assumptions_json(alloc, more.assumptions)?;
-        let fences = more.fences as u64;
-        rows.push(json!(in alloc; {"assumptions": assumed, "needless": fences})?)?;
+/// Writes a member of the report after others.
+fn push_member<T: Serialize>(
+    alloc: Global,
+    line: &mut String,
+    name: &str,
+    value: &T,
+) -> Result<(), AllocError> {
+    line.push_str(name)?;
+    match serde_json::to_string(alloc, value) {
+        Ok(text) => line.push_str(&text),
+        // the types that are written have no other fault
+        Err(_) => Err(AllocError),
     }
-    Ok(Value::Array(rows))
 }
 
 /// The report as one line of JSON, of these findings.
@@ -288,21 +259,14 @@ pub(crate) fn report_json(
     sums: &Sums,
     assumptions: Assumptions,
 ) -> Result<String, AllocError> {
-    let mut line = String::from_str(alloc, "{\"assumptions\":")?;
-    let assumed = assumptions_json(alloc, assumptions)?;
-    line.push_str(&assumed.to_string(alloc)?)?;
-    line.push_str(",\"costs\":")?;
-    let costs = costs_json(alloc, &sums.costs)?;
-    line.push_str(&costs.to_string(alloc)?)?;
+    let mut line = String::new(alloc);
+    push_member(alloc, &mut line, "{\"assumptions\":", &assumptions)?;
+    push_member(alloc, &mut line, ",\"costs\":", &sums.costs)?;
     line.push_str(",\"findings\":[")?;
     line.push_str(findings)?;
-    line.push_str("],\"freed\":")?;
-    line.push_str(&freed_json(alloc, &sums.freed)?.to_string(alloc)?)?;
-    line.push_str(",\"tool\":")?;
-    line.push_str(&tool_json(alloc)?.to_string(alloc)?)?;
-    line.push_str(",\"totals\":")?;
-    let totals = totals_json(alloc, &sums.totals)?;
-    line.push_str(&totals.to_string(alloc)?)?;
+    push_member(alloc, &mut line, "],\"freed\":", &sums.freed)?;
+    push_member(alloc, &mut line, ",\"tool\":", &TOOL)?;
+    push_member(alloc, &mut line, ",\"totals\":", &sums.totals)?;
     line.push_str("}\n")?;
     Ok(line)
 }

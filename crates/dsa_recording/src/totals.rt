@@ -8,10 +8,11 @@ use crate::findings::{Finding, FindingKind};
 use crate::report::Report;
 use crate::stream::Submission;
 use crate::submission::Audited;
+use serde::Serialize;
 use std::alloc::{AllocError, Global};
 
 /// What was submitted, and what is found, in numbers.
-#[derive(Clone, Copy, Debug, PartialEq, Eq)]
+#[derive(Clone, Copy, Debug, PartialEq, Eq, Serialize)]
 pub struct Totals {
     /// How many batches there are.
     pub batches: usize,

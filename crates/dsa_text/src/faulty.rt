@@ -61,13 +61,39 @@ fn push_wrap(alloc: Global, text: &mut String, entry: &[u8; 64]) -> Result<(), A
 fn push_delta(alloc: Global, text: &mut String, entry: &[u8; 64]) -> Result<(), AllocError> {
     let (size, dst) = (u32_at(entry, 32), u64_at(entry, 24));
     let record_size = u32_at(entry, 40);
-    if size % 8 != 0 || size > 0x8_0000 {
-        return text.push_str(&format!(in alloc; ": its size is {size}")?);
+    if size > 0x8_0000 {
+        return text.push_str(&format!(in alloc; ": its size, {size}, is above 0x80000")?);
+    }
+    if size % 8 != 0 {
+        return text.push_str(&format!(in alloc; ": its size, {size}, is no multiple of 8")?);
     }
     if dst % 8 != 0 {
-        return text.push_str(&format!(in alloc; ": its destination is 0x{dst:x}")?);
+        let words = format!(in alloc; ": its destination, 0x{dst:x}, is no multiple of 8")?;
+        return text.push_str(&words);
     }
-    text.push_str(&format!(in alloc; ": its record has {record_size} bytes")?)
+    text.push_str(&format!(in alloc;
+        ": the {record_size} bytes of its record are no multiple of 10"
+    )?)
+}
+
+/// Writes the PASID of an owner, and whether it is privileged.
+fn push_owner(alloc: Global, text: &mut String, owner: u32) -> Result<(), AllocError> {
+    let pasid = owner % (1 << 20);
+    let privilege = if owner >> 31 == 1 { ", privileged" } else { "" };
+    text.push_str(&format!(in alloc; "pasid {pasid}{privilege}")?)
+}
+
+/// Writes the owner of an operation, and that of the first one, which is another.
+pub(crate) fn push_owners(
+    alloc: Global,
+    text: &mut String,
+    owner: u32,
+    first: u32,
+) -> Result<(), AllocError> {
+    text.push_str(": ")?;
+    push_owner(alloc, text, owner)?;
+    text.push_str(", and not ")?;
+    push_owner(alloc, text, first)
 }
 
 /// Writes the values that are at fault in an operation with these bytes, if they help.

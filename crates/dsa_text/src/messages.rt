@@ -4,10 +4,10 @@ ghost use Rattle.std.specs.Prelude.{◌≡◌, ◌++◌, IfOk, OnOk, codes, stri
 ghost use Rattle.dsa_calls.specs.Fault.{indices_text, inner_text, list_cause, named_text, place_text};
 ghost use Rattle.dsa_text.specs.Refusals.{NamesCause, NamesGrammar, cause_words};
 
-use crate::faulty::push_values;
+use crate::faulty::{push_owners, push_values};
 use crate::words::{column_at_fault, hint_of, line_at, push_found, word_at};
 use dsa_calls::{InnerFault, PlanFault};
-use dsa_descriptor::{Indices, ListFault};
+use dsa_descriptor::{Indices, ListFault, u32_at};
 use dsa_lines::{Expected, operation_bytes};
 use dsa_sentences::refusal_text;
 use std::alloc::{AllocError, Global};
@@ -157,8 +157,21 @@ fn push_line_cause(
     };
     text.push_str(&format!(in alloc; "column {column}, ")?)?;
     push_cause(alloc, text, PlanFault::from(fault))?;
+    if let ListFault::MixedPasid(_) = fault {
+        return push_line_values(alloc, text, given, line, fault);
+    }
     text.push_str(", found ")?;
     push_found(alloc, text, word_at(given, line, column))
+}
+
+/// The owner of the first operation of a text.
+fn first_owner(given: &[u8]) -> Option<u32> {
+    for line in given.split(|byte| *byte == b'\n') {
+        if let Ok(Some(entry)) = operation_bytes(line) {
+            return Some(u32_at(&entry, 0));
+        }
+    }
+    None
 }
 
 /// Writes the values that are at fault in the operation of a line.
@@ -171,8 +184,12 @@ fn push_line_values(
 ) -> Result<(), AllocError> {
     match (fault, operation_bytes(line_at(given, line))) {
         (ListFault::Field(_, fault), Ok(Some(entry))) => push_values(alloc, text, &entry, fault),
-        (ListFault::Field(_, _), Ok(None) | Err(_))
-        | (ListFault::Length | ListFault::MixedPasid(_) | ListFault::Memory, _) => Ok(()),
+        (ListFault::MixedPasid(_), Ok(Some(entry))) => match first_owner(given) {
+            Some(first) => push_owners(alloc, text, u32_at(&entry, 0), first),
+            None => Ok(()),
+        },
+        (ListFault::Field(_, _) | ListFault::MixedPasid(_), Ok(None) | Err(_))
+        | (ListFault::Length | ListFault::Memory, _) => Ok(()),
     }
 }
 

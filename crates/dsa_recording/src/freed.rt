@@ -225,7 +225,7 @@ fn freed_under(
 
 /// How many more fences would be needless with each set of further assumptions, of the report under these. There is none
 /// if no fence guards or signals, since only such fences can become needless.
-pub fn freed_by(
+pub(crate) fn freed_by(
     alloc: Global,
     all: &[[u8; 64]],
     report: &Report,

@@ -52,7 +52,7 @@ pub use failure::can_fail;
 pub use findings::{Finding, FindingKind, Flaw, Place, findings_of};
 pub use flaws::{Flaws, flaws_of};
 pub use forms::{Form, Part, bytes_of_text, first_part, form_of, is_passed, is_text, next_part};
-pub use freed::{Freed, freed_by};
+pub use freed::Freed;
 pub use further::{Further, further_at};
 pub use input::{audit, one_recording};
 pub use keys::{key_of_entry, key_text};

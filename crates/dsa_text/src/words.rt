@@ -150,6 +150,9 @@ fn hint_of_number(word: &[u8]) -> Option<&'static str> {
 fn hint_of_size(word: &[u8]) -> Option<&'static str> {
     match word {
         [b'0'..=b'9', .., b'K' | b'M'] => None,
+        [b'0'..=b'9', .., b'B' | b'b' | b'G' | b'g'] => {
+            Some("a size is written as 64 bytes, 4K bytes or 2M bytes")
+        }
         _ => hint_of_number(word),
     }
 }

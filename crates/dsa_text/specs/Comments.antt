@@ -1,5 +1,5 @@
 -- What the comments of a text name (this project's choice).
-use Rattle.std.specs.Prelude.{◌≡◌, ℕ, ◌==◌, ◌&&◌, not, Bool, List, [], ◌∷◌, ◌++◌, length, map, Option, Some, None, if◌then◌else◌}
+use Rattle.std.specs.Prelude.{◌≡◌, ℕ, ◌==◌, ◌&&◌, nat_lt, not, Bool, List, [], ◌∷◌, ◌++◌, length, map, Option, Some, None, if◌then◌else◌}
 use Rattle.std.specs.Char.{is_control}
 use Rattle.std.specs.List.{list_any}
 use Rattle.std.specs.Str.{chars, is_utf8, trim}
@@ -18,12 +18,13 @@ after_mark (c ∷ cs) = if c == 35 then cs else after_mark cs
 abbrev pub is_obeyed : ℕ → Bool
 is_obeyed c = not (c == 9) && is_control c
 
--- a text, unless a terminal would obey a part of it
+-- a text, unless it has more than 256 bytes, since each piece of an operation shows its name, or a terminal would obey a
+-- part of it
 unfoldable pub harmless : List ℕ → List ℕ
-harmless text = if list_any is_obeyed (chars text) then [] else text
+harmless text = if nat_lt 256 (length text) then [] else (if list_any is_obeyed (chars text) then [] else text)
 
--- the comment of a line: what is after its first #, without white space at both ends; none if it is no UTF-8, or if a
--- terminal would obey a part of it
+-- the comment of a line: what is after its first #, without white space at both ends; none if it is no UTF-8, too long, or
+-- if a terminal would obey a part of it
 abbrev pub comment_of : List ℕ → List ℕ
 comment_of line = if is_utf8 (after_mark line) then harmless (trim (after_mark line)) else []
 

@@ -13,12 +13,15 @@ use dsa_explain::Buffer;
 use dsa_lines::operation_bytes;
 use std::alloc::{AllocError, Global};
 
+/// The most bytes of a name, which each piece of its operation shows.
+const LONGEST_NAME: usize = 256;
+
 /// What the comments of a text name.
 #[derive(Debug, Drop)]
 pub(crate) struct Comments {
     /// The name of each operation, empty if it has none.
     pub(crate) names: Vec<String>,
-    /// Buffers, with their names.
+    /// Buffers with their names, for pictures.
     pub(crate) buffers: Vec<Buffer>,
 }
 
@@ -50,11 +53,14 @@ fn has_obeyed(text: &str) -> bool
     text.chars().any(is_obeyed)
 }
 
-/// A text; empty if a terminal would obey a part of it.
+/// A text; empty if it is longer than a name, or a terminal would obey a part of it.
 #[tactic(auto, unfolding(crate::specs::Comments::harmless))]
 fn harmless(text: &str) -> &str
     ensures { result.now ≡ harmless text.now }
 {
+    if text.len() > LONGEST_NAME {
+        return "";
+    }
     if has_obeyed(text) { "" } else { text }
 }
 
@@ -89,12 +95,13 @@ fn push_buffer(alloc: Global, buffers: &mut Vec<Buffer>, comment: &str) -> Resul
     Ok(())
 }
 
-/// Adds the name of a line's operation, or of the buffer that its comment names.
+/// Adds the name of a line's operation, or for pictures of the buffer that its comment names.
 fn push_comment(
     alloc: Global,
     names: &mut Vec<String>,
     buffers: &mut Vec<Buffer>,
     line: &[u8],
+    is_drawn: bool,
 ) -> Result<(), AllocError>
     ensures { OnOk result (map string_bytes names.new.items ≡
         map string_bytes names.old.items ++ line_names line.now (line_fields (words_of line.now))) }
@@ -102,7 +109,11 @@ fn push_comment(
     let comment = comment_of(line);
     match operation_bytes(line) {
         Ok(Some(_)) => names.push(String::from_str(alloc, comment)?)?,
-        Ok(None) | Err(_) => push_buffer(alloc, buffers, comment)?,
+        Ok(None) | Err(_) => {
+            if is_drawn {
+                push_buffer(alloc, buffers, comment)?;
+            }
+        }
     }
     Ok(())
 }
@@ -126,7 +137,7 @@ fn line_len(text: &[u8]) -> usize
 }
 
 /// What the comments of a text name.
-fn comments_of(alloc: Global, text: &[u8]) -> Result<Comments, AllocError>
+fn comments_of(alloc: Global, text: &[u8], is_drawn: bool) -> Result<Comments, AllocError>
     ensures { IfOk result
         (λ found. map string_bytes found.names.items ≡ names_of (lines_of text.now)) }
 {
@@ -135,7 +146,7 @@ fn comments_of(alloc: Global, text: &[u8]) -> Result<Comments, AllocError>
     let mut rest = text;
     'lines: loop {
         let (line, behind) = rest.split_at(line_len(rest));
-        push_comment(alloc, &mut names, &mut buffers, line)?;
+        push_comment(alloc, &mut names, &mut buffers, line, is_drawn)?;
         let [_newline, next @ ..] = behind else {
             return Ok(Comments { names, buffers });
         };
@@ -143,12 +154,16 @@ fn comments_of(alloc: Global, text: &[u8]) -> Result<Comments, AllocError>
     }
 }
 
-/// What comments name where operations come from: nothing in a job.
-pub(crate) fn comments_in(alloc: Global, source: Source<'_>) -> Result<Comments, AllocError>
+/// What comments name where operations come from: nothing in a job, and buffers in pictures alone.
+pub(crate) fn comments_in(
+    alloc: Global,
+    source: Source<'_>,
+    is_drawn: bool,
+) -> Result<Comments, AllocError>
     ensures { IfOk result (λ found. map string_bytes found.names.items ≡ names_from source.entry) }
 {
     match source {
-        Source::Text(text) => comments_of(alloc, text),
+        Source::Text(text) => comments_of(alloc, text, is_drawn),
         Source::Job => Ok(Comments {
             names: Vec::new(alloc),
             buffers: Vec::new(alloc),

@@ -84,7 +84,7 @@ fn answer_planned(
 {
     let barriers = marks_of_pieces(alloc, operations, marks, settings)?;
     let origins = origins_of(alloc, operations, settings)?;
-    let comments = comments_in(alloc, source)?;
+    let comments = comments_in(alloc, source, matches!(form, Form::Picture))?;
     let labels = Labels {
         origins: &origins,
         names: &comments.names,

@@ -41,7 +41,7 @@ RECORDING = bytes.fromhex(
 )
 AUDITS = [
     (("audit",), "3 descriptors in 1 batch and 0 lone submissions, 1 not looked at\n1 fence, 1 missing, 0 needless, 0 guarding, 0 signalling\ncost 17 as submitted, 20 with the missing fences\n", 1),
-    (("audit", "--json"), '"missing":1,"needless":0,"signalling":0,"unseen":1}}\n', 1),
+    (("audit", "--json"), '"missing":1,"needless":0,"guarding":0,"signalling":0,"flaws":0}}\n', 1),
     (("audit", "--list"), "# entry 3, not looked at: operation 0x17 (DIX generate)\n", 0),
 ]
 NO_MEMORY = (("error: there was not enough memory [73 Memory]\n", 2),)

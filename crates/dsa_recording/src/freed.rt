@@ -12,7 +12,9 @@ use crate::findings::{Finding, FindingKind};
 use crate::report::Report;
 use crate::showing::visible_of;
 use crate::stream::Submission;
-use crate::submission::audit_submissions;
+use crate::submission::{Audited, head_at};
+use crate::totals::fences_in;
+use dsa_audit::{Effects, FenceUse, PossibleConflicts, Reduced, drop_needless};
 use serde::Serialize;
 use std::alloc::{AllocError, Global};
 

@@ -118,8 +118,9 @@ pub(crate) fn rows_of(
     Ok((rows, lasts))
 }
 
-/// Lowers the costs of the ends from `from` to below `to`: to this cost, the price of the group's size and its fences, whose
-/// counts stand in the row from `at` on. The fence's price has 32 bits, as each factor of one vector multiplication has.
+/// Lowers the costs of the ends from `from` to below `to`: to this cost, the price of the group's size and its fences,
+/// whose counts stand in the row from `at` on. The fence's price has 32 bits, as each factor of one vector
+/// multiplication has.
 fn lower_row(
     costs: &mut [u64],
     sheet: &CostSheet,
@@ -174,8 +175,8 @@ fn lower_run(costs: &mut [u64], table: &[u64], start: usize, from: usize, to: us
     }
 }
 
-/// Offers the ends up to past the block of a piece of the chain, by the row of the piece. The answer is the chain's last piece
-/// below the next end, the number of its pairs, and that end.
+/// Offers the ends up to past the block of a piece of the chain, by the row of the piece. The answer is the chain's
+/// last piece below the next end, the number of its pairs, and that end.
 fn offer_row(
     sheet: &CostSheet,
     start: usize,
@@ -262,8 +263,8 @@ fn offer_run(
     (next, count, last + 1)
 }
 
-/// Offers each end from `end` on that a group from `start` reaches the cost with that group. The chain is that of `start`
-/// before `end`; the answer is a piece that it reaches in the reach of `start`, and the number of its pairs.
+/// Offers each end from `end` on that a group from `start` reaches the cost with that group. The chain is that of
+/// `start` before `end`; the answer is a piece that it reaches in the reach of `start`, and the number of its pairs.
 pub(crate) fn offer_ends(
     sheet: &CostSheet,
     start: usize,
@@ -334,8 +335,8 @@ fn fill_sizes(sheet: &CostSheet, costs: &mut [u64])
     }
 }
 
-/// The least cost of the first 0, 1, .. pieces, where a batch of `size` pieces has the price `table[size - 2]` without its
-/// fences, and a group has at most `table.len() + 1` pieces.
+/// The least cost of the first 0, 1, .. pieces, where a batch of `size` pieces has the price `table[size - 2]` without
+/// its fences, and a group has at most `table.len() + 1` pieces.
 ///
 /// # Errors
 /// An allocation failure.

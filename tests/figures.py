@@ -1,6 +1,6 @@
 """The tables of speed in README.md and docs/SPEED.md are those of the files of docs/figures, which tests/measure.py
-writes, and no figure of speed is in prose alone. A table is between `<!-- figures: NAME -->` and `<!-- end -->`.
-`tests/figures.py --write` makes the tables of the pages anew."""
+writes, and docs/SPEED.md has no figure of speed in prose alone. A table is between `<!-- figures: NAME -->` and
+`<!-- end -->`. `tests/figures.py --write` makes the tables of the pages anew."""
 
 import json
 import re
@@ -56,13 +56,13 @@ def short_lists():
 def filling():
     found = figures("filling")
     rows = [[row["regions"], row["bases"], f"{row['ns']:.1f}", f"{row['ns'] / row['copy']:.1f}", f"{row['plan']:.0f}"]
-            for row in found["rows"]]
+            for row in found["rows"] if row["bases"] != "opposite"]
     return source(found) + table(["regions", "bases", "fill, ns", "copies", "plan, ns"], rows)
 
 
 def small_jobs():
     found = figures("small_jobs")
-    return source(found) + table(["", "jobs a second"], [["dsa_jobs", found["lines"]], ["dsa", found["processes"]]])
+    return f"{found['date']}, load {found['load']}: {found['lines']} and {found['processes']} a second\n"
 
 
 def rows_of_jobs(found):
@@ -101,16 +101,12 @@ def audits():
     return source(found) + table(heads, rows) + "\n" + table(["1 GiB", "processor s", "MB"], large)
 
 
-def first_of(members):
-    return next(iter(members.values()))
-
-
 def in_flight():
     found, kinds = figures("in_flight"), {}
     for row in found["rows"]:
         kinds.setdefault(row["kind"], []).append(row)
     first = first_of(kinds)
-    heads = ["moves, lists in flight", *(f"{row['moves']}, {row['flight']}" for row in first)]
+    heads = ["moves a list, lists", *(f"{row['moves']}, {row['flight']}" for row in first)]
     rows = [[kind, *(f"{row['ns']:.0f}" for row in its)] for kind, its in kinds.items()]
     rows.append(["planning, apart", *(f"{row['plan']:.0f}" for row in first)])
     rows.append(["comparing all, apart", *(f"{row['compare']:.0f}" for row in first)])

@@ -153,7 +153,8 @@ def of_a_gibibyte(block):
 
 def audits():
     """Audits of 65,472 members as JSON, and of a gibibyte in batches of 31 moves."""
-    ran = subprocess.run([ROOT / "tests/audit.py", "speed"], stdout=subprocess.PIPE, text=True, check=True).stdout
+    command = [sys.executable, "-B", ROOT / "tests/audit.py", "speed"]
+    ran = subprocess.run(command, stdout=subprocess.PIPE, text=True, check=True).stdout
     found = re.findall(r"^(\d+) batch(?:es)? of (\d+), (.*): ([\d.]+) s, (\d+) findings", ran, re.M)
     rows = [{"batches": int(count), "members": name, "seconds": float(took)} for count, _, name, took, _ in found]
     plain = of_a_gibibyte(moves_apart(31))

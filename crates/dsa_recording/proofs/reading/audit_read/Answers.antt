@@ -1,4 +1,4 @@
-use Rattle.std.proofs.Common.{◌≡◌, ◌≤◌, ℕ, List, [], ◌∷◌, ◌++◌, ap, arith, length, max, refl, subst, sym, ◌∙◌}
+use Rattle.std.proofs.Common.{◌≡◌, ◌≤◌, [], ◌++◌, ap, arith, length, max, refl, subst, sym, ◌∙◌}
 use Rattle.std.specs.Io.KnownBytes.{Consumes}
 use Rattle.dsa_recording.specs.Forms.{IsText}
 use Rattle.dsa_recording.proofs.Streamed.{read_whole}

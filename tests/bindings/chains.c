@@ -6,6 +6,7 @@
 #include <stdlib.h>
 #include <string.h>
 
+#include "drawn.h"
 #include "dsa_planner.h"
 
 enum { MOST = 400, MOST_BATCH = 128 };
@@ -13,19 +14,6 @@ enum { MOST = 400, MOST_BATCH = 128 };
 static uint8_t list[64 * MOST], portal[64 * MOST], staging[80 * MOST];
 static uint8_t other_portal[64 * MOST], other_staging[80 * MOST];
 static uint64_t target[MOST], source[MOST], table[MOST_BATCH], costs[MOST + 1];
-static uint64_t seed;
-
-static uint64_t below(uint64_t n)
-{
-    seed = seed * UINT64_C(6364136223846793005) + UINT64_C(1442695040888963407);
-    return (seed >> 33) % n;
-}
-
-static void put(uint8_t *at, uint64_t value)
-{
-    for (int i = 0; i < 8; i++)
-        at[i] = (uint8_t)(value >> (8 * i));
-}
 
 /* How far back a move reads, by the shape of the list; 0 reads what no move writes. */
 static uint64_t back(uint64_t shape, uint64_t i)

@@ -5,6 +5,7 @@
 #include <stdlib.h>
 #include <string.h>
 
+#include "drawn.h"
 #include "dsa_planner.h"
 
 enum { MOST = 1100, ROWS = MOST + 3 };
@@ -12,20 +13,8 @@ static const uint64_t STAGING = UINT64_C(1) << 40;
 
 static struct dsa_region regions[MOST];
 static struct dsa_prepared_row rows[ROWS];
-static uint64_t bases[MOST], seed;
+static uint64_t bases[MOST];
 static uint8_t list[64], portal[64], staging[160];
-
-static uint64_t below(uint64_t n)
-{
-    seed = seed * UINT64_C(6364136223846793005) + UINT64_C(1442695040888963407);
-    return (seed >> 33) % n;
-}
-
-static void put(uint8_t *at, uint64_t value)
-{
-    for (int i = 0; i < 8; i++)
-        at[i] = (uint8_t)(value >> (8 * i));
-}
 
 /* Regions of up to 4,096 bytes, some of them empty, and bases in old order, in the opposite one or shuffled; at times
  * two of them meet, or one lies in the staging area. */

@@ -103,12 +103,12 @@ fn push_all_further(
     Ok(())
 }
 
-/// The conflicts behind the first one.
-fn behind_first(named: &[Reason]) -> &[Reason]
+/// The conflicts after the first one.
+fn after_first(named: &[Reason]) -> &[Reason]
     ensures { result.now ≡ drop 1 named.now }
 {
     match named {
-        [_, behind @ ..] => behind,
+        [_, after @ ..] => after,
         [] => named,
     }
 }
@@ -128,7 +128,7 @@ fn push_fence_line(
     let words = fence_text(alloc, pieces, fence)?;
     text.push_str(&front)?;
     push_line(text, &words)?;
-    push_all_further(alloc, text, pieces, behind_first(&fence.named))
+    push_all_further(alloc, text, pieces, after_first(&fence.named))
 }
 
 /// Writes the lines of the first of these fences before a fenced piece.

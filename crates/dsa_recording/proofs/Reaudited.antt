@@ -236,7 +236,7 @@ use_unset C bs vs bs' vs' g h k (fence_use.Needed i j) none is = absurd (none is
 reduced_unset : (C : ℕ → ℕ → Type 0) (bs vs bs' vs' : List Bool) (g h : List Bool) (us : List FenceUse) → count_by (λ (b : Bool). b) g ≡ 0 → IsReduced C bs vs g us h → IsReduced C bs' vs' g us h
 reduced_unset C bs vs bs' vs' g h us none is =
     let whole : fence_count h ≤ fence_count g
-    = is.least g (record { same_length = refl; fences = λ k f. f }) (λ a b lt behind c sep. sep) (λ m b can lt sep. sep) (λ a b shows lt sep. sep) in
+    = is.least g (record { same_length = refl; fences = λ k f. f }) (λ a b lt later c sep. sep) (λ m b can lt sep. sep) (λ a b shows lt sep. sep) in
     record {
       less = is.less;
       separates = is.separates;

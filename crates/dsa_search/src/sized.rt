@@ -119,7 +119,7 @@ pub(crate) fn rows_of(
 }
 
 /// Lowers the costs of the ends from `from` to below `to`: to this cost, the price of the group's size and its fences,
-/// whose counts stand in the row from `at` on. The fence's price has 32 bits, as each factor of one vector
+/// whose counts are in the row from `at` on. The fence's price has 32 bits, as each factor of one vector
 /// multiplication has.
 fn lower_row(
     costs: &mut [u64],

@@ -31,7 +31,8 @@ fn takes_one_file(matches: &ArgMatches<'_>) -> bool
 
 /// Why files of these names are refused with one another, or with the options, if they are.
 pub(crate) fn refusal_together(matches: &ArgMatches<'_>, names: &[&str]) -> Option<&'static str>
-    ensures { MatchOption result (¬ AreRefusedTogether matches.now (map (λ name. name.now) names.now))
+    ensures { MatchOption result
+        (¬ AreRefusedTogether matches.now (map (λ name. name.now) names.now))
         (λ _. AreRefusedTogether matches.now (map (λ name. name.now) names.now)) }
 {
     if names.len() < 2 {

@@ -1,53 +1,17 @@
--- Bits of units, and pieces that share no address.
-use Rattle.std.proofs.Common.{◌≡◌, ℕ, ◌+◌, ◌-◌, ◌*◌, ◌/◌, ◌%◌, ◌^◌, ◌<◌, ◌≤◌, List, length, get_or, set, sym, ap, subst, ◌∙◌, arith, inl, inr, ◌⊎◌}
-use Rattle.std.specs.Prelude.{Option, Some, None, slice_get, bit_or}
-use Rattle.std.specs.Int.{bit_at, w64}
+-- Pieces that share no address, and last conflicts that are noted by units of addresses.
+use Rattle.std.proofs.Common.{◌≡◌, ℕ, ◌+◌, ◌-◌, ◌/◌, ◌^◌, ◌<◌, ◌≤◌, List, length, set, refl, sym, ap, subst, ◌∙◌, arith, inl, inr, ◌⊎◌}
+use Rattle.std.specs.Prelude.{Option, Some, None, slice_get, slice_index}
 use Rattle.std.proofs.Math.Pow.{shr_mono}
 use Rattle.std.proofs.lemmas.Bool.{cases_lt, cases_eq}
-use Rattle.std.proofs.lemmas.Nat.Bits.{bit_at_set_same, bit_at_set_other}
-use Rattle.std.proofs.lemmas.List.{get_or-set_same, get_or-set_other}
+use Rattle.std.proofs.lemmas.List.{get_or-set_same, get_or-set_other, length-set}
 use Rattle.std.proofs.lemmas.Option.{same_Some, slice_get_within, get_or_from_slice_get}
 use Rattle.dsa_descriptor.specs.Fields.{Fields}
 use Rattle.dsa_descriptor.specs.Data.{sources, targets, record_span}
 use Rattle.dsa_descriptor.specs.Spans.{InSome, InSpan}
-use Rattle.dsa_ranges.specs.Ranges.{read_spans, written_spans}
-use Rattle.dsa_conflicts.specs.Last.{HasLasts, IsLast}
+use Rattle.dsa_ranges.specs.Ranges.{ConflictAt, Conflicts, WritesInto, read_spans, written_spans}
+use Rattle.dsa_conflicts.specs.Last.{HasLasts, IsBack, IsLast}
 use Rattle.dsa_conflicts.specs.Overlaps.{last_at}
-use Rattle.dsa_conflicts.specs.Spread.{AreSpread, HasData, HasRecord, IsBitSet, NoneConflict, key_of}
-
-module _ (words : List ℕ) (key : ℕ) (inside : key / 64 < length words) where
-  abbrev old : ℕ
-  old = get_or words (key / 64) 0
-
-  abbrev with : ℕ
-  with = bit_or old (1 * 2 ^ (key % 64) % 18446744073709551616)
-
-  low : key % 64 < 64
-  low = omega arith
-
-  pub set_here : IsBitSet (set words (key / 64) with) key
-  set_here =
-      let e : get_or (set words (key / 64) with) (key / 64) 0 ≡ with = get_or-set_same words (key / 64) with 0 inside in
-      let one : bit_at with (key % 64) ≡ 1 = bit_at_set_same w64 old (key % 64) low in
-      subst (λ (n : ℕ). 0 < bit_at n (key % 64)) (sym e) (subst (λ (n : ℕ). 0 < n) (sym one) (omega arith))
-
-  pub set_kept : (other : ℕ) → IsBitSet words other → IsBitSet (set words (key / 64) with) other
-  set_kept other was =
-      elim (cases_eq (other / 64) (key / 64)) [
-        | inr far ↦
-            let e : get_or (set words (key / 64) with) (other / 64) 0 ≡ get_or words (other / 64) 0 = get_or-set_other words (key / 64) (other / 64) with 0 far in
-            subst (λ (n : ℕ). 0 < bit_at n (other % 64)) (sym e) was
-        | inl near ↦ elim (cases_eq (other % 64) (key % 64)) [
-          | inl same ↦
-              let one : key ≡ other = omega arith in
-              subst (λ (k : ℕ). IsBitSet (set words (key / 64) with) k) one set_here
-          | inr apart ↦
-              let e : get_or (set words (key / 64) with) (other / 64) 0 ≡ with = ap (λ (k : ℕ). get_or (set words (key / 64) with) k 0) near ∙ get_or-set_same words (key / 64) with 0 inside in
-              let was' : 0 < bit_at old (other % 64) = subst (λ (k : ℕ). 0 < bit_at (get_or words k 0) (other % 64)) near was in
-              let kept : bit_at with (other % 64) ≡ bit_at old (other % 64) = bit_at_set_other w64 old (key % 64) low (other % 64) apart in
-              subst (λ (n : ℕ). 0 < bit_at n (other % 64)) (sym e) (subst (λ (n : ℕ). 0 < n) (sym kept) was')
-        ]
-      ]
+use Rattle.dsa_conflicts.specs.Spread.{AreNoted, DataConflict, DataConflictAt, HasData, HasRecord, IsNoted, NoneConflict, key_of}
 
 -- an address of a range of two units at most lies in the first or in the last
 by_unit : (P : ℕ → Type 0) (s a b x : ℕ) → a ≤ x → x ≤ b → b / 2 ^ s - a / 2 ^ s ≤ 1 → P (a / 2 ^ s) → P (b / 2 ^ s) → P (x / 2 ^ s)
@@ -62,7 +26,7 @@ by_unit P s a b x low high near first last =
     ]
 
 -- one piece more
-module _ (fs : List Fields) (n : ℕ) (f : Fields) (at : slice_get fs n ≡ Some f) (s by p p' q q' : ℕ) (its : (x : ℕ) → InSome (sources f.op f.size) x ⊎ InSome (targets f.op f.size) x → ((p ≤ x) × (x ≤ p')) ⊎ ((q ≤ x) × (x ≤ q'))) (p_near : p' / 2 ^ s - p / 2 ^ s ≤ 1) (q_near : q' / 2 ^ s - q / 2 ^ s ≤ 1) where
+module _ (fs : List Fields) (n : ℕ) (f : Fields) (at : slice_get fs n ≡ Some f) (s p p' q q' : ℕ) (its : (x : ℕ) → InSome (sources f.op f.size) x ⊎ InSome (targets f.op f.size) x → ((p ≤ x) × (x ≤ p')) ⊎ ((q ≤ x) × (x ≤ q'))) (p_near : p' / 2 ^ s - p / 2 ^ s ≤ 1) (q_near : q' / 2 ^ s - q / 2 ^ s ≤ 1) where
   data_here : (i x : ℕ) → i ≡ n → HasData fs i x → ((p ≤ x) × (x ≤ p')) ⊎ ((q ≤ x) × (x ≤ q'))
   data_here i x e (g, at_g, h) =
       let same : g ≡ f = same_Some g f (sym at_g ∙ ap (slice_get fs) e ∙ at) in
@@ -80,42 +44,63 @@ module _ (fs : List Fields) (n : ℕ) (f : Fields) (at : slice_get fs n ≡ Some
         | inr w ↦ by_unit P s q q' x w.0 w.1 q_near c d
       ]
 
-  module _ (words words' : List ℕ) (kept : (other : ℕ) → IsBitSet words other → IsBitSet words' other) (set_a : IsBitSet words' (key_of by (p / 2 ^ s))) (set_b : IsBitSet words' (key_of by (p' / 2 ^ s))) (set_c : IsBitSet words' (key_of by (q / 2 ^ s))) (set_d : IsBitSet words' (key_of by (q' / 2 ^ s))) (new_a : IsBitSet words (key_of by (p / 2 ^ s)) → ⊥) (new_b : IsBitSet words (key_of by (p' / 2 ^ s)) → ⊥) (new_c : IsBitSet words (key_of by (q / 2 ^ s)) → ⊥) (new_d : IsBitSet words (key_of by (q' / 2 ^ s)) → ⊥) (low high from to low' high' from' to' : ℕ) (l0 : low' ≤ low) (l1 : low' ≤ p) (l2 : low' ≤ q) (h0 : high ≤ high') (h1 : p' ≤ high') (h2 : q' ≤ high') (r0 : from' ≤ from) (r1 : from' ≤ f.record_at) (r2 : to ≤ f.record_at) (r3 : to' ≡ f.record_at + 32) (old_spread : AreSpread fs words s by low high from to n) where
-    pub spread_more : AreSpread fs words' s by low' high' from' to' (n + 1)
-    spread_more = record {
+  -- its data conflicts with that of no piece whose stamp would be later than those of its units
+  pub later_pieces : (stamps : List ℕ) (latest : ℕ) → slice_index stamps (key_of (p / 2 ^ s)) ≤ latest → slice_index stamps (key_of (p' / 2 ^ s)) ≤ latest → slice_index stamps (key_of (q / 2 ^ s)) ≤ latest → slice_index stamps (key_of (q' / 2 ^ s)) ≤ latest
+      → ((i x : ℕ) → i < n → HasData fs i x → i < slice_index stamps (key_of (x / 2 ^ s))) → (other : ℕ) → latest ≤ other → other < n → DataConflictAt fs other n → ⊥
+  later_pieces stamps latest a b c d held other late lt (f', g', at_f, at_g, conflict) =
+      let never : (x : ℕ) → HasData fs other x → HasData fs n x → ⊥ = λ x h k. omega (arith, held other x lt h, late, unit_here (λ u. slice_index stamps (key_of u) ≤ latest) a b c d n x refl k) in
+      elim conflict [
+        | inl (x, writes, either) ↦ never x (f', at_f, inr writes) (g', at_g, either)
+        | inr (x, writes, either) ↦ never x (f', at_f, either) (g', at_g, inr writes)
+      ]
+
+  module _ (stamps stamps' : List ℕ) (kept : (k : ℕ) → slice_index stamps k ≤ slice_index stamps' k) (most : (k : ℕ) → slice_index stamps' k ≤ n + 1) (set_a : n + 1 ≤ slice_index stamps' (key_of (p / 2 ^ s))) (set_b : n + 1 ≤ slice_index stamps' (key_of (p' / 2 ^ s))) (set_c : n + 1 ≤ slice_index stamps' (key_of (q / 2 ^ s))) (set_d : n + 1 ≤ slice_index stamps' (key_of (q' / 2 ^ s))) (low high from to low' high' from' to' : ℕ) (l0 : low' ≤ low) (l1 : low' ≤ p) (l2 : low' ≤ q) (h0 : high ≤ high') (h1 : p' ≤ high') (h2 : q' ≤ high') (r0 : from' ≤ from) (r1 : from' ≤ f.record_at) (r2 : to ≤ f.record_at) (r3 : to' ≡ f.record_at + 32)
+      (lasts : List (Option ℕ)) (window : ℕ) (last : Option ℕ) (is_noted : IsNoted fs window n last) (within : n < length fs) (so_far : AreNoted fs stamps lasts window s low high from to n) where
+    pub noted_more : AreNoted fs stamps' (set lasts n last) window s low' high' from' to' (n + 1)
+    noted_more = record {
       held = λ i x lt h. elim (cases_lt i n) [
-        | inl less ↦ kept (key_of by (x / 2 ^ s)) (old_spread.held i x less h)
-        | inr most ↦ unit_here (λ u. IsBitSet words' (key_of by u)) set_a set_b set_c set_d i x (omega arith) h
+        | inl less ↦ omega (arith, so_far.held i x less h, kept (key_of (x / 2 ^ s)))
+        | inr here ↦ omega (arith, here, lt, unit_here (λ u. n + 1 ≤ slice_index stamps' (key_of u)) set_a set_b set_c set_d i x (omega arith) h)
       ];
-      data_apart = λ i j x lt in_n h k. elim (cases_lt j n) [
-        | inl less ↦ old_spread.data_apart i j x lt less h k
-        | inr most ↦ unit_here (λ u. IsBitSet words (key_of by u) → ⊥) new_a new_b new_c new_d j x (omega arith) k (old_spread.held i x (omega arith) h)
+      most = most;
+      noted = λ b lt. elim (cases_eq b n) [
+        | inl here ↦
+            let is : last_at (set lasts n last) n ≡ last = get_or-set_same lasts n last None (omega (arith, so_far.count)) in
+            rw (here, is) is_noted
+        | inr other ↦
+            let is : last_at (set lasts n last) b ≡ last_at lasts b = get_or-set_other lasts n b last None other in
+            rw is (so_far.noted b (omega (arith, other)))
       ];
+      rest = λ b ge. get_or-set_other lasts n b last None (omega (arith, ge)) ∙ so_far.rest b (omega (arith, ge));
+      count = length-set lasts n last ∙ so_far.count;
       data_within = λ i x lt h. elim (cases_lt i n) [
-        | inl less ↦ let w = old_spread.data_within i x less h in (omega (arith, w.0), omega (arith, w.1))
+        | inl less ↦ let w = so_far.data_within i x less h in (omega (arith, w.0), omega (arith, w.1))
         | inr most ↦ elim (data_here i x (omega arith) h) [
           | inl w ↦ (omega (arith, w.0), omega (arith, w.1))
           | inr w ↦ (omega (arith, w.0), omega (arith, w.1))
         ]
       ];
       records_apart = λ i j x lt in_n h k. elim (cases_lt j n) [
-        | inl less ↦ old_spread.records_apart i j x lt less h k
+        | inl less ↦ so_far.records_apart i j x lt less h k
         | inr most ↦
             let w = record_here j x (omega arith) k in
-            let v = old_spread.records_within i x (omega arith) h in
+            let v = so_far.records_within i x (omega arith) h in
             omega (arith, w.0, v.1)
       ];
       records_within = λ i x lt h. elim (cases_lt i n) [
-        | inl less ↦ let w = old_spread.records_within i x less h in (omega (arith, w.0), omega (arith, w.1))
+        | inl less ↦ let w = so_far.records_within i x less h in (omega (arith, w.0), omega (arith, w.1))
         | inr most ↦ let w = record_here i x (omega arith) h in (omega (arith, w.0), omega (arith, w.1))
       ];
     }
 
 -- none yet
-pub spread_none : (fs : List Fields) (words : List ℕ) (s by low high from to : ℕ) → AreSpread fs words s by low high from to 0
-spread_none fs words s by low high from to = record {
+pub noted_none : (fs : List Fields) (stamps : List ℕ) (lasts : List (Option ℕ)) (window s low high from to : ℕ) → ((k : ℕ) → slice_index stamps k ≤ 0) → length lasts ≡ length fs → ((b : ℕ) → last_at lasts b ≡ None) → AreNoted fs stamps lasts window s low high from to 0
+noted_none fs stamps lasts window s low high from to zeros count blank = record {
+  most = zeros;
   held = λ i x lt h. absurd (omega arith);
-  data_apart = λ i j x lt in_n h k. absurd (omega arith);
+  noted = λ b lt. absurd (omega arith);
+  rest = λ b ge. blank b;
+  count = count;
   data_within = λ i x lt h. absurd (omega arith);
   records_apart = λ i j x lt in_n h k. absurd (omega arith);
   records_within = λ i x lt h. absurd (omega arith);
@@ -166,19 +151,66 @@ module _ (fs : List Fields) (low high from to : ℕ) (apart : AreApart fs low hi
         | inr (x, writes, either) ↦ both i j x lt i_in j_in (by_either i d x at_d either) (by_write j e x at_e writes)
       ]
 
-pub spread_none_conflict : (fs : List Fields) (words : List ℕ) (s by low high from to : ℕ) → AreSpread fs words s by low high from to (length fs) → (to ≤ low) ⊎ (high < from) → NoneConflict fs
-spread_none_conflict fs words s by low high from to spread side =
-    apart_none_conflict fs low (high + 1) from to
-    (record {
-      data_apart = spread.data_apart;
-      data_within = λ i x lt h. let w = spread.data_within i x lt h in (w.0, omega (arith, w.1));
-      records_apart = spread.records_apart;
-      records_within = spread.records_within;
-    })
-    (elim side [
-      | inl below ↦ inl below
-      | inr above ↦ inr (omega (arith, above))
-    ])
+-- with all records on one side of all data, what is noted are the last conflicts
+module _ (fs : List Fields) (stamps : List ℕ) (lasts : List (Option ℕ)) (window s low high from to : ℕ) (all : AreNoted fs stamps lasts window s low high from to (length fs)) (side : (to ≤ low) ⊎ (high < from)) where
+  off_data : (i j x : ℕ) → i < length fs → j < length fs → HasRecord fs i x → HasData fs j x → ⊥
+  off_data i j x i_in j_in h k =
+      let w = all.records_within i x i_in h in
+      let v = all.data_within j x j_in k in
+      elim side [
+        | inl below ↦ omega (arith, w.1, v.0, below)
+        | inr above ↦ omega (arith, w.0, v.1, above)
+      ]
+
+  -- a conflict is one of data
+  module _ (i j : ℕ) (lt : i < j) (d e : Fields) (at_d : slice_get fs i ≡ Some d) (at_e : slice_get fs j ≡ Some e) where
+    i_in : i < length fs
+    i_in = slice_get_within fs i d at_d
+
+    j_in : j < length fs
+    j_in = slice_get_within fs j e at_e
+
+    first_writes : WritesInto (written_spans d) (read_spans e) (written_spans e) → DataConflict d e
+    first_writes (x, inl record_d, inl reads) = absurd (off_data i j x i_in j_in (d, at_d, record_d) (e, at_e, inl reads))
+    first_writes (x, inl record_d, inr (inl record_e)) = absurd (all.records_apart i j x lt j_in (d, at_d, record_d) (e, at_e, record_e))
+    first_writes (x, inl record_d, inr (inr target)) = absurd (off_data i j x i_in j_in (d, at_d, record_d) (e, at_e, inr target))
+    first_writes (x, inr writes, inl reads) = inl (x, writes, inl reads)
+    first_writes (x, inr writes, inr (inl record_e)) = absurd (off_data j i x j_in i_in (e, at_e, record_e) (d, at_d, inr writes))
+    first_writes (x, inr writes, inr (inr target)) = inl (x, writes, inr target)
+
+    second_writes : WritesInto (written_spans e) (read_spans d) (written_spans d) → DataConflict d e
+    second_writes (x, inl record_e, inl reads) = absurd (off_data j i x j_in i_in (e, at_e, record_e) (d, at_d, inl reads))
+    second_writes (x, inl record_e, inr (inl record_d)) = absurd (all.records_apart i j x lt j_in (d, at_d, record_d) (e, at_e, record_e))
+    second_writes (x, inl record_e, inr (inr target)) = absurd (off_data j i x j_in i_in (e, at_e, record_e) (d, at_d, inr target))
+    second_writes (x, inr writes, inl reads) = inr (x, writes, inl reads)
+    second_writes (x, inr writes, inr (inl record_d)) = absurd (off_data i j x i_in j_in (d, at_d, record_d) (e, at_e, inr writes))
+    second_writes (x, inr writes, inr (inr target)) = inr (x, writes, inr target)
+
+    of_data : Conflicts d e → DataConflict d e
+    of_data (inl first) = first_writes first
+    of_data (inr second) = second_writes second
+
+  back_by_data : (b a : ℕ) → IsBack (ConflictAt fs) window b a → IsBack (DataConflictAt fs) window b a
+  back_by_data b a back = record {
+    before = back.before;
+    within = back.within;
+    conflict =
+        let d = back.conflict.0 in
+        let e = back.conflict.1 in
+        (d, e, back.conflict.2, back.conflict.3, of_data a b back.before d e back.conflict.2 back.conflict.3 back.conflict.4);
+  }
+
+  is_last : (b : ℕ) (last : Option ℕ) → IsNoted fs window b last → IsLast fs window b last
+  is_last b None none = λ other back. none other (back_by_data b other back)
+  is_last b (Some a) (back, latest) = (back, λ other more. latest other (back_by_data b other more))
+
+  pub noted_are_lasts : HasLasts fs window lasts
+  noted_are_lasts = record {
+    count = all.count;
+    each = λ b last e.
+        let within : b < length fs = omega (arith, slice_get_within lasts b last e, all.count) in
+        is_last b last (subst (IsNoted fs window b) (get_or_from_slice_get lasts b last None e) (all.noted b within));
+  }
 
 -- where none conflict, no piece has a last conflict
 pub none_are_lasts : (fs : List Fields) (window : ℕ) → NoneConflict fs → (lasts : List (Option ℕ)) → length lasts ≡ length fs → ((b : ℕ) → last_at lasts b ≡ None) → HasLasts fs window lasts

@@ -1,43 +1,77 @@
-//! Whether no two of a few pieces conflict, without a sort.
+//! Last conflicts of a few pieces, without a sort: by units of addresses it is known which pieces to compare.
 
-ghost use Rattle.std.specs.Prelude.{◌≡◌, ◌≢◌, ℕ, ◌+◌, ◌/◌, ◌%◌, ◌<◌, ◌≤◌, ◌⊎◌, ◌↔◌, length, map, false, IsTrue, IfSome};
+ghost use Rattle.std.specs.Prelude.{◌≡◌, ◌≢◌, ℕ, ◌+◌, ◌-◌, ◌<◌, ◌≤◌, ◌⊎◌, ◌↔◌, length, map, slice_index, false, IsTrue, IfSome};
 ghost use Rattle.dsa_descriptor.specs.Descriptors.{fields};
 ghost use Rattle.dsa_descriptor.specs.Data.{sources, targets};
-ghost use Rattle.dsa_descriptor.specs.Spans.{InSome, InSpan, span};
-ghost use Rattle.dsa_conflicts.specs.Spread.{IsBitSet, NoneConflict, key_of};
+ghost use Rattle.dsa_descriptor.specs.Pieces.{most_pieces};
+ghost use Rattle.dsa_descriptor.specs.Spans.{InSome, InSpan, Meets, span};
+ghost use Rattle.dsa_ranges.specs.Ranges.{Conflicts};
+ghost use Rattle.dsa_conflicts.specs.Last.{HasLasts, IsBack};
+ghost use Rattle.dsa_conflicts.specs.Overlaps.{last_at};
+ghost use Rattle.dsa_conflicts.specs.Spread.{DataConflict, DataConflictAt, IsNoted, key_of};
 
-use crate::rising::are_rising;
 use dsa_descriptor::{Descriptor, Op};
+use dsa_ranges::{in_conflict, touched};
 
-/// The number of the bit of a unit: the highest bits of a product, so that units next to each other have bits far apart.
+/// How many places there are for the stamps of units.
+const PLACES: usize = 2048;
+
+/// The place of a unit: the highest bits of a product, so that units next to each other have places far apart.
 #[tactic(auto, unfolding(crate::specs::Spread::key_of))]
-fn key_of(unit: u64, by: u32) -> u64
-    requires { by < 64 }
-    ensures { result ≡ key_of by unit }
+fn key_of(unit: u64) -> usize
+    ensures value { result ≡ key_of unit }
+    ensures small { result < 2048 }
 {
-    unit.wrapping_mul(0x9e37_79b9_7f4a_7c15) >> by
+    (unit.wrapping_mul(0x9e37_79b9_7f4a_7c15) >> 53) as usize
 }
 
-/// Whether the bit is known not to be set.
-fn is_unset(words: &[u64], key: u64) -> bool
-    ensures inside { IsTrue result → key / 64 < length words.now }
-    ensures unset { IsTrue result → IsBitSet words.now key → ⊥ }
+/// Stamps the unit, and answers the stamp before.
+fn mark(stamps: &mut [u8; PLACES], unit: u64, stamp: u8) -> u8
+    requires { (k : ℕ) → slice_index stamps.old k ≤ stamp }
+    ensures before { slice_index stamps.old (key_of unit) ≡ result }
+    ensures set { slice_index stamps.new (key_of unit) ≡ stamp }
+    ensures kept { (k : ℕ) → slice_index stamps.old k ≤ slice_index stamps.new k }
+    ensures most { (k : ℕ) → slice_index stamps.new k ≤ stamp }
 {
-    let place = (key / 64) as usize;
-    if place >= words.len() {
-        return false;
+    let key = key_of(unit);
+    let before = stamps[key];
+    stamps[key] = stamp;
+    before
+}
+
+/// Stamps the first and the last unit of a range. No stamp of theirs was greater than the answer.
+fn mark_ends(stamps: &mut [u8; PLACES], first: u64, last: u64, stamp: u8) -> u8
+    requires { (k : ℕ) → slice_index stamps.old k ≤ stamp }
+    ensures first { slice_index stamps.old (key_of first) ≤ result }
+    ensures last { slice_index stamps.old (key_of last) ≤ result }
+    ensures set_first { stamp ≤ slice_index stamps.new (key_of first) }
+    ensures set_last { stamp ≤ slice_index stamps.new (key_of last) }
+    ensures kept { (k : ℕ) → slice_index stamps.old k ≤ slice_index stamps.new k }
+    ensures most { (k : ℕ) → slice_index stamps.new k ≤ stamp }
+{
+    let before = mark(stamps, first, stamp);
+    if last == first {
+        return before;
     }
-    (words[place] >> (key % 64)) % 2 == 0
+    mark(stamps, last, stamp).max(before)
 }
 
-/// Sets the bit.
-fn set(words: &mut [u64], key: u64)
-    requires { key / 64 < length words.old }
-    ensures set { IsBitSet words.new key }
-    ensures kept { (other : ℕ) → IsBitSet words.old other → IsBitSet words.new other }
-    ensures count { length words.new ≡ length words.old }
+/// The same of the units of two ranges.
+fn mark_all(stamps: &mut [u8; PLACES], a: u64, b: u64, c: u64, d: u64, stamp: u8) -> u8
+    requires { (k : ℕ) → slice_index stamps.old k ≤ stamp }
+    ensures a { slice_index stamps.old (key_of a) ≤ result }
+    ensures b { slice_index stamps.old (key_of b) ≤ result }
+    ensures c { slice_index stamps.old (key_of c) ≤ result }
+    ensures d { slice_index stamps.old (key_of d) ≤ result }
+    ensures set_a { stamp ≤ slice_index stamps.new (key_of a) }
+    ensures set_b { stamp ≤ slice_index stamps.new (key_of b) }
+    ensures set_c { stamp ≤ slice_index stamps.new (key_of c) }
+    ensures set_d { stamp ≤ slice_index stamps.new (key_of d) }
+    ensures kept { (k : ℕ) → slice_index stamps.old k ≤ slice_index stamps.new k }
+    ensures most { (k : ℕ) → slice_index stamps.new k ≤ stamp }
 {
-    words[(key / 64) as usize] |= 1 << (key % 64);
+    let before = mark_ends(stamps, a, b, stamp);
+    mark_ends(stamps, c, d, stamp).max(before)
 }
 
 /// Two addresses where data of the operation begins, if it has all of its data there. Other operations are rare.
@@ -69,62 +103,107 @@ fn unit_of(pieces: &[Descriptor]) -> u32
         .min(63)
 }
 
-/// Whether the bits of all four are known not to be set.
-fn are_unset(words: &[u64], a: u64, b: u64, c: u64, d: u64) -> bool
-    ensures a { IsTrue result → (a / 64 < length words.now) × (IsBitSet words.now a → ⊥) }
-    ensures b { IsTrue result → (b / 64 < length words.now) × (IsBitSet words.now b → ⊥) }
-    ensures c { IsTrue result → (c / 64 < length words.now) × (IsBitSet words.now c → ⊥) }
-    ensures d { IsTrue result → (d / 64 < length words.now) × (IsBitSet words.now d → ⊥) }
-{
-    is_unset(words, a)
-        && (b == a || is_unset(words, b))
-        && is_unset(words, c)
-        && (d == c || is_unset(words, d))
-}
-
-/// Sets the bit, where it is not that of a key that is set.
-fn set_other(words: &mut [u64], key: u64, known: u64)
-    requires inside { key / 64 < length words.old }
-    requires known { IsBitSet words.old known }
-    ensures set { IsBitSet words.new key }
-    ensures kept { (other : ℕ) → IsBitSet words.old other → IsBitSet words.new other }
-    ensures count { length words.new ≡ length words.old }
-{
-    if key == known {
-        return;
-    }
-    set(words, key);
-}
-
-/// Sets the bits of all four.
-fn set_all(words: &mut [u64], a: u64, b: u64, c: u64, d: u64)
-    requires a { a / 64 < length words.old }
-    requires b { b / 64 < length words.old }
-    requires c { c / 64 < length words.old }
-    requires d { d / 64 < length words.old }
-    ensures a { IsBitSet words.new a }
-    ensures b { IsBitSet words.new b }
-    ensures c { IsBitSet words.new c }
-    ensures d { IsBitSet words.new d }
-    ensures kept { (other : ℕ) → IsBitSet words.old other → IsBitSet words.new other }
-{
-    set(words, a);
-    set_other(words, b, a);
-    set(words, c);
-    set_other(words, d, c);
-}
-
-/// Whether no two pieces conflict, as far as bits for units of addresses tell: true only where none do. The records have
-/// to rise, and to lie on one side of all data. Inlined, it knows how many bits there are.
+/// Whether two spans that have addresses have one in common: no branch, since it is asked often.
 #[inline(always)]
-fn are_spread(pieces: &[Descriptor], words: &mut [u64], by: u32) -> bool
-    requires { by < 64 }
-    ensures { IsTrue result → NoneConflict (map fields pieces.now) }
+fn overlap(first: u64, len: u32, other: u64, other_len: u32) -> bool
+    requires some { 0 < len }
+    requires other_some { 0 < other_len }
+    ensures { IsTrue result ↔ Meets (span first len) (span other other_len) }
 {
+    let (gap, reach) = if first <= other {
+        (other - first, len)
+    } else {
+        (first - other, other_len)
+    };
+    gap < u64::from(reach)
+}
+
+/// Whether two moves conflict by their data.
+fn moves_conflict(
+    src: u64,
+    dst: u64,
+    len: u32,
+    other_src: u64,
+    other_dst: u64,
+    other_len: u32,
+) -> bool
+    requires some { 0 < len }
+    requires other_some { 0 < other_len }
+    ensures { IsTrue result ↔ (Meets (span dst len) (span other_src other_len)
+        ⊎ Meets (span dst len) (span other_dst other_len)
+        ⊎ Meets (span other_dst other_len) (span src len)) }
+{
+    overlap(dst, len, other_src, other_len)
+        || overlap(dst, len, other_dst, other_len)
+        || overlap(other_dst, other_len, src, len)
+}
+
+/// Whether the two conflict, for any operations.
+#[cold]
+#[inline(never)]
+fn any_conflict(first: &Descriptor, second: &Descriptor) -> bool
+    ensures known { IsTrue result → Conflicts (fields first.now) (fields second.now) }
+    ensures none { result ≡ false → DataConflict (fields first.now) (fields second.now) → ⊥ }
+{
+    in_conflict(&touched(first), &touched(second))
+}
+
+/// Whether the two are known to conflict: true if their data does. Most are moves.
+fn conflict(first: &Descriptor, second: &Descriptor) -> bool
+    ensures known { IsTrue result → Conflicts (fields first.now) (fields second.now) }
+    ensures none { result ≡ false → DataConflict (fields first.now) (fields second.now) → ⊥ }
+{
+    let Op::Move { src, dst } = first.op else {
+        return any_conflict(first, second);
+    };
+    let Op::Move {
+        src: other_src,
+        dst: other_dst,
+    } = second.op
+    else {
+        return any_conflict(first, second);
+    };
+    moves_conflict(src, dst, first.size, other_src, other_dst, second.size)
+}
+
+/// The last piece before this one, `window` places back at most, that conflicts with it. The data of none from
+/// `latest` on does.
+fn last_back(pieces: &[Descriptor], piece: usize, latest: usize, window: u32) -> Option<u32>
+    requires few { length pieces.now ≤ most_pieces }
+    requires inside { piece < length pieces.now }
+    requires later { (other : ℕ) → latest ≤ other → other < piece →
+        DataConflictAt (map fields pieces.now) other piece → ⊥ }
+    ensures { IsNoted (map fields pieces.now) window piece result }
+{
+    let end = latest.min(piece);
+    for back in 1..end + 1 {
+        let other = end - back;
+        if piece - other > window as usize {
+            return None;
+        }
+        if conflict(&pieces[other], &pieces[piece]) {
+            return Some(other as u32);
+        }
+    }
+    None
+}
+
+/// Notes the last conflict of each piece; it is compared with pieces up to the last one that has a unit of its data, or a
+/// place for one, in common with it. True only if that tells: the records have to rise, and to lie on one side of all
+/// data. It stays a call, so that the loop has more registers.
+#[inline(never)]
+pub(crate) fn note_by_units(lasts: &mut [Option<u32>], pieces: &[Descriptor], window: u32) -> bool
+    requires few { length pieces.now ≤ 64 }
+    requires count { length lasts.old ≡ length pieces.now }
+    requires blank { (b : ℕ) → last_at lasts.old b ≡ None }
+    ensures { IsTrue result → HasLasts (map fields pieces.now) window lasts.new }
+{
+    let mut stamps = [0; PLACES];
     let shift = unit_of(pieces);
     let (mut low, mut high) = (u64::MAX, 0u64);
     let (mut from, mut to) = (u64::MAX, 0u64);
-    for d in pieces {
+    for piece in 0..pieces.len() {
+        let d = &pieces[piece];
         let Some((p, q)) = data_at(&d.op) else {
             return false;
         };
@@ -141,82 +220,12 @@ fn are_spread(pieces: &[Descriptor], words: &mut [u64], by: u32) -> bool
         if p_end.saturating_sub(p_unit) > 1 || q_end.saturating_sub(q_unit) > 1 {
             return false;
         }
-        let a = key_of(p_unit, by);
-        let b = key_of(p_end, by);
-        let c = key_of(q_unit, by);
-        let e = key_of(q_end, by);
-        if !are_unset(words, a, b, c, e) {
-            return false;
-        }
-        set_all(words, a, b, c, e);
+        let latest = mark_all(&mut stamps, p_unit, p_end, q_unit, q_end, piece as u8 + 1);
+        lasts[piece] = last_back(pieces, piece, usize::from(latest), window);
         low = low.min(p).min(q);
         high = high.max(p_last).max(q_last);
         from = from.min(d.record_at);
         to = d.record_at + 32;
     }
     to <= low || high < from
-}
-
-/// The same of at most 8 pieces.
-#[inline(never)]
-fn few_are_spread(pieces: &[Descriptor]) -> bool
-    ensures { IsTrue result → NoneConflict (map fields pieces.now) }
-{
-    let mut words = [0; 64];
-    are_spread(pieces, &mut words, 52)
-}
-
-/// The same of at most 32 pieces.
-#[inline(never)]
-fn several_are_spread(pieces: &[Descriptor]) -> bool
-    ensures { IsTrue result → NoneConflict (map fields pieces.now) }
-{
-    let mut words = [0; 512];
-    are_spread(pieces, &mut words, 49)
-}
-
-/// The same of at most 64 pieces.
-#[inline(never)]
-fn some_are_spread(pieces: &[Descriptor]) -> bool
-    ensures { IsTrue result → NoneConflict (map fields pieces.now) }
-{
-    let mut words = [0; 1024];
-    are_spread(pieces, &mut words, 48)
-}
-
-/// Whether the data of the second piece begins where the other data of the first does, as in a chain of moves: then no
-/// bits need to be cleared.
-fn is_chained(pieces: &[Descriptor]) -> bool {
-    if pieces.len() < 2 {
-        return false;
-    }
-    let Some((_, written)) = data_at(&pieces[0].op) else {
-        return false;
-    };
-    let Some((read, _)) = data_at(&pieces[1].op) else {
-        return false;
-    };
-    written == read
-}
-
-/// Whether no two pieces conflict, by tests that take less than a sort: true only where none do.
-pub(crate) fn none_conflict(pieces: &[Descriptor]) -> bool
-    ensures { IsTrue result → NoneConflict (map fields pieces.now) }
-{
-    if are_rising(pieces) {
-        return true;
-    }
-    if is_chained(pieces) {
-        return false;
-    }
-    if pieces.len() <= 8 {
-        return few_are_spread(pieces);
-    }
-    if pieces.len() <= 32 {
-        return several_are_spread(pieces);
-    }
-    if pieces.len() <= 64 {
-        return some_are_spread(pieces);
-    }
-    false
 }

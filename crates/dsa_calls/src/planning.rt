@@ -18,7 +18,7 @@ ghost use Rattle.dsa_calls.specs.Checked.{Checks};
 
 use crate::fault::PlanFault;
 use dsa_descriptor::{Descriptor, read_list};
-use dsa_plan::{Certificate, Emission, Plan, Settings, cost, emit};
+use dsa_plan::{Certificate, Emission, Plan, Settings, emit};
 use dsa_search::{Found, search_with};
 use dsa_splitter::{into_pieces, piece_barriers, pieces};
 use std::alloc::{AllocError, Global};
@@ -71,7 +71,8 @@ pub(crate) fn plan_pieces(
         pairs,
     } = search_with(alloc, &pieces, barriers, settings)?;
     let emission = emit(alloc, &plan, &pieces, settings)?;
-    let cost = cost(&plan, settings);
+    // The last price is what the plan costs.
+    let cost = prices[pieces.len()];
     let certificate = Certificate {
         version: settings.version(),
         prices,

@@ -41,3 +41,9 @@ abbrev pub is_waiting : Ended → Bool
 is_waiting Waiting = true
 is_waiting Finished = false
 is_waiting Failed = false
+
+-- those that have begun
+abbrev pub has_begun : Ended → Bool
+has_begun Waiting = false
+has_begun Finished = true
+has_begun Failed = true

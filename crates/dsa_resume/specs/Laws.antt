@@ -13,7 +13,7 @@ use Rattle.dsa_settings.specs.Legal.{IsLegal}
 use Rattle.dsa_settings.specs.Epochs.{epoch_of}
 use Rattle.dsa_resume.specs.declared.status.Ended.{Ended}
 use Rattle.dsa_resume.specs.declared.left.LeftOrder.TheVariants.{AsListed, FailedFirst}
-use Rattle.dsa_resume.specs.Ended.{ended_of, has_finished, is_left, has_failed, is_waiting}
+use Rattle.dsa_resume.specs.Ended.{ended_of, has_finished, is_left, has_failed, is_waiting, has_begun}
 use Rattle.dsa_resume.specs.Left.{those, left_of}
 
 -- the piece of this index has ended so
@@ -63,14 +63,15 @@ ResumesFailedFirst =
     → HasLeft (left_of FailedFirst (map fields ds) completions) (fold_done (those has_finished (map fields ds) completions) m) n
     → fold_done (left_of FailedFirst (map fields ds) completions) n ≡ fold_done (map fields ds) m
 
--- A piece has begun, so all pieces of earlier epochs have succeeded (specification 341204, batch and fence; of groups, that
--- the next one is submitted after success): of two that have ended these ways, the later one is in the epoch of the earlier.
+-- If a piece has begun, all pieces of earlier epochs have succeeded (specification 341204, batch and fence; of groups, that
+-- the next one is submitted after success): so it is in the epoch of each earlier piece that has not finished.
 abbrev pub StopsAtAnEpoch : Plan → List (List ℕ) → Type 0
 StopsAtAnEpoch plan completions =
-    (i j : ℕ) → i < j → HasEnded is_left completions i → HasEnded has_finished completions j → epoch_of plan i ≡ epoch_of plan j
+    (i j : ℕ) → i < j → HasEnded is_left completions i → HasEnded has_begun completions j → epoch_of plan i ≡ epoch_of plan j
 
--- then under a legal plan the finished pieces may come first
+-- then under a legal plan the finished pieces may come first, and of those that are left the failed ones
 abbrev pub LegalPlansResume : Type 0
 LegalPlansResume =
     (greatest_batch : ℕ) (pieces : List Fields) (plan : Plan) (completions : List (List ℕ)) → IsLegal (ConflictAt pieces) greatest_batch (length pieces) plan
-    → length completions ≡ length pieces → StopsAtAnEpoch plan completions → MayComeFirst has_finished is_left pieces completions
+    → StopsAtAnEpoch plan completions
+    → MayComeFirst has_finished is_left pieces completions × MayComeFirst has_failed is_waiting pieces completions

@@ -7,7 +7,7 @@ unfoldable pub of_lists : ℕ → List ℕ
 of_lists n =
     if n == 1 then codes "the list's length is no multiple of 64" else
     if n == 2 then codes "descriptor #: the operation code is not one of a move, fill, compare, compare pattern, delta or dualcast" else
-    if n == 3 then codes "descriptor #: a flag is set that may not be, or missing that has to be; check result is for compares alone" else
+    if n == 3 then codes "descriptor #: flags 0x0004 and 0x0008 have to be set; 0x0010 (interrupt), 0x0040, bits 16 to 23 and, but in fenced lists, 0x0001 (fence) may not; 0x0080 (check) only in compares" else
     if n == 4 then codes "descriptor #: a reserved bit or byte is not zero" else
     if n == 5 then codes "descriptor #: the transfer size is 0" else
     if n == 6 then codes "descriptor #: an address of its data or its record would be 2^64 or more" else
@@ -31,7 +31,7 @@ of_operations n =
     if n == 33 then codes "the staging area, 96 bytes for each piece, meets a range of piece #" else
     if n == 34 then codes "the row of records of operation #'s pieces meets its own data" else
     if n == 35 then codes "an address of the row of records of operation # would be 2^64 or more" else
-    if n == 37 then codes "descriptor # is longer than the greatest transfer" else
+    if n == 37 then codes "descriptor # is longer than the greatest transfer: split it first" else
     []
 
 -- of a plan, or of the bytes that submit it

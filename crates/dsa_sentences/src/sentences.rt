@@ -16,7 +16,7 @@ fn of_lists(number: u64) -> &'static str
         2 =>
             "descriptor #: the operation code is not one of a move, fill, compare, compare pattern, delta or dualcast",
         3 =>
-            "descriptor #: a flag is set that may not be, or missing that has to be; check result is for compares alone",
+            "descriptor #: flags 0x0004 and 0x0008 have to be set; 0x0010 (interrupt), 0x0040, bits 16 to 23 and, but in fenced lists, 0x0001 (fence) may not; 0x0080 (check) only in compares",
         4 => "descriptor #: a reserved bit or byte is not zero",
         5 => "descriptor #: the transfer size is 0",
         6 => "descriptor #: an address of its data or its record would be 2^64 or more",
@@ -48,7 +48,7 @@ fn of_operations(number: u64) -> &'static str
         33 => "the staging area, 96 bytes for each piece, meets a range of piece #",
         34 => "the row of records of operation #'s pieces meets its own data",
         35 => "an address of the row of records of operation # would be 2^64 or more",
-        37 => "descriptor # is longer than the greatest transfer",
+        37 => "descriptor # is longer than the greatest transfer: split it first",
         _ => "",
     }
 }

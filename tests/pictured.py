@@ -5,6 +5,7 @@ from bisect import bisect_right
 from dataclasses import dataclass, field
 from xml.etree import ElementTree
 
+import common
 import folded
 
 MOST_COLUMNS, MOST_ROWS = 24, 48
@@ -15,13 +16,15 @@ FENCE = re.compile(r"  -- fence, cost \d+: (.*)")
 REASON = r"(a barrier, and )?(\d+) after (\d+), (.*) at (0x[0-9a-f]+)(?: \(record of \d+\))?(?:, and (\d+) more)?"
 PIECE = re.compile(r"  (\d+): (\w+) (.*), record 0x[^(#]*( \(operation (\d+), piece (\d+) of (\d+)\))?( # .*)?")
 ADDRESS = r"(0x[0-9a-f]+)"
-BARS = ("fence", "missing", "needless", "kept")
+BARS = ("fence", "missing", "needless", "kept", "no-effect")
+UNITS = ((1 << 30, "GiB"), (1 << 20, "MiB"), (1 << 10, "KiB"), (1, "bytes"))
 
 
 @dataclass
 class Column:
     """An operation: what a browser says of it, its number and name, and the spans that it reads and writes, each as its
-    first address and its size; or that it is not looked at."""
+    first address and its size; or that it is not looked at. Of a piece of several the number and the name of its
+    operation."""
 
     title: str
     number: int
@@ -30,6 +33,8 @@ class Column:
     writes: list = field(default_factory=list)
     seen: bool = True
     record: tuple | None = None
+    split: tuple | None = None
+    size: int = 0
 
 
 @dataclass
@@ -44,34 +49,110 @@ class Bar:
     pair: tuple | None = None
 
 
+@dataclass
+class Groups:
+    """How many operations each group has, the first group that each is like, if it is not that, and the groups that
+    begin after a barrier."""
+
+    sizes: list
+    likes: list | None = None
+    barriers: set = field(default_factory=set)
+
+    def like(self, number):
+        return self.likes[number] if self.likes else None
+
+
+@dataclass
+class Slot:
+    """A column of a picture: its operations, the first of the groups that they are of, how many these are, and what
+    they have in common: ("pieces", operation, name), ("like", group), "like several" or "plain"."""
+
+    operations: list
+    group: int
+    groups: int
+    fold: object
+
+    def name(self):
+        """What is above it, if it is folded."""
+        if self.fold == "like several":
+            return f"{self.groups} more like these"
+        if self.fold[0] == "like":
+            return f"{self.groups} more like {'it' if self.fold[1] + 1 == self.group else self.fold[1]}"
+        if self.fold[0] == "pieces":
+            return f"{len(self.operations)} pieces of {' '.join(self.fold[2].split())}"
+        return f"{len(self.operations)} in {self.groups} groups" if self.groups > 1 else f"{len(self.operations)} more"
+
+    def is_single(self):
+        return len(self.operations) == 1 and self.groups == 1
+
+    def is_folded(self):
+        return len(self.operations) > 1 or self.groups > 1
+
+
 # ---- what has to be in a picture
 
 
-def slots_of(sizes, kept):
-    """The columns of a picture, each as its operations and the number of groups that they are of."""
-    slots, first = [], 0
-    is_small, before = sum(max(1, size) for size in sizes) <= MOST_COLUMNS, False
-    for size in sizes:
-        own = range(first, first + size)
-        whole = not is_small and not any(k in kept for k in own) or not size
-        if whole and before and not is_small:
-            operations, groups = slots.pop()
-            slots.append(([*operations, *own], groups + 1))
-        elif whole:
-            slots.append(([*own], 1))
-        else:
-            run = []
-            for k in own:
-                if is_small or k in kept:
-                    slots.append(([k], 1))
-                    run = []
-                elif run:
-                    run.append(k)
-                else:
-                    run = [k]
-                    slots.append((run, 1))
-        before, first = whole, first + size
+def joined(one, other, parted):
+    """What two columns that are folded as one have in common, or nothing."""
+    likes = ["like" in (it if isinstance(it, str) else it[0]) for it in (one, other)]
+    if one == other:
+        return one
+    if all(likes):
+        return "like several"
+    return None if any(likes) or parted else "plain"
+
+
+def slots_with(columns, groups, kept, small=False, parted=False):
+    """The columns of a picture in which these operations are kept. Groups are folded unless it is small, and pieces of
+    two operations never share a column if it is parted."""
+    slots, first, before = [], 0, False
+    folds = [("pieces", *it.split) if it.split else "plain" for it in columns]
+    for number, size in enumerate(groups.sizes):
+        own, fold = range(first, first + size), None
+        if not any(k in kept for k in own):
+            kinds = {folds[k] for k in own} or {"plain"}
+            fold = kinds.pop() if len(kinds) == 1 else None if parted else "plain"
+        elif not small and groups.like(number) is not None:
+            fold = ("like", groups.like(number))
+        runs = [Slot([*own], number, 1, fold)] if fold else [Slot([k], number, 1, folds[k]) for k in own]
+        if fold:
+            merges = before and not small and number not in groups.barriers
+        for k, it in enumerate(runs):
+            if not fold:
+                merges = k > 0 and not {it.operations[0], it.operations[0] - 1} & kept
+            both = joined(slots[-1].fold, it.fold, parted) if merges else None
+            if both:
+                slots[-1].operations += it.operations
+                slots[-1].groups += 1 if fold else 0
+                slots[-1].fold = both
+            else:
+                slots.append(it)
+        before, first = bool(fold), first + size
     return slots
+
+
+def slots_of(columns, groups, kept):
+    """The columns of a picture in which these operations are kept if there are many: all, if they are few, else all but
+    those of groups that are like others."""
+    every = {*range(len(columns))}
+    if sum(max(1, size) for size in groups.sizes) <= MOST_COLUMNS:
+        return slots_with(columns, groups, every, small=True)
+    for way in ({"kept": every}, {"kept": kept, "parted": True}):
+        slots = slots_with(columns, groups, **way)
+        if len(slots) <= MOST_COLUMNS:
+            return slots
+    return slots_with(columns, groups, kept)
+
+
+def union(spans):
+    """Spans that meet or touch as one."""
+    ends = []
+    for first, size in sorted(span for span in spans if span[1]):
+        if ends and first <= ends[-1][1]:
+            ends[-1][1] = max(ends[-1][1], first + size)
+        else:
+            ends.append([first, first + size])
+    return [(first, end - first) for first, end in ends]
 
 
 def rows_of(spans, conflicts):
@@ -96,15 +177,23 @@ def rows_of(spans, conflicts):
     return folded
 
 
-def wanted(columns, sizes, bars):
-    """What a picture has of operations in groups of these sizes: its columns, rows, marks, bars, conflicts, and the
+def wanted(columns, groups, bars):
+    """What a picture has of operations in these groups: its columns, rows, marks, bars, conflicts, barriers, and the
     columns of each second epoch and of operations that are not looked at."""
+    kept = {bar.column for bar in bars} | {k for bar in bars if bar.pair for k in bar.pair[:2]}
+    slots = slots_of(columns, groups, kept)
+    shown = [slot.operations[0] for slot in slots if slot.is_single()]
+    fenced = {bar.column for bar in bars if bar.kind != "missing"}
+    bars = [bar for bar in bars if bar.column in set(shown)]
     pairs = [bar.pair for bar in bars if bar.pair]
-    kept = {bar.column for bar in bars} | {k for pair in pairs for k in pair[:2]}
-    slots = slots_of(sizes, kept)
-    shown = [slot[0][0] for slot in slots if len(slot[0]) == 1 and slot[1] == 1]
     uses = [(k, span, "R") for k in shown for span in columns[k].reads]
     uses += [(k, span, "W") for k in shown for span in columns[k].writes]
+    for slot in slots:
+        if slot.is_folded() and slot.fold[0] == "pieces":
+            pieces = [columns[k] for k in slot.operations]
+            written = [span for it in pieces for span in [*it.writes, it.record]]
+            uses += [(slot.operations[0], span, "R") for span in union(span for it in pieces for span in it.reads)]
+            uses += [(slot.operations[0], span, "W") for span in union(written)]
     for earlier, later, address in pairs:
         for k in (earlier, later):
             record = columns[k].record
@@ -117,9 +206,8 @@ def wanted(columns, sizes, bars):
     for k, span, letter in uses:
         if span[1]:
             marks.setdefault((k, row_of(span[0])), set()).add(letter)
-    fenced = {bar.column for bar in bars if bar.kind != "missing"}
     second, is_second, at = set(), False, 0
-    for size in sizes:
+    for size in groups.sizes:
         is_second = False
         for k in range(at, at + size):
             is_second ^= k in fenced and k != at
@@ -127,12 +215,14 @@ def wanted(columns, sizes, bars):
                 second.add(k)
         at += size
     return {
-        "columns": [operations[0] if len(operations) == 1 and groups == 1 else (len(operations), groups)
-                    for operations, groups in slots if operations or groups > 1],
+        "columns": [slot.operations[0] if slot.is_single() else slot.name()
+                    for slot in slots if slot.is_single() or slot.is_folded()],
         "rows": [(first, end - first, count) for first, end, count in rows],
         "marks": {place: "".join(sorted(letters)) for place, letters in marks.items()},
         "bars": [(bar.column, bar.kind, bar.words, bar.title) for bar in bars],
         "conflicts": sorted((earlier, later, row_of(address)) for earlier, later, address in pairs),
+        "barriers": [k for k, slot in enumerate(slots)
+                     if slot.group in groups.barriers and k and slots[k - 1].group != slot.group],
         "second": second & set(shown),
         "unseen": {k for k in shown if not columns[k].seen},
     }
@@ -157,17 +247,21 @@ def drawn(svg, columns):
     parts = {}
     for it in root.iter():
         parts.setdefault(it.get("class"), []).append(it)
-    titles, next_one, found, lefts, names = [column.title for column in columns], 0, [], {}, {}
+    titles, next_one, found, lefts, names, all_lefts = [column.title for column in columns], 0, [], {}, {}, []
     for part in root.iter(f"{SVG}g"):
         if part.get("class") == "operation":
             next_one = titles.index(part[0].text.split(", not looked at: ")[0], next_one)
             lefts[int(part[1].get("x")) - 4] = next_one
             names[next_one] = (part[1].text, " ".join(text.text for text in part[2:]))
             found.append(next_one)
+            all_lefts.append(int(part[1].get("x")) - 4)
             next_one += 1
         elif part.get("class") == "folded":
-            words = [int(word) for word in re.findall(r"\d+", " ".join(text.text for text in part[2:]))]
-            found.append((words[0], words[1] if len(words) > 1 else 1))
+            found.append(" ".join(" ".join(text.text for text in part[2:]).split()))
+            all_lefts.append(int(part[1].get("x")) - 4)
+            if " like " not in found[-1]:
+                lefts[all_lefts[-1]] = next_one
+                next_one += int(found[-1].split()[0])
     rows, labels, tops = [], [], {}
     for part in parts.get("row", []):
         first, size = re.fullmatch(r"0x([0-9a-f]+) \+(\d+)", part[0].text).groups()
@@ -187,13 +281,18 @@ def drawn(svg, columns):
             x, _ = place_of(part[1])
             left = x if part[1].tag == f"{SVG}line" else x + 2
             bars.append((lefts[left], kind_of(part), words_in(part), part[0].text))
+    barriers = []
+    for part in parts.get("barrier", []):
+        barriers.append(next(k for k, left in enumerate(all_lefts) if left > place_of(part[1])[0]))
+        if words_in(part) != "barrier":
+            barriers.append(words_in(part))
     lines = [[int(it.get(name)) for name in ("x1", "x2", "y1")] for it in parts.get("conflict", [])]
     conflicts = sorted((ends[left + 7], lefts[right - 7], tops[y - 11]) for left, right, y in lines)
     grounds = {kind: {place_of(it)[0] for it in parts.get(kind, [])} for kind in ("epoch", "unseen")}
-    grounds = {kind: {lefts[left] for left in places if left in lefts} for kind, places in grounds.items()}
+    grounds = {kind: {lefts[left] for left in places if lefts.get(left) in names} for kind, places in grounds.items()}
     return {
         "columns": found, "rows": rows, "marks": marks, "bars": bars, "conflicts": conflicts,
-        "second": grounds["epoch"], "unseen": grounds["unseen"],
+        "barriers": barriers, "second": grounds["epoch"], "unseen": grounds["unseen"],
     }, {
         "groups": [part[0].text for part in parts.get("group", [])],
         "names": names,
@@ -214,12 +313,17 @@ def kind_of(part):
     shape = part[1]
     if shape.tag == f"{SVG}line":
         return "missing" if (shape.get("stroke"), shape.get("stroke-dasharray")) == ("#c00", "6 4") else "a line"
+    if shape.get("stroke") == "#c00":
+        return "denied"
     return {"black": "fence", "white": "needless", "#999": "kept"}.get(shape.get("fill"), "a bar")
 
 
-def fault_of(svg, columns, sizes, bars):
-    """What is wrong with a picture of operations in groups of these sizes, or nothing; and what else is in it."""
-    needed, (found, others) = wanted(columns, sizes, bars), drawn(svg, columns)
+def fault_of(svg, columns, groups, bars):
+    """What is wrong with a picture of operations in these groups, or nothing; and what else is in it."""
+    needed, (found, others) = wanted(columns, groups, bars), drawn(svg, columns)
+    for k, (name, whole) in enumerate(zip(found["columns"], needed["columns"])):
+        if isinstance(name, str) and isinstance(whole, str) and "…" in name and cut_of(name, whole):
+            found["columns"][k] = whole
     for part, want in needed.items():
         if part == "bars":
             titles = [title for *_, title in want] + [""] * len(found[part])
@@ -276,6 +380,18 @@ def comments_of(text):
     return comments, buffers
 
 
+def barriers_of(text):
+    """The operations of a text that begin after a barrier."""
+    barriers, operations = set(), 0
+    for line in text.split("\n"):
+        words = line.partition("#")[0].replace(",", " ").split()
+        if words and words[0] == "barrier":
+            barriers.add(operations)
+        elif words and words[0] != "batch":
+            operations += 1
+    return barriers
+
+
 def columns_of(words, text):
     """The operations of a plan that is explained in these words, by the comments of its text if it has one."""
     columns, comments = [], comments_of(text)[0] if text is not None else None
@@ -290,8 +406,23 @@ def columns_of(words, text):
         if (found[8] or "") != f" # {comment}" * bool(comment):
             name = f"{found[8]} is said, and the comment is {comment}"
         columns.append(Column(title, number, f"{name} {found[6]}/{found[7]}" if part else name, *spans_of(word, rest)))
-        columns[-1].operation = operation
+        columns[-1].operation, columns[-1].called = operation, (name, bool(comment), bool(part))
+        columns[-1].record = (int(re.search(r"record (0x[0-9a-f]+)", line)[1], 16), 32)
+    name_splits(columns)
     return columns
+
+
+def name_splits(columns):
+    """Notes in the pieces of operations of several pieces the number and the name of the operation."""
+    sizes = {}
+    for it in columns:
+        size = int(re.search(r"(\d+) bytes", it.title)[1])
+        sizes[it.operation] = sizes.get(it.operation, 0) + size
+    for it in columns:
+        name, is_comment, is_piece = it.called
+        unit = next(unit for unit in UNITS if sizes[it.operation] % unit[0] == 0)
+        size = f"{sizes[it.operation] // unit[0]} {unit[1]}"
+        it.split = (it.operation, name if is_comment else f"{name} {size}") if is_piece else None
 
 
 def split_index(columns):
@@ -329,7 +460,14 @@ def plan_fault(svg, words, text=None):
     columns = columns_of(words, text)
     bars = bars_of(words, columns)
     heads = [found for line in words.splitlines() if (found := GROUP.fullmatch(line))]
-    fault, others = fault_of(svg, columns, [int(found[2] or 1) for found in heads], bars)
+    groups = Groups([int(found[2] or 1) for found in heads])
+    starts = [sum(groups.sizes[:k]) for k in range(len(heads))]
+    parted = barriers_of(text) if text is not None else set()
+    for k, start in enumerate(starts):
+        operation = columns[start].operation
+        if operation in parted and (not start or columns[start - 1].operation != operation):
+            groups.barriers.add(k)
+    fault, others = fault_of(svg, columns, groups, bars)
     if fault:
         return fault
     costs = next(line for line in words.splitlines() if line.startswith("cost "))
@@ -347,3 +485,52 @@ def plan_fault(svg, words, text=None):
         if label != whole and not (label.endswith("…") and whole.startswith(label[:-1])):
             return f"a row of {first:#x} is named {label}, and not {whole}"
     return ""
+
+
+# ---- plans of which pieces are folded
+
+
+def compared(written, words, text):
+    """The picture of the plan of a text, and what is wrong with it."""
+    drawn_one, told = (written(f"explain {form} {words}", text) for form in ("--svg", ""))
+    return drawn_one, plan_fault(drawn_one, told, text)
+
+
+def pieces_and_barriers(written):
+    """One move of 3 GiB in 1,536 pieces has one column, with its name and its ranges; so has each of two operations of
+    many pieces. A fence can part the pieces of one into two columns. Of 300 moves of two pieces each all share one. A
+    barrier where the plan begins a group has a mark."""
+    move = "move 0x100000000 -> 0x200000000, 3145728K bytes, record 0x500000000"
+    fill = "fill 0x400000000 with 0000000000000000, 1024M bytes, record 0x600000000 # clear the rest"
+    for text, words, names, marks in [
+        (move, "", ["1536 pieces of move 3 GiB"], "RWW"),
+        (f"{move} # copy", "", ["1536 pieces of copy"], "RWW"),
+        (move.replace("3145728K", "3145727K"), "", ["1536 pieces of move 3145727 KiB"], "RWW"),
+        (f"{move}\n{fill}", "", ["1536 pieces of move 3 GiB", "512 pieces of clear the rest"], "RWWWW"),
+        (move.replace("3145728K", "1000"), "--greatest-transfer 8", ["125 pieces of move 1000 bytes"], "RWW"),
+    ]:
+        svg, fault = compared(written, words, text)
+        columns = fault or drawn(svg, [])[0]["columns"]
+        common.expect(columns == names, f"{text}: {columns}: {svg[:300]}")
+        found = "".join(sorted(re.findall(r'class="mark".*?>(R|W|RW)</text>', svg)))
+        common.expect(found == marks, f"{text}: the marks are {found}")
+    text = f"{move.replace('3145728K', '81920K')}\nmove 0x204e00000 -> 0x300000000, 64 bytes, record 0x500001000"
+    svg, fault = compared(written, "", text)
+    names = [" ".join(re.findall(r">([^<…]+)</text>", it)) for it in re.findall(r'<g class="folded">.*?</g>', svg)]
+    wanted_names = ["32 pieces of move 80 MiB", "7 pieces of move 80 MiB"]
+    common.expect(not fault and names == wanted_names, f"pieces around a fence: {fault}, {names}")
+    line = "move {} -> {}, 64 bytes, record {}\n"
+    text = "".join(line.format(0x10_0000 + 64 * k, 0x20_0000 + 64 * k, 0x30_0000 + 64 * k) for k in range(300))
+    svg, fault = compared(written, "--greatest-transfer 32 --greatest-batch 100", text)
+    common.expect(not fault and ">600 in 6<" in svg, f"{fault}: {svg[:300]}")
+    lines = [line.format(0x10_0000 + 64 * k, 0x20_0000 + 64 * k, 0x30_0000 + 32 * k) for k in range(60)]
+    for places, words, count in [
+        ((1,), "--fence 99", 1), ((1,), "", 0), ((2,), "--greatest-batch 2", 1), ((0, 4), "--greatest-batch 2", 0),
+        ((1, 2), "--greatest-batch 2 --fence 99", 2), ((30,), "--greatest-batch 30", 1),
+        ((30, 45), "--greatest-batch 30 --fence 99", 2),
+    ]:
+        operations = lines[: 60 if 30 in places else 4]
+        text = "".join("barrier\n" * (k in places) + it for k, it in enumerate(operations))
+        svg, fault = compared(written, words, text + "barrier\n" * (4 in places))
+        found = svg.count('class="barrier"')
+        common.expect(not fault and found == count, f"barriers before {places}, {words}: {fault}, {found} marks")

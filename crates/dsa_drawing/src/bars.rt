@@ -1,10 +1,23 @@
 //! The bars of fences, and the words below them.
 
-use crate::layout::{Bar, BarKind};
+use crate::layout::{Bar, BarKind, Layout};
 use crate::places::{MOST_TURNED, Places};
 use crate::shapes::{Extent, close, open, place, push_box, push_line, push_text, push_turned};
+use crate::slots::Slot;
 use crate::texts::{SIZE, cut, letters_in, wrapped};
 use std::alloc::{AllocError, Global};
+
+/// What is below a barrier.
+pub(crate) const BARRIER: &str = "barrier";
+
+/// What a browser shows of a barrier under the pointer.
+const BARRIER_TITLE: &str = "barrier: what follows begins when all before it have succeeded";
+
+/// A bar of a fence that is not needed.
+const HOLLOW: &str = "fill=\"white\" stroke=\"black\"";
+
+/// One that is an error.
+const HOLLOW_RED: &str = "fill=\"white\" stroke=\"#c00\" stroke-width=\"2\"";
 
 /// What the picture calls a kind of bar.
 fn class_of(kind: BarKind) -> &'static str {
@@ -13,6 +26,7 @@ fn class_of(kind: BarKind) -> &'static str {
         BarKind::Missing => "missing",
         BarKind::Needless => "needless",
         BarKind::Kept => "kept",
+        BarKind::NoEffect { .. } => "no-effect",
     }
 }
 
@@ -32,8 +46,9 @@ fn push_shape(
     match kind {
         BarKind::Needed => push_box(alloc, svg, place(x, top), extent, "fill=\"black\""),
         BarKind::Kept => push_box(alloc, svg, place(x, top), extent, "fill=\"#999\""),
-        BarKind::Needless => {
-            let paint = "fill=\"white\" stroke=\"black\"";
+        BarKind::Needless => push_box(alloc, svg, place(x, top), extent, HOLLOW),
+        BarKind::NoEffect { is_error } => {
+            let paint = if is_error { HOLLOW_RED } else { HOLLOW };
             push_box(alloc, svg, place(x, top), extent, paint)
         }
         BarKind::Missing => {
@@ -81,6 +96,43 @@ pub(crate) fn push_bars(
             push_words(alloc, svg, places, left, &bar.words)?;
             close(svg)?;
         }
+    }
+    Ok(())
+}
+
+/// Writes a barrier before a group that begins there.
+fn push_barrier(
+    alloc: Global,
+    svg: &mut String,
+    places: &Places,
+    left: usize,
+) -> Result<(), AllocError> {
+    let x = left.saturating_sub(places.gap / 2);
+    let foot = places.bottom.saturating_add(4);
+    let paint = "stroke=\"black\" stroke-width=\"2\" stroke-dasharray=\"2 3\"";
+    open(alloc, svg, "barrier", BARRIER_TITLE)?;
+    push_line(alloc, svg, place(x, places.names), place(x, foot), paint)?;
+    push_words(alloc, svg, places, x, BARRIER)?;
+    close(svg)
+}
+
+/// Writes the barriers between groups.
+pub(crate) fn push_barriers(
+    alloc: Global,
+    svg: &mut String,
+    layout: &Layout<'_>,
+    slots: &[Slot],
+    places: &Places,
+) -> Result<(), AllocError> {
+    let mut before = 0;
+    for (slot, left) in slots.iter().zip(places.lefts.iter()) {
+        if slot.group != before
+            && let Some(group) = layout.groups.get(slot.group)
+            && group.has_barrier
+        {
+            push_barrier(alloc, svg, places, *left)?;
+        }
+        before = slot.group;
     }
     Ok(())
 }

@@ -3,10 +3,10 @@
 ghost use Rattle.std.specs.Prelude.{IfOk, string_bytes};
 ghost use Rattle.dsa_drawing.specs.Pictures.{IsPicture};
 
-use crate::bars::push_bars;
+use crate::bars::{push_barriers, push_bars};
 use crate::grid::{Grid, grid_of};
 use crate::heads::{push_columns, push_heads};
-use crate::layout::{Column, Layout};
+use crate::layout::{Bar, Column, Layout};
 use crate::places::{Places, places_of};
 use crate::rows::{push_conflicts, push_marks, push_rows};
 use crate::shapes::{Extent, Spot, place, push_box, push_head, push_text};
@@ -20,14 +20,6 @@ const HATCH: &str = "<defs><pattern id=\"hatch\" width=\"6\" height=\"6\" \
 
 /// The least width of a picture, in which the lines at its end have room.
 const LEAST_WIDTH: usize = 500;
-
-/// The operations that have a column of their own.
-fn shown(alloc: Global, slots: &[Slot]) -> Result<Vec<usize>, AllocError> {
-    slots
-        .iter()
-        .filter_map(|slot| slot.operation())
-        .collect(alloc)
-}
 
 /// Whether an operation is not looked at.
 fn is_unseen(column: &Column) -> bool {
@@ -73,6 +65,18 @@ fn push_grounds_of(
     Ok(())
 }
 
+/// The bars from this column on.
+fn bars_from(bars: &[Bar], column: usize) -> &[Bar] {
+    let none: &[Bar] = &[];
+    for (number, bar) in bars.iter().enumerate() {
+        if bar.column >= column {
+            let (_, rest) = bars.split_at(number.min(bars.len()));
+            return rest;
+        }
+    }
+    none
+}
+
 /// Writes the grounds of the columns: epochs are white and grey by turns.
 fn push_grounds(
     alloc: Global,
@@ -84,14 +88,10 @@ fn push_grounds(
     let mut bars = layout.bars.as_slice();
     let (mut group, mut is_second) = (usize::MAX, false);
     for (slot, left) in slots.iter().zip(places.lefts.iter()) {
-        let begins = if let [bar, behind @ ..] = bars
-            && bar.column == slot.first
-            && slot.count > 0
-        {
-            bars = behind;
-            bar.is_set()
-        } else {
-            false
+        bars = bars_from(bars, slot.first);
+        let begins = match bars.first() {
+            Some(bar) => bar.column == slot.first && slot.count > 0 && bar.is_set(),
+            None => false,
         };
         is_second = slot.group == group && begins != is_second;
         group = slot.group;
@@ -152,7 +152,7 @@ fn push_notes(
 /// What is in a picture after its first word.
 fn body(alloc: Global, layout: &Layout<'_>) -> Result<String, AllocError> {
     let slots = slots_of(alloc, layout)?;
-    let grid = grid_of(alloc, layout, &shown(alloc, &slots)?)?;
+    let grid = grid_of(alloc, layout, &slots)?;
     let places = places_of(alloc, layout, &slots, &grid)?;
     let folded = folded_text(alloc, layout, &slots, &grid)?;
     let lines = layout
@@ -172,6 +172,7 @@ fn body(alloc: Global, layout: &Layout<'_>) -> Result<String, AllocError> {
     push_heads(alloc, &mut svg, layout, &slots, &places)?;
     push_columns(alloc, &mut svg, layout, &slots, &places)?;
     push_rows(alloc, &mut svg, layout.buffers, &grid, &places)?;
+    push_barriers(alloc, &mut svg, layout, &slots, &places)?;
     push_bars(alloc, &mut svg, &layout.bars, &places)?;
     push_conflicts(alloc, &mut svg, layout, &grid, &places)?;
     push_marks(alloc, &mut svg, &grid, &places)?;
@@ -182,9 +183,10 @@ fn body(alloc: Global, layout: &Layout<'_>) -> Result<String, AllocError> {
 /// The picture as SVG, without scripts. Each operation has a column, below its number and its name; each range of
 /// addresses that these read or write has a row, with a mark where an operation does: R, W or RW. A fence is a bar
 /// before its operation, the conflict that it is about a red line from the mark of the earlier operation to that of the
-/// later, and the words of the fence are below. Epochs are white and grey by turns. Of more than 24 operations or 48
-/// ranges those that no fence is about are folded. A browser shows the titles of groups, operations, ranges and fences
-/// under the pointer.
+/// later, and the words of the fence are below; a barrier between groups is a dotted line. Epochs are white and grey by
+/// turns. Of more than 24 operations those of groups that are like others are folded, or else those that no fence is
+/// about: the pieces of one operation with all that they read and write. Of more than 48 ranges those that have no
+/// conflict are folded. A browser shows the titles of groups, operations, ranges and fences under the pointer.
 pub fn draw(alloc: Global, layout: &Layout<'_>) -> Result<String, AllocError>
     ensures { IfOk result (λ s. IsPicture (string_bytes s)) }
 {

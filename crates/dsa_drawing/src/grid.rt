@@ -1,6 +1,7 @@
 //! The rows of a picture, which are ranges of addresses, and what operations do in them.
 
 use crate::layout::{Buffer, Column, Layout};
+use crate::slots::Slot;
 use dsa_ranges::Span;
 use std::alloc::{AllocError, Global};
 
@@ -119,6 +120,67 @@ fn push_written(items: &mut Vec<Item>, spans: &[Span], number: usize) -> Result<
     Ok(())
 }
 
+/// Spans that meet or touch as one, in order.
+fn joined(alloc: Global, mut spans: Vec<Span>) -> Result<Vec<Span>, AllocError> {
+    spans.sort_unstable_by_key(|span| (span.first, span.len));
+    let mut joined: Vec<Span> = Vec::new(alloc);
+    for span in &spans {
+        match joined.last_mut() {
+            Some(last) if u128::from(span.first) <= last.end() => extend(last, *span),
+            Some(_) | None => joined.push(*span)?,
+        }
+    }
+    Ok(joined)
+}
+
+/// Extends a span to the end of one that begins in it or right after it.
+fn extend(last: &mut Span, span: Span) {
+    let end = last.end().max(span.end());
+    let len = end.saturating_sub(u128::from(last.first));
+    last.len = u64::try_from(len).unwrap_or(u64::MAX);
+}
+
+/// Adds all that the pieces of an operation read and write, with their completion records, as one.
+fn push_pieces(
+    alloc: Global,
+    items: &mut Vec<Item>,
+    pieces: &[Column],
+    number: usize,
+) -> Result<(), AllocError> {
+    let (mut reads, mut writes) = (Vec::new(alloc), Vec::new(alloc));
+    for piece in pieces {
+        if let Some(touched) = &piece.touched {
+            reads.extend_from_slice(&touched.reads)?;
+            writes.extend_from_slice(&touched.writes)?;
+        }
+    }
+    for span in &joined(alloc, reads)? {
+        push_item(items, *span, What::Reads(number))?;
+    }
+    push_written(items, &joined(alloc, writes)?, number)
+}
+
+/// Adds what the operations in a column read and write, unless several are folded in it.
+fn push_slot(
+    alloc: Global,
+    items: &mut Vec<Item>,
+    columns: &[Column],
+    slot: &Slot,
+) -> Result<(), AllocError> {
+    if slot.split().is_some() {
+        let (_, rest) = columns.split_at(slot.first.min(columns.len()));
+        let (pieces, _) = rest.split_at(slot.count.min(rest.len()));
+        return push_pieces(alloc, items, pieces, slot.first);
+    }
+    match slot.operation() {
+        Some(operation) => match columns.get(operation) {
+            Some(column) => push_data(items, column, operation),
+            None => Ok(()),
+        },
+        None => Ok(()),
+    }
+}
+
 /// Adds the completion record of an operation, if it has the address.
 fn push_record(
     items: &mut Vec<Item>,
@@ -141,10 +203,29 @@ fn push_record(
     Ok(())
 }
 
-/// Adds the conflicts of fences, with the completion records that they are about.
-fn push_conflicts(items: &mut Vec<Item>, layout: &Layout<'_>) -> Result<(), AllocError> {
+/// Which of so many operations have a column of their own.
+fn shown_in(alloc: Global, slots: &[Slot], operations: usize) -> Result<Vec<bool>, AllocError> {
+    let mut shown = vec![in alloc; false; operations]?;
+    for slot in slots {
+        if let Some(operation) = slot.operation()
+            && operation < shown.len()
+        {
+            shown[operation] = true;
+        }
+    }
+    Ok(shown)
+}
+
+/// Adds the conflicts of fences that are shown, with the completion records that they are about.
+fn push_conflicts(
+    items: &mut Vec<Item>,
+    layout: &Layout<'_>,
+    shown: &[bool],
+) -> Result<(), AllocError> {
     for (number, bar) in layout.bars.iter().enumerate() {
-        if let Some(separated) = bar.separated {
+        if let Some(separated) = bar.separated
+            && shown.get(bar.column).copied().unwrap_or(false)
+        {
             push_record(items, &layout.columns, separated.earlier, separated.address)?;
             push_record(items, &layout.columns, separated.later, separated.address)?;
             push_item(items, single(separated.address), What::Conflict(number))?;
@@ -161,15 +242,14 @@ fn push_names(items: &mut Vec<Item>, buffers: &[Buffer]) -> Result<(), AllocErro
     Ok(())
 }
 
-/// What has a place among the addresses, by these; of operations those that are shown.
-fn items_of(alloc: Global, layout: &Layout<'_>, shown: &[usize]) -> Result<Vec<Item>, AllocError> {
+/// What has a place among the addresses, by these; of operations those in these columns.
+fn items_of(alloc: Global, layout: &Layout<'_>, slots: &[Slot]) -> Result<Vec<Item>, AllocError> {
     let mut items = Vec::new(alloc);
-    for number in shown {
-        if let Some(column) = layout.columns.get(*number) {
-            push_data(&mut items, column, *number)?;
-        }
+    for slot in slots {
+        push_slot(alloc, &mut items, &layout.columns, slot)?;
     }
-    push_conflicts(&mut items, layout)?;
+    let shown = shown_in(alloc, slots, layout.columns.len())?;
+    push_conflicts(&mut items, layout, &shown)?;
     push_names(&mut items, layout.buffers)?;
     items.sort_unstable_by_key(|item| (item.span.first, item.what.rank(), item.what.number()));
     Ok(items)
@@ -364,14 +444,14 @@ fn unfolded(alloc: Global, items: &[Item]) -> Result<Grid, AllocError> {
     Ok(grid)
 }
 
-/// The rows of the addresses of these operations: all of them, or if these are many those with a conflict, and one for
-/// all others between.
+/// The rows of the addresses of the operations in these columns: all, or if these are many those with a conflict, and
+/// one for all others between.
 pub(crate) fn grid_of(
     alloc: Global,
     layout: &Layout<'_>,
-    shown: &[usize],
+    slots: &[Slot],
 ) -> Result<Grid, AllocError> {
-    let items = items_of(alloc, layout, shown)?;
+    let items = items_of(alloc, layout, slots)?;
     let mut grid = unfolded(alloc, &items)?;
     if grid.rows.len() > MOST_ROWS_SHOWN {
         grid = fold(alloc, grid)?;

@@ -3,7 +3,7 @@
 use crate::layout::{Column, Layout};
 use crate::places::{MOST_TURNED, Places};
 use crate::shapes::{Spot, close, open, place, push_line, push_text, push_turned};
-use crate::slots::Slot;
+use crate::slots::{Fold, Slot};
 use crate::texts::{SIZE, cut, letters_in, wrapped};
 use std::alloc::{AllocError, Global};
 
@@ -205,21 +205,65 @@ fn push_column(
     push_head_of(alloc, svg, places, left, &number, &column.name)
 }
 
+/// What is said of groups that are like others.
+fn like_name(alloc: Global, slot: &Slot, like: usize) -> Result<String, AllocError> {
+    let groups = slot.groups;
+    if slot.group == like.saturating_add(1) {
+        format!(in alloc; "{groups} more like it")
+    } else {
+        format!(in alloc; "{groups} more like {like}")
+    }
+}
+
+/// The name of a column in which operations are folded.
+pub(crate) fn fold_name(
+    alloc: Global,
+    layout: &Layout<'_>,
+    slot: &Slot,
+) -> Result<String, AllocError> {
+    let (count, groups) = (slot.count, slot.groups);
+    if let Some(operation) = slot.split()
+        && let Some(split) = layout
+            .splits
+            .iter()
+            .find(|split| split.operation == operation)
+    {
+        let name = &split.name;
+        return format!(in alloc; "{count} pieces of {name}");
+    }
+    match slot.fold {
+        Fold::Like(like) => like_name(alloc, slot, like),
+        Fold::LikeSeveral => format!(in alloc; "{groups} more like these"),
+        Fold::Plain | Fold::Pieces(_) => {
+            if groups > 1 {
+                format!(in alloc; "{count} in {groups} groups")
+            } else {
+                format!(in alloc; "{count} more")
+            }
+        }
+    }
+}
+
+/// What a browser shows under the pointer of a column in which operations are folded.
+fn fold_title(fold: Fold) -> &'static str {
+    match fold {
+        Fold::Plain | Fold::Pieces(_) => "folded: no fence is about these",
+        Fold::Like(_) => "folded: like a group that is shown",
+        Fold::LikeSeveral => "folded: each like a group that is shown",
+    }
+}
+
 /// Writes what is above a column in which operations are folded.
 fn push_fold(
     alloc: Global,
     svg: &mut String,
     places: &Places,
     left: usize,
+    layout: &Layout<'_>,
     slot: &Slot,
 ) -> Result<(), AllocError> {
-    let (count, groups) = (slot.count, slot.groups);
-    let name = if groups > 1 {
-        format!(in alloc; "{count} in {groups} groups")?
-    } else {
-        format!(in alloc; "{count} more")?
-    };
-    open(alloc, svg, "folded", "folded: no fence is about these")?;
+    let name = fold_name(alloc, layout, slot)?;
+    open(alloc, svg, "folded", fold_title(slot.fold))?;
     push_head_of(alloc, svg, places, left, "…", &name)
 }
 
@@ -233,7 +277,7 @@ pub(crate) fn push_columns(
 ) -> Result<(), AllocError> {
     for (slot, left) in slots.iter().zip(places.lefts.iter()) {
         if slot.is_folded() {
-            push_fold(alloc, svg, places, *left, slot)?;
+            push_fold(alloc, svg, places, *left, layout, slot)?;
         } else if let Some(operation) = slot.operation()
             && let Some(column) = layout.columns.get(operation)
         {

@@ -15,6 +15,10 @@ pub struct Group {
     pub cost: String,
     /// How many operations it has.
     pub size: usize,
+    /// Whether it begins after a barrier.
+    pub has_barrier: bool,
+    /// The first group that it is like, if it is not that: of these only the first has to be shown.
+    pub like: Option<usize>,
 }
 
 /// An operation, which has a column.
@@ -30,6 +34,8 @@ pub struct Column {
     pub touched: Option<Touched>,
     /// Whether the first span that it writes is its completion record.
     pub has_record: bool,
+    /// Of which split operation it is a piece, if it is one.
+    pub split: Option<usize>,
 }
 
 /// What is to be said of a fence.
@@ -43,6 +49,11 @@ pub enum BarKind {
     Needless,
     /// No conflict needs it, but it guards or signals.
     Kept,
+    /// It orders nothing: its operation is the first of its group.
+    NoEffect {
+        /// Whether that is an error.
+        is_error: bool,
+    },
 }
 
 /// Two operations that a fence separates, and an address at which they conflict.
@@ -71,6 +82,15 @@ pub struct Bar {
     pub separated: Option<Separated>,
 }
 
+/// An operation that is split into pieces, each of which has a column.
+#[derive(Debug, Drop)]
+pub struct Split {
+    /// Its number.
+    pub operation: usize,
+    /// Its name, without the number of a piece.
+    pub name: String,
+}
+
 /// The name of the buffer that has an address.
 #[derive(Debug, Drop)]
 pub struct Buffer {
@@ -89,6 +109,8 @@ pub struct Layout<'a> {
     pub groups: Vec<Group>,
     /// The operations of all groups, in order.
     pub columns: Vec<Column>,
+    /// The operations that are split into several columns.
+    pub splits: Vec<Split>,
     /// The fences, in order.
     pub bars: Vec<Bar>,
     /// The names of buffers.
@@ -101,7 +123,7 @@ impl Bar {
     /// Whether the fence is there.
     pub(crate) fn is_set(&self) -> bool {
         match self.kind {
-            BarKind::Needed | BarKind::Needless | BarKind::Kept => true,
+            BarKind::Needed | BarKind::Needless | BarKind::Kept | BarKind::NoEffect { .. } => true,
             BarKind::Missing => false,
         }
     }

@@ -14,6 +14,6 @@ mod slots;
 mod texts;
 
 pub use drawing::draw;
-pub use layout::{Bar, BarKind, Buffer, Column, Group, Layout, Separated};
+pub use layout::{Bar, BarKind, Buffer, Column, Group, Layout, Separated, Split};
 pub use names::{hazard_name, op_name};
 pub use places::MOST_ROWS;

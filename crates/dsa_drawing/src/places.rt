@@ -1,7 +1,9 @@
 //! Where everything is in a picture.
 
+use crate::bars::BARRIER;
 use crate::grid::Grid;
-use crate::layout::{Bar, Layout};
+use crate::heads::fold_name;
+use crate::layout::Layout;
 use crate::slots::Slot;
 use crate::texts::{SIZE, letters_in, letters_of, wrapped};
 use std::alloc::{AllocError, Global};
@@ -34,6 +36,8 @@ pub(crate) struct Places {
     pub(crate) width: usize,
     /// Whether columns are so narrow that names are read from the bottom to the top.
     pub(crate) is_narrow: bool,
+    /// How wide the gap between groups is.
+    pub(crate) gap: usize,
     /// Where each column begins.
     pub(crate) lefts: Vec<usize>,
     /// The column of each operation that has one.
@@ -88,7 +92,7 @@ fn lefts_of(
     Ok(lefts)
 }
 
-/// The column of each of so many operations that has one.
+/// The column of each of so many operations that has one, or is the first of the pieces that have one.
 fn columns_of(
     alloc: Global,
     slots: &[Slot],
@@ -96,7 +100,7 @@ fn columns_of(
 ) -> Result<Vec<Option<usize>>, AllocError> {
     let mut columns = vec![in alloc; None; operations]?;
     for (column, slot) in slots.iter().enumerate() {
-        if let Some(operation) = slot.operation()
+        if let Some(operation) = slot.marked()
             && operation < columns.len()
         {
             columns[operation] = Some(column);
@@ -129,7 +133,10 @@ fn names_height(
 ) -> Result<usize, AllocError> {
     let mut height: usize = 13;
     for slot in slots {
-        if slot.is_folded() {
+        if slot.split().is_some() {
+            let name = fold_name(alloc, layout, slot)?;
+            height = height.max(height_of(alloc, &name, width)?);
+        } else if slot.is_folded() {
             height = height.max(height_of(alloc, FOLDED, width)?);
         } else if let Some(operation) = slot.operation()
             && let Some(column) = layout.columns.get(operation)
@@ -140,10 +147,13 @@ fn names_height(
     Ok(height)
 }
 
-/// How high the words below fences are.
-fn words_height(alloc: Global, bars: &[Bar], width: usize) -> Result<usize, AllocError> {
+/// How high the words below fences and barriers are.
+fn words_height(alloc: Global, layout: &Layout<'_>, width: usize) -> Result<usize, AllocError> {
     let mut height: usize = 0;
-    for bar in bars {
+    if layout.groups.iter().any(|group| group.has_barrier) {
+        height = height_of(alloc, BARRIER, width)?;
+    }
+    for bar in &layout.bars {
         height = height.max(height_of(alloc, &bar.words, width)?);
     }
     Ok(height)
@@ -152,7 +162,7 @@ fn words_height(alloc: Global, bars: &[Bar], width: usize) -> Result<usize, Allo
 /// How high the words above groups are: those of a narrow group are read from the bottom to the top.
 fn heads_height(slots: &[Slot], width: usize) -> usize {
     if is_narrow(width) && has_narrow_group(slots, width) {
-        78
+        102
     } else {
         46
     }
@@ -191,11 +201,12 @@ pub(crate) fn places_of(
         .saturating_add(20);
     let bottom = top.saturating_add(grid.rows.len().max(1).saturating_mul(ROW));
     let notes = bottom
-        .saturating_add(words_height(alloc, &layout.bars, width)?)
+        .saturating_add(words_height(alloc, layout, width)?)
         .saturating_add(22);
     Ok(Places {
         width,
         is_narrow: is_narrow(width),
+        gap,
         lefts,
         columns: columns_of(alloc, slots, layout.columns.len())?,
         right,

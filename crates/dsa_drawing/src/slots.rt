@@ -6,6 +6,19 @@ use std::alloc::{AllocError, Global};
 /// The most columns of a picture that folds none.
 pub(crate) const MOST_COLUMNS: usize = 24;
 
+/// What operations in one column have in common.
+#[derive(Clone, Copy, Debug, PartialEq, Eq)]
+pub(crate) enum Fold {
+    /// No fence is about them.
+    Plain,
+    /// The same, and all are pieces of the operation of this number.
+    Pieces(usize),
+    /// Their groups are like the group of this number.
+    Like(usize),
+    /// Their groups are each like an earlier one.
+    LikeSeveral,
+}
+
 /// A column of a picture: of one operation, or of several that are folded; of an empty batch it has none.
 #[derive(Clone, Copy, Debug)]
 pub(crate) struct Slot {
@@ -17,6 +30,8 @@ pub(crate) struct Slot {
     pub(crate) group: usize,
     /// How many groups they are of.
     pub(crate) groups: usize,
+    /// What they have in common.
+    pub(crate) fold: Fold,
 }
 
 impl Slot {
@@ -33,6 +48,32 @@ impl Slot {
     pub(crate) fn is_folded(self) -> bool {
         self.count > 1 || self.groups > 1
     }
+
+    /// The operation of which several pieces are folded in it.
+    pub(crate) fn split(self) -> Option<usize> {
+        match self.fold {
+            Fold::Pieces(split) if self.is_folded() => Some(split),
+            Fold::Pieces(_) | Fold::Plain | Fold::Like(_) | Fold::LikeSeveral => None,
+        }
+    }
+
+    /// The operation that marks in it are of: the one that has the column, or the first of the pieces of one.
+    pub(crate) fn marked(self) -> Option<usize> {
+        if self.split().is_some() {
+            Some(self.first)
+        } else {
+            self.operation()
+        }
+    }
+}
+
+/// How operations are folded.
+#[derive(Clone, Copy, Debug)]
+struct Rule {
+    /// Whether groups are folded.
+    folds_groups: bool,
+    /// Whether the pieces of each operation are folded by themselves.
+    parts_pieces: bool,
 }
 
 /// How many columns there are if none is folded.
@@ -51,9 +92,9 @@ fn keep(kept: &mut Vec<bool>, operation: usize) {
     }
 }
 
-/// Which operations have a column: all, or if these are many those that a fence or its conflict is about.
-fn kept_of(alloc: Global, layout: &Layout<'_>, is_small: bool) -> Result<Vec<bool>, AllocError> {
-    let mut kept = vec![in alloc; is_small; layout.columns.len()]?;
+/// The operations that a fence or its conflict is about.
+fn kept_of(alloc: Global, layout: &Layout<'_>) -> Result<Vec<bool>, AllocError> {
+    let mut kept = vec![in alloc; false; layout.columns.len()]?;
     for bar in &layout.bars {
         keep(&mut kept, bar.column);
         if let Some(separated) = &bar.separated {
@@ -64,11 +105,60 @@ fn kept_of(alloc: Global, layout: &Layout<'_>, is_small: bool) -> Result<Vec<boo
     Ok(kept)
 }
 
-/// Adds a whole group to the folded groups before it, or folds it as the first.
-fn fold_group(slots: &mut Vec<Slot>, folded: Slot, before: bool) -> Result<(), AllocError> {
-    if before && let Some(last) = slots.last_mut() {
+/// What an operation is folded as.
+fn fold_at(layout: &Layout<'_>, operation: usize) -> Fold {
+    if let Some(column) = layout.columns.get(operation)
+        && let Some(split) = column.split
+    {
+        return Fold::Pieces(split);
+    }
+    Fold::Plain
+}
+
+/// What two that are folded in one column have in common, if they can be.
+fn joined(rule: Rule, one: Fold, other: Fold) -> Option<Fold> {
+    if one == other {
+        return Some(one);
+    }
+    let are_like = (is_like(one), is_like(other));
+    match are_like {
+        (true, true) => Some(Fold::LikeSeveral),
+        (false, false) if !rule.parts_pieces => Some(Fold::Plain),
+        (false, false) | (true, false) | (false, true) => None,
+    }
+}
+
+/// Whether groups are folded since they are like others.
+fn is_like(fold: Fold) -> bool {
+    match fold {
+        Fold::Like(_) | Fold::LikeSeveral => true,
+        Fold::Plain | Fold::Pieces(_) => false,
+    }
+}
+
+/// What so many operations from `first` on are folded as in one column, if they can be.
+fn fold_of(layout: &Layout<'_>, rule: Rule, first: usize, count: usize) -> Option<Fold> {
+    let mut fold = fold_at(layout, first);
+    for operation in first..first.saturating_add(count) {
+        fold = joined(rule, fold, fold_at(layout, operation))?;
+    }
+    Some(fold)
+}
+
+/// Adds a whole group to the folded groups before it, if it can be, or folds it as the first.
+fn fold_group(
+    slots: &mut Vec<Slot>,
+    rule: Rule,
+    folded: Slot,
+    before: bool,
+) -> Result<(), AllocError> {
+    if before
+        && let Some(last) = slots.last_mut()
+        && let Some(fold) = joined(rule, last.fold, folded.fold)
+    {
         last.count = last.count.saturating_add(folded.count);
         last.groups = last.groups.saturating_add(1);
+        last.fold = fold;
         return Ok(());
     }
     slots.push(folded)?;
@@ -78,23 +168,29 @@ fn fold_group(slots: &mut Vec<Slot>, folded: Slot, before: bool) -> Result<(), A
 /// Adds the columns of a group: those that are kept, and one for all others between.
 fn push_group(
     slots: &mut Vec<Slot>,
+    layout: &Layout<'_>,
+    rule: Rule,
     kept: &[bool],
     first: usize,
     group: usize,
 ) -> Result<(), AllocError> {
     let mut folds = false;
     for (place, is_kept) in kept.iter().enumerate() {
+        let operation = first.saturating_add(place);
         let single = Slot {
-            first: first.saturating_add(place),
+            first: operation,
             count: 1,
             group,
             groups: 1,
+            fold: fold_at(layout, operation),
         };
         if !*is_kept
             && folds
             && let Some(last) = slots.last_mut()
+            && let Some(fold) = joined(rule, last.fold, single.fold)
         {
             last.count = last.count.saturating_add(1);
+            last.fold = fold;
         } else {
             slots.push(single)?;
         }
@@ -103,31 +199,82 @@ fn push_group(
     Ok(())
 }
 
-/// The columns of a picture.
-pub(crate) fn slots_of(alloc: Global, layout: &Layout<'_>) -> Result<Vec<Slot>, AllocError> {
-    let is_small = unfolded(&layout.groups) <= MOST_COLUMNS;
-    let kept = kept_of(alloc, layout, is_small)?;
+/// What a group from operation `first` on is folded as, if all of it is: none of it is kept, or it is like another.
+fn group_fold(
+    layout: &Layout<'_>,
+    rule: Rule,
+    group: &Group,
+    kept: &[bool],
+    first: usize,
+) -> Option<Fold> {
+    if !kept.iter().any(|is_kept| *is_kept) {
+        return fold_of(layout, rule, first, kept.len());
+    }
+    if !rule.folds_groups {
+        return None;
+    }
+    match group.like {
+        Some(like) => Some(Fold::Like(like)),
+        None => None,
+    }
+}
+
+/// The columns of a picture of which these operations are kept.
+fn grouped(
+    alloc: Global,
+    layout: &Layout<'_>,
+    kept: &[bool],
+    rule: Rule,
+) -> Result<Vec<Slot>, AllocError> {
     let mut slots = Vec::new(alloc);
-    let (mut rest, mut first) = (kept.as_slice(), 0usize);
+    let (mut rest, mut first) = (kept, 0usize);
     let mut folds = false;
     for (number, group) in layout.groups.iter().enumerate() {
-        let (own, behind) = rest.split_at(group.size.min(rest.len()));
-        let has_some = own.iter().any(|is_kept| *is_kept);
-        if is_small && !own.is_empty() || has_some {
-            push_group(&mut slots, own, first, number)?;
-            folds = false;
-        } else {
+        let (own, after) = rest.split_at(group.size.min(rest.len()));
+        if let Some(fold) = group_fold(layout, rule, group, own, first) {
             let folded = Slot {
                 first,
                 count: own.len(),
                 group: number,
                 groups: 1,
+                fold,
             };
-            fold_group(&mut slots, folded, folds && !is_small)?;
+            let before = folds && rule.folds_groups && !group.has_barrier;
+            fold_group(&mut slots, rule, folded, before)?;
             folds = true;
+        } else {
+            push_group(&mut slots, layout, rule, own, first, number)?;
+            folds = false;
         }
         first = first.saturating_add(own.len());
-        rest = behind;
+        rest = after;
     }
     Ok(slots)
+}
+
+/// The columns of a picture: those of all operations if they are few; else of each group that is like others one; else
+/// those that a fence or its conflict is about, and of the others between one for the pieces of each operation, or if
+/// these are many one for all.
+pub(crate) fn slots_of(alloc: Global, layout: &Layout<'_>) -> Result<Vec<Slot>, AllocError> {
+    let all = vec![in alloc; true; layout.columns.len()]?;
+    let mut rule = Rule {
+        folds_groups: false,
+        parts_pieces: false,
+    };
+    if unfolded(&layout.groups) <= MOST_COLUMNS {
+        return grouped(alloc, layout, &all, rule);
+    }
+    rule.folds_groups = true;
+    let different = grouped(alloc, layout, &all, rule)?;
+    if different.len() <= MOST_COLUMNS {
+        return Ok(different);
+    }
+    let kept = kept_of(alloc, layout)?;
+    rule.parts_pieces = true;
+    let parted = grouped(alloc, layout, &kept, rule)?;
+    if parted.len() <= MOST_COLUMNS {
+        return Ok(parted);
+    }
+    rule.parts_pieces = false;
+    grouped(alloc, layout, &kept, rule)
 }

@@ -17,11 +17,12 @@ use Rattle.dsa_explain.specs.declared.explanation.Explanation.{Explanation}
 use Rattle.dsa_explain.specs.declared.explanation.ExplainFault.{ExplainFault}
 use Rattle.dsa_explain.specs.declared.explanation.ExplainFault.TheVariants.{TooManyPieces, Legal, Memory}
 
--- the plan's costs, its fences and its cells
+-- the plan's costs, its fences and its cells, and the barriers
 pub record IsExplanationOf (s : Limits) (detail : Detail) (pieces : List Descriptor) (barriers : List Bool) (plan : Plan) (e : Explanation) : Type 0 where
   pub costs : AreCosts s (length pieces) plan e.costs
   pub fences : AreFencesOf detail (map fields pieces) barriers plan e.fences.items
   pub cells : e.cells.items ≡ cells_from 0 plan
+  pub marks : e.barriers.items ≡ barriers
 
 -- the plan is legal with these barriers, of pieces that are not too many
 pub record CanBeExplained (s : Limits) (pieces : List Descriptor) (barriers : List Bool) (plan : Plan) : Type 0 where

@@ -19,6 +19,8 @@ pub struct Explanation {
     pub fences: Vec<Fence>,
     /// Where its pieces and fences stand in a picture.
     pub cells: Vec<Cell>,
+    /// Whether each piece begins after a barrier; empty if none does.
+    pub barriers: Vec<bool>,
 }
 
 /// Why a plan is not explained.
@@ -70,5 +72,6 @@ pub fn explain(
         costs,
         fences,
         cells,
+        barriers: Vec::from_slice(alloc, barriers)?,
     })
 }

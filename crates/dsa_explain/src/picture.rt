@@ -8,9 +8,11 @@ use crate::fences::Fence;
 use crate::labels::{Labels, Origin};
 use crate::words::{cost_text, fence_text, group_text, push_origin};
 use dsa_descriptor::Descriptor;
-use dsa_drawing::{Bar, BarKind, Buffer, Column, Group, Layout, Separated, hazard_name, op_name};
+use dsa_drawing::{
+    Bar, BarKind, Buffer, Column, Group, Layout, Separated, Split, hazard_name, op_name,
+};
 use dsa_lines::op_text;
-use dsa_plan::{Costs, GroupCost, Settings};
+use dsa_plan::{Costs, GroupCost, Settings, is_barrier};
 use dsa_ranges::touched;
 use std::alloc::{AllocError, Global};
 
@@ -20,12 +22,16 @@ const LEGEND: &str = "R: reads, W: writes; bar: fence; red: the conflict that it
 /// The kinds of conflicts.
 const KINDS: &str = "RAW: read after write; WAR: write after read; WAW: write after write";
 
+/// The units of sizes, from the largest on.
+const UNITS: [(u64, &str); 3] = [(1 << 30, "GiB"), (1 << 20, "MiB"), (1 << 10, "KiB")];
+
 /// A group of this number.
 fn drawn_group(
     alloc: Global,
     greatest: u64,
     number: usize,
     group: &GroupCost,
+    has_barrier: bool,
 ) -> Result<Group, AllocError> {
     let (size, cost) = (group.size, group.cost);
     let kind = if size == 1 {
@@ -39,6 +45,8 @@ fn drawn_group(
         kind,
         cost: format!(in alloc; "cost {cost}")?,
         size,
+        has_barrier,
+        like: None,
     })
 }
 
@@ -46,11 +54,14 @@ fn drawn_group(
 fn drawn_groups(
     alloc: Global,
     greatest: u64,
-    costs: &[GroupCost],
+    explanation: &Explanation,
 ) -> Result<Vec<Group>, AllocError> {
     let mut groups = Vec::new(alloc);
-    for (number, group) in costs.iter().enumerate() {
-        groups.push(drawn_group(alloc, greatest, number, group)?)?;
+    let mut start: usize = 0;
+    for (number, group) in explanation.costs.groups.iter().enumerate() {
+        let has_barrier = is_barrier(&explanation.barriers, start);
+        groups.push(drawn_group(alloc, greatest, number, group, has_barrier)?)?;
+        start = start.saturating_add(group.size);
     }
     Ok(groups)
 }
@@ -97,6 +108,79 @@ fn piece_title(
     }
 }
 
+/// The operation that a piece is of, if that has several.
+fn split_of(origin: Option<Origin>) -> Option<usize> {
+    match origin {
+        Some(
+            Origin {
+                operation,
+                pieces,
+                ..
+            },
+        ) if pieces > 1 => Some(operation),
+        Some(_) | None => None,
+    }
+}
+
+/// So many bytes, in the largest unit of which they are a multiple.
+fn bytes_text(alloc: Global, bytes: u64) -> Result<String, AllocError> {
+    for (one, unit) in UNITS {
+        if bytes >= one && bytes % one == 0 {
+            let number = bytes / one;
+            return format!(in alloc; "{number} {unit}");
+        }
+    }
+    format!(in alloc; "{bytes} bytes")
+}
+
+/// The name of an operation of several pieces, of which this is the first: its comment, or what it does with how much.
+fn split_name(
+    alloc: Global,
+    d: &Descriptor,
+    comment: Option<&str>,
+    bytes: u64,
+) -> Result<String, AllocError> {
+    match comment {
+        Some(comment) => String::from_str(alloc, comment),
+        None => {
+            let (name, size) = (op_name(&d.op), bytes_text(alloc, bytes)?);
+            format!(in alloc; "{name} {size}")
+        }
+    }
+}
+
+/// How many bytes so many pieces from the first on have.
+fn bytes_of(pieces: &[Descriptor], first: usize, count: usize) -> u64 {
+    let (_, rest) = pieces.split_at(first.min(pieces.len()));
+    let (own, _) = rest.split_at(count.min(rest.len()));
+    let mut bytes: u64 = 0;
+    for d in own {
+        bytes = bytes.saturating_add(u64::from(d.size));
+    }
+    bytes
+}
+
+/// The operations of several pieces.
+fn drawn_splits(
+    alloc: Global,
+    pieces: &[Descriptor],
+    labels: &Labels<'_>,
+) -> Result<Vec<Split>, AllocError> {
+    let mut splits = Vec::new(alloc);
+    for (number, origin) in labels.origins.iter().enumerate() {
+        if origin.piece == 1
+            && let Some(operation) = split_of(Some(*origin))
+            && let Some(d) = pieces.get(number)
+        {
+            let bytes = bytes_of(pieces, number, origin.pieces);
+            let comment = comment_of(labels.names, Some(*origin));
+            let name = split_name(alloc, d, comment, bytes)?;
+            splits.push(Split { operation, name })?;
+        }
+    }
+    Ok(splits)
+}
+
 /// The pieces of a plan.
 fn drawn_pieces(
     alloc: Global,
@@ -113,6 +197,7 @@ fn drawn_pieces(
             title: piece_title(alloc, number, d, comment, origin)?,
             touched: Some(touched(d)),
             has_record: true,
+            split: split_of(origin),
         })?;
     }
     Ok(columns)
@@ -212,8 +297,9 @@ pub fn draw(
 {
     let costs = costs_drawn(alloc, &explanation.costs, pieces.len(), least)?;
     let layout = Layout {
-        groups: drawn_groups(alloc, settings.greatest_batch(), &explanation.costs.groups)?,
+        groups: drawn_groups(alloc, settings.greatest_batch(), explanation)?,
         columns: drawn_pieces(alloc, pieces, labels)?,
+        splits: drawn_splits(alloc, pieces, labels)?,
         bars: drawn_fences(alloc, pieces, &explanation.fences)?,
         buffers,
         notes: notes_of(alloc, &costs, !explanation.fences.is_empty())?,

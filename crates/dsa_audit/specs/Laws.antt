@@ -1,5 +1,5 @@
 -- What an audit of a batch promises.
-use Rattle.std.specs.Prelude.{ℕ, ◌≡◌, ◌↔◌, ◌+◌, ◌<◌, ◌≤◌, Bool, IsTrue, List, length, get_or}
+use Rattle.std.specs.Prelude.{ℕ, ◌≡◌, ◌↔◌, ◌+◌, ◌-◌, ◌^◌, ◌<◌, ◌≤◌, All, Bool, IsTrue, List, length, get_or}
 use Rattle.dsa_settings.specs.Plan.{Group, fence_count}
 use Rattle.dsa_settings.specs.Legal.{SeparatesConflicts}
 use Rattle.dsa_audit.specs.declared.member.Member.{Member}
@@ -8,18 +8,20 @@ use Rattle.dsa_audit.specs.declared.missing.FencePlace.TheVariants.{NoFence, Mis
 use Rattle.dsa_audit.specs.declared.needless.FenceUse.{FenceUse}
 use Rattle.dsa_audit.specs.declared.audit.Audit.{Audit}
 use Rattle.dsa_audit.specs.declared.repeats.Action.{Action}
-use Rattle.dsa_audit.specs.Members.{PossibleConflict}
+use Rattle.dsa_audit.specs.Members.{FitsMemory, PossibleConflict}
 use Rattle.dsa_audit.specs.Repeats.{OrderMatters, AreRepeats}
 use Rattle.dsa_audit.specs.Steps.{AreLasts}
 use Rattle.dsa_audit.specs.Audits.{HasFence, IsSeparated, CanFail, Shows, IsCorrected, IsReduced, ShareEpoch, Separates}
 
 -- the members that repeat an earlier one; the missing fences by the conflicts that are known of the operands of members,
 -- where their order matters; of all fences then, the needless ones by the conflicts that are not ruled out by all that they
--- touch, of which the last ones of the first members are at hand, by the members that can fail, and by those that show
+-- touch, of which the last ones of the first members are at hand, by the members that can fail, and by those that show. Of
+-- more than 64 members, and fewer than 2^32 - 1, none of which goes past 2^64, those of each are at hand.
 pub record IsAudit (actions : List Action) (operands members : List Member) (fallible visible : List Bool) (g : Group) (a : Audit) : Type 0 where
   pub repeated : AreRepeats actions operands a.repeated.items
   pub corrected : IsCorrected (OrderMatters actions operands) g a.corrected.places.items a.corrected.fences.items
   pub lasts : AreLasts (PossibleConflict members) a.lasts.items
+  pub all : 64 < length members → length members < 2 ^ 32 - 1 → All FitsMemory members → length a.lasts.items ≡ length members
   pub reduced :
       IsReduced (PossibleConflict members) fallible visible a.corrected.fences.items a.reduced.uses.items
       a.reduced.fences.items

@@ -150,7 +150,8 @@ fn lasts_with_unknown(
 ) -> Result<Vec<Option<usize>>, AllocError>
     requires lasts { AreLasts (KnownConflict members.now) known.now }
     requires count { length known.now ≤ length members.now }
-    ensures { IfOk result (λ lasts. AreLasts (PossibleConflict members.now) lasts.items) }
+    ensures lasts { IfOk result (λ lasts. AreLasts (PossibleConflict members.now) lasts.items) }
+    ensures count { IfOk result (λ lasts. length lasts.items ≡ length known.now) }
 {
     let mut lasts = Vec::with_capacity(alloc, known.len())?;
     let mut unknown = None;
@@ -161,9 +162,13 @@ fn lasts_with_unknown(
     Ok(lasts)
 }
 
-/// The same as [`known_lasts`] of conflicts that are not ruled out, for [`drop_needless`](crate::drop_needless).
+/// The same as [`known_lasts`] of conflicts that are not ruled out, of as many members, for
+/// [`drop_needless`](crate::drop_needless).
 pub fn possible_lasts(alloc: Global, members: &[Member]) -> Result<Vec<Option<usize>>, AllocError>
-    ensures { IfOk result (λ lasts. AreLasts (PossibleConflict members.now) lasts.items) }
+    ensures lasts { IfOk result (λ lasts. AreLasts (PossibleConflict members.now) lasts.items) }
+    ensures count { IfOk result (λ lasts. length lasts.items ≤ length members.now) }
+    ensures all { IfOk result (λ lasts. 64 < length members.now → length members.now < 2 ^ 32 - 1 →
+        All FitsMemory members.now → length lasts.items ≡ length members.now) }
 {
     let known = known_lasts(alloc, members)?;
     lasts_with_unknown(alloc, members, &known)

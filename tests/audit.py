@@ -8,6 +8,7 @@ names of parts; a number is how many random recordings are judged, 200 without o
 import itertools
 import json
 import random
+import re
 import resource
 import shutil
 import struct
@@ -76,6 +77,12 @@ def batches_of(recording):
         if entries[at][7] == 1:
             yield at, entries[at], entries[at + 1 : at + 1 + size]
         at += 1 + size
+
+
+def pasid_of(it):
+    """How a message names the owner of an entry."""
+    owner = struct.unpack_from("<I", it)[0]
+    return f"PASID {owner % (1 << 20)}" + " privileged" * (owner >> 31)
 
 
 def first_foreign(recording):
@@ -171,12 +178,20 @@ def operands_of(it):
     return reads, writes | (record if it[7] in (CRC, COPY_CRC) else set())
 
 
+def touches_record(one, other):
+    """The second writes within the record of the first, or reads there a status, which is no checksum's."""
+    record, (reads, writes, own) = parts_of(one)[2], parts_of(other)
+    return bool(record & (writes | own) or (one[7] not in (CRC, COPY_CRC) and record & reads))
+
+
 def shares_record(one, other):
-    """The record of one meets the record of the other or data that it writes, or is read by it and no checksum's."""
-    (reads, writes, record), (reads2, writes2, record2) = parts_of(one), parts_of(other)
-    status = record if one[7] not in (CRC, COPY_CRC) else set()
-    status2 = record2 if other[7] not in (CRC, COPY_CRC) else set()
-    return bool(record & (writes2 | record2) or record2 & writes or status & reads2 or status2 & reads)
+    """One of two entries touches the record of the other."""
+    return touches_record(one, other) or touches_record(other, one)
+
+
+def record_of(it):
+    """Where the completion record of an entry is, as a report says it."""
+    return f"{struct.unpack_from('<Q', it, 8)[0]:#x}"
 
 
 def is_misaligned(it):
@@ -304,11 +319,19 @@ class Batch:
         held, others = self.kept_pairs()
         return len(self.corrected) - fewest(set(), sorted(self.corrected), held + others)
 
+    def shared_with(self, earlier, it):
+        """What is said of an entry that shares a record with an earlier one: the record is that of the earlier, if it
+        touches that, else its own."""
+        other = self.entries[earlier]
+        address = record_of(other if touches_record(other, it) else it)
+        return {"kind": "shared record", "earlier": earlier, "address": address}
+
     def wanted_flaws(self, at):
         """What is wrong beside fences, of the descriptor, which is entry `at`, and of each member."""
         if self.is_batch:
             count = len(self.entries)
-            there = [(count < 2, {"kind": "small batch", "size": count}), (is_misaligned(self.head), {"kind": "misaligned record"})]
+            there = [(count < 2, {"kind": "small batch", "size": count})]
+            there.append((is_misaligned(self.head), {"kind": "misaligned record", "address": record_of(self.head)}))
             there.append((self.head[4] & 1, {"kind": "fence without effect"}))
             yield from ((at, "error", what) for is_there, what in there if is_there)
         list_at = struct.unpack_from("<Q", self.head, 16)[0]
@@ -320,10 +343,10 @@ class Batch:
             overwrites = (writes | record) & kept or writes & listed or (record & listed and not own)
             earlier = [i for i in range(k) if self.is_seen[i] and self.is_seen[k] and shares_record(self.entries[i], it)]
             there = [
-                (earlier, {"kind": "shared record", "earlier": max(earlier, default=0)}),
+                (earlier, self.shared_with(max(earlier, default=0), it)),
                 (self.is_batch and overwrites, {"kind": "overwrites batch"}),
-                ((reads | writes) & record, {"kind": "data over record"}),
-                (is_misaligned(it), {"kind": "misaligned record"}),
+                ((reads | writes) & record, {"kind": "data over record", "address": record_of(it)}),
+                (is_misaligned(it), {"kind": "misaligned record", "address": record_of(it)}),
                 (not self.is_batch and it[4] & 1, {"kind": "fence without effect"}),
             ]
             yield from ((at + self.is_batch + k, "error", what) for is_there, what in there if is_there)
@@ -560,9 +583,12 @@ class Maker:
 def refused(recording, foreign):
     """A recording with an entry that cannot be a member of its batch is refused, with the option that gives members."""
     ran = subprocess.run([TEXT, "audit"], input=recording, capture_output=True)
+    member, head = (recording[64 * at : 64 * at + 64] for at in foreign)
+    other = f"with {pasid_of(member)} this", f", which has {pasid_of(head)}"
+    what, whose = ("a batch", "") if member[7] == 1 else other
     reason = (
-        f"entry {foreign[0]}: error: this cannot be a member of the batch at entry {foreign[1]}: "
-        "if members are not recorded, give a dump of them with --staging\n"
+        f"entry {foreign[0]}: error: {what} cannot be a member of the batch of {struct.unpack_from('<I', head, 32)[0]} "
+        f"at entry {foreign[1]}{whose}: if members are not recorded, give a dump of them with --staging\n"
     )
     common.expect((ran.returncode, ran.stdout, ran.stderr.decode()) == (2, b"", reason), f"foreign at {foreign}: {ran}")
 
@@ -628,6 +654,7 @@ WORDS = {
     "signalling": "signals {awaited}",
     "guarding and signalling": "guards {earlier} signals {awaited}",
     "needless": "needless",
+    "no effect": "no effect",
 }
 PARTS = ("group", "operation", "folded", "mark", "conflict", *pictured.BARS)
 
@@ -656,11 +683,12 @@ def column_of(number, at, it, why):
 
     name = NAMES.get(it[7]) or f"0x{it[7]:02x}"
     title = f"{number}: {findings.operation(it)}, entry {at}"
+    size = struct.unpack_from("<I", it, 32)[0]
     if why:
-        return pictured.Column(title, number, f"{name} ({why})", seen=False)
+        return pictured.Column(title, number, f"{name} ({why})", seen=False, size=size)
     reads, writes = data_of(it)
     record = (struct.unpack_from("<Q", it, 8)[0], 32) if it[4] & 0x04 else None
-    return pictured.Column(title, number, name, listed(reads), listed(writes), record=record)
+    return pictured.Column(title, number, name, listed(reads), listed(writes), record=record, size=size)
 
 
 def hazard_of(earlier, later):
@@ -673,19 +701,37 @@ def hazard_of(earlier, later):
     return None
 
 
-def needed_bar(k, first, kept, columns, lines):
-    """The bar of a fence that a conflict needs: of the conflicts that are drawn one that it alone separates, of all
-    fences that stay; or it is needed for a member of which nothing is known."""
-    for earlier, later, _ in lines:
-        if first <= earlier < k <= later and [it for it in kept if earlier < it <= later] == [k]:
-            kind, address = hazard_of(columns[earlier], columns[later]) or ("no conflict", 0)
-            return pictured.Bar(k, "fence", kind, pair=(earlier, later, address))
-    return pictured.Bar(k, "fence", "unknown")
+def separated_by(k, members, kept, columns):
+    """The pairs of members that are known to conflict, and that of all fences that stay the one before k alone
+    separates."""
+    start = max([members.start, *(it for it in kept if it < k)])
+    end = min([members.stop, *(it for it in kept if it > k)])
+    pairs = itertools.product(range(start, k), range(k, end))
+    return [(earlier, later) for earlier, later in pairs if hazard_of(columns[earlier], columns[later])]
 
 
-def wanted_picture(recording, report, svg):
-    """The columns, the sizes of submissions and the bars that the picture of a recording has to have, by its report; of
-    a needed fence the conflict is taken from the picture, and judged."""
+def needed_bar(k, members, kept, columns, lines):
+    """The bar of a fence that a conflict needs: of the known conflicts that it alone separates, of all that stay, one
+    that is drawn, or if its submission is not shown the first; or it is needed for an unknown member."""
+    pairs = separated_by(k, members, kept, columns)
+    if not pairs:
+        return pictured.Bar(k, "fence", "unknown")
+    earlier, later = next((line[:2] for line in lines if line[:2] in pairs), pairs[0])
+    kind, address = hazard_of(columns[earlier], columns[later])
+    return pictured.Bar(k, "fence", kind, pair=(earlier, later, address))
+
+
+def like_of(members, columns, bars, is_batch, kept):
+    """What submissions that are alike have in common."""
+    own = [(bar.column - members.start, bar.words) for bar in bars if bar.column in members]
+    pairs = [[(it[0] - members.start, it[1] - members.start) for it in separated_by(bar.column, members, kept, columns)]
+             for bar in bars if bar.column in members]
+    return is_batch, [(columns[k].name, columns[k].size) for k in members], own, pairs
+
+
+def wanted_picture(recording, report, svg, words=""):
+    """The columns, the submissions and the bars that the picture of a recording has to have, by its report; of a needed
+    fence the conflict is taken from the picture, and judged."""
     found, columns, sizes, bars, heads = {}, [], [], [], []
     for it in report["findings"]:
         what, place = it["what"], (it["submission"], it["member"] or 0)
@@ -694,7 +740,9 @@ def wanted_picture(recording, report, svg):
         elif what["kind"] == "missing" or what["kind"] in WORDS:
             found.setdefault(place, {})["mark"] = what
         elif what["kind"] == "fence without effect" and it["member"] is None and recording[64 * it["entry"] + 7] != 1:
-            found.setdefault(place, {})["mark"] = {"kind": "needless"}
+            found.setdefault(place, {})["mark"] = {"kind": "no effect", "denied": True}
+        if what["kind"] == "needless" and it["member"] == 0:
+            found[place]["mark"] = {"kind": "no effect", "denied": "needless" in words}
     for number, (is_batch, _, at, members) in enumerate(submissions_of(recording)):
         marks = [found.get((number, k), {}) for k in range(len(members))]
         kind, fences = f"batch of {len(members)}" if is_batch else "lone", sum(it[4] & 1 for it in members)
@@ -703,23 +751,27 @@ def wanted_picture(recording, report, svg):
         sizes.append(len(members))
         columns += [column_of(k, at + k, it, mark.get("why")) for k, (it, mark) in enumerate(zip(members, marks))]
     lines = pictured.drawn(svg, columns)[0]["conflicts"] if svg else []
-    first = 0
-    for number, (_, _, at, members) in enumerate(submissions_of(recording)):
+    first, firsts, likes = 0, {}, []
+    for number, (is_batch, _, at, members) in enumerate(submissions_of(recording)):
         marks = [found.get((number, k), {}).get("mark") for k in range(len(members))]
         kinds = [mark["kind"] if mark else "fence" if it[4] & 1 else "" for it, mark in zip(members, marks)]
-        kept = [first + k for k, kind in enumerate(kinds) if kind not in ("", "needless")]
-        own = [line for line in lines if first <= line[0] < first + len(members)]
+        kept = [first + k for k, kind in enumerate(kinds) if kind not in ("", "needless", "no effect")]
+        own = range(first, first + len(members))
         for k, (it, mark) in enumerate(zip(members, marks)):
             if mark and mark["kind"] == "missing":
                 pair = (first + mark["earlier"], first + k, int(mark["address"], 16))
                 bars.append(pictured.Bar(first + k, "missing", f"missing {pictured.KINDS[mark['hazard']]}", pair=pair))
             elif mark:
-                kind = "needless" if mark["kind"] == "needless" else "kept"
+                kind = "needless" if mark["kind"] in ("needless", "no effect") else "kept"
+                kind = "denied" if mark.get("denied") else kind
                 bars.append(pictured.Bar(first + k, kind, WORDS[mark["kind"]].format(**mark)))
             elif it[4] & 1:
-                bars.append(needed_bar(first + k, first, kept, columns, own))
+                bars.append(needed_bar(first + k, own, kept, columns, lines))
+        common_key = repr(like_of(own, columns, bars, is_batch, kept))
+        likes.append(firsts.get(common_key))
+        firsts.setdefault(common_key, number)
         first += len(members)
-    return columns, sizes, bars, heads
+    return columns, pictured.Groups(sizes, likes), bars, heads
 
 
 def drawn_totals(totals):
@@ -743,11 +795,11 @@ def compare(recording, name, words=""):
     totals = report["totals"]
     denied = totals["flaws"] + sum(totals[kind] for kind in ("needless", "unseen") if kind in words)
     common.expect((status, error) == (int(totals["missing"] + denied > 0), ""), f"{name}: status {status}, {error}")
-    columns, sizes, bars, heads = wanted_picture(recording, report, svg)
-    fault, others = pictured.fault_of(svg, columns, sizes, bars)
+    columns, groups, bars, heads = wanted_picture(recording, report, svg, words)
+    fault, others = pictured.fault_of(svg, columns, groups, bars)
     common.expect(not fault, f"{name}: {fault}")
-    groups = [it for it in others["groups"] if not it.startswith("groups ")]
-    common.expect(set(groups) <= set(heads), f"{name}: the groups are {groups}, and not {heads}")
+    titles = [it for it in others["groups"] if not it.startswith("groups ")]
+    common.expect(set(titles) <= set(heads), f"{name}: the groups are {titles}, and not {heads}")
     common.expect(others["notes"][:2] == drawn_totals(totals), f"{name}: at the end stand {others['notes']}")
     return {kind: svg.count(f'class="{kind}"') for kind in PARTS}
 
@@ -760,7 +812,7 @@ def pictures():
         for kind, number in compare(Maker(seed).recording(), f"seed {seed} {words}", words).items():
             sums[kind] = sums.get(kind, 0) + number
     print("drawn: " + ", ".join(f"{number} {kind}" for kind, number in sums.items()))
-    common.expect(all(number > COUNT // 10 for number in sums.values()), f"too few parts are drawn: {sums}")
+    common.expect(all(number >= COUNT // 50 for number in sums.values()), f"too few parts are drawn: {sums}")
 
 
 def sizes():
@@ -779,12 +831,93 @@ def sizes():
         common.expect(got | {"mark": 0} == none | all_of, f"{size} members that conflict: {got}")
         fenced = [bytes([*it[:4], it[4] | 1, *it[5:]]) for it in apart[:size]]
         got = compare(batch(*fenced), f"{size} needless fences")
-        all_of = {"group": 1, "operation": size, "needless": 1, "kept": size - 1}
+        all_of = {"group": 1, "operation": size, "no-effect": 1, "kept": size - 1}
         common.expect(got | {"mark": 0} == none | all_of, f"{size} fences that no conflict needs: {got}")
     lone, whole = b"".join(apart[:1024]), batch(*apart[:63]) * 1024
-    for recording, name in [(lone, "1024 lone submissions"), (whole, "1024 batches of 65536 entries")]:
-        got = compare(recording, name)
-        common.expect(got == none | {"group": 1, "folded": 1}, f"{name}: {got}")
+    got = compare(lone, "1024 lone submissions")
+    one = {"group": 2, "operation": 1, "folded": 1, "mark": 2}
+    common.expect(got == none | one, f"1024 lone submissions: {got}")
+    got = compare(whole, "1024 batches of 65536 entries")
+    common.expect(got == none | {"group": 1, "folded": 1}, f"1024 batches of 65536 entries: {got}")
+
+
+def no_effect():
+    """A fence that orders nothing has a mark of its own: of a lone descriptor, where it is an error unless it is
+    accepted; and of the first member of a batch, where it is an error if needless fences are denied."""
+    lone = entry(MOVE, 0x0D, 0x8000, 0x1000, 0x2000, 64)
+    first = batch(lone, entry(MOVE, 0x0C, 0x8020, 0x3000, 0x4000, 64))
+    with tempfile.NamedTemporaryFile("w") as file:
+        file.write("fence without effect; lone: move, 64 bytes\n")
+        file.flush()
+        for recording, words, stroke, status in [
+            (lone, "", 'stroke="#c00"', 1), (lone, f"--accept {file.name}", 'stroke="black"', 0),
+            (first, "", 'stroke="black"', 0), (first, "--deny needless", 'stroke="#c00"', 1),
+        ]:
+            svg, ended, error = draw(recording, words)
+            found = re.findall(r'<g class="no-effect">.*?</g></g>', svg)
+            common.expect((ended, error, len(found)) == (status, "", 1), f"{words}: {ended}, {error}, {found}")
+            common.expect(">no effect<" in found[0] and stroke in found[0], f"{words}: {found}")
+            if "accept" not in words:
+                compare(recording, f"a fence without effect {words}", words)
+
+
+def known_beside_unknown():
+    """A fence between two members that conflict, with one between of which nothing is known: the conflict is drawn,
+    also if a later member of the epoch has it, or if it is in a completion record; a fence that only such a member
+    needs is `unknown`, and so is one that separates no conflict alone."""
+    one, other = entry(MOVE, 0x0C, 0x8000, 0x1000, 0x2000, 64), entry(MOVE, 0x0C, 0x8020, 0x2000, 0x3000, 64)
+    apart, unknown = entry(MOVE, 0x0C, 0x8040, 0x5000, 0x6000, 64), entry(0x17, 0x0C, 0x8060, 0x7000, 0x7800, 64)
+    same_record = entry(FILL, 0x0C, 0x8000, 0, 0x9000, 64)
+    again = entry(MOVE, 0x0C, 0x8040, 0x2000, 0x3000, 64)
+    fenced = lambda it: bytes([*it[:4], it[4] | 1, *it[5:]])
+    for members, words in [
+        ([one, unknown, fenced(other)], ["RAW"]),
+        ([other, unknown, fenced(one)], ["WAR"]),
+        ([one, unknown, fenced(apart), other], ["RAW"]),
+        ([one, unknown, fenced(other), again], ["RAW"]),
+        ([one, unknown, fenced(same_record)], ["WAW"]),
+        ([one, fenced(unknown), fenced(other)], ["unknown", "unknown"]),
+        ([one, unknown, fenced(apart)], ["unknown"]),
+        ([one, unknown, other], ["missing RAW"]),
+        ([one, *[unknown] * 70, fenced(other)], ["RAW"]),
+        ([one, *[unknown] * 70, fenced(apart), other], ["RAW"]),
+    ]:
+        recording = batch(*members)
+        svg, _, _ = draw(recording)
+        found = re.findall(r'<g class="(?:fence|missing)">.*?<text[^>]*>(.*?)</g>', svg)
+        found = [" ".join(re.findall(r"([^<>]+)</text>", it)) for it in found]
+        common.expect(found == words, f"{words}: {found}")
+        compare(recording, f"{words} of {len(members)} members")
+
+
+def alike():
+    """Of submissions with the same operations, sizes and fences only the first is drawn, if there are more than 24
+    columns: one after another or by turns, but not one with another size or without a fence."""
+    def pair(k, size=64, fenced=True, at=0x20000000):
+        src, dst = 0x1000000 + 0x1000 * k, 0x4000000 + 0x1000 * k
+        one = entry(MOVE, 0x0C, at + 64 * k, src, dst, size)
+        return batch(one, entry(MOVE, 0x0C | fenced, at + 64 * k + 32, dst, src + 0x800, size))
+
+    ones, others = [pair(k) for k in range(100)], [pair(k, 32) for k in range(100)]
+    open_ones = [pair(k, fenced=False) for k in range(100)]
+    for recording, folded, shown in [
+        (ones, ["99 more like it"], 2),
+        (open_ones, ["99 more like it"], 2),
+        (ones[:12], [], 24),
+        (ones[:13], ["12 more like it"], 2),
+        ([it for both in zip(ones, others) for it in both], ["198 more like these"], 4),
+        (ones[:20] + others[:1] + ones[20:40], ["19 more like it", "20 more like 0"], 4),
+        (ones[:50] + open_ones[50:], ["49 more like it", "49 more like it"], 4),
+        ([entry(FILL, 0x0C, 0x200000 + 32 * k, 0, 64 * k, 64) for k in range(50)], ["49 more like it"], 1),
+    ]:
+        recording = b"".join(recording)
+        svg, _, _ = draw(recording)
+        found = re.findall(r'<g class="folded">.*?</g>', svg)
+        found = [" ".join(re.findall(r"<text[^>]*>([^<]*)", it)[1:]) for it in found]
+        common.expect(found == folded, f"{folded}: {found}")
+        columns = svg.count('class="operation"')
+        common.expect(columns == shown, f"{folded}: {columns} columns")
+        compare(recording, f"{folded}")
 
 
 def too_large():
@@ -1110,12 +1243,12 @@ def faulty_ones(recording, large):
     count, hint = len(recording) // 64, "if members are not recorded, give a dump of them with --staging"
     one, another = move(0x1000, 0x2000).bytes(), entry(MOVE, owner=7, size=64)
     foreign = recording + batch(one, another, one)
-    lost = f"cannot be a member of the batch at entry {count}: {hint}"
+    lost = f"cannot be a member of the batch of 3 at entry {count}, which has {pasid_of(one)}: {hint}"
     yield recording + bytes(3), f"entry {count}", "the recording ends after 3 of its 64 bytes"
     yield recording + large[:-64], f"entry {count}", (
         f"the recording ends after 39999 of the 40000 members of this batch: {hint}"
     )
-    yield foreign + recording, f"entry {count + 2}", f"this {lost}"
+    yield foreign + recording, f"entry {count + 2}", f"with PASID 7 this {lost}"
     last = f"entry {2 * count + 4}"
     yield foreign + recording + bytes(1), last, "the recording ends after 1 of its 64 bytes"
 
@@ -1217,13 +1350,40 @@ def speed():
             common.expect(took < 10, f"{name}: {took:.1f} s")
 
 
+def beside_unknown(count, later):
+    """A batch of so many members: in the first half moves that conflict with nothing, the last of them not looked at;
+    at a fence begins a second half of these."""
+    half = count // 2
+    ways = [(0x1000000 + 64 * k, 0x9000000 + 64 * k, 0x20000000 + 32 * k) for k in range(half - 1)]
+    members = [move(first, second, record_at=at).bytes() for first, second, at in ways]
+    return batch(*members, entry(0x99), *[later(k).bytes(k == 0) for k in range(half)])
+
+
+def soon_drawn():
+    """Pictures of 64,000 members. The one fence may be needed for a member that is not looked at, and is `unknown`: no
+    member after it conflicts with one before it, but each with the one before. More than ten seconds is a fault: to
+    compare each two members takes longer."""
+    for name, later in [
+        ("one record", lambda k: move(0x60000000 + 64 * k, 0x68000000 + 64 * k, record_at=0x7C000000)),
+        ("one operation", lambda k: move(0x60000000, 0x68000000, record_at=0x70000000 + 32 * k)),
+    ]:
+        recording = beside_unknown(64_000, later)
+        start = time.monotonic()
+        svg, _, error = draw(recording)
+        took = time.monotonic() - start
+        print(f"a picture of 64000 members, half of {name}: {took:.2f} s")
+        common.expect(not error and svg.count(">unknown<") == 1, f"{name}: {error} {svg[:300]}")
+        common.expect(took < 10, f"{name}: {took:.1f} s")
+
+
 def main(words):
     global TEXT, COUNT
     TEXT = program("dsa_text")
     numbers = [int(word) for word in words if word.isdigit()]
     COUNT = numbers[-1] if numbers else COUNT
-    parts = [brute_force, padded, pictures, sizes, too_large, planned, staged, lines, lists, unseen]
-    parts += [ends, in_parts, small_memory, forms, speed]
+    parts = [brute_force, padded, pictures, sizes, no_effect, known_beside_unknown, alike, too_large]
+    parts += [planned, staged, lines, lists, unseen]
+    parts += [ends, in_parts, small_memory, forms, speed, soon_drawn]
     for part in named(parts, [it for it in words if not it.isdigit()]):
         part()
 

@@ -4,6 +4,7 @@ and that --write-accept names the errors, and --accept those that are known. Sev
 each is the one that it has alone. A number is how many recordings are judged, 200 without one."""
 
 import json
+import re
 import struct
 import subprocess
 import tempfile
@@ -143,6 +144,10 @@ def judge(recording, name):
         key = key_of(what, entries, place, first, size)
         common.expect(finding["key"] == key, f"{name}: {finding} has the key {key!r}")
         keys.append((key, finding["severity"], wanted, what.get("once_corrected")))
+    for finding, (line, *_) in zip(report["findings"], told(run(recording, "--all")[1])):
+        address = finding["what"].get("address")
+        found = re.search(r", at (0x[0-9a-f]+)(?:$| \()", line)
+        common.expect((found and found[1]) == address, f"{name}: the line {line!r} has another address than {finding}")
     return keys
 
 

@@ -4,7 +4,7 @@ use Rattle.std.specs.Prelude.{if◌then◌else◌, slice_index_or, codes}
 use Rattle.std.specs.List.{AllByRecursion}
 use Rattle.std.proofs.lemmas.List.{map-append}
 use Rattle.std.proofs.lemmas.Bool.{eq-eqb, eqb-false, eqb-true, ne_eqb}
-use Rattle.dsa_descriptor.specs.Places.{u32_at, code_at}
+use Rattle.dsa_descriptor.specs.Places.{u32_at, u64_at, code_at}
 use Rattle.dsa_audit.specs.declared.member.Member.{Member as KnownMember}
 use Rattle.dsa_recording.specs.declared.accepted.Accepted.{Accepted}
 use Rattle.dsa_recording.specs.declared.detail.Cause.{Cause}
@@ -19,7 +19,7 @@ use Rattle.dsa_recording.specs.declared.findings.Place.TheVariants.{Head, Member
 use Rattle.dsa_recording.specs.declared.stream.Submission.{Submission}
 use Rattle.dsa_recording.specs.declared.submission.Audited.{Audited}
 use Rattle.dsa_recording.specs.Accepted.{IsAccepted, has_key}
-use Rattle.dsa_recording.specs.Details.{Describes, HasEntry, IsCause, IsIn, IsOf, entry_at, is_in_record, kind_of, named_by, shared_records}
+use Rattle.dsa_recording.specs.Details.{Describes, HasEntry, IsCause, IsIn, IsOf, cause_record, entry_at, flaw_record, is_in_record, kind_of, named_by, shared_at, shared_records}
 use Rattle.dsa_recording.specs.Findings.{all_found, findings_upto, head_findings, head_kinds, member_kinds, recording_findings, submission_findings}
 use Rattle.dsa_recording.specs.Keys.{batch_key, cause_key, entry_key, key_words, member_key, other_key, others_key, place_key}
 use Rattle.dsa_recording.specs.Reports.{Reported}
@@ -215,6 +215,31 @@ module _ (pre es post : List (List ℕ)) where
   records_same first at place moved_first (cause.Repeated earlier) e f lt within = refl
   records_same first at place moved_first (cause.Flawed flaw) e f lt within = refl
 
+  -- where the record is that a flaw is about
+  flaw_same : (first at place moved_first : ℕ) (flaw : Flaw) → moved_first ≡ n + first → at ≡ n + place → place < length es
+      → AreWithin first (length es) (named_by (cause.Flawed flaw)) → flaw_record all moved_first at flaw ≡ flaw_record es first place flaw
+  flaw_same first at place moved_first (SharedRecord earlier) e f lt within =
+      let here : moved_first + earlier ≡ n + (first + earlier) = omega (arith, e) in
+      ap (λ (o : Option (List ℕ)). shared_at o (slice_index_or all at [])) (there_same (first + earlier) (moved_first + earlier) here within.0)
+      ∙ ap (shared_at (slice_get es (first + earlier))) (entry_same place at f lt)
+  flaw_same first at place moved_first OverwritesBatch e f lt within = refl
+  flaw_same first at place moved_first DataOverRecord e f lt within = ap (u64_at 8) (entry_same place at f lt)
+  flaw_same first at place moved_first MisalignedRecord e f lt within = ap (u64_at 8) (entry_same place at f lt)
+  flaw_same first at place moved_first (SmallBatch size) e f lt within = refl
+  flaw_same first at place moved_first FenceWithoutEffect e f lt within = refl
+
+  -- and of a cause
+  cause_same : (first at place moved_first : ℕ) (c : Cause) → moved_first ≡ n + first → at ≡ n + place → place < length es → AreWithin first (length es) (named_by c)
+      → cause_record all moved_first at c ≡ cause_record es first place c
+  cause_same first at place moved_first (cause.MissingFence earlier h) e f lt within = refl
+  cause_same first at place moved_first (cause.NotSeen why) e f lt within = refl
+  cause_same first at place moved_first (cause.GuardingFence earlier) e f lt within = refl
+  cause_same first at place moved_first (cause.SignallingFence awaited) e f lt within = refl
+  cause_same first at place moved_first (cause.GuardingAndSignallingFence earlier awaited) e f lt within = refl
+  cause_same first at place moved_first cause.NeedlessFence e f lt within = refl
+  cause_same first at place moved_first (cause.Repeated earlier) e f lt within = refl
+  cause_same first at place moved_first (cause.Flawed flaw) e f lt within = flaw_same first at place moved_first flaw e f lt within
+
   -- ---- details
 
   entry_moved : (s : Submission) (place : Place) → head_at (moved n s) ≡ n + head_at s → entry_at (moved n s) place ≡ n + entry_at s place
@@ -249,6 +274,7 @@ module _ (pre es post : List (List ℕ)) where
     cause = d.cause;
     records = d.records;
     overlap = d.overlap;
+    record_at = d.record_at;
   }
 
   describes_there : (k : ℕ) (s : Submission) (ms : List KnownMember) (f : Finding) (d : Detail) → HasEntry es s ms f → s.first + length ms ≤ length es
@@ -271,6 +297,7 @@ module _ (pre es post : List (List ℕ)) where
         cause = says.cause;
         records = says.records ∙ sym (records_same s.first (entry_at (moved n s) f.place) (entry_at s f.place) (n + s.first) d.cause refl at has.within within);
         overlap = says.overlap;
+        record_at = says.record_at ∙ sym (cause_same s.first (entry_at (moved n s) f.place) (entry_at s f.place) (n + s.first) d.cause refl at has.within within);
       }
 
   -- and the detail of these entries, from that of all
@@ -288,6 +315,7 @@ module _ (pre es post : List (List ℕ)) where
     cause = e.cause;
     records = e.records;
     overlap = e.overlap;
+    record_at = e.record_at;
   }
 
   describes_here : (k : ℕ) (s : Submission) (ms : List KnownMember) (f : Finding) (e : Detail) → HasEntry es s ms f → s.first + length ms ≤ length es
@@ -310,6 +338,7 @@ module _ (pre es post : List (List ℕ)) where
         cause = says.cause;
         records = says.records ∙ records_same s.first (entry_at (moved n s) f.place) (entry_at s f.place) (n + s.first) e.cause refl at has.within within;
         overlap = says.overlap;
+        record_at = says.record_at ∙ cause_same s.first (entry_at (moved n s) f.place) (entry_at s f.place) (n + s.first) e.cause refl at has.within within;
       }
 
   -- ---- errors

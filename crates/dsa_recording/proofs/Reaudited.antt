@@ -63,6 +63,7 @@ reaudited assumed other es s a r n is u e = (
       repeated = is.audit.repeated;
       corrected = is.audit.corrected;
       lasts = is.audit.lasts;
+      all = is.audit.all;
       reduced = u.reduced;
     };
   },

@@ -1,5 +1,6 @@
 -- What a finding says of its entry.
-use Rattle.std.specs.Prelude.{ℕ, ◌≡◌, ◌+◌, ◌-◌, ◌<◌, ◌≤◌, ◌&&◌, ◌==◌, nat_le, nat_lt, bit_and, Bool, false, List, [], ◌∷◌, length, slice_get, slice_index_or, Option, Some, None}
+use Rattle.std.specs.Prelude.{ℕ, ◌≡◌, ◌+◌, ◌-◌, ◌<◌, ◌≤◌, ◌&&◌, ◌||◌, ◌==◌, nat_le, nat_lt, max, min, bit_and, not, Bool, true, false, if◌then◌else◌, List, [], ◌∷◌, length, slice_get, slice_index_or, Option, Some, None}
+use Rattle.dsa_descriptor.specs.declared.span.Span.{Span}
 use Rattle.dsa_descriptor.specs.Places.{u32_at, u64_at, flags_at, code_at}
 use Rattle.dsa_audit.specs.declared.member.Member.{Member as KnownMember}
 use Rattle.dsa_audit.specs.declared.missing.FencePlace.{FencePlace}
@@ -19,6 +20,7 @@ use Rattle.dsa_recording.specs.declared.detail.Cause.TheVariants as cause
 use Rattle.dsa_recording.specs.declared.detail.Detail.{Detail}
 use Rattle.dsa_recording.specs.declared.detail.Records.{Records}
 use Rattle.dsa_ranges.specs.declared.hazards.Hazard.{Hazard}
+use Rattle.dsa_recording.specs.Entries.{entry_reads, entry_writes, is_checksum}
 use Rattle.dsa_recording.specs.Overlaps.{overlap}
 use Rattle.dsa_recording.specs.Submissions.{head_at}
 use Rattle.dsa_recording.specs.Reports.{Reported}
@@ -140,6 +142,49 @@ shared_records es first at cause.NeedlessFence = record { earlier = false; later
 shared_records es first at (cause.Repeated earlier) = record { earlier = false; later = false }
 shared_records es first at (cause.Flawed flaw) = record { earlier = false; later = false }
 
+-- the span has a byte of the completion record at that address
+abbrev pub meets_record : ℕ → Span → Bool
+meets_record a s = nat_lt (max a s.first) (min (a + 32) (s.first + s.len))
+
+-- one of the spans has
+abbrev pub any_meets : ℕ → List Span → Bool
+any_meets a [] = false
+any_meets a (s ∷ ss) = if meets_record a s then true else any_meets a ss
+
+-- the second entry writes a byte of the completion record of the first, or reads one of its status, if it has a record
+abbrev pub touches_record : List ℕ → List ℕ → Bool
+touches_record other e =
+    bit_and (flags_at other) 0x04 == 0x04
+    && (any_meets (u64_at 8 other) (entry_writes e)
+    || (not (is_checksum other) && any_meets (u64_at 8 other) (entry_reads e)))
+
+-- the address of the completion record that two entries share: that of the earlier one if the later one touches it, else
+-- that of the later one
+abbrev pub shared_at : Option (List ℕ) → List ℕ → ℕ
+shared_at None e = u64_at 8 e
+shared_at (Some other) e = if touches_record other e then u64_at 8 other else u64_at 8 e
+
+-- of a flaw of entry `at` the address of the completion record that it is about, if it is about one; member 0 is entry
+-- `first`
+abbrev pub flaw_record : List (List ℕ) → ℕ → ℕ → Flaw → ℕ
+flaw_record es first at (SharedRecord earlier) = shared_at (slice_get es (first + earlier)) (slice_index_or es at [])
+flaw_record es first at OverwritesBatch = 0
+flaw_record es first at DataOverRecord = u64_at 8 (slice_index_or es at [])
+flaw_record es first at MisalignedRecord = u64_at 8 (slice_index_or es at [])
+flaw_record es first at (SmallBatch size) = 0
+flaw_record es first at FenceWithoutEffect = 0
+
+-- of a cause
+abbrev pub cause_record : List (List ℕ) → ℕ → ℕ → Cause → ℕ
+cause_record es first at (cause.MissingFence earlier h) = 0
+cause_record es first at (cause.NotSeen why) = 0
+cause_record es first at (cause.GuardingFence earlier) = 0
+cause_record es first at (cause.SignallingFence awaited) = 0
+cause_record es first at (cause.GuardingAndSignallingFence earlier awaited) = 0
+cause_record es first at cause.NeedlessFence = 0
+cause_record es first at (cause.Repeated earlier) = 0
+cause_record es first at (cause.Flawed flaw) = flaw_record es first at flaw
+
 -- of a missing fence, how many bytes of the two members conflict from the address on
 abbrev pub overlap_between : Hazard → Option KnownMember → Option KnownMember → ℕ
 overlap_between h (Some earlier) (Some later) = overlap h.kind h.address earlier later
@@ -195,6 +240,7 @@ pub record Describes (es : List (List ℕ)) (s : Submission) (ms : List KnownMem
   pub cause : IsCause ms f.place f.kind d.cause
   pub records : d.records ≡ shared_records es s.first (entry_at s f.place) d.cause
   pub overlap : d.overlap ≡ overlap_at ms f.place d.cause
+  pub record_at : d.record_at ≡ cause_record es s.first (entry_at s f.place) d.cause
 
 -- the submission of the finding, and what is known of its members' operands
 pub record IsIn (r : Reported) (f : Finding) (s : Submission) (ms : List KnownMember) : Type 0 where

@@ -113,7 +113,7 @@ repeated_words earlier =
 -- what is wrong beside fences
 abbrev pub flaw_words : Flaw → List ℕ
 flaw_words (SharedRecord earlier) =
-    codes "shared record: it and member " ++ (decimal earlier ++ codes " meet in a completion record, use another")
+    codes "shared record, use another: it and member " ++ (decimal earlier ++ codes " meet in a completion record")
 flaw_words OverwritesBatch = codes "overwrites its batch: it writes the descriptors or the completion record of its batch"
 flaw_words DataOverRecord = codes "data over its own completion record"
 flaw_words MisalignedRecord = codes "misaligned record: its address is no multiple of 32"
@@ -157,6 +157,15 @@ record_words true true earlier = codes ", in its own record and that of member "
 abbrev pub overlap_words : ℕ → List ℕ
 overlap_words bytes = codes " (" ++ (bytes_words bytes ++ codes ")")
 
+-- the address of the completion record that a flaw is about
+abbrev pub flaw_place_words : ℕ → Flaw → List ℕ
+flaw_place_words address (SharedRecord earlier) = codes ", at " ++ hex address
+flaw_place_words address OverwritesBatch = []
+flaw_place_words address DataOverRecord = codes ", at " ++ hex address
+flaw_place_words address MisalignedRecord = codes ", at " ++ hex address
+flaw_place_words address (SmallBatch size) = []
+flaw_place_words address FenceWithoutEffect = []
+
 -- what is said after the cause
 abbrev pub more_words : Detail → Cause → List ℕ
 more_words d (NotSeen why) = owners_words why d.owner d.head_owner
@@ -166,7 +175,7 @@ more_words d (SignallingFence awaited) = []
 more_words d (GuardingAndSignallingFence earlier awaited) = []
 more_words d NeedlessFence = []
 more_words d (Repeated earlier) = []
-more_words d (Flawed flaw) = []
+more_words d (Flawed flaw) = flaw_place_words d.record_at flaw
 
 -- ---- the lines of a finding
 

@@ -204,7 +204,7 @@ fn answer_picture(
         let text = too_large_text(alloc, all, report)?;
         return Ok(AuditAnswer { text, status: 2 });
     }
-    let picture = draw_report(alloc, all, report, settings)?;
+    let picture = draw_report(alloc, all, report, settings, options)?;
     written(alloc, options, all, report, picture)
 }
 

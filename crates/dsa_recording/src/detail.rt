@@ -1,14 +1,15 @@
 //! What a finding says of its entry.
 
-ghost use Rattle.std.specs.Prelude.{◌≡◌, ◌↔◌, ◌<◌, List, length, IfSome, IsTrue, MatchOption};
+ghost use Rattle.std.specs.Prelude.{◌≡◌, ◌+◌, ◌↔◌, ◌<◌, List, length, slice_get, IfSome, IsTrue, MatchOption, Some};
 ghost use Rattle.std.specs.List.{AllByRecursion};
 ghost use Rattle.dsa_audit.specs.declared.member.Member.{Member};
 ghost use Rattle.dsa_recording.specs.declared.findings.Place.TheVariants as Place;
 ghost use Rattle.dsa_recording.specs.Reports.{reported_by};
-ghost use Rattle.dsa_recording.specs.Details.{finding_at, is_in_record, named_by, overlap_of, shared_records, IsBehind, IsFlawAt, IsOfHead, IsOfMember, IsHeadCause, IsMemberCause, HasEntry, Describes, IsPlaced, IsDetail, IsRight};
+ghost use Rattle.dsa_recording.specs.Details.{any_meets, cause_record, finding_at, flaw_record, is_in_record, meets_record, named_by, overlap_of, shared_at, shared_records, touches_record, IsBehind, IsFlawAt, IsOfHead, IsOfMember, IsHeadCause, IsMemberCause, HasEntry, Describes, IsPlaced, IsDetail, IsRight};
 
 use crate::entry::Header;
 use crate::findings::{Finding, FindingKind, Flaw, Place};
+use crate::member::{is_checksum, touched_by};
 use crate::overlaps::overlap;
 use crate::report::Report;
 use crate::stream::Submission;
@@ -16,7 +17,7 @@ use crate::submission::{Audited, head_at};
 use arrayvec::ArrayVec;
 use bitflags::Flags;
 use dsa_audit::{FencePlace, Member, Unseen, hazard_between};
-use dsa_descriptor::FlagWord;
+use dsa_descriptor::{FlagWord, Span};
 use dsa_ranges::Hazard;
 
 /// What is found of an entry.
@@ -76,6 +77,8 @@ pub struct Detail {
     pub records: Records,
     /// Of a missing fence, how many bytes conflict from the address on; else 0.
     pub overlap: u64,
+    /// Of a flaw that is about a completion record, the address of that; else 0.
+    pub record_at: u64,
 }
 
 /// The other members that a cause names.
@@ -232,6 +235,87 @@ fn shared_records(all: &[[u8; 64]], first: usize, at: usize, cause: Cause) -> Re
     }
 }
 
+/// Whether the span has a byte of the completion record at that address.
+fn meets_record(record_at: u64, span: Span) -> bool
+    ensures { result ≡ meets_record record_at span }
+{
+    let first = u128::from(record_at.max(span.first));
+    let end = (u128::from(record_at) + 32).min(u128::from(span.first) + u128::from(span.len));
+    first < end
+}
+
+/// Whether one of the spans has.
+fn any_meets(record_at: u64, spans: &[Span]) -> bool
+    ensures { result ≡ any_meets record_at spans.now }
+{
+    for span in spans {
+        if meets_record(record_at, *span) {
+            return true;
+        }
+    }
+    false
+}
+
+/// Whether the second entry writes a byte of the completion record of the first, or reads one of its status. To read
+/// the value of a checksum is no fault.
+fn touches_record(other: &[u8; 64], entry: &[u8; 64]) -> bool
+    ensures { result ≡ touches_record other.now entry.now }
+{
+    let header = Header::of(other);
+    if !header.flags.contains(FlagWord::RECORD_VALID) {
+        return false;
+    }
+    let touched = touched_by(entry);
+    if any_meets(header.record_at, &touched.writes) {
+        return true;
+    }
+    !is_checksum(other) && any_meets(header.record_at, &touched.reads)
+}
+
+/// The address of the completion record that the entry and an earlier one, of this number, share.
+fn shared_at(all: &[[u8; 64]], earlier: usize, entry: &[u8; 64]) -> u64
+    ensures { result ≡ shared_at (slice_get all.now earlier) entry.now }
+{
+    let own = Header::of(entry).record_at;
+    let Some(other) = all.get(earlier) else {
+        return own;
+    };
+    if touches_record(other, entry) {
+        return Header::of(other).record_at;
+    }
+    own
+}
+
+/// The address of the completion record that a flaw of entry `at` is about; the submission's first member is entry
+/// `first`.
+fn flaw_record(all: &[[u8; 64]], first: usize, at: usize, flaw: Flaw) -> u64
+    requires { at < length all.now }
+    ensures { result ≡ flaw_record all.now first at flaw }
+{
+    match flaw {
+        Flaw::SharedRecord(earlier) => shared_at(all, first.saturating_add(earlier), &all[at]),
+        Flaw::DataOverRecord | Flaw::MisalignedRecord => Header::of(&all[at]).record_at,
+        Flaw::OverwritesBatch | Flaw::SmallBatch(_) | Flaw::FenceWithoutEffect => 0,
+    }
+}
+
+/// The same of a cause.
+fn cause_record(all: &[[u8; 64]], first: usize, at: usize, cause: Cause) -> u64
+    requires { at < length all.now }
+    ensures { result ≡ cause_record all.now first at cause }
+{
+    match cause {
+        Cause::Flawed(flaw) => flaw_record(all, first, at, flaw),
+        Cause::MissingFence(_, _)
+        | Cause::NotSeen(_)
+        | Cause::GuardingFence(_)
+        | Cause::SignallingFence(_)
+        | Cause::GuardingAndSignallingFence(_, _)
+        | Cause::NeedlessFence
+        | Cause::Repeated(_) => 0,
+    }
+}
+
 /// Of a missing fence before the member, how many bytes conflict from the address on.
 fn overlap_of(operands: &[Member], member: usize, cause: Cause) -> u64
     ensures { result ≡ overlap_of operands.now member cause }
@@ -288,6 +372,7 @@ fn head_detail(
             later: false,
         },
         overlap: 0,
+        record_at: cause_record(all, submission.first, entry, cause),
     })
 }
 
@@ -328,6 +413,7 @@ fn member_detail(
         cause,
         records: shared_records(all, submission.first, entry, cause),
         overlap: overlap_of(operands, member, cause),
+        record_at: cause_record(all, submission.first, entry, cause),
     })
 }
 

@@ -7,6 +7,7 @@ ghost use Rattle.dsa_recording.specs.Submissions.{IsWithin};
 use crate::entry::Header;
 use crate::stream::{StreamFault, Submission, read_stream};
 use crate::submission::head_at;
+use crate::words::privilege_text;
 use dsa_descriptor::agree_on_owner;
 use std::alloc::{AllocError, Global};
 
@@ -21,6 +22,18 @@ pub(crate) struct Foreign {
     pub head: usize,
     /// The number of the entry.
     pub entry: usize,
+    /// What the batch's descriptor says.
+    pub batch: Header,
+    /// What the entry says.
+    pub member: Header,
+}
+
+/// The header of the entry of this number; that of zero bytes if there is none.
+fn header_at(all: &[[u8; 64]], number: usize) -> Header {
+    match all.get(number) {
+        Some(entry) => Header::of(entry),
+        None => Header::of(&[0; 64]),
+    }
 }
 
 /// Whether an entry cannot be a member of the batch with this descriptor.
@@ -60,7 +73,12 @@ fn first_foreign(all: &[[u8; 64]], submissions: &[Submission]) -> Option<Foreign
     for submission in submissions {
         if let Some(entry) = foreign_in(all, *submission) {
             let head = head_at(*submission);
-            return Some(Foreign { head, entry });
+            return Some(Foreign {
+                head,
+                entry,
+                batch: header_at(all, head),
+                member: header_at(all, entry),
+            });
         }
     }
     None
@@ -81,8 +99,21 @@ pub(crate) fn find_foreign(alloc: Global, bytes: &[u8]) -> Result<Option<Foreign
 
 /// That an entry cannot be a member of its batch.
 pub(crate) fn foreign_text(alloc: Global, foreign: Foreign) -> Result<String, AllocError> {
-    let Foreign { head, entry } = foreign;
-    format!(in alloc;
-        "entry {entry}: error: this cannot be a member of the batch at entry {head}: {STAGING_HINT}\n"
-    )
+    let (head, entry) = (foreign.head, foreign.entry);
+    let (batch, member) = (foreign.batch, foreign.member);
+    let size = batch.size;
+    if member.code == 1 {
+        return format!(in alloc;
+            "entry {entry}: error: a batch cannot be a member of the batch of {size} at entry {head}: {STAGING_HINT}\n"
+        );
+    }
+    let (pasid, privilege) = (member.owner % (1 << 20), privilege_text(member.owner));
+    let mut text = format!(in alloc;
+        "entry {entry}: error: with PASID {pasid}{privilege} this cannot be a member of the batch of "
+    )?;
+    let (pasid, privilege) = (batch.owner % (1 << 20), privilege_text(batch.owner));
+    text.push_str(&format!(in alloc;
+        "{size} at entry {head}, which has PASID {pasid}{privilege}: {STAGING_HINT}\n"
+    )?)?;
+    Ok(text)
 }

@@ -14,6 +14,9 @@ use dsa_lines::{Expected, TextFault, assemble_recording};
 use dsa_settings::Settings;
 use std::alloc::{AllocError, Global};
 
+/// The most lines that are named.
+const MOST_NAMED: usize = 20;
+
 /// The answer where there is no recording.
 pub(crate) fn refusal(text: String) -> AuditAnswer
     ensures { result.status ≡ 2 }
@@ -21,13 +24,72 @@ pub(crate) fn refusal(text: String) -> AuditAnswer
     AuditAnswer { text, status: 2 }
 }
 
-/// What a recording has at a place where its lines leave the grammar.
-fn expected_words(expected: Expected) -> &'static str {
-    if expected == Expected::Operation {
+/// What a recording has at the column where a line leaves the grammar.
+fn expected_words(line: &[u8], column: usize, expected: Expected) -> &'static str {
+    let before = line.get(..column.saturating_sub(1)).unwrap_or(&[]);
+    if expected == Expected::Operation && before.iter().all(u8::is_ascii_whitespace) {
         "hexadecimal digits, or batch, fence, move, fill, compare, delta or dualcast"
     } else {
         expected.text()
     }
+}
+
+/// Whether a line begins with digits, or an offset, as bytes are written: in a text of lines it says nothing more.
+fn begins_with_bytes(line: &[u8]) -> bool {
+    let word = line
+        .split(|byte| byte.is_ascii_whitespace())
+        .find(|word| !word.is_empty())
+        .unwrap_or(&[]);
+    !word.is_empty()
+        && word
+            .iter()
+            .all(|byte| byte.is_ascii_hexdigit() || *byte == b':')
+}
+
+/// The column at which a line leaves the grammar of recordings, and what was expected there.
+fn mistake_of(alloc: Global, line: &[u8]) -> Result<Option<(usize, Expected)>, AllocError> {
+    match assemble_recording(alloc, line) {
+        Ok(_) | Err(TextFault::List(_, _)) => Ok(None),
+        Err(TextFault::Grammar(_, column, expected)) => Ok(Some((column, expected))),
+        Err(TextFault::Memory) => Err(AllocError),
+    }
+}
+
+/// How many lines are wrong, if they are several.
+fn count_text(alloc: Global, count: usize) -> Result<String, AllocError> {
+    let left = count.saturating_sub(MOST_NAMED);
+    if count < 2 {
+        return Ok(String::new(alloc));
+    }
+    if left == 0 {
+        return format!(in alloc; "error: {count} lines are wrong\n");
+    }
+    format!(in alloc; "error: {count} lines are wrong, and {left} of them are not named\n")
+}
+
+/// What is wrong with the lines of a recording.
+fn mistakes_text(alloc: Global, text: &[u8]) -> Result<String, AllocError> {
+    let mut reason = String::new(alloc);
+    let mut count: usize = 0;
+    for (at, written) in text.split(|byte| *byte == b'\n').enumerate() {
+        if count > 0 && begins_with_bytes(written) {
+            continue;
+        }
+        if let Some((column, expected)) = mistake_of(alloc, written)? {
+            count = count.saturating_add(1);
+            if count <= MOST_NAMED {
+                let (line, words) = (
+                    at.saturating_add(1),
+                    expected_words(written, column, expected),
+                );
+                reason.push_str(&format!(in alloc;
+                    "line {line}, column {column}: error: expected {words}\n"
+                )?)?;
+            }
+        }
+    }
+    reason.push_str(&count_text(alloc, count)?)?;
+    Ok(reason)
 }
 
 /// The bytes of a recording in lines, or its refusal.
@@ -39,11 +101,8 @@ fn bytes_of_lines(alloc: Global, text: &[u8]) -> Result<Result<Vec<u8>, AuditAns
 {
     match assemble_recording(alloc, text) {
         Ok(bytes) => Ok(Ok(bytes)),
-        Err(TextFault::Grammar(line, column, expected)) => {
-            let words = expected_words(expected);
-            let reason = format!(in alloc;
-                "line {line}, column {column}: error: expected {words}\n"
-            )?;
+        Err(TextFault::Grammar(_, _, _)) => {
+            let reason = mistakes_text(alloc, text)?;
             Ok(Err(refusal(reason)))
         }
         // the lines of a recording are no list, so the first does not come

@@ -20,6 +20,7 @@ mod further;
 mod input;
 mod keys;
 mod laws;
+mod likeness;
 mod listing;
 mod marks;
 mod member;

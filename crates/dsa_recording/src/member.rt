@@ -40,7 +40,7 @@ pub(crate) fn records_of(entry: &[u8; 64]) -> ArrayVec<Span, 3>
 }
 
 /// Whether the operation is a checksum, whose record has its value.
-fn is_checksum(entry: &[u8; 64]) -> bool
+pub(crate) fn is_checksum(entry: &[u8; 64]) -> bool
     ensures { result ≡ is_checksum entry.now }
 {
     let code = Header::of(entry).code;

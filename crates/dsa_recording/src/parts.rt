@@ -110,10 +110,11 @@ impl Parts {
             return pass(alloc, part);
         }
         match find_foreign(alloc, part)? {
-            Some(Foreign { head, entry }) => {
+            Some(found) => {
                 self.foreign = Some(Foreign {
-                    head: head.saturating_add(before),
-                    entry: entry.saturating_add(before),
+                    head: found.head.saturating_add(before),
+                    entry: found.entry.saturating_add(before),
+                    ..found
                 });
                 Ok(())
             }

@@ -5,19 +5,22 @@ ghost use Rattle.dsa_drawing.specs.Pictures.{IsPicture};
 ghost use Rattle.dsa_recording.specs.Answers.{IsTooLarge};
 ghost use Rattle.dsa_recording.specs.Totals.{HasSums};
 
+use crate::answer::{AuditOptions, severity_in};
 use crate::costs::{has_price, submission_cost};
-use crate::detail::has_all_fences;
+use crate::detail::{detail_of, has_all_fences};
 use crate::entry::Header;
 use crate::entry_words::descriptor_text;
+use crate::findings::{Finding, FindingKind, Flaw, Place};
 use crate::further::code_name;
-use crate::marks::bar_before;
+use crate::likeness::likes_of;
+use crate::marks::{Drawn, bar_before};
 use crate::member::{records_of, touched_by};
 use crate::report::Report;
 use crate::report_json::unseen_name;
 use crate::submission::Audited;
 use crate::totals::{totals_of, totals_text};
-use crate::words::unseen_text;
-use dsa_audit::Member;
+use crate::words::{Severity, unseen_text};
+use dsa_audit::{Member, all_lasts};
 use dsa_descriptor::op_at;
 use dsa_drawing::{Bar, Buffer, Column, Group, Layout, MOST_ROWS, op_name};
 use dsa_settings::Settings;
@@ -47,6 +50,7 @@ fn drawn_group(
     settings: &Settings,
     number: usize,
     audited: &Audited,
+    like: Option<usize>,
 ) -> Result<Group, AllocError> {
     let size = audited.members.len();
     let kind = if audited.is_batch {
@@ -61,6 +65,8 @@ fn drawn_group(
         kind,
         cost,
         size,
+        has_barrier: false,
+        like,
     })
 }
 
@@ -69,10 +75,12 @@ fn drawn_groups(
     alloc: Global,
     settings: &Settings,
     report: &Report,
+    likes: &[Option<usize>],
 ) -> Result<Vec<Group>, AllocError> {
     let mut groups = Vec::new(alloc);
     for (number, audited) in report.audits.iter().enumerate() {
-        groups.push(drawn_group(alloc, settings, number, audited)?)?;
+        let like = likes.get(number).copied().flatten();
+        groups.push(drawn_group(alloc, settings, number, audited, like)?)?;
     }
     Ok(groups)
 }
@@ -108,6 +116,7 @@ fn drawn_member(
             title: format!(in alloc; "{number}: {words}, entry {at}")?,
             touched: Some(touched_by(entry)),
             has_record: !records_of(entry).is_empty(),
+            split: None,
         }),
         Member::Unknown(why) => {
             let code = Header::of(entry).code;
@@ -118,6 +127,7 @@ fn drawn_member(
                 title: format!(in alloc; "{number}: {words}, entry {at}, {unseen}")?,
                 touched: None,
                 has_record: false,
+                split: None,
             })
         }
     }
@@ -153,16 +163,48 @@ fn drawn_members(
     Ok(columns)
 }
 
-/// Adds what is before the members of a submission whose first column is `start`.
-fn push_bars(
+/// Whether a fence before the first member of a submission is an error: it orders nothing.
+fn denies_first(
     alloc: Global,
-    bars: &mut Vec<Bar>,
-    audited: &Audited,
-    start: usize,
-) -> Result<(), AllocError> {
-    let complete = has_all_fences(audited);
-    for member in 0..audited.members.len() {
-        if let Some(bar) = bar_before(alloc, audited, member, start, complete)? {
+    all: &[[u8; 64]],
+    report: &Report,
+    options: AuditOptions<'_>,
+    submission: usize,
+    is_batch: bool,
+) -> Result<bool, AllocError> {
+    let kind = if is_batch {
+        FindingKind::NeedlessFence
+    } else {
+        FindingKind::Flawed(Flaw::FenceWithoutEffect)
+    };
+    let place = Place::Member(0);
+    let finding = Finding {
+        submission,
+        place,
+        kind,
+    };
+    match detail_of(all, report, finding) {
+        Some(detail) => Ok(severity_in(alloc, options, all, &detail)? == Severity::Error),
+        None => Ok(false),
+    }
+}
+
+/// For each member the last before it that it is known to conflict with, if some member is not looked at.
+fn lasts_in(alloc: Global, members: &[Member]) -> Result<Vec<Option<usize>>, AllocError> {
+    if members
+        .iter()
+        .any(|member| matches!(member, Member::Unknown(_)))
+    {
+        all_lasts(alloc, members)
+    } else {
+        Ok(Vec::new(alloc))
+    }
+}
+
+/// Adds what is before the members of a submission.
+fn push_bars(alloc: Global, bars: &mut Vec<Bar>, drawn: Drawn<'_>) -> Result<(), AllocError> {
+    for member in 0..drawn.audited.members.len() {
+        if let Some(bar) = bar_before(alloc, drawn, member)? {
             bars.push(bar)?;
         }
     }
@@ -170,11 +212,24 @@ fn push_bars(
 }
 
 /// The fences of all submissions, and the places of those that are missing.
-fn drawn_bars(alloc: Global, report: &Report) -> Result<Vec<Bar>, AllocError> {
+fn drawn_bars(
+    alloc: Global,
+    all: &[[u8; 64]],
+    report: &Report,
+    options: AuditOptions<'_>,
+) -> Result<Vec<Bar>, AllocError> {
     let mut bars = Vec::new(alloc);
     let mut start: usize = 0;
-    for audited in &report.audits {
-        push_bars(alloc, &mut bars, audited, start)?;
+    for (number, audited) in report.audits.iter().enumerate() {
+        let lasts = lasts_in(alloc, &audited.members)?;
+        let drawn = Drawn {
+            audited,
+            start,
+            complete: has_all_fences(audited),
+            denies_first: denies_first(alloc, all, report, options, number, audited.is_batch)?,
+            lasts: &lasts,
+        };
+        push_bars(alloc, &mut bars, drawn)?;
         start = start.saturating_add(audited.members.len());
     }
     Ok(bars)
@@ -192,23 +247,28 @@ fn notes_of(alloc: Global, totals: &str) -> Result<Vec<String>, AllocError> {
 }
 
 /// The picture of a report as SVG, without scripts: the members of submissions in columns, buffers in rows, fences as
-/// bars, red and dashed if they are missing, hollow if they are needless and grey if no conflict needs them; a member
-/// that is not looked at is hatched. The numbers are at the end.
+/// bars, red and dashed if they are missing, hollow if they are needless or have no effect (red if that is an error),
+/// and grey if no conflict needs them; a member that is not looked at is hatched. The numbers are at the end.
 pub(crate) fn draw_report(
     alloc: Global,
     all: &[[u8; 64]],
     report: &Report,
     settings: &Settings,
+    options: AuditOptions<'_>,
 ) -> Result<String, AllocError>
     requires { HasSums report.now }
     ensures { IfOk result (λ s. IsPicture (string_bytes s)) }
 {
     let totals = totals_text(alloc, &totals_of(report))?;
     let no_names: &[Buffer] = &[];
+    let columns = drawn_members(alloc, all, report)?;
+    let bars = drawn_bars(alloc, all, report, options)?;
+    let likes = likes_of(alloc, all, report, &columns, &bars)?;
     let layout = Layout {
-        groups: drawn_groups(alloc, settings, report)?,
-        columns: drawn_members(alloc, all, report)?,
-        bars: drawn_bars(alloc, report)?,
+        groups: drawn_groups(alloc, settings, report, &likes)?,
+        columns,
+        splits: Vec::new(alloc),
+        bars,
         buffers: no_names,
         notes: notes_of(alloc, &totals)?,
         title: totals,

@@ -103,15 +103,20 @@ fn unseen_json(alloc: Global, detail: &Detail, why: Unseen) -> Result<Value, All
 }
 
 /// What is wrong beside fences.
-fn flaw_json(alloc: Global, flaw: Flaw) -> Result<Value, AllocError> {
+fn flaw_json(alloc: Global, record_at: u64, flaw: Flaw) -> Result<Value, AllocError> {
+    let address = format!(in alloc; "0x{record_at:x}")?;
     match flaw {
         Flaw::SharedRecord(earlier) => {
             let earlier = earlier as u64;
-            json!(in alloc; {"kind": "shared record", "earlier": earlier})
+            json!(in alloc; {"kind": "shared record", "earlier": earlier, "address": address})
         }
         Flaw::OverwritesBatch => json!(in alloc; {"kind": "overwrites batch"}),
-        Flaw::DataOverRecord => json!(in alloc; {"kind": "data over record"}),
-        Flaw::MisalignedRecord => json!(in alloc; {"kind": "misaligned record"}),
+        Flaw::DataOverRecord => {
+            json!(in alloc; {"kind": "data over record", "address": address})
+        }
+        Flaw::MisalignedRecord => {
+            json!(in alloc; {"kind": "misaligned record", "address": address})
+        }
         Flaw::SmallBatch(size) => {
             let size = size as u64;
             json!(in alloc; {"kind": "small batch", "size": size})
@@ -149,7 +154,7 @@ fn cause_json(alloc: Global, detail: &Detail, complete: bool) -> Result<Value, A
             let earlier = earlier as u64;
             json!(in alloc; {"kind": "repeated operation", "earlier": earlier})
         }
-        Cause::Flawed(flaw) => flaw_json(alloc, flaw),
+        Cause::Flawed(flaw) => flaw_json(alloc, detail.record_at, flaw),
     }
 }
 

@@ -39,7 +39,7 @@ fn statuses_in(
 }
 
 /// The later of two members, if there are any.
-fn later_of(first: Option<usize>, second: Option<usize>) -> Option<usize>
+pub(crate) fn later_of(first: Option<usize>, second: Option<usize>) -> Option<usize>
     ensures { result ≡ later first second }
 {
     match (first, second) {

@@ -178,6 +178,18 @@ pub fn totals_text(alloc: Global, totals: &Totals) -> Result<String, AllocError>
     Ok(text)
 }
 
+/// The line that nothing was submitted, if no descriptor was: that of a batch without members is one.
+pub(crate) fn nothing_text(alloc: Global, totals: &Totals) -> Result<String, AllocError> {
+    String::from_str(
+        alloc,
+        if totals.batches == 0 && totals.lone == 0 {
+            "nothing to audit: no descriptor was submitted\n"
+        } else {
+            ""
+        },
+    )
+}
+
 /// The line of the flaws beside fences, if there are any.
 pub(crate) fn flaws_text(alloc: Global, flaws: usize) -> Result<String, AllocError> {
     if flaws == 0 {

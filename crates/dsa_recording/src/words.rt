@@ -5,7 +5,7 @@ ghost use Rattle.dsa_recording.specs.declared.detail.Detail.{Detail};
 ghost use Rattle.dsa_recording.specs.declared.findings.Place.TheVariants as Place;
 ghost use Rattle.dsa_recording.specs.Details.{named_by};
 ghost use Rattle.dsa_recording.specs.EntryWords.{operation_words};
-ghost use Rattle.dsa_recording.specs.Words.{entry_words, member_words, place_words, note_unless, severity_of, severity_with, severity_words, unseen_words, hazard_words, guarding_words, signalling_words, both_words, repeated_words, flaw_words, needless_words, cause_words, privilege_words, owners_words, record_words, overlap_words, more_words, entry_line, other_line, other_lines, finding_line, finding_words};
+ghost use Rattle.dsa_recording.specs.Words.{entry_words, member_words, place_words, note_unless, severity_of, severity_with, severity_words, unseen_words, hazard_words, guarding_words, signalling_words, both_words, repeated_words, flaw_words, flaw_place_words, needless_words, cause_words, privilege_words, owners_words, record_words, overlap_words, more_words, entry_line, other_line, other_lines, finding_line, finding_words};
 ghost use Rattle.dsa_audit.specs.declared.member.Unseen.TheVariants.{Owner};
 
 use crate::detail::{Cause, Detail, Records, named_by};
@@ -242,12 +242,12 @@ fn repeated_text(alloc: Global, earlier: usize) -> Result<String, AllocError>
 }
 
 /// What is wrong beside fences.
-fn flaw_text(alloc: Global, flaw: Flaw) -> Result<String, AllocError>
+pub(crate) fn flaw_text(alloc: Global, flaw: Flaw) -> Result<String, AllocError>
     ensures { IfOk result (λ s. string_bytes s ≡ flaw_words flaw) }
 {
     match flaw {
         Flaw::SharedRecord(earlier) => format!(in alloc;
-            "shared record: it and member {earlier} meet in a completion record, use another"
+            "shared record, use another: it and member {earlier} meet in a completion record"
         ),
         Flaw::OverwritesBatch => String::from_str(
             alloc,
@@ -286,7 +286,7 @@ fn cause_text(alloc: Global, detail: &Detail, complete: bool) -> Result<String, 
 }
 
 /// What is said of the privilege in bit 31 of an owner.
-fn privilege_text(owner: u32) -> &'static str
+pub(crate) fn privilege_text(owner: u32) -> &'static str
     ensures { result.now ≡ privilege_words owner }
 {
     if owner / (1 << 31) == 1 {
@@ -326,7 +326,22 @@ fn overlap_text(alloc: Global, bytes: u64) -> Result<String, AllocError>
     format!(in alloc; " ({count})")
 }
 
-/// Writes what is said after the cause: two owners, or how far the conflict goes and whose completion record it is in.
+/// The address of the completion record that a flaw is about.
+fn flaw_place_text(alloc: Global, record_at: u64, flaw: Flaw) -> Result<String, AllocError>
+    ensures { IfOk result (λ s. string_bytes s ≡ flaw_place_words record_at flaw) }
+{
+    match flaw {
+        Flaw::SharedRecord(_) | Flaw::DataOverRecord | Flaw::MisalignedRecord => {
+            format!(in alloc; ", at 0x{record_at:x}")
+        }
+        Flaw::OverwritesBatch | Flaw::SmallBatch(_) | Flaw::FenceWithoutEffect => {
+            Ok(String::new(alloc))
+        }
+    }
+}
+
+/// Writes what is said after the cause: two owners, how far the conflict goes and whose completion record it is in, or
+/// the address of the record.
 fn push_more(alloc: Global, line: &mut String, detail: &Detail) -> Result<(), AllocError>
     ensures { OnOk result (string_bytes line.new ≡ string_bytes line.old ++
         more_words detail.now detail.now.cause) }
@@ -346,8 +361,8 @@ fn push_more(alloc: Global, line: &mut String, detail: &Detail) -> Result<(), Al
         | Cause::SignallingFence(_)
         | Cause::GuardingAndSignallingFence(_, _)
         | Cause::NeedlessFence
-        | Cause::Repeated(_)
-        | Cause::Flawed(_) => Ok(()),
+        | Cause::Repeated(_) => Ok(()),
+        Cause::Flawed(flaw) => line.push_str(&flaw_place_text(alloc, detail.record_at, flaw)?),
     }
 }
 

@@ -12,7 +12,7 @@ use crate::keys::key_text;
 use crate::report::Report;
 use crate::report_json::{finding_json, report_json};
 use crate::sums::Sums;
-use crate::totals::{flaws_text, totals_text};
+use crate::totals::{flaws_text, nothing_text, totals_text};
 use crate::words::{Severity, finding_text};
 use dsa_settings::Settings;
 use std::alloc::{AllocError, Global};
@@ -230,6 +230,7 @@ impl Written {
             push_alike(alloc, &mut text, finding.alike)?;
         }
         let totals = self.sums.totals;
+        text.push_str(&nothing_text(alloc, &totals)?)?;
         text.push_str(&totals_text(alloc, &totals)?)?;
         text.push_str(&flaws_text(alloc, totals.flaws)?)?;
         text.push_str(&costs_text(alloc, settings, &self.sums.costs, &totals)?)?;

@@ -1,5 +1,4 @@
-use Rattle.std.proofs.Common.{◌≡◌, sym, ◌∙◌}
-use Rattle.dsa_lines.specs.declared.fault.TextFault.TheVariants.{Grammar, Memory}
+use Rattle.std.proofs.Common.{sym, ◌∙◌}
 use Rattle.dsa_recording.proofs.Inputs.{no_lines}
 use Rattle.dsa_recording.proofs.input.bytes_of_lines.Goals as goal
 
@@ -8,5 +7,5 @@ returns-in_ok-reason-in-Err-Grammar c =
     let g = c.in-Err-Grammar in (
       c.refusal.ensures,
       no_lines c.args.text.now g.field-0 c.requires
-          (λ e. let never : Grammar g.line g.column g.expected ≡ Memory = sym g.field-0-is ∙ e in absurd cc) g.ensures,
+          (λ e. let never = sym g.field-0-is ∙ e in absurd cc) g.ensures,
     )

@@ -16,6 +16,7 @@ from pathlib import Path
 import common
 import folded
 import golden
+import noted
 import pictured
 import typed
 from common import move, named, program, run_test
@@ -491,6 +492,7 @@ def picture():
     job = common.judge(pieces_of([*moves, *moves[::2]]), [[k > 52 for k in range(80)]], rules)
     drawn, told = written("explain --svg", job), written("explain", job)
     common.expect(not pictured.plan_fault(drawn, told), pictured.plan_fault(drawn, told))
+    pictured.pieces_and_barriers(written)
 
 
 def reasons_drawn():
@@ -605,32 +607,6 @@ def pictures():
         fault = pictured.plan_fault(*told, spelled)
         common.expect(not fault, f"{place}: {fault}: {told[0][:600]}")
         common.expect(wanted in (None, told[0]), f"{place}: {told[0][:600]}")
-
-
-def overlaps():
-    """A note for each move of which a piece's source and destination meet: of up to 20, and how many more."""
-    note = "note: operation {}: its regions overlap, "
-    note += "and only devices with overlapping copy support (GENCAP bit 1) take it\n"
-    line = "move {} -> {}, 64 bytes, record 0x8000\n"
-    meeting, apart = line.format(0x1000, 0x103F), line.format(0x1000, 0x1040)
-    copy = common.judge(pieces_of([(0x1000, 0x1020)]), [[False]], common.settings(staging=0x2000_0000))
-    for text, words, noted in [
-        (meeting, "", [0]),
-        (apart, "", []),
-        (line.format(0x103F, 0x1000), "", [0]),
-        (line.format(0x1000, 0x1000), "", [0]),
-        (line.format(0x1020, 0x1000), "--greatest-transfer 32", []),
-        (line.format(0x101F, 0x1000), "--greatest-transfer 32", [0]),
-        ("fill 0x1000 with 0000000000000000, 64 bytes, record 0x8000\n" + meeting.replace("0x8000", "0x8020"), "", [1]),
-        (copy, "", [0]),
-    ]:
-        ran = subprocess.run([TEXT, "explain", *words.split()], input=text, capture_output=True, text=True)
-        wanted = (0, "".join(map(note.format, noted)))
-        common.expect((ran.returncode, ran.stderr) == wanted, f"{text} {words}: {ran.returncode}, {ran.stderr}")
-    many = "".join(meeting.replace("0x8000", f"{0x8000 + 32 * k:#x}") for k in range(23))
-    ran = subprocess.run([TEXT, "explain"], input=many, capture_output=True, text=True)
-    wanted = "".join(map(note.format, range(20))) + "note: and 3 more moves that overlap\n"
-    common.expect(ran.stderr == wanted, f"23 moves that overlap: {ran.stderr}")
 
 
 def named_files():
@@ -766,6 +742,16 @@ def files():
         common.expect(not fault, fault)
 
 
+def overlaps():
+    """What is said of moves whose regions overlap."""
+    noted.overlaps(TEXT)
+
+
+def suspicious():
+    """What is said of operations that may be meant otherwise."""
+    noted.suspicious(TEXT)
+
+
 def barriers():
     """Random lists with barriers."""
     typed.barriers(TEXT)
@@ -782,7 +768,8 @@ def resumed():
 
 
 PARTS = [examples, lists, refusals, arguments, lines, grammar, texts, mistakes, sizes, fences, missing, shared_records]
-PARTS += [sentences, large, split, folds, picture, pictures, reasons_drawn, names_drawn, overlaps, named_files]
+PARTS += [sentences, large, split, folds, picture, pictures, reasons_drawn, names_drawn]
+PARTS += [overlaps, suspicious, named_files]
 PARTS += [forms_of_bytes, members, waits, barriers, resumed, files]
 
 

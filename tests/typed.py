@@ -111,13 +111,14 @@ def resumed(text):
             ran = subprocess.run([text, *words], input=lines, capture_output=True, text=True)
             got = (ran.returncode, ran.stdout, ran.stderr)
             expect(got == (0, wanted, ""), f"{words}: wanted {wanted!r}, got {got}")
-        records = "there are not 32 bytes of completion records for each piece"
-        fenced = "operation 1: a flag is set that may not be, or missing that has to be; check result is for compares"
+        records = "there are not 32 bytes of completion records for each piece [112 Records]"
+        sizes = "note: {} pieces have {} bytes of records, and these are {}\n".format
+        apart = "note: a list with barriers is not resumed: resume what is between two barriers by itself\n"
         for words, given, status, error in (
-            ([*short, "--records", f"{folder}/odd"], lines, 1, f"error: {records} [112 Records]\n"),
-            (["--records", f"{folder}/some"], lines, 1, f"error: {records} [112 Records]\n"),
+            ([*short, "--records", f"{folder}/odd"], lines, 1, f"error: {records}\n{sizes(4, 128, 127)}"),
+            (["--records", f"{folder}/some"], lines, 1, f"error: {records}\n{sizes(2, 64, 128)}"),
             ([*short, "--records", f"{folder}/some"], "mov 1", 1, "[90 Line]\n"),
-            ([*short, "--records", f"{folder}/some"], f"{first}barrier\n{fill}", 1, f"{fenced} alone [3 FlagBits 1]\n"),
+            ([*short, "--records", f"{folder}/some"], f"{first}barrier\n{fill}", 1, f"[3 FlagBits 1]\n{apart}"),
             (["--greatest-transfer", "7", "--records", f"{folder}/some"], lines, 1, "[83 Settings]\n"),
             (["--records", f"{folder}/no"], lines, 2, f"{folder}/no can't be opened: there is no such file\n"),
             ([], lines, 2, "For more information, try '--help'.\n"),
@@ -125,3 +126,28 @@ def resumed(text):
             ran = subprocess.run([text, "resume", *words], input=given, capture_output=True, text=True)
             right = (ran.returncode, ran.stdout) == (status, "") and ran.stderr.endswith(error)
             expect(right, f"resume {words}: status {ran.returncode}, {ran.stdout!r}, {ran.stderr!r}")
+        # two groups of moves apart, and a compare whose source the move after it writes, so there is a fence between
+        apart = "".join(f"move {at} -> {at + 64}, 64 bytes, record {0x8000 + at // 4}\n" for at in (0, 128, 256, 384))
+        checked = "compare 0 with 64, 64 bytes, expect 0, record 0x8000, check\nmove 128 -> 0, 64 bytes, record 0x8020\n"
+        early = "warning: piece {} has begun, and piece {}, of an earlier epoch of the plan, has not succeeded: "
+        early += "groups submitted one after another leave no such records\n"
+        for listed, statuses, places in (
+            (apart, (1, 1, 0, 0), None),
+            (apart, (1, 1, 3, 1), None),
+            (apart, (3, 1, 0, 0), None),
+            (apart, (0, 1, 0, 0), None),
+            (apart, (3, 1, 1, 1), (2, 0)),
+            (apart, (1, 0, 0, 3), (3, 1)),
+            (apart, (2, 0, 0, 1), (3, 0)),
+            (checked, (1, 1), None),
+            (checked, (2, 0), None),
+            (checked, (3, 0), None),
+            (checked, (0, 0), None),
+            (checked, (2, 1), (1, 0)),
+            (checked, (0, 3), (1, 0)),
+        ):
+            Path(folder, "some").write_bytes(b"".join(bytes([status]).ljust(32, b"\0") for status in statuses))
+            words = ["resume", "--greatest-batch", "2", "--records", f"{folder}/some"]
+            ran = subprocess.run([text, *words], input=listed, capture_output=True, text=True)
+            got, wanted = (ran.returncode, ran.stderr), (0, early.format(*places) if places else "")
+            expect(got == wanted, f"resume, statuses {statuses}: wanted {wanted}, got {got}")

@@ -47,9 +47,11 @@ With --list it writes the operations of the recording as lines that explain read
 A member without a line is named in a comment: the plan knows nothing of it. A fence that guards or
 signals is a line barrier, which the plan keeps. The list is for prices, not for submission.
 
-No conflict needs a fence that guards or signals. A guarding one is the first after a member that can fail. A signalling one
-is waited for by a member that software can see to have ended, and who sees that knows that all before the fence have
-ended. --await and --resident say what the software is known to do, and free fences that only guard or signal otherwise:
+No conflict needs a fence that guards or signals. A guarding one is the first after a member that can fail: that does
+not block on a fault (but a no-op), checks a result, applies a delta, is an operation on DIF, a translation fetch or a
+drain, or is not looked at. A signalling one is waited for by a member that software can see to have ended, and who
+sees that knows that all before the fence have ended. --await and --resident say what the software is known to do, and
+free fences that only guard or signal otherwise:
   --await writes    it may look at all that a member writes, also a flag that another thread polls
   --await signals   it looks at data only after a completion record or an interrupt says so
   --await batches   it looks at the records of batches, lone descriptors and no-ops, and interrupts, alone
@@ -61,8 +63,9 @@ more there are; --all writes each. --write-accept writes a line for each kind of
 --accept takes errors of these kinds as known, so that others alone make the status 1:
   dsa_text audit --write-accept recording.bin > known.txt && dsa_text audit --accept known.txt recording.bin
 
-With --events it also reports missing waits: an entry that conflicts with one of an earlier submission of which the
-program could not know that it had ended. Each is an error, whatever --deny names.
+Each submission is taken to be waited for before the next one. With --events it also reports missing waits: an entry
+that conflicts with one of an earlier submission of which the program could not know that it had ended. Each is an
+error, whatever --deny names, unless --accept has its kind.
   dsa_text audit --events NAME.PID.events NAME.PID.dsa
 
 Several files are audited in their order, each by itself; the last line has how many have errors and how many are refused.

@@ -17,11 +17,14 @@ ghost use Rattle.dsa_text.specs.Refusals.{IsRefusal};
 ghost use Rattle.dsa_text.specs.Shown.{AnswersPlan};
 
 use crate::answer::Answer;
+use crate::checks::check_notes;
 use crate::comments::comments_in;
+use crate::decimals::decimal_notes;
 use crate::form::Form;
 use crate::kept::{barrier_notes, joined, unkept_notes};
 use crate::origins::origins_of;
 use crate::overlapping::overlap_notes;
+use crate::overwritten::overwritten_notes;
 use crate::rows::warnings_of;
 use crate::shown::{Subject, answer_plan, plain};
 use crate::unplanned::{Source, unplanned};
@@ -100,8 +103,20 @@ fn answer_planned(
     answer_plan(alloc, &subject, settings, form)
 }
 
-/// The same, with what is said of records, of fences that the plan does not keep, and of barriers
-/// that a tracker does not see.
+/// What is said of operations by themselves: of their records, and of regions that overlap.
+pub(crate) fn operation_notes(
+    alloc: Global,
+    operations: &[Descriptor],
+    settings: &Settings,
+) -> Result<Option<String>, AllocError> {
+    let shared = warnings_of(alloc, operations, settings)?;
+    let overwritten = overwritten_notes(alloc, operations, settings)?;
+    let overlaps = overlap_notes(alloc, operations, settings)?;
+    joined(joined(shared, overwritten)?, overlaps)
+}
+
+/// The same, with what is said of its operations, of fences that the plan does not keep, of
+/// barriers that a tracker does not see, and of the text.
 fn answer_with_warnings(
     alloc: Global,
     operations: &[Descriptor],
@@ -117,11 +132,13 @@ fn answer_with_warnings(
         (Some planned.now.cost) form) }
 {
     let answer = answer_planned(alloc, operations, marks, planned, settings, form, source)?;
-    let records = warnings_of(alloc, operations, settings)?;
     let barriers = barrier_notes(alloc, source, marks, form)?;
     let fences = unkept_notes(alloc, source, operations, &planned.plan, settings)?;
-    let overlaps = overlap_notes(alloc, operations, settings)?;
-    let warnings = joined(joined(records, barriers)?, joined(fences, overlaps)?)?;
+    let of_barriers = joined(barriers, fences)?;
+    let of_operations = operation_notes(alloc, operations, settings)?;
+    let checks = check_notes(alloc, source, operations, marks, &planned.plan, settings)?;
+    let of_text = joined(checks, decimal_notes(alloc, source)?)?;
+    let warnings = joined(of_operations, joined(of_barriers, of_text)?)?;
     Ok(answer.with_warnings(warnings))
 }
 

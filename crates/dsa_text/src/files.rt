@@ -137,6 +137,15 @@ fn write_object(
     Ok(write_between(rt, &before, line, &after))
 }
 
+/// The lines of a text, each after the name of its file.
+fn named_lines(alloc: Global, name: &str, text: &str) -> Result<String, AllocError> {
+    let mut named = String::new(alloc);
+    for line in text.lines() {
+        named.push_str(&format!(in alloc; "{name}: {line}\n")?)?;
+    }
+    Ok(named)
+}
+
 /// Writes the report on a file; why there is none goes to standard error, and in JSON also into the object of the file.
 /// Answers whether all was written to standard output.
 fn write_answer(
@@ -149,7 +158,7 @@ fn write_answer(
     let text = answer.text.as_str();
     let is_refused = answer.status == 2;
     if is_refused {
-        say(rt, &format!(in rt.alloc(); "{name}: {text}")?);
+        say(rt, &named_lines(rt.alloc(), name, text)?);
     }
     match format {
         AuditFormat::Json => write_object(rt, is_first, name, answer),

@@ -12,11 +12,9 @@ ghost use Rattle.dsa_text.specs.Explained.{AnswersJudged, ExplainsJudged, IsLeas
 ghost use Rattle.dsa_text.specs.Refusals.{IsRefusal};
 
 use crate::answer::Answer;
+use crate::explaining::operation_notes;
 use crate::form::Form;
 use crate::judged::missing_message;
-use crate::kept::joined;
-use crate::overlapping::overlap_notes;
-use crate::rows::warnings_of;
 use crate::shown::{answer_plan, plain, plan_words};
 use dsa_calls::{PlanFault, judge_pieces, plan_operations};
 use dsa_descriptor::{Descriptor, read_list};
@@ -155,7 +153,7 @@ fn judged_in_form(
     }
 }
 
-/// The answer of a judged plan, with what is said of its pieces' records.
+/// The answer of a judged plan, with what is said of its pieces.
 fn answer_judged(
     alloc: Global,
     plan: &Plan,
@@ -168,9 +166,7 @@ fn answer_judged(
     ensures { IfOk result (AnswersJudged settings.now plan.now pieces.now cost form) }
 {
     let answer = judged_in_form(alloc, plan, pieces, settings, cost, form)?;
-    let records = warnings_of(alloc, pieces, settings)?;
-    let overlaps = overlap_notes(alloc, pieces, settings)?;
-    Ok(answer.with_warnings(joined(records, overlaps)?))
+    Ok(answer.with_warnings(operation_notes(alloc, pieces, settings)?))
 }
 
 /// The refusal of a plan of one's own. That of a plan that lacks fences lists each of them.

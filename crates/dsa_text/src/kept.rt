@@ -2,6 +2,7 @@
 //! that a tracker sees no barriers.
 
 use crate::form::Form;
+use crate::notes::Notes;
 use crate::origins::count_of;
 use crate::unplanned::Source;
 use crate::words::line_of_operation;
@@ -9,9 +10,6 @@ use dsa_descriptor::Descriptor;
 use dsa_lines::text_barriers;
 use dsa_plan::{Plan, Settings};
 use std::alloc::{AllocError, Global};
-
-/// The most fences that are named.
-const MOST_NAMED: usize = 20;
 
 /// The one text and the other after it.
 pub(crate) fn joined(
@@ -45,7 +43,7 @@ pub(crate) fn barrier_notes(
 }
 
 /// For each piece of a plan whether it is fenced, or its group begins with it.
-fn cuts_of(alloc: Global, plan: &Plan) -> Result<Vec<bool>, AllocError> {
+pub(crate) fn cuts_of(alloc: Global, plan: &Plan) -> Result<Vec<bool>, AllocError> {
     let mut cuts = Vec::new(alloc);
     for group in plan.groups() {
         for (column, fenced) in group.fences().iter().enumerate() {
@@ -103,24 +101,16 @@ pub(crate) fn fence_lines(
     operations: &[usize],
     why: &str,
 ) -> Result<Option<String>, AllocError> {
-    if operations.is_empty() {
-        return Ok(None);
+    let mut notes = Notes::new(alloc);
+    for operation in operations {
+        if notes.count() {
+            let line = line_of_operation(text, *operation);
+            notes.write(&format!(in alloc; "note: line {line}, operation {operation}: ")?)?;
+            notes.write(why)?;
+            notes.write("; --keep-fences makes it a barrier\n")?;
+        }
     }
-    let mut lines = String::new(alloc);
-    for operation in operations.iter().take(MOST_NAMED) {
-        let line = line_of_operation(text, *operation);
-        lines.push_str(&format!(in alloc; "note: line {line}, operation {operation}: ")?)?;
-        lines.push_str(why)?;
-        lines.push_str("; --keep-fences makes it a barrier\n")?;
-    }
-    if let Some(more) = operations
-        .len()
-        .checked_sub(MOST_NAMED)
-        .filter(|more| *more > 0)
-    {
-        lines.push_str(&format!(in alloc; "note: and {more} more fences\n")?)?;
-    }
-    Ok(Some(lines))
+    notes.into_text(alloc, "fences")
 }
 
 /// A line for each fence of a text that the plan of its operations does not keep.

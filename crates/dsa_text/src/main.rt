@@ -6,7 +6,9 @@ mod answer;
 mod assembling;
 mod auditing;
 mod bytes;
+mod checks;
 mod comments;
+mod decimals;
 mod diagnosis;
 mod disassembling;
 mod dumps;
@@ -20,12 +22,15 @@ mod judged;
 mod judging;
 mod kept;
 pub mod laws;
+mod left;
 mod messages;
 mod mistakes;
+mod notes;
 mod numbers;
 mod options;
 mod origins;
 mod overlapping;
+mod overwritten;
 mod resuming;
 mod rows;
 mod settings;
@@ -44,6 +49,7 @@ use crate::disassembling::{
 use crate::dumps::dumps_in;
 use crate::files::{audit_files, refusal_together};
 use crate::inputs::{explain, refused_settings};
+use crate::left::resume_notes;
 use crate::messages::message_of;
 use crate::numbers::number_of;
 use crate::options::{settings_words, word};
@@ -53,6 +59,7 @@ use crate::traced::audit_traced;
 use clap::error::ErrorKind;
 use clap::{Arg, ArgAction, ArgMatches, Command};
 use dsa_calls::PlanFault;
+use dsa_plan::Settings;
 use dsa_recording::{Accepted, AuditAnswer, ReadFault, VERSION, is_text};
 use dsa_report::{Stop, read_text, write_line};
 use std::alloc::{AllocError, Global};
@@ -658,6 +665,27 @@ fn audited_all(rt: &HostRuntime, matches: &ArgMatches<'_>) -> Result<ExitCode, A
     Ok(ExitCode::from(audit_files(rt, matches, given, names)?))
 }
 
+/// What `resume` answers to a text and the bytes of records, with what is said of them.
+fn resume_records(
+    alloc: Global,
+    matches: &ArgMatches<'_>,
+    settings: &Settings,
+    records: &[u8],
+    text: &[u8],
+) -> Result<Answer, AllocError> {
+    let order = order_of(matches.get_flag("failed-first"));
+    let answer = resume_text(alloc, text, settings, records, order)?;
+    let notes = resume_notes(alloc, text, settings, records)?;
+    if answer.status == 0 {
+        return Ok(answer.with_warnings(notes));
+    }
+    let mut reason = answer.text;
+    if let Some(notes) = notes {
+        reason.push_str(&notes)?;
+    }
+    Ok(Answer::refused(reason))
+}
+
 /// What `resume` answers to this input of records and this text, as `disassemble` reads bytes.
 fn resume(
     alloc: Global,
@@ -669,12 +697,11 @@ fn resume(
     let Some(settings) = settings_of(alloc, &words)? else {
         return refused_settings(alloc, &words);
     };
-    let order = order_of(matches.get_flag("failed-first"));
     if !is_text(input) {
-        return resume_text(alloc, text, &settings, input, order);
+        return resume_records(alloc, matches, &settings, input, text);
     }
     match bytes_or_refusal(alloc, input)? {
-        Ok(records) => resume_text(alloc, text, &settings, &records, order),
+        Ok(records) => resume_records(alloc, matches, &settings, &records, text),
         Err(refusal) => Ok(refusal),
     }
 }

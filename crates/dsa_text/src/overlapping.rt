@@ -1,11 +1,9 @@
 //! What is said of moves whose source and destination overlap.
 
+use crate::notes::Notes;
 use dsa_descriptor::{Descriptor, Op};
 use dsa_plan::Settings;
 use std::alloc::{AllocError, Global};
-
-/// The most operations that are named.
-const MOST_NAMED: usize = 20;
 
 /// Whether a piece of an operation moves bytes within one range.
 fn overlaps(d: &Descriptor, settings: &Settings) -> bool {
@@ -22,40 +20,24 @@ fn overlaps(d: &Descriptor, settings: &Settings) -> bool {
     }
 }
 
-/// The moves of which a piece has a source and a destination that overlap.
-fn overlapping_in(
-    alloc: Global,
-    operations: &[Descriptor],
-    settings: &Settings,
-) -> Result<Vec<usize>, AllocError> {
-    let mut found = Vec::new(alloc);
-    for (operation, d) in operations.iter().enumerate() {
-        if overlaps(d, settings) {
-            found.push(operation)?;
-        }
-    }
-    Ok(found)
-}
-
-/// A line for each move of which a piece has a source and a destination that overlap, up to 20, and how many more there
-/// are.
+/// A line for each move of which a piece has a source and a destination that overlap.
 pub(crate) fn overlap_notes(
     alloc: Global,
     operations: &[Descriptor],
     settings: &Settings,
 ) -> Result<Option<String>, AllocError> {
-    let found = overlapping_in(alloc, operations, settings)?;
-    if found.is_empty() {
-        return Ok(None);
+    let mut notes = Notes::new(alloc);
+    for (operation, d) in operations.iter().enumerate() {
+        if overlaps(d, settings) && notes.count() {
+            notes.write(&note_of(alloc, operation)?)?;
+        }
     }
-    let mut text = String::new(alloc);
-    for operation in found.iter().take(MOST_NAMED) {
-        text.push_str(&format!(in alloc; "note: operation {operation}: its regions overlap, ")?)?;
-        text.push_str("and only devices with overlapping copy support (GENCAP bit 1) take it\n")?;
-    }
-    if found.len() > MOST_NAMED {
-        let more = found.len() - MOST_NAMED;
-        text.push_str(&format!(in alloc; "note: and {more} more moves that overlap\n")?)?;
-    }
-    Ok(Some(text))
+    notes.into_text(alloc, "moves that overlap")
+}
+
+/// The line of a move whose regions overlap.
+fn note_of(alloc: Global, operation: usize) -> Result<String, AllocError> {
+    let mut text = format!(in alloc; "note: operation {operation}: its regions overlap, ")?;
+    text.push_str("and only devices with overlapping copy support (GENCAP bit 1) take it\n")?;
+    Ok(text)
 }

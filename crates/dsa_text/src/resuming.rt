@@ -15,8 +15,9 @@ use std::alloc::{AllocError, Global};
 /// What the help of `resume` says of its input.
 const STOPPED: &str =
     "FILE has the lines of the operations, as they were planned with these options. The records have 32 bytes for each of
-their pieces in order, as the device has left them: an operation of n pieces has n records, from its record address on.
-They are read as disassemble reads bytes.
+their pieces in the order of the plan, as the device has left them: an operation of n pieces has n records, from its
+record address on. The pieces of a move to a higher address within its own range run from the end: its last record comes
+first, as explain shows. They are read as disassemble reads bytes.
 
 What is written are the lines of the pieces that have not finished (status other than 1 and 2): plan these, with
 their records set to zero.

@@ -10,10 +10,10 @@ const MOST_NAMED: usize = 20;
 
 /// The records of an operation, one for each of its pieces.
 #[derive(Clone, Copy, Debug)]
-struct Row {
+pub(crate) struct Row {
     first: u64,
     records: u64,
-    operation: usize,
+    pub(crate) operation: usize,
 }
 
 /// An operation whose first record is in the row of another.
@@ -25,7 +25,7 @@ struct Shared {
 
 impl Row {
     /// The addresses of the records.
-    fn span(self) -> Span {
+    pub(crate) fn span(self) -> Span {
         Span {
             first: self.first,
             len: self.records.saturating_mul(RECORD_LEN),
@@ -34,7 +34,7 @@ impl Row {
 }
 
 /// The rows of the operations, by their addresses.
-fn rows_of(
+pub(crate) fn rows_of(
     alloc: Global,
     operations: &[Descriptor],
     settings: &Settings,

@@ -174,7 +174,33 @@ fn hint_of_operation(word: &[u8]) -> Option<&'static str> {
         b"unknown" => Some("an entry that is no listed descriptor, so it can't be planned"),
         [b'/', b'/', ..] | [b';', ..] => Some("a comment begins with #"),
         [b'A'..=b'Z', ..] => Some("in lower case"),
+        b"memcpy" | b"memmove" | b"copy" => Some("`move` copies bytes"),
+        b"memset" | b"set" => Some("`fill` writes a pattern"),
+        b"memcmp" | b"cmp" => Some("`compare` compares bytes"),
+        b"" | b"wait" | b"sync" => Some("a line `barrier` makes what comes after it wait"),
+        b"nop" | b"noop" | b"drain" | b"crc" | b"copy_crc" | b"flush" => {
+            Some("a list has moves, fills, compares, deltas and dualcasts alone")
+        }
         _ => None,
+    }
+}
+
+/// What helps where an option was expected.
+fn hint_of_option(word: &[u8]) -> &'static str {
+    match word {
+        b"fence" => "a line `barrier` makes what comes after it wait; the plan sets other fences",
+        b"barrier" => "a barrier is a line of its own",
+        _ => "each comes once",
+    }
+}
+
+/// What helps where flags were expected.
+fn hint_of_flags(word: &[u8]) -> Option<&'static str> {
+    match word {
+        b"0x1" | b"0x0001" | b"1" => Some("a line `barrier` makes what comes after it wait"),
+        b"0x80" | b"0x0080" | b"128" => Some("the option `check` checks a result"),
+        b"0x4" | b"0x8" | b"0xc" | b"0x000c" | b"12" => Some("a record is always requested"),
+        _ => Some("block on fault is 0x0002"),
     }
 }
 
@@ -200,14 +226,14 @@ pub(crate) fn hint_of(word: &[u8], expected: Expected) -> Option<&'static str> {
         Expected::Size => hint_of_size(word),
         Expected::Pattern => Some("byte 0 first, as 0102030405060708"),
         Expected::Bytes => hint_of_bytes(word),
-        Expected::Option => Some("each comes once"),
+        Expected::Option => Some(hint_of_option(word)),
         Expected::Operation => hint_of_operation(word),
         Expected::Comma | Expected::CommaOrEnd => hint_of_comma(word),
         Expected::Expect => Some("`expect 0` if they should be equal, else `expect 1`"),
         Expected::Record => Some("`record ADDRESS`: of 32 bytes, at a multiple of 32"),
+        Expected::Flags => hint_of_flags(word),
         Expected::Pasid
         | Expected::Handle
-        | Expected::Flags
         | Expected::Bit
         | Expected::Arrow
         | Expected::With

@@ -1,0 +1,74 @@
+//! What is said of compares whose results stop nothing.
+
+use crate::kept::cuts_of;
+use crate::notes::Notes;
+use crate::origins::count_of;
+use crate::unplanned::Source;
+use crate::words::line_of_operation;
+use dsa_descriptor::{Descriptor, FlagWord, Op};
+use dsa_plan::{Plan, Settings};
+use std::alloc::{AllocError, Global};
+
+/// What is said of a compare whose result is not checked, with a barrier after it.
+const UNCHECKED: &str = "without check its result does not stop what is after a barrier";
+
+/// What is said of a compare whose result is checked, without a barrier just after it.
+const UNGUARDED: &str = "what is after its check, up to a barrier, may run even if it fails";
+
+/// The last operation with a barrier before it.
+fn last_barrier(marks: &[bool]) -> Option<usize> {
+    marks.iter().rposition(|mark| *mark)
+}
+
+/// Why what an operation finds stops nothing, if it is a compare: a barrier is after it, but its result is not checked;
+/// or it is, but the operation after it is of its epoch of the plan.
+fn cause_of(d: &Descriptor, is_before_barrier: bool, goes_on: bool) -> Option<&'static str> {
+    let is_checked = d.flags.0 & FlagWord::CHECK_RESULT.0 != 0;
+    match d.op {
+        Op::Compare { .. } | Op::ComparePattern { .. } => match (is_checked, goes_on) {
+            (false, _) if is_before_barrier => Some(UNCHECKED),
+            (true, true) => Some(UNGUARDED),
+            (false, true | false) | (true, false) => None,
+        },
+        Op::Move { .. } | Op::Fill { .. } | Op::ApplyDelta { .. } | Op::Dualcast { .. } => None,
+    }
+}
+
+/// A line for each compare of a text whose result stops nothing that comes after it.
+pub(crate) fn check_notes(
+    alloc: Global,
+    source: Source<'_>,
+    operations: &[Descriptor],
+    marks: &[bool],
+    plan: &Plan,
+    settings: &Settings,
+) -> Result<Option<String>, AllocError> {
+    let Source::Text(text) = source else {
+        return Ok(None);
+    };
+    let (last, cuts) = (last_barrier(marks), cuts_of(alloc, plan)?);
+    let mut notes = Notes::new(alloc);
+    let mut next: usize = 0;
+    for (operation, d) in operations.iter().enumerate() {
+        next = next.saturating_add(count_of(d, settings));
+        let is_before_barrier = last.is_some_and(|barrier| operation < barrier);
+        let goes_on = cuts.get(next).copied() == Some(false);
+        if let Some(cause) = cause_of(d, is_before_barrier, goes_on) {
+            if notes.count() {
+                notes.write(&note_of(alloc, text, operation, cause)?)?;
+            }
+        }
+    }
+    notes.into_text(alloc, "compares whose results stop nothing")
+}
+
+/// The line of an operation's cause.
+fn note_of(
+    alloc: Global,
+    text: &[u8],
+    operation: usize,
+    cause: &str,
+) -> Result<String, AllocError> {
+    let line = line_of_operation(text, operation);
+    format!(in alloc; "note: line {line}, operation {operation}: {cause}\n")
+}

@@ -1,0 +1,131 @@
+//! What is said of a list and the completion records that are to be resumed.
+
+ghost use Rattle.std.specs.Prelude.{map};
+ghost use Rattle.dsa_descriptor.specs.Descriptors.{fields};
+ghost use Rattle.dsa_descriptor.specs.Lists.{HaveOneOwner};
+
+use crate::kept::cuts_of;
+use crate::origins::count_of;
+use dsa_calls::{PlanFault, plan_operations};
+use dsa_descriptor::Descriptor;
+use dsa_lines::{TextFault, parse_operations, text_barriers};
+use dsa_plan::Settings;
+use std::alloc::{AllocError, Global};
+
+/// What is said of a list with barriers.
+const BARRIERS: &str =
+    "note: a list with barriers is not resumed: resume what is between two barriers by itself\n";
+
+/// A piece that has begun, though an earlier one of another epoch has not succeeded.
+#[derive(Clone, Copy, Debug)]
+struct Early {
+    begun: usize,
+    unfinished: usize,
+}
+
+/// The first pieces that have not succeeded, in the epochs so far.
+#[derive(Clone, Copy, Debug)]
+struct Unfinished {
+    /// In earlier epochs.
+    before: Option<usize>,
+    /// In this one.
+    within: Option<usize>,
+}
+
+impl Unfinished {
+    /// Goes on to the next epoch.
+    fn next_epoch(&mut self) {
+        self.before = self.before.or(self.within);
+        self.within = None;
+    }
+
+    /// Adds a piece by the status in its record: 0 before it begins, 1 if it has succeeded. Answers the piece that has
+    /// not succeeded, though it had to before this one began.
+    fn push(&mut self, piece: usize, status: u8) -> Option<usize> {
+        if self.within.is_none() && status != 1 {
+            self.within = Some(piece);
+        }
+        if status == 0 { None } else { self.before }
+    }
+}
+
+/// The first piece that has begun too early, by the pieces that begin an epoch and the completion records.
+fn early_in(cuts: &[bool], completions: &[[u8; 32]]) -> Option<Early> {
+    let mut unfinished = Unfinished {
+        before: None,
+        within: None,
+    };
+    for (piece, (begins_epoch, completion)) in cuts.iter().zip(completions).enumerate() {
+        if *begins_epoch {
+            unfinished.next_epoch();
+        }
+        if let Some(first) = unfinished.push(piece, completion[0]) {
+            return Some(Early {
+                begun: piece,
+                unfinished: first,
+            });
+        }
+    }
+    None
+}
+
+/// How many pieces operations have.
+fn piece_total(operations: &[Descriptor], settings: &Settings) -> usize {
+    let mut total: usize = 0;
+    for d in operations {
+        total = total.saturating_add(count_of(d, settings));
+    }
+    total
+}
+
+/// What is said of records that submitting the groups of the list's plan in turn does not leave.
+fn early_note(
+    alloc: Global,
+    operations: &[Descriptor],
+    settings: &Settings,
+    records: &[u8],
+) -> Result<Option<String>, AllocError>
+    requires { HaveOneOwner (map fields operations.now) }
+{
+    let planned = match plan_operations(alloc, operations, settings) {
+        Ok(planned) => planned,
+        Err(fault) if fault == PlanFault::Memory => return Err(AllocError),
+        Err(_) => return Ok(None),
+    };
+    let cuts = cuts_of(alloc, &planned.plan)?;
+    let (completions, _) = records.as_chunks::<32>();
+    let Some(Early { begun, unfinished }) = early_in(&cuts, completions) else {
+        return Ok(None);
+    };
+    let mut text = format!(in alloc;
+        "warning: piece {begun} has begun, and piece {unfinished}, of an earlier epoch of the plan, "
+    )?;
+    text.push_str("has not succeeded: groups submitted one after another leave no such records\n")?;
+    Ok(Some(text))
+}
+
+/// What is said of a list and records: that it has barriers, how long the records should be, or that submitting the
+/// groups of its plan in turn does not leave them.
+pub(crate) fn resume_notes(
+    alloc: Global,
+    text: &[u8],
+    settings: &Settings,
+    records: &[u8],
+) -> Result<Option<String>, AllocError> {
+    let operations = match parse_operations(alloc, text) {
+        Ok(operations) => operations,
+        Err(TextFault::Memory) => return Err(AllocError),
+        Err(TextFault::Grammar(..) | TextFault::List(..)) => return Ok(None),
+    };
+    if !text_barriers(alloc, text, false)?.is_empty() {
+        return Ok(Some(String::from_str(alloc, BARRIERS)?));
+    }
+    let (pieces, given) = (piece_total(&operations, settings), records.len());
+    let needed = pieces.saturating_mul(32);
+    if given != needed {
+        return Ok(Some(format!(in alloc;
+            "note: {pieces} pieces have {needed} bytes of records, and these are {given}\n"
+        )?));
+    }
+    early_note(alloc, &operations, settings, records)
+}

@@ -1,0 +1,119 @@
+//! What is said of operations whose data meets the completion records of others: data that they write, and data that
+//! they read before a record is written there.
+
+use crate::notes::Notes;
+use crate::rows::{Row, rows_of};
+use dsa_descriptor::{Descriptor, Span};
+use dsa_plan::Settings;
+use std::alloc::{AllocError, Global};
+
+/// Data of an operation, and the records of another that it meets.
+#[derive(Clone, Copy, Debug)]
+struct Meeting {
+    data: Span,
+    is_written: bool,
+    row: Row,
+}
+
+/// For each of the rows, which are in the order of their addresses, the one of it and those before it that ends last.
+fn farthest_of(alloc: Global, rows: &[Row]) -> Result<Vec<Row>, AllocError> {
+    let mut farthest = Vec::with_capacity(alloc, rows.len())?;
+    let mut last: Option<Row> = None;
+    for row in rows {
+        let longest = match last {
+            Some(before) if row.span().end() <= before.span().end() => before,
+            Some(_) | None => *row,
+        };
+        farthest.push(longest)?;
+        last = Some(longest);
+    }
+    Ok(farthest)
+}
+
+/// A row that shares an address with a span. `farthest` has for each row the one of it and those before it that ends
+/// last.
+fn row_at(rows: &[Row], farthest: &[Row], span: Span) -> Option<Row> {
+    let count = rows.partition_point(|row| u128::from(row.span().first) < span.end());
+    let row = farthest.get(count.checked_sub(1)?)?;
+    if u128::from(span.first) < row.span().end() {
+        Some(*row)
+    } else {
+        None
+    }
+}
+
+/// The first data that an operation writes which meets the records of another.
+fn written_over(d: &Descriptor, rows: &[Row], farthest: &[Row]) -> Option<Meeting> {
+    for data in d.op.targets(d.size) {
+        if let Some(row) = row_at(rows, farthest, data) {
+            return Some(Meeting {
+                data,
+                is_written: true,
+                row,
+            });
+        }
+    }
+    None
+}
+
+/// The first data that an operation reads which meets the records of a later one.
+fn read_before(
+    operation: usize,
+    d: &Descriptor,
+    rows: &[Row],
+    farthest: &[Row],
+) -> Option<Meeting> {
+    for data in d.op.sources(d.size) {
+        if let Some(row) = row_at(rows, farthest, data).filter(|row| operation < row.operation) {
+            return Some(Meeting {
+                data,
+                is_written: false,
+                row,
+            });
+        }
+    }
+    None
+}
+
+/// The line of an operation whose data meets the records of another.
+fn line_of(alloc: Global, operation: usize, meeting: Meeting) -> Result<String, AllocError> {
+    let (data, row) = (meeting.data, meeting.row.span());
+    let (first, last) = (data.first, data.end().saturating_sub(1));
+    let holder = meeting.row.operation;
+    let does = if meeting.is_written {
+        "writes"
+    } else {
+        "reads"
+    };
+    let mut line = format!(in alloc;
+        "warning: operation {operation} {does} data at 0x{first:x} to 0x{last:x}, and operation "
+    )?;
+    let (first, last) = (row.first, row.end().saturating_sub(1));
+    line.push_str(&format!(in alloc;
+        "{holder} writes its completion records at 0x{first:x} to 0x{last:x}\n"
+    )?)?;
+    Ok(line)
+}
+
+/// A line for each operation that writes data where another has its completion records, or reads data where a later one
+/// has them.
+pub(crate) fn overwritten_notes(
+    alloc: Global,
+    operations: &[Descriptor],
+    settings: &Settings,
+) -> Result<Option<String>, AllocError> {
+    let rows = rows_of(alloc, operations, settings)?;
+    let farthest = farthest_of(alloc, &rows)?;
+    let mut notes = Notes::new(alloc);
+    for (operation, d) in operations.iter().enumerate() {
+        let meeting = written_over(d, &rows, &farthest).or(read_before(
+            operation, d, &rows, &farthest,
+        ));
+        if let Some(meeting) = meeting {
+            if notes.count() {
+                notes.write(&line_of(alloc, operation, meeting)?)?;
+            }
+        }
+    }
+    notes.into_text(alloc, "operations with data at records")
+}

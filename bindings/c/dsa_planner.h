@@ -350,7 +350,9 @@ uint32_t dsa_check_fenced_list(const struct dsa_settings *settings,
  * What is left to submit of a list that dsa_plan_list has planned with these settings, once a submission has stopped,
  * as after a page fault. records has the completion records of its pieces as the device has left them, 32 bytes for
  * each in the order of the pieces: byte 0 is 0, as the caller has cleared it, of a piece that waits, 1 or 2 of one that
- * has finished (2: a compare found another result than expected), and any other of one that failed.
+ * has finished (2: a compare found another result than expected), and any other of one that failed. The pieces of a
+ * move to a higher address within its own range run from the end, and so do their records: the one at its record
+ * address is that of its last piece.
  *
  * Returns 0: rest begins with the list of the pieces that have not finished, 64 bytes each, and rest_len is its length
  * (64 bytes for each piece are always enough). They are as they were listed; if failed_first is not 0, those that

@@ -583,8 +583,9 @@ def _checked(call, settings: Settings, given: Sequence, certificate: Certificate
 
 def resume(settings: Settings, operations: Bytes, records: Bytes, failed_first: bool = False) -> bytes:
     """What is left to submit of a list that was planned with these settings, once a submission has stopped: the pieces
-    that have not finished, by their completion records, 32 bytes for each in their order (the first byte is 0 if the
-    piece waits, 1 or 2 if it has finished). Clear the records of what is left, and plan it. Raises `Refusal`."""
+    that have not finished, by their completion records, 32 bytes for each in their order (first byte 0: it waits; 1, 2:
+    it has finished). Pieces of a move to a higher address within its own range run from the end: the record at its
+    record address is that of the last. Clear the records of what is left, and plan it. Raises `Refusal`."""
     raw, table, entries = settings._raw()
     listed, size = _given("operations", operations)
     pieces = min(int(_library.dsa_count_pieces(raw, table, entries, listed, size)), MOST_PIECES)

@@ -567,8 +567,9 @@ pub enum LeftOrder {
 
 /// What is left to submit of a list that was planned with these settings, once a submission has stopped: the list of
 /// the pieces that have not finished, by their completion records, 32 bytes for each piece in their order, whose first
-/// byte is 0 of a piece that waits, and 1 or 2 of one that has finished. Clear the records of what is left, and plan
-/// it.
+/// byte is 0 of a piece that waits, and 1 or 2 of one that has finished. The pieces of a move to a higher address
+/// within its own range run from the end: the record at its record address is that of its last piece. Clear the
+/// records of what is left, and plan it.
 ///
 /// # Errors
 /// The first fault of the settings or the list; [`Cause::Records`]; [`Cause::Memory`].

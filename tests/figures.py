@@ -1,6 +1,6 @@
-"""The tables of speed in README.md and docs/SPEED.md are those of the files of docs/figures, which tests/measure.py
-writes, and docs/SPEED.md has no figure of speed in prose alone. A table is between `<!-- figures: NAME -->` and
-`<!-- end -->`. `tests/figures.py --write` makes the tables of the pages anew."""
+"""The tables of speed in README.md, docs/SPEED.md and trace/README.md are those of the files of docs/figures, which
+tests/measure.py writes, and docs/SPEED.md has no figure of speed in prose alone. A table is between
+`<!-- figures: NAME -->` and `<!-- end -->`. `tests/figures.py --write` makes the tables of the pages anew."""
 
 import json
 import re
@@ -8,7 +8,7 @@ from pathlib import Path
 
 from common import expect, run_test
 
-PAGES = ("README.md", "docs/SPEED.md")
+PAGES = ("README.md", "docs/SPEED.md", "trace/README.md")
 FOLDER = Path("docs/figures")
 BLOCK = re.compile(r"(<!-- figures: (\w+) -->\n)(.*?)(<!-- end -->)", re.S)
 # What prose may not say outside of the tables: a number with a unit of time or memory, or a ratio.
@@ -113,6 +113,13 @@ def in_flight():
     return source(found) + table(heads, rows)
 
 
+def traces():
+    found = figures("traces")
+    rows = [[row["options"], row["stubs"], row["signals"]] for row in found["rows"]]
+    rows.append(["a start", f"{found['start']} ms", ""])
+    return source(found) + table(["options", "by code, us", "by a signal, us"], rows)
+
+
 def summary():
     """What README says of all these."""
     short, jobs_of, fills = figures("short_lists")["rows"], figures("jobs")["rows"], figures("filling")["rows"]
@@ -128,7 +135,7 @@ def summary():
     ])
 
 
-MADE = (machine, short_lists, filling, small_jobs, jobs, longest, audits, in_flight, summary)
+MADE = (machine, short_lists, filling, small_jobs, jobs, longest, audits, in_flight, traces, summary)
 TABLES = {it.__name__: it for it in MADE}
 
 

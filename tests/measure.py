@@ -1,7 +1,8 @@
 #!/usr/bin/env -S python3 -B
-"""Measures what docs/SPEED.md says, by hand and on a quiet machine, and writes each group to a file of docs/figures:
+"""Measures what docs/SPEED.md and trace/README.md say, by hand and on a quiet machine, and writes each group to a file
+of docs/figures:
 
-    tests/measure.py short_lists filling in_flight small_jobs audits
+    tests/measure.py short_lists filling in_flight small_jobs audits traces
     tests/measure.py jobs longest OTHER      beside another program of the same jobs
 
 `tests/figures.py --write` makes the tables of the pages anew from these files. Times are of the built programs and the
@@ -162,7 +163,21 @@ def audits():
     return {"rows": rows, "plain": plain, "guarded": guarded}
 
 
-GROUPS = {it.__name__: it for it in (short_lists, filling, in_flight, small_jobs, audits)}
+# ---- dsa_trace
+
+
+def traces():
+    """What a submission takes under dsa_trace, in microseconds, by code and by a signal; a start in milliseconds."""
+    command = [sys.executable, "-B", ROOT / "tests/trace.py", "cost"]
+    ran = subprocess.run(command, stdout=subprocess.PIPE, text=True, check=True).stdout
+    rows = {}
+    for words, took in re.findall(r"^dsa_trace(.*): .*and ([\d.]+) us to the portal", ran, re.M):
+        options = "--out DIR" if "--out" in words else words.replace("--signals", "").strip() or "none"
+        rows.setdefault(options, {"options": options})["signals" if "--signals" in words else "stubs"] = float(took)
+    return {"start": int(re.search(r"a start takes (\d+) ms", ran)[1]), "rows": list(rows.values())}
+
+
+GROUPS = {it.__name__: it for it in (short_lists, filling, in_flight, small_jobs, audits, traces)}
 BESIDE = {it.__name__: it for it in (jobs, longest)}
 
 

@@ -41,6 +41,8 @@ COUNTS = re.compile(r"^(?:[\w./-]+: )?(\d+) passed[,;] (\d+) failed", re.M)
 KINDS = ("proofs", "edits", "tests", "scripts")
 # Of how many crates edits that change nothing are tried beside the others, at the least.
 FEWEST_CONTROLS = 5
+# The GB of disk that a gate from nothing takes.
+DISK = 20
 
 
 class Task:
@@ -261,6 +263,12 @@ def tasks_of(crates, given):
     return [*proofs.values(), *tasks_of_crates(wanted, proofs, given.kept), *tasks_of_scripts(scripts, proofs)]
 
 
+def note_of_room():
+    """Returns what to say if the disk has too little room: once it is full, tasks fail and give no reason."""
+    free = shutil.disk_usage(ROOT).free // 10**9
+    return f"note: a gate from nothing takes {DISK} GB of disk, and {free} were free" if free < DISK else ""
+
+
 def clear(crates):
     """Removes what earlier checks left, so that nothing of it is trusted."""
     for crate in crates.values():
@@ -285,17 +293,19 @@ def reasons(task):
     """Returns the lines that say why a task failed: those that name a failure, else its last ones."""
     lines = [it for it in task.said.split("\n") if it.strip()]
     named = [it for it in lines if re.search(r"FAILED|BAD EDIT|NOT REFUSED", it)]
-    goals = [it for it in lines if re.search(r"NOT PROVED|: error|it is not proved that|^rt: ", it)]
+    goals = [it for it in lines if re.search(r": error|it is not proved that|^rt: ", it)]
     return (named or goals or lines)[-6:]
 
 
-def report(tasks, clock):
+def report(tasks, clock, note):
     table(tasks, clock)
     for task in tasks:
         if task.failed:
             print(f"\nFAILED {task.label()}:")
             print("\n".join(f"    {it[:300]}" for it in reasons(task)))
     failed = sum(it.failed for it in tasks)
+    if failed and note:
+        print(note)
     print(f"{sum(it.passed for it in tasks)} passed, {failed} failed")
     return 1 if failed else 0
 
@@ -339,12 +349,14 @@ def main():
     logs = given.logs or tempfile.mkdtemp(prefix="dsa-gate-")
     os.makedirs(logs, exist_ok=True)
     stop_where_rt_would(crates)
+    note = ""
     if not given.kept:
         clear(crates)
+        note = note_of_room()
     tasks = tasks_of(crates, given)
-    print(f"logs: {logs}", flush=True)
+    print(f"logs: {logs}\n{note}".rstrip(), flush=True)
     in_lanes(tasks, logs, toolchain.rt.processors())
-    return report(tasks, time.monotonic() - start)
+    return report(tasks, time.monotonic() - start, note)
 
 
 if __name__ == "__main__":

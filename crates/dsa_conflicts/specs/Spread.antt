@@ -11,7 +11,7 @@ use Rattle.dsa_conflicts.specs.Overlaps.{last_at}
 unfoldable pub key_of : ℕ → ℕ
 key_of unit = unit * 11400714819323198485 % 2 ^ 64 / 2 ^ 53
 
--- piece i reads or writes the address, beside its record; the address lies in its record
+-- piece i reads or writes the address, beside its record
 abbrev pub HasData : List Fields → ℕ → ℕ → Type 0
 HasData fs i x = (f : Fields) × (slice_get fs i ≡ Some f) × (InSome (sources f.op f.size) x ⊎ InSome (targets f.op f.size) x)
 
@@ -27,7 +27,8 @@ DataConflict f g = SpansConflict (sources f.op f.size) (targets f.op f.size) (so
 abbrev pub DataConflictAt : List Fields → ℕ → ℕ → Type 0
 DataConflictAt fs i j = (f g : Fields) × (slice_get fs i ≡ Some f) × (slice_get fs j ≡ Some g) × DataConflict f g
 
--- the last piece that conflicts with piece b, if records do not tell
+-- piece a conflicts with piece b, at most `window` places later, and by its data no piece between them does; none: by its
+-- data no piece of the window does
 abbrev pub IsNoted : List Fields → ℕ → ℕ → Option ℕ → Type 0
 IsNoted fs window b (Some a) = IsBack (ConflictAt fs) window b a × ((other : ℕ) → IsBack (DataConflictAt fs) window b other → other ≤ a)
 IsNoted fs window b None = (other : ℕ) → IsBack (DataConflictAt fs) window b other → ⊥

@@ -1,4 +1,4 @@
--- One batch without a fence, and the costs of the first pieces where it may have them all; for private clauses.
+-- Lists that fit one batch: their costs without a search. For private clauses.
 use Rattle.std.specs.Prelude.{ℕ, ◌≡◌, ◌+◌, ◌*◌, ◌<◌, ◌≤◌, min, List, length, slice_index}
 use Rattle.dsa_plan.specs.Plan.{Tariff}
 use Rattle.dsa_plan.specs.Chain.{Pairs, LeadsTo, HasCountBelow}

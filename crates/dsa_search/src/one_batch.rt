@@ -1,4 +1,4 @@
-//! Lists of which one batch without a fence is the plan: its costs are known from the prices alone.
+//! Lists that fit one batch: their costs without a search.
 
 ghost use Rattle.std.specs.Prelude.{◌≡◌, ℕ, ◌+◌, ◌-◌, ◌<◌, ◌≤◌, List, [], ◌∷◌, replicate, false, length, slice_index, IsTrue, IfOk};
 ghost use Rattle.dsa_plan.specs.Settings.{tariff_of, greatest_price};
@@ -23,8 +23,8 @@ pub(crate) fn none_last(lasts: &[Option<u32>]) -> bool
     true
 }
 
-/// Whether one batch of so many pieces is known to cost less than any other plan, if none of them conflict. It costs
-/// less than they do one by one, but something: other plans may cost nothing, too.
+/// Whether one batch of so many pieces is known to cost less than any plan of other groups, if none of them conflict.
+/// It costs less than they do one by one, but something: other plans may cost nothing, too.
 pub(crate) fn is_best_batch(settings: &Settings, count: usize) -> bool
     ensures { IsTrue result →
         IsBestBatch settings.now.greatest_batch (tariff_of settings.now) count }
@@ -144,8 +144,8 @@ pub(crate) fn joined_costs(
     Ok(costs)
 }
 
-/// Whether one batch of all pieces is known to cost less than any other plan, if fences are cheap and it costs this
-/// much.
+/// Whether one batch of all pieces is known to cost less than any plan of other groups, if fences are cheap and it
+/// costs this much.
 fn is_best_joined(settings: &Settings, count: usize, cost: u64) -> bool
     requires { HasCheapFences settings.now.greatest_batch (tariff_of settings.now) count }
     ensures { IsTrue result →

@@ -127,11 +127,11 @@ def summary():
     ratios = [row["own"]["wall"] / row["other"]["wall"] for row in plans]
     took = [row["seconds"] for row in figures("audits")["rows"] if row["batches"] > 1]
     return table(["What", "Time"], [
-        ["planning from C", f"{span([row['ns'] for row in short])} ns an operation, in lists of 8 to 64"],
+        ["planning moves from C", f"{span([row['ns'] for row in short])} ns each, in lists of 8 to 64"],
         ["filling a prepared list of 3 to 65 regions", f"{span([row['ns'] for row in fills])} ns an operation"],
         ["planning 65,536 operations as a JSON job", f"{span([row['own']['wall'] for row in plans])} ms, "
          f"{span(ratios, '{:.1f}')} times the time of an ordinary Rust program"],
-        ["an audit of 65,472 members in batches of 1,023, as JSON", f"{span(took, '{:.1f}')} s"],
+        ["an audit of 65,472 members in batches of 1,023, as JSON", f"{span(took, '{:.2f}')} s"],
     ])
 
 

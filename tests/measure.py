@@ -141,15 +141,28 @@ def longest(other):
 # ---- audits
 
 
+# Starts a program, and prints its processor seconds and its peak in kB: no peak is seen below that of the process that
+# started it, and this one is small.
+ALONE = """import os, sys
+nowhere = (os.POSIX_SPAWN_OPEN, 1, os.devnull, os.O_WRONLY, 0)
+child = os.posix_spawn(sys.argv[1], sys.argv[1:], os.environ, file_actions=[nowhere])
+_, status, usage = os.wait4(child, 0)
+print(usage.ru_utime + usage.ru_stime, usage.ru_maxrss)
+sys.exit(os.waitstatus_to_exitcode(status))"""
+
+
 def of_a_gibibyte(block):
     """The processor seconds and the peak in MB of an audit of a block again and again, up to a gibibyte."""
-    child = subprocess.Popen([program("dsa_text"), "audit"], stdin=subprocess.PIPE, stdout=subprocess.DEVNULL)
+    command = [sys.executable, "-ISc", ALONE, str(program("dsa_text")), "audit"]
+    child = subprocess.Popen(command, stdin=subprocess.PIPE, stdout=subprocess.PIPE)
     many = block * (2**20 // len(block))
     for _ in range(GIB // len(many)):
         child.stdin.write(many)
     child.stdin.close()
-    _, _, usage = os.wait4(child.pid, 0)
-    return {"seconds": round(usage.ru_utime + usage.ru_stime, 1), "peak": round(usage.ru_maxrss / 1000)}
+    seconds, peak = child.stdout.read().split()
+    if child.wait():
+        stop(f"dsa_text audit ended with status {child.returncode}")
+    return {"seconds": round(float(seconds), 1), "peak": round(int(peak) / 1000)}
 
 
 def audits():

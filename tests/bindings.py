@@ -14,6 +14,7 @@ import sys
 import tempfile
 from pathlib import Path
 
+import measure
 from common import ROOT, block_after, compiler, expect, named, program, run_test
 
 sys.path.insert(0, str(ROOT / "bindings/package"))
@@ -23,6 +24,8 @@ ARCHIVE = ROOT / "crates/dsa_c/out/libdsa_c.a"
 WARN = ["-Wall", "-Wextra", "-Werror"]
 SANITIZE = ["-fsanitize=address,undefined", "-fno-sanitize-recover=all"]
 SANITIZE_THREADS = ["-fsanitize=thread"]
+# The most instructions for each of 32 moves. Without the short ways of such lists they take 100 to 490 more.
+MOST_INSTRUCTIONS = {"apart": 330, "two areas": 335, "shuffled": 410, "chained": 530, "random": 525}
 
 
 def tried(what, command, printed=None, **how):
@@ -249,6 +252,17 @@ def speed():
         print(ran.stdout.rstrip())
 
 
+def instructions():
+    """Short lists are planned in the instructions that they have taken so far, however fast the machine is."""
+    if not shutil.which("valgrind"):
+        print("there is no valgrind")
+        return
+    caller = compiled("tests/bindings/speed.c")
+    for kind, most in MOST_INSTRUCTIONS.items():
+        counted = measure.instructions(caller, kind, "32", WORK)
+        expect(counted <= most, f"a move of 32 that are {kind} takes {counted} instructions, not up to {most}")
+
+
 def main(words):
     global WORK
     if not compiler():
@@ -257,7 +271,7 @@ def main(words):
     make.need_proved("libdsa_c.a")
     with tempfile.TemporaryDirectory() as WORK:
         parts = [header, examples, calls, fenced, resumed, texts, chains, prepared, regions, tracked, flights]
-        parts += [in_flight, recorder, random_lists, speed]
+        parts += [in_flight, recorder, random_lists, instructions, speed]
         for part in named(parts, words):
             part()
 

@@ -41,7 +41,7 @@ COUNTS = re.compile(r"^(?:[\w./-]+: )?(\d+) passed[,;] (\d+) failed", re.M)
 KINDS = ("proofs", "edits", "tests", "scripts")
 # Of how many crates edits that change nothing are tried beside the others, at the least.
 FEWEST_CONTROLS = 5
-# The GB of disk that a gate from nothing takes.
+# The GB of disk that a gate from nothing needs: it leaves 14, and its edits take some meanwhile.
 DISK = 20
 
 
@@ -266,7 +266,7 @@ def tasks_of(crates, given):
 def note_of_room():
     """Returns what to say if the disk has too little room: once it is full, tasks fail and give no reason."""
     free = shutil.disk_usage(ROOT).free // 10**9
-    return f"note: a gate from nothing takes {DISK} GB of disk, and {free} were free" if free < DISK else ""
+    return f"note: a gate from nothing needs {DISK} GB of disk, and {free} were free" if free < DISK else ""
 
 
 def clear(crates):

@@ -7,8 +7,8 @@
  * Proved:    of each call but dsa_planner_version, for all inputs of a caller that does what is asked below: which number
  *            it returns, and what it has written then, as its comment here says. The contracts are at the functions of the
  *            same names in crates/dsa_c/src. Tested, not proved: that a call succeeds if there is memory, how much stack it
- *            takes, and that calls on several threads do not disturb each other. Neither: that a device does what docs/FORMATS.md
- *            says of it.
+ *            takes, and that calls on several threads do not disturb each other. Neither proved nor tested: that a device
+ *            does what docs/FORMATS.md says of it.
  *
  * Link:      cc app.c $(pkg-config --cflags --libs dsa_planner)            with the shared object libdsa_planner.so.1
  *            cc app.c $(pkg-config --cflags --libs dsa_planner_static)     with the archive libdsa_planner.a
@@ -33,7 +33,7 @@
  * Memory:    the caller owns every array and struct; a call keeps no pointer after it returns. What a call allocates it
  *            frees before it returns.
  *
- * A caller owes, since no C compiler checks it (undefined behaviour else):
+ * A caller has to ensure, since no C compiler checks it (otherwise the behaviour is undefined):
  *   - each pointer is aligned and not NULL, and points to as many items as its length says, which can be read (const) or
  *     written (not const). With length 0 it is not read, and any aligned non-null address will do.
  *   - no output of a call overlaps another output or an input of that call. Outputs need not be initialised.
@@ -41,8 +41,8 @@
  *     dsa_judge_fenced_list, and 64 KiB for the other calls (measured: 166,088 bytes for dsa_check). Main threads and
  *     those of glibc have 8 MiB if no limit is set lower. A thread of musl has 128 KiB, too little for these four,
  *     unless pthread_attr_setstacksize gives it more.
- *   - its rattle_alloc, rattle_realloc and rattle_dealloc, where it has its own, return, and may be called by several
- *     threads at once where calls are.
+ *   - its rattle_alloc, rattle_realloc and rattle_dealloc, if it has its own, return, and may be called by several
+ *     threads at once if calls are made so.
  *   - nothing else writes to inputs or outputs, or reads outputs, during the call.
  *
  * Units:     lengths of byte arrays and `_len` of results are bytes; lengths of prices, pairs, marks, tables, regions,

@@ -3,3 +3,4 @@ pub mod Redone
 pub mod Parting
 pub mod Plans
 pub mod Resumed
+pub mod Short

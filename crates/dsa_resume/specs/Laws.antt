@@ -1,5 +1,5 @@
 -- What doing the rest of a list leaves.
-use Rattle.std.specs.Prelude.{◌≡◌, ◌⊎◌, ℕ, ◌<◌, Bool, true, All, List, [], ◌∷◌, map, length, Some, IsSome, slice_get}
+use Rattle.std.specs.Prelude.{◌≡◌, ◌⊎◌, ℕ, ◌*◌, ◌<◌, ◌≤◌, Bool, true, All, List, [], ◌∷◌, map, length, Ok, Some, IsSome, slice_get}
 use Rattle.dsa_descriptor.specs.declared.descriptor.Descriptor.{Descriptor}
 use Rattle.dsa_descriptor.specs.Descriptors.{fields}
 use Rattle.dsa_descriptor.specs.Fields.{Fields}
@@ -11,10 +11,14 @@ use Rattle.dsa_image.specs.Effects.{new_data, done, fold_done}
 use Rattle.dsa_settings.specs.Plan.{Plan}
 use Rattle.dsa_settings.specs.Legal.{IsLegal}
 use Rattle.dsa_settings.specs.Epochs.{epoch_of}
+use Rattle.dsa_plan.specs.Settings.{Limits}
+use Rattle.dsa_calls.specs.Planned.{ArePiecesOf}
 use Rattle.dsa_resume.specs.declared.status.Ended.{Ended}
+use Rattle.dsa_resume.specs.declared.left.LeftOrder.{LeftOrder}
 use Rattle.dsa_resume.specs.declared.left.LeftOrder.TheVariants.{AsListed, FailedFirst}
 use Rattle.dsa_resume.specs.Ended.{ended_of, has_finished, is_left, has_failed, is_waiting, has_begun}
 use Rattle.dsa_resume.specs.Left.{those, left_of}
+use Rattle.dsa_resume.specs.Resumed.{Resumes}
 
 -- the piece of this index has ended so
 abbrev pub HasEnded : (Ended → Bool) → List (List ℕ) → ℕ → Type 0
@@ -75,3 +79,9 @@ LegalPlansResume =
     (greatest_batch : ℕ) (pieces : List Fields) (plan : Plan) (completions : List (List ℕ)) → IsLegal (ConflictAt pieces) greatest_batch (length pieces) plan
     → StopsAtAnEpoch plan completions
     → MayComeFirst has_finished is_left pieces completions × MayComeFirst has_failed is_waiting pieces completions
+
+-- the list of what is left has at most 64 bytes for each piece
+abbrev pub LeftIsShort : Type 0
+LeftIsShort =
+    (s : Limits) (list records bytes : List ℕ) (order : LeftOrder) → Resumes s list records order (Ok bytes)
+    → (pieces : List Descriptor) × ArePiecesOf s list pieces × (length bytes ≤ 64 * length pieces)

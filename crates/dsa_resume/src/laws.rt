@@ -1,6 +1,6 @@
 //! Laws of what is left, each the contract of an empty function.
 
-ghost use Rattle.dsa_resume.specs.Laws.{LegalPlansResume, ResumesFailedFirst, ResumesInOrder};
+ghost use Rattle.dsa_resume.specs.Laws.{LeftIsShort, LegalPlansResume, ResumesFailedFirst, ResumesInOrder};
 
 /// Doing what is left after the finished pieces leaves what doing all pieces in order leaves.
 pub fn resuming_leaves_whole()
@@ -11,4 +11,9 @@ pub fn resuming_leaves_whole()
 /// Under a legal plan no piece that is left conflicts with a later one that has finished.
 pub fn legal_plans_resume()
     ensures { LegalPlansResume }
+{}
+
+/// A buffer of 64 bytes for each piece has room for what is left.
+pub fn left_is_short()
+    ensures { LeftIsShort }
 {}

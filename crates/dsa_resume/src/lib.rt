@@ -8,7 +8,7 @@ mod resuming;
 mod status;
 
 pub use fault::ResumeFault;
-pub use laws::{legal_plans_resume, resuming_leaves_whole};
+pub use laws::{left_is_short, legal_plans_resume, resuming_leaves_whole};
 pub use left::{LeftOrder, left_pieces};
 pub use resuming::resume_list;
 pub use status::{Ended, how_ended};

@@ -68,7 +68,7 @@ length-unfenced_list bytes =
       length-drop (64 * (length bytes / 64)) bytes,
     )
 
-entries_unfenced : (bytes : List ℕ) → entries (unfenced_list bytes) ≡ map unfenced (entries bytes)
+pub entries_unfenced : (bytes : List ℕ) → entries (unfenced_list bytes) ≡ map unfenced (entries bytes)
 entries_unfenced bytes =
     ap (λ (n : ℕ). first_chunks 64 (n / 64) (unfenced_list bytes)) (length-unfenced_list bytes)
     ∙ chunks_joined (length bytes / 64) bytes (drop (64 * (length bytes / 64)) bytes) (omega arith)

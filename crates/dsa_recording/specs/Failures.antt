@@ -45,7 +45,8 @@ can_op_fail (Some (Dualcast src dst dst2)) further flags = false
 abbrev pub blocks_on_fault : ℕ → Bool
 blocks_on_fault flags = bit_and flags 0x02 == 0x02
 
--- an operation that does not block on a fault may end with status 3 or 4, unless all memory is resident; a no-op has no data
+-- An operation that does not block on a fault may end with status 3 (linux/idxd.h), unless all memory is resident; a no-op has
+-- no data. One that blocks ends with status 4 only at an address that nothing maps, which is left out (this project's choice).
 abbrev pub can_fault : Bool → ℕ → ℕ → Bool
 can_fault resident code flags = not (code == 0) && (not resident && not (blocks_on_fault flags))
 

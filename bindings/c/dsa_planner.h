@@ -330,10 +330,11 @@ uint32_t dsa_check(const struct dsa_settings *settings,
 
 /*
  * The same for a list as dsa_plan_fenced_list takes it, which says where the barriers are: not each fence that is
- * submitted is one. Returns 0 if the bytes submit the pieces of the list, the plan keeps each barrier, and no legal
- * plan that does costs less. Else the first refusal, in this order: of the list and its pieces, as of
- * dsa_plan_fenced_list; of the bytes; DSA_OTHER_PIECE, the first submitted piece that is not the list's; of the plan
- * and the certificate. A barrier that is not kept is an inner DSA_UNFENCED, with the pieces just before and just after it.
+ * submitted is one. Returns 0 only if the bytes submit the pieces of the list, the plan keeps each barrier, and the
+ * certificate proves that no legal plan that does costs less. Else the first refusal, in this order: of the list and
+ * its pieces, as of dsa_plan_fenced_list; of the bytes; DSA_OTHER_PIECE, the first submitted piece that is not the
+ * list's; of the plan and the certificate. A barrier that is not kept is an inner DSA_UNFENCED, with the pieces just
+ * before and just after it.
  */
 uint32_t dsa_check_fenced_list(const struct dsa_settings *settings,
                                const uint64_t *table, size_t table_len,
@@ -358,8 +359,7 @@ uint32_t dsa_check_fenced_list(const struct dsa_settings *settings,
  * (64 bytes for each piece are always enough). They are as they were listed; if failed_first is not 0, those that
  * failed come before those that wait. Clear their completion records, and plan the list. If no entry of the portal was
  * submitted after one that failed, doing it leaves what the whole list leaves, provided that what is left writes each
- * byte that a failed piece has written before it reads it; with failed_first moreover no piece that waits conflicts
- * with a later one that failed.
+ * byte that a failed piece or the clearing of a record has changed before it reads it.
  *
  * Returns another number: refusal has it, and nothing else was written: the first refusal of dsa_plan_list but for
  * DSA_NO_ROOM, then DSA_RECORDS, then DSA_NO_ROOM_FOR_LIST.

@@ -129,7 +129,7 @@ def summary():
     return table(["What", "Time"], [
         ["planning moves from C", f"{span([row['ns'] for row in short])} ns each, in lists of 8 to 64"],
         ["filling a prepared list of 3 to 65 regions", f"{span([row['ns'] for row in fills])} ns an operation"],
-        ["planning 65,536 operations as a JSON job", f"{span([row['own']['wall'] for row in plans])} ms, "
+        ["planning 65,536 pieces as a JSON job", f"{span([row['own']['wall'] for row in plans])} ms, "
          f"{span(ratios, '{:.1f}')} times the time of an ordinary Rust program"],
         ["an audit of 65,472 members in batches of 1,023, as JSON", f"{span(took, '{:.2f}')} s"],
     ])

@@ -169,7 +169,7 @@ def queues():
     """Queues of a size and a mode, what is written to their files, and what the driver refuses of maps."""
     for how in ([], ["--no-namespace"], ["--order", "fifo"]):
         told(f"writing to a queue's file {how}", traced(*how, "--", client("odd"), "written"), 0,
-             "written 64 64, moved 5 5, unreadable -1 1")
+             "written 64 64, moved 5 5, unreadable -1 1, signals blocked 0")
     told("a full queue", traced("--", client("odd"), "full"), 0, "all kept 0, 16 at least 1, retried 1",
          "wq0.0 is full (16 in flight): MOVDIR64B is lost")
     words = ["--queue", "dedicated,40,a", "--queue", "shared,40,b"]

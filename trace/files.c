@@ -176,28 +176,31 @@ struct queue *files_queue(int fd)
     return found;
 }
 
-/// Submits one entry, with signals blocked as in our handler, so that none finds its thread with a lock of ours.
-static enum accepted submit_blocked(struct queue *q, const descriptor *d)
+/// Submits one entry, with signals blocked as in our handler: so none finds its thread with a lock of ours, and a fault
+/// of the copy leaves them as they are. Answers 0, or the error.
+static int submit_blocked(struct queue *q, const uint8_t *from)
 {
     sigset_t all, old;
+    descriptor d;
+    int error = EFAULT;
     sigfillset(&all);
     pthread_sigmask(SIG_BLOCK, &all, &old);
     order_arrive();
-    const enum accepted accepted = order_submit(q, d, q->is_shared);
+    if (memory_copy(&d, from, sizeof d, NULL))
+        error = order_submit(q, &d, q->is_shared) == ACCEPTED ? 0 : EAGAIN;
     order_leave();
     pthread_sigmask(SIG_SETMASK, &old, NULL);
-    return accepted;
+    return error;
 }
 
 /// Submits what is written to a queue's file, as newer drivers take descriptors.
 static ssize_t write_entries(struct queue *q, const uint8_t *from, size_t size)
 {
     for (size_t at = 0; at + sizeof(descriptor) <= size; at += sizeof(descriptor)) {
-        descriptor d;
-        const bool is_read = memory_copy(&d, from + at, sizeof d, NULL);
-        if (is_read && submit_blocked(q, &d) == ACCEPTED)
+        const int error = submit_blocked(q, from + at);
+        if (!error)
             continue;
-        errno = is_read ? EAGAIN : EFAULT;
+        errno = error;
         return at ? (ssize_t)at : -1;
     }
     return size;

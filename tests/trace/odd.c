@@ -253,7 +253,10 @@ static void written(void)
     printf(", moved %d %d", memory[PAGE], memory[128]);
     errno = 0;
     const ssize_t unreadable = write(file, memory + 2 * PAGE, 128);
-    printf(", unreadable %zd %d\n", unreadable, errno == EFAULT);
+    printf(", unreadable %zd %d", unreadable, errno == EFAULT);
+    sigset_t blocked;
+    sigprocmask(SIG_BLOCK, NULL, &blocked);
+    printf(", signals blocked %d\n", sigismember(&blocked, SIGUSR1));
 }
 
 /* More at once than the queue takes: MOVDIR64B is lost, ENQCMD says so. */

@@ -156,9 +156,9 @@ def operations():
         told(f"threads in the order {order} {by}", traced("--order", order, *by, "--", client("threads")), 0)
     told("operations without a namespace", traced("--no-namespace", "--", client("operations")), 0)
     told("submitting in a handler", traced("--", client("odd"), "handler"), 0, "in a handler: status 0x1,")
-    told("a move that stops at pages", traced("--fault", 2, "--", client("odd"), "partial"), 0,
-         "right, more than one part: 1")
-    told("a move that does not stop", traced("--", client("odd"), "partial"), 0, "right, more than one part: 0")
+    for options, stops in (([], 0), (["--fault", 1], 1)):
+        lines = [f"{case}: right, more than one part: {stops}" for case in ("apart", "up", "down")]
+        told(f"moves that may stop at pages {options}", traced(*options, "--", client("odd"), "partial"), 0, *lines)
     for by in BY:
         told("a queue that says retry", traced("--retry", 3, *by, "--", client("odd"), "retried"), 0,
              "retries from 20 to 80: 1")

@@ -15,12 +15,15 @@ ls /dev/dsa | wc -l
 # The statuses are those of linux/idxd.h; 0x84 is 4 with the bit of a write. Two pages are there, and the next is missing.
 REFUSED = {
     "pages": ["write, blocking: status 0x84, 0 bytes, at 0x2000", "write: status 0x83, 0 bytes, at 0x2000",
-              "read: status 0x3, 0 bytes, at 0x2000"],
+              "read: status 0x3, 4096 bytes, at 0x2000"],
     "gone": ["to an unmapped page: status 0x84, 0 bytes", "from an unmapped page: status 0x4, 0 bytes",
              "beyond the end of a file: status 0x84, 0 bytes", "to a page that is read alone: status 0x84, 0 bytes",
              "can't be written, so the completion is lost", "the next: status 0x1,"],
     "lists": ["missing list: status 0x6, 0 bytes, at 0x2000", "odd list: status 0x18,", "one member: status 0x14,",
               "too many members: status 0x14,"],
+    "stops": ["a copy: status 0x4, 4096 bytes, at 0x2000", "its page: status 0x1,", "of the same checksum 1",
+              "a delta: status 0x3, 4096 bytes, at 0x2000", "a record of 10 bytes",
+              "from its end: status 0x4, 4096 bytes, at", "result 1, at its first page 1"],
     "record": ["no multiple of 32", "the next: status 0x1,", "moved 0, record 0"],
     "refused": ["reserved flag: status 0x11,", "invalid flags 0x40\n", "check result of a move: status 0x11,",
                 "interrupt: status 0x19,", "operation 0xa: status 0x10,", "no bytes: status 0x13,",

@@ -14,10 +14,18 @@ struct work { const descriptor *d; completion *r; uint32_t size; volatile uint32
 
 static size_t least(size_t one, size_t other) { return one < other ? one : other; }
 
-/// How many bytes the two addresses have in common before one of them gets to the next page.
+/// How many bytes the two addresses have in common before one of them gets to the next page; of negative ones those
+/// before them, as far as the page before.
 static size_t within_pages(uint64_t one, uint64_t other, size_t left)
 {
     return least(least(PAGE - one % PAGE, PAGE - other % PAGE), left);
+}
+
+/// Whether a move goes from its end, as one to a higher address within its own range, which else overwrites what it has
+/// to read. If it stops, the result is 1, and the last bytes are done.
+static bool is_from_end(const descriptor *d)
+{
+    return d->opcode == DSA_OPCODE_MEMMOVE && d->dst_addr > d->src_addr && d->dst_addr - d->src_addr < d->xfer_size;
 }
 
 static uint8_t move(struct work *w)
@@ -25,15 +33,15 @@ static uint8_t move(struct work *w)
     const descriptor *d = w->d;
     uint8_t *to = (uint8_t *)d->dst_addr, *second = (uint8_t *)d->dest2;
     const uint8_t *from = (const uint8_t *)d->src_addr;
-    if (to < from + w->size && from < to + w->size) {
-        memmove(to, from, w->size);
-        w->done = w->size;
-    }
+    const bool is_backward = is_from_end(d);
     for (size_t n; w->done < w->size; w->done += n) {
-        n = within_pages((uint64_t)from + w->done, (uint64_t)to + w->done, w->size - w->done);
-        memcpy(to + w->done, from + w->done, n);
+        size_t at = is_backward ? d->xfer_size - w->done : w->done;
+        const uint64_t source = d->src_addr + at, target = d->dst_addr + at;
+        n = within_pages(is_backward ? -source : source, is_backward ? -target : target, w->size - w->done);
+        at -= is_backward ? n : 0;
+        memmove(to + at, from + at, n);
         if (d->opcode == DSA_OPCODE_DUALCAST)
-            memcpy(second + w->done, from + w->done, n);
+            memcpy(second + at, from + at, n);
     }
     return DSA_COMP_SUCCESS;
 }
@@ -100,9 +108,9 @@ static uint8_t create_delta(struct work *w)
         memcpy(to + used, &at, sizeof at);
         memcpy(to + used + sizeof at, other + w->done, WORD);
         used += DELTA_ENTRY;
+        w->r->delta_rec_size = used;
     }
     w->r->bytes_completed = w->r->result == TOO_LONG ? w->done : 0;
-    w->r->delta_rec_size = used;
     const bool is_expected = d->expected_res_mask >> w->r->result & 1;
     return d->flags & IDXD_OP_FLAG_CR && !is_expected ? DSA_COMP_SUCCESS_PRED : DSA_COMP_SUCCESS;
 }
@@ -129,16 +137,26 @@ static uint8_t apply_delta(struct work *w)
     return DSA_COMP_SUCCESS;
 }
 
+/// The checksum, and the copy of what it is of. The record has that of the bytes that are done: the seed of those that
+/// are left, if a page is missing.
 static uint8_t checksum(struct work *w)
 {
     const descriptor *d = w->d;
+    const uint8_t *from = (const uint8_t *)d->src_addr;
+    uint8_t *to = (uint8_t *)d->dst_addr;
+    const bool is_plain = d->flags & PLAIN_CHECKSUM, is_copy = d->opcode == DSA_OPCODE_COPY_CRC;
     uint32_t seed = d->crc_seed;
     if (d->flags & SEED_IS_READ)
         memcpy(&seed, (const void *)d->seed_addr, sizeof seed);
-    const bool is_plain = d->flags & PLAIN_CHECKSUM;
-    const uint32_t start = is_plain ? bits_reversed(seed) : ~seed;
-    const uint32_t end = crc32c(start, (const uint8_t *)d->src_addr, w->size, d->flags & PLAIN_DATA);
-    w->r->crc_val = is_plain ? bits_reversed(end) : ~end;
+    uint32_t crc = is_plain ? bits_reversed(seed) : ~seed;
+    w->r->crc_val = seed;
+    for (size_t n; w->done < w->size; w->done += n) {
+        n = within_pages(d->src_addr + w->done, is_copy ? d->dst_addr + w->done : 0, w->size - w->done);
+        if (is_copy)
+            memcpy(to + w->done, from + w->done, n);
+        crc = crc32c(crc, from + w->done, n, d->flags & PLAIN_DATA);
+        w->r->crc_val = is_plain ? bits_reversed(crc) : ~crc;
+    }
     return DSA_COMP_SUCCESS;
 }
 
@@ -147,7 +165,7 @@ static uint8_t operate(struct work *w)
     switch (w->d->opcode) {
     case DSA_OPCODE_MEMMOVE:
     case DSA_OPCODE_DUALCAST: return move(w);
-    case DSA_OPCODE_COPY_CRC: move(w); return checksum(w);
+    case DSA_OPCODE_COPY_CRC:
     case DSA_OPCODE_CRCGEN: return checksum(w);
     case DSA_OPCODE_MEMFILL: return fill(w);
     case DSA_OPCODE_COMPARE:
@@ -165,7 +183,8 @@ static uint8_t operate(struct work *w)
 /// For --fault: how much of a move without block-on-fault is done before a page of its source is missing.
 static uint32_t size_to_do(const descriptor *d, uint64_t draw)
 {
-    const uint32_t first = PAGE - d->src_addr % PAGE;
+    const uint64_t start = is_from_end(d) ? -(d->src_addr + d->xfer_size) : d->src_addr;
+    const uint32_t first = PAGE - start % PAGE;
     const bool may_stop = d->opcode == DSA_OPCODE_MEMMOVE && !(d->flags & IDXD_OP_FLAG_BOF) && d->xfer_size > first;
     if (!settings.fault || !may_stop || draw % settings.fault)
         return d->xfer_size;
@@ -182,7 +201,7 @@ void device_run(const descriptor *d, completion *r, uint64_t draw)
     if (sigsetjmp(guard.escape, 0)) {
         r->fault_addr = guard.fault.address & -(uint64_t)PAGE;
         r->bytes_completed = w.done;
-        r->result = 0;
+        r->result = is_from_end(d);
         r->status = page_fault | (guard.fault.is_write ? DSA_COMP_STATUS_WRITE : 0);
         return;
     }
@@ -190,8 +209,9 @@ void device_run(const descriptor *d, completion *r, uint64_t draw)
     r->status = operate(&w);
     guard.is_set = 0;
     if (w.size < d->xfer_size && r->status == DSA_COMP_SUCCESS) {
-        r->fault_addr = d->src_addr + w.size;
+        r->fault_addr = is_from_end(d) ? d->src_addr + d->xfer_size - w.size - PAGE : d->src_addr + w.size;
         r->bytes_completed = w.size;
+        r->result = is_from_end(d);
         r->status = page_fault;
     }
 }

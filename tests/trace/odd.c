@@ -219,22 +219,60 @@ static void large(int count)
         done(batch(list, 1000, r), "batch");
 }
 
-/* A move in parts, each of which may stop at a page. */
-static void partial(void)
+/* A move in parts, each of which may stop at a page; answers how many there are. Of a part that goes from its end the
+ * first bytes are left. */
+static unsigned in_parts(const uint8_t *from, uint8_t *to, uint32_t size)
 {
-    enum { SIZE = 64 * PAGE };
-    uint8_t *from = fresh(SIZE), *to = fresh(SIZE);
-    unsigned stops = 0;
-    for (int i = 0; i < SIZE; i++)
-        from[i] = i / 13;
-    for (uint32_t at = 0; at < SIZE; stops++) {
-        descriptor d = move(from + at, to + at, SIZE - at, r);
+    for (unsigned parts = 1;; parts++) {
+        descriptor d = move(from, to, size, r);
         d.flags &= ~IDXD_OP_FLAG_BOF;
         memset((void *)r, 0, sizeof *r);
         submit(portal, &d);
-        at = await(r) == DSA_COMP_PAGE_FAULT_NOBOF ? at + r->bytes_completed : SIZE;
+        if (await(r) != DSA_COMP_PAGE_FAULT_NOBOF)
+            return parts;
+        size -= r->bytes_completed;
+        from += r->result ? 0 : r->bytes_completed;
+        to += r->result ? 0 : r->bytes_completed;
     }
-    printf("%s, more than one part: %d\n", memcmp(from, to, SIZE) ? "wrong" : "right", stops > 1);
+}
+
+/* Moves to another place, and to higher and lower addresses of their own range. */
+static void partial(void)
+{
+    enum { SIZE = 64 * PAGE };
+    uint8_t *wanted = fresh(SIZE), *from = fresh(2 * SIZE) + PAGE;
+    const struct { const char *name; uint8_t *to; } cases[] = {
+        {"apart", fresh(SIZE)}, {"up", from + 64}, {"down", from - 64}};
+    for (int i = 0; i < SIZE; i++)
+        wanted[i] = i / 13;
+    for (int i = 0; i < 3; i++) {
+        memcpy(from, wanted, SIZE);
+        const unsigned parts = in_parts(from, cases[i].to, SIZE);
+        printf("%s: %s, more than one part: %d\n", cases[i].name, memcmp(wanted, cases[i].to, SIZE) ? "wrong" : "right",
+               parts > 1);
+    }
+}
+
+/* What is done before a page that is missing: the checksum of a copy, a delta, and a move that goes from its end. */
+static void stops(void)
+{
+    uint8_t *other = fresh(3 * PAGE);
+    descriptor d = move(memory + PAGE, other, 2 * PAGE, r);
+    d.opcode = DSA_OPCODE_COPY_CRC;
+    d.crc_seed = 5;
+    done(d, "a copy");
+    const uint64_t checksum = r->crc_val;
+    d.xfer_size = PAGE;
+    done(d, "its page");
+    printf("of the same checksum %d\n", checksum == r->crc_val);
+    other[8] = 1;
+    d = (descriptor){.opcode = DSA_OPCODE_CR_DELTA, .flags = ASKS, .xfer_size = 2 * PAGE, .max_delta_size = 80};
+    d.src_addr = (uintptr_t)memory + PAGE, d.src2_addr = (uintptr_t)other, d.delta_addr = (uintptr_t)memory;
+    done(d, "a delta");
+    printf("a record of %u bytes\n", r->delta_rec_size);
+    mprotect(other, PAGE, PROT_NONE);
+    done(move(other, other + 64, 2 * PAGE, r), "from its end");
+    printf("result %u, at its first page %d\n", r->result, r->fault_addr == (uintptr_t)other);
 }
 
 /* Submits by writing to the queue's file, two at once, and one of which not all can be read. */
@@ -321,7 +359,7 @@ int main(int argc, char **argv)
     static const struct plain { const char *name; void (*run)(void); } plain[] = {
         {"pages", missing_pages}, {"gone", gone}, {"lists", lists}, {"record", odd_record}, {"refused", refused},
         {"unreadable", unreadable}, {"child", child}, {"partial", partial}, {"retried", retried},
-        {"written", written}, {"full", full}, {"maps", maps}, {"members", strange_members},
+        {"written", written}, {"full", full}, {"maps", maps}, {"members", strange_members}, {"stops", stops},
     };
     for (size_t i = 0; i < sizeof plain / sizeof *plain; i++)
         if (strcmp(what, plain[i].name) == 0)

@@ -70,7 +70,7 @@ static uint32_t first_difference(struct work *w, const uint8_t *one, const uint8
         n = least(n, PAGE - WORD);
         if (memcmp(one + w->done, second, n) == 0)
             continue;
-        for (; one[w->done] == *second; second++)
+        for (; n-- && one[w->done] == *second; second++) /* the program may write there meanwhile */
             w->done++;
         break;
     }
@@ -115,24 +115,25 @@ static uint8_t create_delta(struct work *w)
     return d->flags & IDXD_OP_FLAG_CR && !is_expected ? DSA_COMP_SUCCESS_PRED : DSA_COMP_SUCCESS;
 }
 
-/// All offsets are looked at before a byte is written, so a record with a wrong one changes nothing.
+/// All offsets are looked at before a byte is written, so a record with a wrong one changes nothing; and once more as
+/// they are used, since the program may write there meanwhile.
 static uint8_t apply_delta(struct work *w)
 {
     const descriptor *d = w->d;
-    const uint8_t *entry = (const uint8_t *)d->src_addr, *end = entry + d->delta_rec_size;
+    const uint8_t *start = (const uint8_t *)d->src_addr;
     uint8_t *to = (uint8_t *)d->dst_addr;
-    int last = -1;
     uint16_t at;
-    for (; entry < end; entry += DELTA_ENTRY, last = at) {
-        memcpy(&at, entry, sizeof at);
-        if (at <= last)
-            return DSA_COMP_DR_OFFSET_NOINC;
-        if ((uint32_t)WORD * at + WORD > w->size)
-            return DSA_COMP_DR_OFFSET_ERANGE;
-    }
-    for (entry = (const uint8_t *)d->src_addr; entry < end; entry += DELTA_ENTRY) {
-        memcpy(&at, entry, sizeof at);
-        memcpy(to + WORD * at, entry + sizeof at, WORD);
+    for (int is_used = 0; is_used < 2; is_used++) {
+        int last = -1;
+        for (const uint8_t *entry = start; entry < start + d->delta_rec_size; entry += DELTA_ENTRY, last = at) {
+            memcpy(&at, entry, sizeof at);
+            if (at <= last)
+                return DSA_COMP_DR_OFFSET_NOINC;
+            if ((uint32_t)WORD * at + WORD > w->size)
+                return DSA_COMP_DR_OFFSET_ERANGE;
+            if (is_used)
+                memcpy(to + WORD * at, entry + sizeof at, WORD);
+        }
     }
     return DSA_COMP_SUCCESS;
 }

@@ -616,7 +616,7 @@ def decoder():
     fault = f"{len(got)} of {len(lines)} forms decoded, {len(faults)} wrong: {faults[:3]}"
     expect(len(got) == len(lines) > 10000 and not faults, fault)
     lengths, got = decoded(OTHERS)
-    for (line, right), found in zip(OTHERS.items(), got):
+    for (line, right), found in itertools.zip_longest(OTHERS.items(), got, fillvalue=("no line", "")):
         expect(found == right, f"{line} is decoded as {found}, not {right}")
 
 

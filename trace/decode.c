@@ -12,15 +12,27 @@ struct cursor {
     uint8_t rex;
     bool has_operand_size; /* the prefix 66 */
     uint8_t repeat;     /* the last of the prefixes f2 and f3, or 0 */
+    bool is_too_long;
 };
 
-static uint8_t take(struct cursor *c) { return *c->next++; }
+/// The next bytes; zeros if an instruction can't be so long.
+static const uint8_t *take_bytes(struct cursor *c, int count)
+{
+    static const uint8_t none[4];
+    if (c->next - c->start > LONGEST - count) {
+        c->is_too_long = true;
+        return none;
+    }
+    c->next += count;
+    return c->next - count;
+}
+
+static uint8_t take(struct cursor *c) { return *take_bytes(c, 1); }
 
 static int64_t take_displacement(struct cursor *c, int bytes)
 {
     int32_t value = 0;
-    memcpy(&value, c->next, bytes);
-    c->next += bytes;
+    memcpy(&value, take_bytes(c, bytes), bytes);
     return bytes == 1 ? (int8_t)value : value;
 }
 
@@ -99,8 +111,6 @@ bool decode(const uint8_t *code, uint64_t at, const uint64_t registers[16], stru
     memset(out, 0, sizeof *out);
     while (take_prefix(&c, out))
         ;
-    if (c.next - c.start > LONGEST - 4)
-        return false;
     out->kind = take_kind(&c);
     if (out->kind == NO_INSTRUCTION)
         return false;
@@ -118,5 +128,5 @@ bool decode(const uint8_t *code, uint64_t at, const uint64_t registers[16], stru
         out->is_wide = c.rex & REX_W;
     }
     out->length = c.next - c.start;
-    return out->length <= LONGEST;
+    return !c.is_too_long;
 }

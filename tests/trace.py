@@ -19,7 +19,7 @@ from pathlib import Path
 
 import common
 from common import ROOT, expect, named, run_test, side_by_side, skip
-from trace_cases import REFUSED, SYSFS, made_anew, rewriting
+from trace_cases import REFUSED, SYSFS, launched, made_anew, rewriting
 from trace_forms import OTHERS, PLACE, instructions, wrong_forms
 from trace_model import MOVE, Recorded
 
@@ -207,8 +207,7 @@ def died():
 
 
 def other_cpus():
-    """The same on a CPU that has the instructions: they raise a page fault at the portal, or a general protection
-    fault.
+    """The same on a CPU that has the instructions: they raise a page fault at the portal, or a fault of protection.
     Another program turns the signals of this CPU into those (tests/trace/faults.c)."""
     sources = ["-I", "trace", "tests/trace/faults.c", "trace/decode.c"]
     told("the build of faults", ran("gcc", *STRICT, "-O1", "-o", client("faults"), *sources), 0)
@@ -394,8 +393,7 @@ def named_waits(name, entries, events):
 
 
 def waits_of_any():
-    """Missing waits of random recordings beside brute force; and of many submissions whose end is never told, in
-    time."""
+    """Missing waits of random recordings beside brute force; and, in time, of submissions whose end is not told."""
     sources = [f"trace/{name}.c" for name in ("waits", "spans", "random", "fail")]
     words = ["-O2", "-I", "trace", "-o", client("waits"), "tests/trace/waits.c"]
     told("the build of waits", ran("gcc", *STRICT, *words, *sources), 0)
@@ -477,6 +475,8 @@ def statuses():
     """The statuses of programs, and those of env for what can't be run, with sentences."""
     told("the program's status", traced("--", client("odd"), "status", 7), 7)
     told("a program that is not there", traced("--", "/nowhere/at_all"), 127, "/nowhere/at_all")
+    for case, (command, status, *lines) in launched(WORK).items():
+        told(case, ran("sh", "-c", command), status, *lines)
     told("a name that is not found", traced("--", "no_such_program_at_all"), 127, "is not found")
     told("a folder", traced("--", "/tmp"), 126, "/tmp")
     Path(WORK, "plain").write_text("no program")
@@ -503,9 +503,8 @@ def options():
     end = traced("--help")
     told("--help", end, 0, "Usage: dsa_trace [OPTIONS] [--] PROGRAM", "Examples:")
     for words, why in ((["--nonsense"], "no such option"), ([], "the program to run is missing"),
-                       (["--seed"], "whole number"),
-                       (["--seed", "x"], "whole number"), (["--order", "x"], "fifo, members, data or all"),
-                       (["--seeds", "0"], "at least one run"), (["--queue", "dedicated,0,x"], "a size from 1 to 128")):
+                       (["--seed"], "whole number"), (["--seed", "x"], "whole number"), (["--seeds", "0"], "at least"),
+                       (["--order", "x"], "fifo, members, data or all"), (["--queue", "shared,0,x"], "from 1 to 128")):
         told(f"the options {words}", traced(*words, *(["--", "true"] if words else [])), 125, why)
     told("a value after =", traced("--seed=7", "--order=all", "true"), 0)
     names = re.findall(r"^ +(?:-h, )?(--[a-z-]+)", end.stdout, re.M)

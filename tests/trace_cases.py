@@ -55,3 +55,15 @@ def made_anew(is_on):
         "code made anew": (["anew"], "12000 of 12000 right", rounds),
         "children of it": (["anew", "forks"], "12000 of 12000 right", f"{rounds}300 children right"),
     }
+
+
+def launched(work):
+    """Commands of a shell, how each ends, and what is said: what is around the launcher, and the program's name."""
+    trace = f"{work}/gcc/dsa_trace"
+    return {
+        "a caller that ignores SIGCHLD": (f"trap '' CHLD; {trace} -- sh -c 'exit 3'", 3),
+        "a folder with a blank": (f"cp -r {work}/gcc '{work}/a b' && '{work}/a b/dsa_trace' true", 125,
+                                  "the loader takes no path with a blank"),
+        "a program that is named as a part": (f"cp {work}/ordered {work}/a.part && DSA_TEXT=/bin/true {trace} --audit "
+                                              f"-- {work}/a.part wait", 1, "missing wait"),
+    }

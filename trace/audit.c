@@ -78,7 +78,8 @@ static int audit_one(const struct audited *a, const char *name)
     const int fences = audit_file(a->dsa_text, audited, a->report);
     long waits = 0;
     snprintf(base, sizeof base, "%.*s", (int)(strlen(name) - strlen(".dsa")), name);
-    if (!strstr(base, ".part"))
+    const char *last = strrchr(base, '.'); /* the number of the process, or of a further part */
+    if (!last || strncmp(last, ".part", strlen(".part")))
         waits = waits_missing(a->records, base, a->report);
     if (fences > 1)
         fprintf(stderr, "dsa_trace: %s does not audit %s\n", a->dsa_text, path);

@@ -1,6 +1,7 @@
 /* dsa_trace: runs a program that uses Intel DSA on a machine without it. README.md says how. */
 #include <dirent.h>
 #include <errno.h>
+#include <signal.h>
 #include <stdio.h>
 #include <stdlib.h>
 #include <string.h>
@@ -92,6 +93,7 @@ int main(int argc, char **argv)
     struct options o;
     struct audits a = {0};
     (void)argc;
+    signal(SIGCHLD, SIG_DFL); /* where whoever runs us ignores it, no status could be waited for */
     options_read(argv, &o);
     const int refused = program_check(o.program[0]);
     a.dsa_text = o.audits && !refused ? audit_find() : NULL;

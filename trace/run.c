@@ -59,6 +59,10 @@ static void preload(void)
     char library[PATH_MAX], *all;
     const char *before = getenv("LD_PRELOAD");
     library_path(library);
+    if (strpbrk(library, ": ")) {
+        fprintf(stderr, "dsa_trace: %s: the loader takes no path with a blank or a colon (LD_PRELOAD)\n", library);
+        exit(FAILED);
+    }
     if (asprintf(&all, "%s%s%s", before ? before : "", before && *before ? ":" : "", library) < 0)
         fail("LD_PRELOAD");
     if (setenv("LD_PRELOAD", all, 1))

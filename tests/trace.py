@@ -174,8 +174,9 @@ def queues():
          "wq0.0 is full (16 in flight): MOVDIR64B is lost")
     words = ["--queue", "dedicated,40,a", "--queue", "shared,40,b"]
     told("a larger queue", traced(*words, "--", client("odd"), "full"), 0, "all kept 1, 16 at least 1, retried 0")
-    told("the driver's maps", traced("--", client("odd"), "maps"), 128 + signal.SIGSEGV, "refused 1 1, two 1",
-         "the second: status 0x1,")
+    end = traced("--", client("odd"), "maps")
+    told("the driver's maps", end, 128 + signal.SIGSEGV, "refused 1 1, two 1", "the second: status 0x1,", "over it 0")
+    expect("does not take it" not in end.stderr, f"a portal over another is of another queue: {end.stderr}")
     files = ["/sys/bus/dsa/devices/wq0.0/mode", "/sys/bus/dsa/devices/wq0.0/size", "/sys/bus/dsa/devices/wq0.0/name"]
     told("the files of a queue", traced("--queue", "shared,8,mine", "--", "cat", *files), 0, "shared\n8\nmine\n")
     told("another mode", traced("--queue", "shared,8,mine", "--", client("ordered"), "fenced"), 0,

@@ -24,6 +24,7 @@ REFUSED = {
     "stops": ["a copy: status 0x4, 4096 bytes, at 0x2000", "its page: status 0x1,", "of the same checksum 1",
               "a delta: status 0x3, 4096 bytes, at 0x2000", "a record of 10 bytes",
               "from its end: status 0x4, 4096 bytes, at", "result 1, at its first page 1"],
+    "sent": ["failed 0, seen 1"],
     "record": ["no multiple of 32", "the next: status 0x1,", "moved 0, record 0"],
     "refused": ["reserved flag: status 0x11,", "invalid flags 0x40\n", "check result of a move: status 0x11,",
                 "interrupt: status 0x19,", "operation 0xa: status 0x10,", "no bytes: status 0x13,",

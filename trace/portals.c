@@ -102,6 +102,7 @@ static void *map_portal(void *at, size_t size, int flags, struct queue *queue)
     }
     if (page != MAP_FAILED) {
         madvise(page, PAGE, MADV_DONTFORK);
+        forget((uintptr_t)page, PAGE); /* another queue's, if it is put over that */
         portals.table[place].queue = queue;
         atomic_store_explicit(&portals.table[place].at, (uintptr_t)page, memory_order_release);
     }

@@ -140,10 +140,11 @@ static void handler(int number, siginfo_t *info, void *context)
     ucontext_t *u = context;
     struct fault fault = {0};
     enum outcome outcome = NOT_OURS;
-    if (number != SIGILL)
+    const bool is_fault = info->si_code > 0; /* and not sent by somebody, at any time */
+    if (number != SIGILL && is_fault)
         memory_escape(info, context);
     const bool may_be = number == SIGILL || info->si_code == SI_KERNEL || portals_at((uintptr_t)info->si_addr);
-    if (number != SIGBUS && info->si_code > 0 && may_be) {
+    if (number != SIGBUS && is_fault && may_be) {
         order_arrive();
         outcome = perform(u, &fault);
         order_leave();

@@ -317,7 +317,39 @@ static void full(void)
     printf("all kept %d, 16 at least %d, retried %d\n", kept == MANY, kept >= 16, retries > 0);
 }
 
-/* Maps that the driver refuses, and a portal that is unmapped. */
+static volatile sig_atomic_t seen;
+
+static void count_seen(int number)
+{
+    (void)number;
+    seen++;
+}
+
+/* Another process sends SIGSEGV while moves are done: no move fails for it, and the program's handler sees it. */
+static void sent(void)
+{
+    enum { TIMES = 200, SIZE = 1 << 20 };
+    uint8_t *from = fresh(SIZE), *to = fresh(SIZE);
+    const pid_t parent = getpid();
+    int failed = 0;
+    signal(SIGSEGV, count_seen);
+    const pid_t child = fork();
+    for (int i = 0; child == 0 && i < TIMES; i++) {
+        kill(parent, SIGSEGV);
+        usleep(100);
+    }
+    if (child == 0)
+        _exit(0);
+    while (waitpid(child, NULL, WNOHANG) == 0) {
+        const descriptor d = move(from, to, SIZE, r);
+        memset((void *)r, 0, sizeof *r);
+        submit(portal, &d);
+        failed += await(r) != DSA_COMP_SUCCESS;
+    }
+    printf("failed %d, seen %d\n", failed, seen > 0);
+}
+
+/* Maps that the driver refuses, a portal over that of another queue, and one that is unmapped. */
 static void maps(void)
 {
     const int file = open("/dev/dsa/wq0.0", O_RDWR);
@@ -325,6 +357,9 @@ static void maps(void)
     void *private = mmap(NULL, PAGE, PROT_WRITE, MAP_PRIVATE, file, 0);
     void *second = portal_of("/dev/dsa/wq0.0");
     printf("refused %d %d, two %d\n", large == MAP_FAILED, private == MAP_FAILED, second != portal);
+    void *over = portal_of("/dev/dsa/wq0.0");
+    over = mmap(over, PAGE, PROT_WRITE, MAP_SHARED | MAP_FIXED, open("/dev/dsa/wq0.1", O_RDWR), 0);
+    printf("over it %d\n", enqueue(over, &(descriptor){.flags = 0}));
     munmap(portal, PAGE);
     portal = second;
     done(move(memory, memory + PAGE, 64, r), "the second");
@@ -360,6 +395,7 @@ int main(int argc, char **argv)
         {"pages", missing_pages}, {"gone", gone}, {"lists", lists}, {"record", odd_record}, {"refused", refused},
         {"unreadable", unreadable}, {"child", child}, {"partial", partial}, {"retried", retried},
         {"written", written}, {"full", full}, {"maps", maps}, {"members", strange_members}, {"stops", stops},
+        {"sent", sent},
     };
     for (size_t i = 0; i < sizeof plain / sizeof *plain; i++)
         if (strcmp(what, plain[i].name) == 0)

@@ -190,6 +190,8 @@ def measured(program, path, answer):
         child = subprocess.Popen([program], stdin=job, stdout=line)
         _, status, usage = os.wait4(child.pid, 0)
     child.returncode = os.waitstatus_to_exitcode(status)
+    if child.returncode not in (0, 1):  # 1: a refusal is an answer, too
+        sys.exit(f'{program} ended with status {child.returncode}')
     return 1e3 * (time.perf_counter() - begin), 1e3 * usage.ru_stime, usage.ru_minflt, usage.ru_maxrss / 1024
 
 

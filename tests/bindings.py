@@ -116,7 +116,8 @@ def random_lists():
     lists.mkdir()
     count = os.environ.get("LISTS", "250")
     tried("random lists", [compiled("tests/bindings/random_lists.c"), lists, count, "20261123"])
-    for job in sorted(lists.glob("*.job")):
+    jobs = sorted(lists.glob("*.job"))
+    for job in jobs:
         ran = subprocess.run([program("dsa")], input=job.read_bytes(), stdout=subprocess.PIPE)
         line = ran.stdout.decode()
         line = re.sub(r" [A-Z][A-Za-z]*", "", line) if line.startswith("refused") else line
@@ -124,7 +125,7 @@ def random_lists():
         if line.strip() != own.strip():
             expect(False, f"{job.read_text()}: the program answers {line}, the library {own}")
             return
-    expect(True, "")
+    expect(len(jobs) >= int(count), f"of {count} random lists there are only {len(jobs)} jobs")
 
 
 def prepared():
@@ -260,7 +261,7 @@ def instructions():
     caller = compiled("tests/bindings/speed.c")
     for kind, most in MOST_INSTRUCTIONS.items():
         counted = measure.instructions(caller, kind, "32", WORK)
-        expect(counted <= most, f"a move of 32 that are {kind} takes {counted} instructions, not up to {most}")
+        expect(0 < counted <= most, f"a move of 32 that are {kind} takes {counted} instructions, not up to {most}")
 
 
 def main(words):

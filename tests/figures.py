@@ -155,6 +155,8 @@ def main(words):
             expect(block[3] == TABLES[block[2]](), f"{page}: the table {block[2]} is not that of docs/figures")
     for path in sorted(FOLDER.glob("*.json")):
         expect(path.stem in used, f"{path} has figures that no page shows")
+        differ = [row["job"] for row in json.loads(path.read_text()).get("rows", []) if not row.get("equal", True)]
+        expect(not differ, f"{path}: the programs answer {differ} differently, and the page says that they don't")
     for name in TABLES:
         expect(used.count(name) == 1, f"{name} is a table in {used.count(name)} places")
     prose = BLOCK.sub("", Path("docs/SPEED.md").read_text())

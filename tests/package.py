@@ -49,7 +49,7 @@ def refused(what, words, *command, **more):
     """A case: the command fails, by no signal, and says these words."""
     end = ran(*command, **more)
     said = end.stdout + end.stderr
-    right = end.returncode > 0 and all(word in said for word in words) and "Traceback (most recent" not in said[:20]
+    right = end.returncode > 0 and all(word in said for word in words)
     expect(right, f"{what} ends with status {end.returncode}, and not with {words}:\n{said[-1500:]}")
 
 

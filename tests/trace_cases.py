@@ -20,7 +20,7 @@ REFUSED = {
              "beyond the end of a file: status 0x84, 0 bytes", "to a page that is read alone: status 0x84, 0 bytes",
              "can't be written, so the completion is lost", "the next: status 0x1,"],
     "lists": ["missing list: status 0x6, 0 bytes, at 0x2000", "odd list: status 0x18,", "one member: status 0x14,",
-              "too many members: status 0x14,"],
+              "too many members: status 0x14,", "the move before it has ended 1"],
     "stops": ["a copy: status 0x4, 4096 bytes, at 0x2000", "its page: status 0x1,", "of the same checksum 1",
               "a delta: status 0x3, 4096 bytes, at 0x2000", "a record of 10 bytes",
               "from its end: status 0x4, 4096 bytes, at", "result 1, at its first page 1"],

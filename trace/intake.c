@@ -18,19 +18,6 @@ static struct submission *take_unused(void)
     return NULL;
 }
 
-/// A batch without members: its list can't be read, or the device refuses it. It is recorded with none.
-static void refuse_batch(struct submission *s, const completion *r)
-{
-    descriptor empty = s->entry;
-    empty.desc_count = 0;
-    say("batch %lu of %u descriptors at %#lx is refused with status %#x (%s)", s->number, s->entry.desc_count,
-        (unsigned long)s->entry.desc_list_addr, r->status, valid_name(r->status));
-    record_submission(&(struct submitted){s->number, s->queue, &empty, NULL, 0});
-    record_event('C', s->number, -1, r->status);
-    order.records += execute_record(&s->entry, r);
-    order_give_back(s);
-}
-
 static void put_in(struct submission *s)
 {
     for (unsigned i = 0; i < s->count; i++)
@@ -45,6 +32,18 @@ static void put_in(struct submission *s)
         s->watch = watch_open(s->entry.completion_addr, order.worker);
     if (s->watch >= 0)
         record_event('W', s->number, -1, -1);
+}
+
+/// A batch without members: its list can't be read, or the device refuses it. It is recorded with none.
+static void refuse_batch(struct submission *s, const completion *r)
+{
+    descriptor empty = s->entry;
+    empty.desc_count = 0;
+    say("batch %lu of %u descriptors at %#lx is refused with status %#x (%s)", s->number, s->entry.desc_count,
+        (unsigned long)s->entry.desc_list_addr, r->status, valid_name(r->status));
+    record_submission(&(struct submitted){s->number, s->queue, &empty, NULL, 0});
+    put_in(s);
+    order_complete(s, r);
 }
 
 /// Takes what is submitted: copies, records, and does it or leaves it to the worker. Called with the lock.

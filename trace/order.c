@@ -17,7 +17,7 @@ static __thread bool is_arriving; /* this thread is counted by `arriving` */
 
 bool order_is_async(void) { return settings.order >= ORDER_DATA; }
 
-void order_give_back(struct submission *s)
+static void give_back(struct submission *s)
 {
     s->next = order.unused;
     order.unused = s;
@@ -32,13 +32,13 @@ static void take_out(struct submission *s)
     if (!*at)
         order.tail = at;
     s->queue->in_flight--;
-    order_give_back(s);
+    give_back(s);
     if (!order.head)
         pthread_cond_broadcast(&order.idle);
 }
 
 /// A submission is done: its completion follows, in DATA after those of all submissions before it.
-static void complete(struct submission *s, const completion *r)
+void order_complete(struct submission *s, const completion *r)
 {
     s->is_done = true;
     s->last = *r;
@@ -80,7 +80,7 @@ void order_step(struct submission *s)
         pthread_mutex_lock(&order.lock);
     s->begun++;
     if (!s->is_batch) {
-        complete(s, &r);
+        order_complete(s, &r);
         return;
     }
     s->has_failed |= r.status != DSA_COMP_SUCCESS;
@@ -95,7 +95,7 @@ void order_step(struct submission *s)
     memset(&r, 0, sizeof r); /* all are done, or a fence stops the rest */
     r.status = s->has_failed ? DSA_COMP_BATCH_FAIL : DSA_COMP_SUCCESS;
     r.bytes_completed = s->begun;
-    complete(s, &r);
+    order_complete(s, &r);
 }
 
 static bool has_older_of_queue(const struct submission *s)

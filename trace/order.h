@@ -59,8 +59,8 @@ extern struct order_state order;
 /* Whether a thread of ours does the work. */
 bool order_is_async(void);
 /* The following are called with the lock. */
-void order_give_back(struct submission *s); /* its memory, for a later one */
 void order_find_epoch(struct submission *s);
+void order_complete(struct submission *s, const completion *r);
 void order_step(struct submission *s);
 
 #endif

@@ -56,7 +56,8 @@ static void gone(void)
     done(move(memory, memory + 128, 8, r), "the next");
 }
 
-/* Batches whose list is not there, begins at an odd place, or has too few or too many members. */
+/* Batches whose list is not there, begins at an odd place, or has too few or too many members; and one that is refused
+ * while a move is in flight. */
 static void lists(void)
 {
     const descriptor *list = (const descriptor *)memory;
@@ -64,6 +65,12 @@ static void lists(void)
     done(batch((const descriptor *)(memory + 32), 2, r), "odd list");
     done(batch(list, 1, r), "one member");
     done(batch(list, 1025, r), "too many members");
+    const descriptor first = move(memory, memory + PAGE, 64, r), second = batch(list, 1, r + 1);
+    memset((void *)r, 0, 2 * sizeof *r);
+    submit(portal, &first);
+    submit(portal, &second);
+    await(r + 1);
+    printf("the move before it has ended %d\n", r->status == DSA_COMP_SUCCESS);
 }
 
 /* Among the members of a batch a batch, and one of another PASID; the last reads what the first writes. */

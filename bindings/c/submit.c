@@ -1,4 +1,4 @@
-/* NOT RUN HERE: it needs the device, its driver and a configured work queue. It is compiled with the other examples.
+/* It needs the device, its driver and a configured work queue, or dsa_trace in their place.
  *
  * What to do with portal and staging bytes on real hardware:
  *   1. map the work queue's portal, one page of the queue's device file;

@@ -81,6 +81,8 @@ class Task:
         except OSError as error:
             self.said, status = f"{command[0]}: {error.strerror}", 1
         self.clock = time.monotonic() - start
+        if self.clock >= LIMIT:
+            self.said += f"\nFAILED: ended after {LIMIT} seconds\n"
         self.count(status == 0)
 
     def count(self, is_well):

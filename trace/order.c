@@ -14,6 +14,7 @@
 struct order_state order = {.lock = PTHREAD_MUTEX_INITIALIZER, .tail = &order.head};
 
 static __thread bool is_arriving; /* this thread is counted by `arriving` */
+static __thread volatile int postponed; /* a signal that came meanwhile, or 0 */
 
 bool order_is_async(void) { return settings.order >= ORDER_DATA; }
 
@@ -256,10 +257,26 @@ void order_arrive(void)
     order.arriving++;
 }
 
+/// Whether a signal that was sent waits: a handler of the program's may submit, jump away or end the process, and this
+/// thread may have the lock, or is ours.
+bool order_postpones(int signal)
+{
+    const pid_t thread = (pid_t)syscall(SYS_gettid);
+    if (thread == order.worker)
+        syscall(SYS_tgkill, getpid(), getpid(), signal);
+    else if (is_arriving)
+        postponed = signal;
+    return thread == order.worker || is_arriving;
+}
+
 void order_leave(void)
 {
     is_arriving = false;
     order.arriving--;
+    const int signal = postponed;
+    postponed = 0;
+    if (signal)
+        syscall(SYS_tgkill, getpid(), (pid_t)syscall(SYS_gettid), signal);
 }
 
 /// The program waits by UMWAIT or TPAUSE.

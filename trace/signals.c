@@ -141,6 +141,10 @@ static void handler(int number, siginfo_t *info, void *context)
     struct fault fault = {0};
     enum outcome outcome = NOT_OURS;
     const bool is_fault = info->si_code > 0; /* and not sent by somebody, at any time */
+    if (!is_fault && order_postpones(number)) {
+        errno = kept;
+        return;
+    }
     if (number != SIGILL && is_fault)
         memory_escape(info, context);
     const bool may_be = number == SIGILL || info->si_code == SI_KERNEL || portals_at((uintptr_t)info->si_addr);

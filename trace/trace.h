@@ -90,6 +90,8 @@ void order_start(void);
 /* Around order_submit, from as early as possible: a thread of the program is about to submit. */
 void order_arrive(void);
 void order_leave(void);
+/* Of a signal that was sent: whether it comes again when this thread has left, or to another thread. */
+bool order_postpones(int signal);
 enum accepted order_submit(struct queue *q, const descriptor *d, bool is_enqueued);
 /* The program waits by an instruction: what is in flight need not wait for it. */
 void order_program_waits(void);

@@ -332,18 +332,22 @@ static void count_seen(int number)
     seen++;
 }
 
-/* Another process sends SIGSEGV while moves are done: no move fails for it, and the program's handler sees it. */
-static void sent(void)
+static void leave(int number)
 {
-    enum { TIMES = 200, SIZE = 1 << 20 };
-    uint8_t *from = fresh(SIZE), *to = fresh(SIZE);
-    const pid_t parent = getpid();
+    signal(number, SIG_IGN);
+    exit(0);
+}
+
+/* Does large moves while another process sends SIGSEGV so often; answers how many fail. */
+static int moves_meanwhile(int times)
+{
+    enum { SIZE = 1 << 20 };
+    static uint8_t from[SIZE], to[SIZE];
+    const pid_t parent = getpid(), child = fork();
     int failed = 0;
-    signal(SIGSEGV, count_seen);
-    const pid_t child = fork();
-    for (int i = 0; child == 0 && i < TIMES; i++) {
-        kill(parent, SIGSEGV);
+    for (int i = 0; child == 0 && i < times; i++) {
         usleep(100);
+        kill(parent, SIGSEGV);
     }
     if (child == 0)
         _exit(0);
@@ -353,7 +357,19 @@ static void sent(void)
         submit(portal, &d);
         failed += await(r) != DSA_COMP_SUCCESS;
     }
+    return failed;
+}
+
+/* No move fails for a signal that is sent, and the program's handler sees it, and may end the process. */
+static void sent(void)
+{
+    signal(SIGSEGV, count_seen);
+    const int failed = moves_meanwhile(200);
     printf("failed %d, seen %d\n", failed, seen > 0);
+    signal(SIGSEGV, leave);
+    moves_meanwhile(200);
+    printf("nothing has ended the process\n");
+    exit(WRONG);
 }
 
 /* Maps that the driver refuses, a portal over that of another queue, and one that is unmapped. */

@@ -96,7 +96,7 @@ struct dsa_settings {
     uint64_t lone;              /* price of a descriptor by itself, at most 1,000,000,000 */
     uint64_t batch;             /* price of a batch, without its fences, at most 1,000,000,000 */
     uint64_t fence;             /* price of each fence, at most 1,000,000,000 */
-    uint64_t staging;           /* where the staging bytes will stand, a multiple of 64, at most 2^63 */
+    uint64_t staging;           /* the address of the staging area, a multiple of 64, at most 2^63 */
 };
 
 /* A planned list. */
@@ -118,7 +118,7 @@ struct dsa_refusal {
     uint64_t second; /* the second index; of DSA_NO_ROOM the bytes that staging needs; else 0 */
 };
 
-/* A pair of conflicting pieces in a certificate; both numbers are DSA_NONE where a piece has no pair. */
+/* A pair of conflicting pieces in a certificate; both numbers are DSA_NONE if a piece has none. */
 #define DSA_NONE UINT32_C(0xffffffff)
 struct dsa_pair {
     uint32_t first;
@@ -130,8 +130,8 @@ struct dsa_pair {
 #define DSA_FENCED 2u
 
 /*
- * What a call returns: 0, or the number of the refusal. docs/FORMATS.md explains each cause and their order. Where a
- * comment names an index, it stands in refusal.first (and refusal.second).
+ * What a call returns: 0, or the number of the refusal. docs/FORMATS.md explains each cause and their order. An index
+ * that a comment names is in refusal.first (a second one in refusal.second).
  */
 enum dsa_number {
     DSA_OK = 0,
@@ -218,9 +218,9 @@ enum dsa_number {
 #define DSA_REFUSAL_TEXT_ROOM 512u
 
 /*
- * Writes what a refusal means, for people to read: a sentence with the numbers that it names, and of DSA_ENTRY and DSA_PLAN
- * the sentence of the inner number behind it. It stands at the front of text, without a zero byte at its end, cut where
- * text_capacity ends; the rest of text is unchanged. DSA_REFUSAL_TEXT_ROOM bytes are always enough. It allocates nothing.
+ * Writes what a refusal means, for people to read, to the front of text: a sentence with the numbers that it names, and
+ * for DSA_ENTRY and DSA_PLAN the sentence of the inner number after it. There is no zero byte at its end. It is cut off
+ * at text_capacity; the rest of text is unchanged. DSA_REFUSAL_TEXT_ROOM bytes are always enough. It allocates nothing.
  *
  * Returns how many bytes the whole text has; 0, and text is unchanged, for a number that no cause has, such as DSA_OK.
  *
@@ -230,10 +230,11 @@ enum dsa_number {
 uint64_t dsa_refusal_text(const struct dsa_refusal *refusal, char *text, size_t text_capacity);
 
 /*
- * How many pieces a list has, to size buffers before planning it: with n the result, DSA_PORTAL_ROOM(n) and
- * DSA_STAGING_ROOM(n) bytes are enough. It looks at sizes alone and allocates nothing. 65,537 for more pieces than may be
- * planned. Where each size is 1 to greatest_transfer and there are at most 65,536 operations, the result is
- * list_len / 64. 0 says nothing: the settings are refused, or no operation has a byte; dsa_plan_list tells which.
+ * How many pieces a list has, with barriers or without, to size buffers before planning it: with n the result,
+ * DSA_PORTAL_ROOM(n) and DSA_STAGING_ROOM(n) bytes are enough. It looks at sizes only and allocates nothing. It returns
+ * 65,537 for more pieces than may be planned. If each size is 1 to greatest_transfer and there are at most 65,536
+ * operations, the result is list_len / 64. With 0 the settings are refused, or no operation has a byte; dsa_plan_list
+ * says which.
  */
 uint64_t dsa_count_pieces(const struct dsa_settings *settings,
                           const uint64_t *table, size_t table_len,
@@ -250,7 +251,7 @@ uint64_t dsa_count_pieces(const struct dsa_settings *settings,
  * pieces (32 bytes for each piece of an operation, one after another from its record address on), and put the staging
  * bytes, which clear the records of the batches, at settings->staging, anew for each run; then for each 64 bytes of
  * portal: write them to the work queue's portal, wait until the completion record at the address in their bytes 8..16
- * has a status, and stop where the status is not 1. The staging area is 96 bytes for each piece from settings->staging
+ * has a status, and stop if the status is not 1. The staging area is 96 bytes for each piece from settings->staging
  * on; a list that meets it is refused (33).
  *
  * Returns another number: refusal has it, and nothing else was written. DSA_NO_ROOM: refusal.first and refusal.second
@@ -379,7 +380,7 @@ uint32_t dsa_resume(const struct dsa_settings *settings,
  *
  * Returns 0: cost is what the plan costs; it is within the limits, and each conflict within a batch has its fence.
  * Returns another number: refusal has it, and nothing else was written. DSA_UNFENCED: the pieces refusal.first and
- * refusal.second of one batch conflict, and no fence stands between them.
+ * refusal.second of one batch conflict, and no fence is between them.
  */
 uint32_t dsa_judge(const struct dsa_settings *settings,
                    const uint64_t *table, size_t table_len,
@@ -459,14 +460,14 @@ uint32_t dsa_prepare_fenced(const struct dsa_settings *settings,
                             struct dsa_refusal *refusal);
 
 /*
- * Writes what submits a prepared list where its regions begin at bases, one for each in their order, and the staging area
- * at staging_address. It allocates nothing, and rows_len is info->rows.
+ * Writes what submits a prepared list whose regions begin at these bases, one for each in their order, and whose staging
+ * area is at staging_address. It allocates nothing, and rows_len is info->rows.
  *
  * Returns 0: portal and staging begin with info->portal_len and info->staging_len bytes, those that dsa_plan_list answers
  * for the list at its new addresses; the rest of each buffer is unchanged, and refusal is not written. Returns another
  * number: refusal has it, and nothing else was written. DSA_NOT_PREPARED comes first: the form of the rows is tested each
  * time, so that no rows, damaged or of another origin, make the call read or write out of its arrays. Damaged rows that
- * keep the form are filled like any others, and what is written may then name any address: where rows can be damaged, for
+ * keep the form are filled like any others, and what is written may then name any address: if rows can be damaged, for
  * example in a file, keep a checksum beside them. Then come 103 to 110, in their order.
  */
 uint32_t dsa_fill(const struct dsa_prepared_row *rows, size_t rows_len,
@@ -606,7 +607,7 @@ uint32_t dsa_track_withdraw(uint64_t *words, size_t words_len, uint32_t slot, ui
  * link libdsa_planner_own_memory.a; the other two libraries neither have nor use functions of these names. `ok` is 1
  * and `at` the block, or `ok` is 0 and `at` some address that is not NULL. A block of size bytes is aligned to align,
  * which is a power of two, at most 16. A size of 0 wants a block too. rattle_realloc gives a block of size bytes that
- * begins as the old one did, and takes the old one back; where it fails, the old one stays as it is. The three are
+ * begins as the old one did, and takes the old one back; if it fails, the old one stays as it is. The three are
  * called on the thread of the call, which has given every block back when it returns. dsa_count_pieces, dsa_fill,
  * dsa_refusal_text, dsa_track_begin, dsa_track_spans, dsa_track_ask, dsa_track_waits, dsa_track_complete,
  * dsa_track_withdraw and dsa_planner_version call none of them.

@@ -11,7 +11,7 @@
  * told of no access: all requests are rung at once, and some go wrong.
  */
 #ifndef _GNU_SOURCE
-#define _GNU_SOURCE /* mmap's flags, where the compiler keeps to a standard */
+#define _GNU_SOURCE /* mmap's flags, if the compiler keeps to a standard */
 #endif
 #include <fcntl.h>
 #include <immintrin.h>

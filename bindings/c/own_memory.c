@@ -7,7 +7,7 @@
 
 #include "dsa_planner.h"
 
-/* A pool: blocks one behind another, given back all together when the last of them is. */
+/* A pool: blocks one after another, all given back when the last of them is. */
 static _Thread_local struct {
     _Alignas(16) uint8_t bytes[1 << 16];
     size_t used, most;

@@ -5,7 +5,7 @@
  *   2. plan with settings.staging at memory that the device reads, and have the library write the staging bytes there;
  *   3. for each 64 bytes of portal: write them to the mapped page at once, by MOVDIR64B to a dedicated queue, by ENQCMD
  *      (which may answer "retry") to a shared one;
- *   4. wait for the completion record that their bytes 8..16 point to, by UMWAIT or a pause loop, and stop where its
+ *   4. wait for the completion record that their bytes 8..16 point to, by UMWAIT or a pause loop, and stop if its
  *      status is not 1: what follows relies on what failed.
  *
  * It assumes shared virtual addresses: the device reads the process's own addresses, so a pointer is a device address
@@ -14,7 +14,7 @@
  *     submit /dev/dsa/wq0.0 dedicated|shared
  */
 #ifndef _GNU_SOURCE
-#define _GNU_SOURCE /* mmap's flags, where the compiler keeps to a standard */
+#define _GNU_SOURCE /* mmap's flags, if the compiler keeps to a standard */
 #endif
 #include <fcntl.h>
 #include <immintrin.h>

@@ -1,4 +1,4 @@
-"""Writes the manual pages from what stands elsewhere: docs/FORMATS.md, the programs' `--help`, and the header."""
+"""Writes the manual pages from docs/FORMATS.md, the programs' `--help`, and the header."""
 
 import re
 from pathlib import Path
@@ -23,12 +23,12 @@ def inline(text):
 
 
 def shown(lines):
-    """Lines as they stand."""
+    """Lines as they are."""
     return [".PP", ".RS 4", ".nf", *map(plain, lines), ".fi", ".RE"]
 
 
 def table(lines):
-    """A table: the first cell of a row is its tag, and the others follow behind the names of their columns."""
+    """A table: the first cell of a row is its tag, and the others follow the names of their columns."""
     rows = [[cell.strip() for cell in re.split(r"(?<!\\)\|", line.strip().strip("|"))] for line in lines]
     names, out = rows[0], []
     for row in rows[2:]:
@@ -73,7 +73,7 @@ def roff(markdown):
 
 
 def section(page, heading):
-    """What stands under a heading of a page of the docs."""
+    """What a page of the docs has under a heading."""
     text = (ROOT / page).read_text()
     found = re.search(rf"^## {re.escape(heading)}\n(.*?)(?=^## |\Z)", text, re.M | re.S)
     return found[1]
@@ -177,7 +177,7 @@ def options(text):
 
 
 def dsa_planner(head):
-    """dsa_planner(3), from the comments of the header and what stands behind each."""
+    """dsa_planner(3), from the comments of the header and what follows each."""
     header = (ROOT / "bindings/c/dsa_planner.h").read_text()
     blocks = re.findall(r"^/\*(.*?)\*/\n(.*?)(?=^/\*|\Z)", header, re.M | re.S)
     about, rest = blocks[0][0], blocks[1:]

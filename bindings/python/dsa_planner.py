@@ -9,7 +9,7 @@ The calls are those of the C library (dsa_planner.h says what each promises, and
 a call that refuses raises `Refusal`. Calls may run on several threads at once, and other threads of Python run meanwhile.
 
 The library is libdsa_planner.so.1: the file that the variable DSA_PLANNER_LIBRARY names, else the one of the prefix that
-this module is installed in, else the one that the system's loader finds. Where none can be used, importing this module
+this module is installed in, else the one that the system's loader finds. If none can be used, importing this module
 raises `ImportError`, which says what to do."""
 
 from __future__ import annotations
@@ -124,7 +124,7 @@ def _open() -> ctypes.CDLL:
 
 
 def _need_version(library: ctypes.CDLL, place: str) -> None:
-    """Raises ImportError where the library is none, or too old, or of another major version."""
+    """Raises ImportError if the library is none, or too old, or of another major version."""
     try:
         number = library.dsa_planner_version
     except AttributeError:
@@ -188,7 +188,7 @@ def library_version() -> Tuple[int, int, int]:
 
 
 def _whole(name: str, value: int, limit: int = 2**64) -> int:
-    """The value where it is a whole number from 0 to below the limit."""
+    """The value, if it is a whole number from 0 to below the limit."""
     if isinstance(value, bool) or not isinstance(value, int):
         raise TypeError(f"{name} is {value!r}, and has to be a whole number")
     if not 0 <= value < limit:
@@ -211,11 +211,11 @@ class Settings:
     fence: int
     """The price of each fence."""
     staging: int
-    """The address where the staging bytes will stand, a multiple of 64, at most 2^63."""
+    """The address of the staging area, a multiple of 64, at most 2^63."""
 
     @property
     def version(self) -> int:
-        """1, or 2 where prices are by size; a certificate has the version of the settings that it was written for."""
+        """1, or 2 if prices are by size; a certificate has the version of the settings that it was written for."""
         return 1 if isinstance(self.batch, int) else 2
 
     def _raw(self) -> Tuple[_Settings, "ctypes.Array[ctypes.c_uint64]", int]:
@@ -550,8 +550,8 @@ def _certified(call, settings: Settings, operations: Bytes) -> Planned:
 
 
 def check(settings: Settings, portal: Bytes, staging: Bytes, certificate: Certificate) -> int:
-    """What the bytes of a portal and a staging area cost, where each conflict within a batch has its fence and the
-    certificate shows that no legal plan of their pieces costs less. Raises `Refusal`. It needs 256 KiB of stack."""
+    """What the bytes of a portal and a staging area cost, if each conflict within a batch has its fence and the
+    certificate proves that no legal plan of their pieces costs less. Raises `Refusal`. It needs 256 KiB of stack."""
     return _checked(_library.dsa_check, settings, [_given("portal", portal), _given("staging", staging)], certificate)
 
 
@@ -559,7 +559,7 @@ def check_fenced_list(
     settings: Settings, operations: Bytes, portal: Bytes, staging: Bytes, certificate: Certificate
 ) -> int:
     """The same for a list as `plan_fenced_list` takes it, which says where the barriers are: the bytes submit the
-    pieces of the list, the plan keeps each barrier, and the certificate shows that no legal plan that does costs
+    pieces of the list, the plan keeps each barrier, and the certificate proves that no legal plan that does costs
     less."""
     given = [_given("operations", operations), _given("portal", portal), _given("staging", staging)]
     return _checked(_library.dsa_check_fenced_list, settings, given, certificate)
@@ -584,8 +584,8 @@ def _checked(call, settings: Settings, given: Sequence, certificate: Certificate
 def resume(settings: Settings, operations: Bytes, records: Bytes, failed_first: bool = False) -> bytes:
     """What is left to submit of a list that was planned with these settings, once a submission has stopped: the pieces
     that have not finished, by their completion records, 32 bytes for each in their order (first byte 0: it waits; 1, 2:
-    it has finished). Pieces of a move to a higher address within its own range run from the end: the record at its
-    record address is that of the last. Clear the records of what is left, and plan it. Raises `Refusal`."""
+    it has finished). Those of a move to a higher address within its own range run from the end, and so do its records.
+    Clear the records of what is left, and plan it: docs/USING.md says when that is right. Raises `Refusal`."""
     raw, table, entries = settings._raw()
     listed, size = _given("operations", operations)
     pieces = min(int(_library.dsa_count_pieces(raw, table, entries, listed, size)), MOST_PIECES)
@@ -596,7 +596,7 @@ def resume(settings: Settings, operations: Bytes, records: Bytes, failed_first: 
 
 
 def judge(settings: Settings, operations: Bytes, marks: Bytes) -> int:
-    """What a plan of the caller's costs, a mark for each descriptor of the list, where it is within the limits and each
+    """What a plan of the caller's costs, a mark for each descriptor of the list, if it is within the limits and each
     conflict within a batch has its fence. No descriptor is split. Raises `Refusal`. It needs 256 KiB of stack."""
     return _judged(_library.dsa_judge, settings, operations, marks)
 
@@ -632,7 +632,7 @@ class Prepared:
         return bytes(self._rows)[: self._count * ctypes.sizeof(_Row)]
 
     def fill(self, bases: Sequence[int], staging: int) -> Tuple[bytes, bytes]:
-        """The bytes for the portal and for the staging area, where the regions begin at these bases and the staging area at
+        """The bytes for the portal and for the staging area, if the regions begin at these bases and the staging area is at
         this address. Raises `Refusal`."""
         numbers = _words([_whole("a base", base) for base in bases])
         portal_len, staging_len = (min(size, 80 * MOST_PIECES) for size in self._sizes())

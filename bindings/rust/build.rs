@@ -42,7 +42,7 @@ fn place() -> (PathBuf, PathBuf) {
         .unwrap_or_else(|| stop("the package dsa-planner is not found"))
 }
 
-/// The places in a prefix, where it has the archive.
+/// The places in a prefix, if it has the archive.
 fn in_prefix(prefix: &Path) -> Option<(PathBuf, PathBuf)> {
     let library = ["lib", "lib/x86_64-linux-gnu"].map(|name| prefix.join(name));
     let found = library
@@ -66,7 +66,7 @@ fn by_pkg_config() -> Option<(PathBuf, PathBuf)> {
     Some((ask("includedir")?, ask("libdir")?))
 }
 
-/// Ends the build where the package is of another major version than this crate, or of an older minor one.
+/// Ends the build if the package is of another major version than this crate, or of an older minor one.
 fn need_version(header: &Path) {
     let text = fs::read_to_string(header)
         .unwrap_or_else(|error| stop(&format!("cannot read {}: {error}", header.display())));

@@ -100,7 +100,7 @@ causes! {
     GroupSize = 41,
     /// The first piece of group `first` is fenced.
     FirstFence = 42,
-    /// Pieces `first` and `second` conflict, and no fence stands between them.
+    /// Pieces `first` and `second` conflict, and no fence is between them.
     Unfenced = 43,
     /// The length of the portal bytes is no multiple of 64.
     PortalLength = 44,

@@ -2,7 +2,7 @@
 //!
 //! A list of operations goes in, 64 bytes for each; out come the bytes that submit it, as batches and lone descriptors with
 //! fences, at least cost. This is a safe wrapper of the proved library of the package dsa-planner, which has to be
-//! installed: `build.rs` finds it by `DSA_PLANNER_PREFIX` or by pkg-config, and says what to do where it doesn't. What the
+//! installed: `build.rs` finds it by `DSA_PLANNER_PREFIX` or by pkg-config, and says what to do if it doesn't. What the
 //! calls promise is proved of the library; this wrapper is tested.
 //!
 //! ```
@@ -23,7 +23,7 @@
 //! of stack, the other calls 64 KiB; a thread that `std` starts has 2 MiB.
 //!
 //! **Memory.** The library takes its memory from the program's global allocator and has given it back when a call returns.
-//! Where the allocator fails within the library, the answer is [`Cause::Memory`].
+//! If the allocator fails within the library, the answer is [`Cause::Memory`].
 //!
 //! **Features.** `std`, which is on unless turned off: [`Refusal`] implements `std::error::Error`. Without it the crate
 //! needs `core` and `alloc` alone.
@@ -65,7 +65,7 @@ pub const FENCED: u8 = 2;
 /// ```
 /// # use dsa_planner::BatchPrice;
 /// let flat = BatchPrice::Flat(14); // each batch costs 14
-/// let by_size = BatchPrice::BySize(&[14, 16, 30]); // of two, three and four pieces, where `greatest_batch` is 4
+/// let by_size = BatchPrice::BySize(&[14, 16, 30]); // of two, three and four pieces, if `greatest_batch` is 4
 /// # assert_ne!(flat, by_size);
 /// ```
 #[derive(Clone, Copy, Debug, PartialEq, Eq)]
@@ -89,7 +89,7 @@ pub struct Settings<'a> {
     pub batch: BatchPrice<'a>,
     /// The price of each fence, at most 1,000,000,000.
     pub fence: u64,
-    /// The address where the staging bytes will stand, a multiple of 64, at most 2^63.
+    /// The address of the staging area, a multiple of 64, at most 2^63.
     pub staging: u64,
 }
 
@@ -268,11 +268,11 @@ pub fn count_pieces(settings: &Settings, list: &[u8]) -> u64 {
     unsafe { raw::dsa_count_pieces(&raw, table.as_ptr(), table.len(), list.as_ptr(), list.len()) }
 }
 
-/// Plans a list into buffers of the caller: 64 bytes for each operation, in their order. Of the order in which they take effect
-/// [`plan_list`] says what is promised.
+/// Plans a list into buffers of the caller: 64 bytes for each operation, in their order. [`plan_list`] says what is
+/// promised of the order in which they take effect.
 ///
 /// # Errors
-/// The first fault of the list or the settings; [`Cause::NoRoom`] where a buffer is too small; [`Cause::Memory`]. The
+/// The first fault of the list or the settings; [`Cause::NoRoom`] if a buffer is too small; [`Cause::Memory`]. The
 /// buffers are then as before.
 ///
 /// ```
@@ -448,8 +448,8 @@ fn certified_by(
     })
 }
 
-/// What the bytes of a portal and a staging area cost, where each conflict within a batch has its fence and the
-/// certificate shows that no legal plan of their pieces costs less. It needs 256 KiB of stack.
+/// What the bytes of a portal and a staging area cost, if each conflict within a batch has its fence and the
+/// certificate proves that no legal plan of their pieces costs less. It needs 256 KiB of stack.
 ///
 /// # Errors
 /// The first fault of the settings, the bytes or the certificate.
@@ -504,7 +504,8 @@ fn raw_pairs(certificate: &Certificate) -> Vec<raw::Pair> {
 }
 
 /// The same for a list as [`plan_fenced_into`] takes it, which says where the barriers are: the bytes submit the pieces
-/// of the list, the plan keeps each barrier, and no legal plan that does costs less. It needs 256 KiB of stack.
+/// of the list, the plan keeps each barrier, and the certificate proves that no legal plan that does costs less. It
+/// needs 256 KiB of stack.
 ///
 /// # Errors
 /// The first fault of the settings, the list and its pieces, or the bytes; [`Cause::OtherPiece`]; then that of the plan
@@ -569,7 +570,7 @@ pub enum LeftOrder {
 /// the pieces that have not finished, by their completion records, 32 bytes for each piece in their order, whose first
 /// byte is 0 of a piece that waits, and 1 or 2 of one that has finished. The pieces of a move to a higher address
 /// within its own range run from the end: the record at its record address is that of its last piece. Clear the
-/// records of what is left, and plan it.
+/// records of what is left, and plan it; docs/USING.md says when that leaves what the whole list leaves.
 ///
 /// # Errors
 /// The first fault of the settings or the list; [`Cause::Records`]; [`Cause::Memory`].
@@ -617,7 +618,7 @@ pub fn resume(
     Ok(rest)
 }
 
-/// What a plan of the caller's costs, a mark for each descriptor of the list, where it is within the limits and each
+/// What a plan of the caller's costs, a mark for each descriptor of the list, if it is within the limits and each
 /// conflict within a batch has its fence. No descriptor is split. It needs 256 KiB of stack.
 ///
 /// # Errors

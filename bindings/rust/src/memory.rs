@@ -13,7 +13,7 @@ pub struct Block {
     at: *mut u8,
 }
 
-/// The block behind the head that starts at `base`, whose size is noted there; none where `base` is null.
+/// The block after the head that starts at `base`, whose size is noted there; none if `base` is null.
 ///
 /// # Safety
 /// `base` is null, or the start of `layout.size()` bytes that may be written.
@@ -51,7 +51,7 @@ extern "C" fn rattle_alloc(size: usize, _align: usize) -> Block {
     }
 }
 
-/// Gives a block of another size that begins as the old one did, and takes the old one back where that succeeds.
+/// Gives a block of another size that begins as the old one did, and takes the old one back if that succeeds.
 ///
 /// # Safety
 /// `at` is a block that is not given back yet.

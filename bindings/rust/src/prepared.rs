@@ -138,8 +138,8 @@ impl Prepared {
         64 * self.header(4) + 32 * self.header(5)
     }
 
-    /// Writes what submits the list where its regions begin at these bases, one for each in their order, and the staging
-    /// area at this address: to the front of `portal` and of `area` the bytes that planning the list at its new addresses
+    /// Writes what submits the list if its regions begin at these bases, one for each in their order, and the staging
+    /// area is at this address: to the front of `portal` and of `area` the bytes that planning the list at its new addresses
     /// answers. Nothing is allocated.
     ///
     /// # Errors

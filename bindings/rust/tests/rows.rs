@@ -236,7 +236,7 @@ fn prices_by_size() {
     );
 }
 
-// A certificate has the version of the settings that it was written for: 2 where prices are by size.
+// A certificate has the version of the settings that it was written for: 2 if prices are by size.
 #[test]
 fn certificates_by_size() {
     let planned = plan_list(&BY_SIZE, &two_moves()).unwrap();
@@ -267,7 +267,7 @@ fn certificates_by_size() {
     assert_eq!(checked(&short, &certificate), Err(refused(83, 0, 8, 0)));
 }
 
-// A fault of the plan or of a piece stands within the one that `check` answers.
+// A fault of the plan or of a piece is within the one that `check` answers.
 #[test]
 fn causes_within_are_answered() {
     let planned = plan_list(&SETTINGS, &two_moves()).unwrap();

@@ -101,7 +101,7 @@ later_lower fs start group at later i r f = record {
   hazard = f.hazard;
 }
 
--- all earlier pieces that stand so were asked
+-- all such earlier pieces were looked at
 pub row_done : (fs : List Fields) (start : ℕ) (group : Group) (at later i : ℕ) (rs : List Reason) → ((x : ℕ) → IsReached start group at x → i ≤ x)
     → HasReasonsSoFar fs start group at later i rs → HasReasonsSoFar fs start group at (suc later) at rs
 row_done fs start group at later i rs above h =

@@ -10,7 +10,7 @@ use Rattle.dsa_plan.proofs.Chains.{Reaches-same, Reaches-lt, Reaches-le, Reaches
 use Rattle.dsa_plan.proofs.Groups.{forward_from_pairs}
 use Rattle.dsa_explain.specs.Reasons.{NeedsFence}
 
--- a piece of the chain behind y is k or stands behind it
+-- a piece of the chain after y is k or comes after it
 next_on_chain : (C : ℕ → ℕ → Type 0) (greatest_batch n : ℕ) (pairs : Pairs) → HasPairs C greatest_batch n pairs → (start count y k m other : ℕ)
     → Reaches pairs start count y → Reaches pairs start (suc count) k → Reaches pairs start (suc m) other → y < other → other ≤ k → other ≡ k
 next_on_chain C greatest_batch n pairs h start count y k m other to_y to_k to_other after up_to =

@@ -56,7 +56,7 @@ open_more start group i at lt here later k le below fenced =
 
 -- ---- the outer loop
 
--- a piece before a fence that it needs stands in the open before it
+-- a piece before a fence that it needs has no other fence up to that one
 pub needs_reached : (C : ℕ → ℕ → Type 0) (start : ℕ) (group : Group) (at a b : ℕ) → NeedsFence C start group at a b → IsReached start group at a
 needs_reached C start group at a b needs =
     record {

@@ -36,11 +36,11 @@ reason_value pieces r =
     ∷ (codes "record_of", optional_value (record_of pieces r))
     ∷ [])
 
--- that a barrier needs a fence, if one does
+-- the member that says that a barrier needs the fence, if one does
 abbrev pub barrier_members : Bool → List (List ℕ × Data)
 barrier_members barrier = if barrier then (codes "barrier", boolean true) ∷ [] else []
 
--- a fence: whether a barrier needs it, the piece that it stands before, and the conflicts that it alone separates
+-- a fence: whether a barrier needs it, the piece that it is before, and the conflicts that only this fence separates
 abbrev pub fence_value : List Descriptor → Fence → Data
 fence_value pieces fence =
     object_of (
@@ -53,7 +53,7 @@ fence_value pieces fence =
 abbrev pub piece_value : Descriptor → Data
 piece_value d = string (line_text (fields d))
 
--- of which operation a piece is, which of its pieces, from 1 on, and how many it has
+-- the origin of a piece: its operation, which of the operation's pieces it is, from 1 on, and how many there are
 abbrev pub origin_value : Origin → Data
 origin_value origin =
     object_of (
@@ -62,7 +62,7 @@ origin_value origin =
     ∷ (codes "pieces", whole origin.pieces)
     ∷ [])
 
--- an explanation, with the origins of its pieces, the names of their operations, and the cost of the least plan where it is
+-- an explanation, with the origins of its pieces, the names of their operations, and the cost of a least plan if it is
 -- known
 abbrev pub explanation_value : Explanation → List Descriptor → Labelling → Option ℕ → Data
 explanation_value e pieces labels least =

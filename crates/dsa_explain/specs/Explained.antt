@@ -17,20 +17,20 @@ use Rattle.dsa_explain.specs.declared.explanation.Explanation.{Explanation}
 use Rattle.dsa_explain.specs.declared.explanation.ExplainFault.{ExplainFault}
 use Rattle.dsa_explain.specs.declared.explanation.ExplainFault.TheVariants.{TooManyPieces, Legal, Memory}
 
--- the plan's costs, its fences and its cells, and the barriers
+-- the explanation has the plan's costs, its fences and its cells, and the barriers
 pub record IsExplanationOf (s : Limits) (detail : Detail) (pieces : List Descriptor) (barriers : List Bool) (plan : Plan) (e : Explanation) : Type 0 where
   pub costs : AreCosts s (length pieces) plan e.costs
   pub fences : AreFencesOf detail (map fields pieces) barriers plan e.fences.items
   pub cells : e.cells.items ≡ cells_from 0 plan
   pub marks : e.barriers.items ≡ barriers
 
--- the plan is legal with these barriers, of pieces that are not too many
+-- the plan is legal with these barriers, and there are not too many pieces
 pub record CanBeExplained (s : Limits) (pieces : List Descriptor) (barriers : List Bool) (plan : Plan) : Type 0 where
   pub few : length pieces ≤ most_pieces
   pub legal : IsLegal (WithBarriers (ConflictAt (map fields pieces)) barriers) s.greatest_batch (length pieces) plan
 
--- Of a plan that can be explained, and of no other, its explanation, or that memory ran out. Else
--- that the pieces are too many; else the plan's first fault.
+-- If the plan can be explained: its explanation, or that memory ran out. Else that there are too
+-- many pieces; else the plan's first fault.
 abbrev pub Explains : Limits → Detail → List Descriptor → List Bool → Plan → Result Explanation ExplainFault → Type 0
 Explains s detail pieces barriers plan (Ok e) = CanBeExplained s pieces barriers plan × IsExplanationOf s detail pieces barriers plan e
 Explains s detail pieces barriers plan (Err Memory) = CanBeExplained s pieces barriers plan

@@ -16,25 +16,26 @@ fenced_in piece [] = []
 fenced_in piece (fenced ∷ group) =
     if fenced then (piece ∷ fenced_in (suc piece) group) else fenced_in (suc piece) group
 
--- the fenced pieces of groups of which the first begins with this piece, in order
+-- the fenced pieces of groups, the first of which begins with this piece, in order
 abbrev pub fenced_pieces : ℕ → Plan → List ℕ
 fenced_pieces piece [] = []
 fenced_pieces piece (group ∷ plan) =
     fenced_in piece group ++ fenced_pieces (piece + length group) plan
 
--- the reasons that are named of a fence: the first one, or each
+-- the reasons of a fence that are named: the first one, or all
 abbrev pub named_of : Detail → List Reason → List Reason
 named_of First reasons = take 1 reasons
 named_of Every reasons = reasons
 
--- the fence has its reasons in that detail, and says how many more there are
+-- the fence names its reasons in that detail, and says how many more there are
 pub record HasReasons (detail : Detail) (pieces : List Fields) (start : ℕ) (group : Group) (fence : Fence) : Type 0 where
   pub reasons : List Reason
   pub are : AreReasonsFor pieces start group fence.piece reasons
   pub named : fence.named.items ≡ named_of detail reasons
   pub more : fence.more ≡ length reasons - length fence.named.items
 
--- the fence is in a group of the plan; what needs it there are its reasons, and a barrier if there is one before its piece
+-- the fence is in a group of the plan; it has the reasons that need it there, and says if there is a barrier before its
+-- piece
 pub record IsExplained (detail : Detail) (pieces : List Fields) (barriers : List Bool) (plan : Plan) (fence : Fence) : Type 0 where
   pub number : ℕ
   pub group : Group
@@ -43,7 +44,7 @@ pub record IsExplained (detail : Detail) (pieces : List Fields) (barriers : List
   pub reasons : HasReasons detail pieces (start_of plan number) group fence
   pub barrier : IsTrue fence.barrier ↔ IsBarrier barriers fence.piece
 
--- the pieces that fences stand before
+-- the pieces that fences are before
 abbrev pub fence_places : List Fence → List ℕ
 fence_places fences = map (λ fence. fence.piece) fences
 
@@ -54,7 +55,7 @@ pub record AreFencesOf (detail : Detail) (pieces : List Fields) (barriers : List
 
 -- ---- for private clauses
 
--- fences of the group of that number are added to explained ones, and then all are explained
+-- fences of this group are added: if all were explained before, all are explained after
 abbrev pub AddsExplained : Detail → List Fields → List Bool → ℕ → Group → List Fence → List Fence → Type 0
 AddsExplained detail pieces barriers start group before after =
     (plan : Plan) (number : ℕ) → slice_get plan number ≡ Some group → start ≡ start_of plan number →

@@ -31,7 +31,7 @@ pub record IsFencedIn (plan : Plan) (k : ℕ) : Type 0 where
   pub is_group : slice_get plan number ≡ Some group
   pub fenced : IsFenced (start_of plan number) group k
 
--- the fenced pieces that are listed ascend, and they are all that are fenced
+-- the listed fenced pieces ascend, and no fenced piece is missing
 abbrev pub EachFenceOnce : Type 0
 EachFenceOnce =
     (plan : Plan) → AllPairs (λ a b. a < b) (fenced_pieces 0 plan)

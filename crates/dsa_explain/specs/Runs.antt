@@ -10,7 +10,7 @@ use Rattle.dsa_explain.specs.declared.labels.Labels.{Labels}
 use Rattle.dsa_explain.specs.declared.labels.Origin.{Origin}
 use Rattle.dsa_explain.specs.declared.runs.Listing.{Listing}
 
--- of which operation each piece is, and the names of the operations
+-- the operation that each piece is of, and the names of the operations
 pub record Labelling : Type 0 where
   pub origins : List Origin
   pub names : List (List ℕ)
@@ -19,7 +19,7 @@ pub record Labelling : Type 0 where
 abbrev pub labelling : Labels → Labelling
 labelling labels = record { origins = labels.origins.now; names = map string_bytes labels.names.now }
 
--- what is listed: the pieces of a plan, of which operation each is, and what the groups cost under settings; in such detail
+-- what is listed: the pieces of a plan, the operation that each is of, what the groups cost under settings, and the detail
 pub record Listed : Type 0 where
   pub limits : Limits
   pub detail : Detail
@@ -38,7 +38,7 @@ listed x =
       labels = labelling x.labels;
     }
 
--- the later piece is of the same operation, so many of its pieces after the other
+-- the later piece is of the same operation, so many of the operation's pieces after the other
 abbrev pub is_so_far_after : ℕ → Option Origin → Option Origin → Bool
 is_so_far_after count None later = false
 is_so_far_after count (Some origin) None = false
@@ -50,18 +50,19 @@ are_as_large None later = false
 are_as_large (Some d) None = false
 are_as_large (Some d) (Some later) = later.size == d.size
 
--- the piece at this index and the one so many before it are of one operation, as many of its pieces apart, and of one size
+-- the piece at this index and the one so many before it are of the same operation, as many of its pieces apart, and of the
+-- same size
 abbrev pub repeats : Listed → ℕ → ℕ → Bool
 repeats x count index =
     is_so_far_after count (slice_get x.labels.origins (index - count)) (slice_get x.labels.origins index)
     && are_as_large (slice_get x.pieces (index - count)) (slice_get x.pieces index)
 
--- from this piece on its operation has so many pieces
+-- from this piece on, its operation has exactly so many pieces left
 abbrev pub has_from : ℕ → Option Origin → Bool
 has_from count None = false
 has_from count (Some origin) = nat_le (origin.piece + count) (origin.pieces + 1)
 
--- both groups have as many pieces, no fences and one cost
+-- both groups have the same number of pieces, no fences and the same cost
 abbrev pub are_alike : GroupCost → GroupCost → Bool
 are_alike before group =
     group.size == before.size && (group.cost == before.cost && (before.fences == 0 && group.fences == 0))

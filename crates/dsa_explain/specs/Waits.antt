@@ -1,4 +1,4 @@
--- Which earlier groups each group of a plan waits for, if a tracker takes one after another while all its slots are free, and
+-- Which earlier groups each group of a plan waits for, if a tracker whose slots are all free takes one after another, and
 -- none ends meanwhile; and what that saves. (That explanations say this, and their words, is this project's choice.)
 use Rattle.std.specs.Prelude.{◌≡◌, ◌==◌, ℕ, zero, suc, ◌+◌, ◌-◌, Bool, List, [], ◌∷◌, ◌++◌, Some, None, codes, decimal, length, max, min, replicate, slice_get, slice_index, slice_index_or, if◌then◌else◌}
 use Rattle.std.specs.Int.{bit_at}
@@ -46,7 +46,7 @@ has_group slots set number = bit_at set.0 (slice_index slots number) == 1
 abbrev pub set_at : List Slots → ℕ → Slots
 set_at sets number = slice_index_or sets number (record { 0 = 0 })
 
--- the longest of the chains that end in the first groups, as many as `count`, of those that are in the set
+-- the longest of the chains that end in those of the first `count` groups that are in the set
 abbrev pub longest_in : List ℕ → Slots → List ℕ → ℕ → ℕ
 longest_in slots set chains zero = 0
 longest_in slots set chains (suc count) = max (longest_in slots set chains count) (if has_group slots set count then slice_index chains count else 0)

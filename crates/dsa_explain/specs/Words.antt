@@ -20,7 +20,7 @@ use Rattle.dsa_explain.specs.Runs.{Labelling, Listed, continues, run_length}
 
 -- ---- the parts
 
--- an s, but behind a single one
+-- an s, unless the number is 1
 abbrev pub plural : ℕ → List ℕ
 plural n = if n == 1 then [] else codes "s"
 
@@ -30,7 +30,7 @@ kind_words ReadAfterWrite = codes "read after write"
 kind_words WriteAfterRead = codes "write after read"
 kind_words WriteAfterWrite = codes "write after write"
 
--- how many fences a batch has, the epochs that these part it into, and its cost
+-- how many fences a batch has, how many epochs they divide it into, and its cost
 unfoldable pub fences_words : ℕ → ℕ → List ℕ
 fences_words fences cost =
     decimal fences ++ (codes " fence" ++ (plural fences ++ (codes ", " ++ (decimal (fences + 1) ++ (codes " epoch" ++ (plural (fences + 1) ++ (codes ", cost " ++ decimal cost)))))))
@@ -108,12 +108,12 @@ need_words pieces false (Some r) = reason_words pieces r
 need_words pieces true None = codes "a barrier"
 need_words pieces true (Some r) = codes "a barrier, and " ++ reason_words pieces r
 
--- how many more conflicts a fence alone separates, where there are any
+-- how many more conflicts only this fence separates, if there are any
 abbrev pub more_words : ℕ → List ℕ
 more_words more = if more == 0 then [] else codes ", and " ++ (decimal more ++ codes " more")
 
--- a fence: a barrier that needs it, the first conflict that it alone separates, and how many more there are that are not
--- named
+-- a fence: a barrier that needs it, the first conflict that only this fence separates, and how many more there are that
+-- are not named
 abbrev pub fence_words : List Descriptor → Fence → List ℕ
 fence_words pieces fence = need_words pieces fence.barrier (slice_get fence.named.items 0) ++ more_words fence.more
 
@@ -121,7 +121,7 @@ fence_words pieces fence = need_words pieces fence.barrier (slice_get fence.name
 abbrev pub further_lines : List Descriptor → List Reason → List ℕ
 further_lines pieces reasons = flat_map (λ r. codes "     and " ++ (reason_words pieces r ++ codes "\n")) reasons
 
--- which piece of its operation this is, where that has several
+-- which piece of its operation this is, if that has several
 abbrev pub origin_words : Option Origin → List ℕ
 origin_words None = []
 origin_words (Some origin) =
@@ -139,7 +139,7 @@ parts_words more origin =
     codes ", pieces "
     ++ (decimal origin.piece ++ (codes " to " ++ (decimal (origin.piece + more) ++ (codes " of " ++ decimal origin.pieces))))
 
--- of which operation the pieces of a run are, and how far apart
+-- the operation that the pieces of a run are of, and how far apart they are
 abbrev pub origins_words : ℕ → ℕ → Bool → Option Origin → List ℕ
 origins_words more size is_down None = []
 origins_words more size is_down (Some origin) =
@@ -155,11 +155,11 @@ abbrev pub name_of : List (List ℕ) → Option Origin → List ℕ
 name_of names None = []
 name_of names (Some origin) = slice_index_or names origin.operation []
 
--- a piece: its canonical line, of which operation it is, and the name of that
+-- a piece: its canonical line, its operation, and the name of that
 abbrev pub piece_words : Descriptor → Option Origin → List ℕ → List ℕ
 piece_words d origin name = line_text (fields d) ++ (origin_words origin ++ name_words name)
 
--- a run of a piece and so many more: what the first one does, of which operation they are, and the name of that
+-- a run of a piece and so many more: what the first one does, their operation, and the name of that
 abbrev pub run_words : ℕ → Bool → Descriptor → Option Origin → List ℕ → List ℕ
 run_words more is_down d origin name = line_text (fields d) ++ (origins_words more d.size is_down origin ++ name_words name)
 
@@ -168,7 +168,7 @@ abbrev pub saved_words : ℕ → ℕ → List ℕ
 saved_words cost lone =
     if nat_le cost lone then codes "saved " ++ decimal (lone - cost) else decimal (cost - lone) ++ codes " less"
 
--- how many lone submissions cost
+-- that so many lone submissions cost the number that follows
 unfoldable pub pieces_words : ℕ → List ℕ
 pieces_words pieces = decimal pieces ++ (if pieces == 1 then codes " lone submission costs" else codes " lone submissions cost")
 
@@ -202,11 +202,11 @@ abbrev pub fence_line : ℕ → List Descriptor → List Fence → Cell → List
 fence_line price pieces fences cell =
     if cell.fenced then line_of_fence price pieces (slice_get fences 0) else []
 
--- the fences that are left behind the piece
+-- the fences that are left after the piece
 abbrev pub fences_left : List Fence → Cell → List Fence
 fences_left fences cell = if cell.fenced then drop 1 fences else fences
 
--- the line of a piece that shares it with none
+-- the line of a piece that shares its line with no other
 abbrev pub piece_line : ℕ → Descriptor → Option Origin → List ℕ → List ℕ
 piece_line index d origin name = codes "  " ++ (decimal index ++ (codes ": " ++ (piece_words d origin name ++ codes "\n")))
 

@@ -1,4 +1,4 @@
-//! Where groups, pieces and fences stand in a picture.
+//! The places of groups, pieces and fences in a picture.
 
 ghost use Rattle.std.specs.Prelude.{◌≡◌, ◌++◌, IfOk, OnOk};
 ghost use Rattle.dsa_explain.specs.Cells.{cells_from, row_cells};
@@ -6,14 +6,14 @@ ghost use Rattle.dsa_explain.specs.Cells.{cells_from, row_cells};
 use dsa_plan::{Group, Plan};
 use std::alloc::{AllocError, Global};
 
-/// A piece in a picture: a box, and before it a bar where the piece is fenced.
+/// A piece in a picture: a box, and before it a bar if the piece is fenced.
 #[derive(Clone, Copy, Debug, PartialEq, Eq)]
 pub struct Cell {
     /// The number of its group, which is its row.
     pub row: usize,
     /// Its number in the group.
     pub column: usize,
-    /// Whether a fence stands before it.
+    /// Whether a fence is before it.
     pub fenced: bool,
 }
 

@@ -194,7 +194,7 @@ fn explanation_json(
     })
 }
 
-/// The explanation of a plan as a line of JSON, with what the least plan costs, where that is known. docs/FORMATS.md has its
+/// The explanation of a plan as a line of JSON, with what a least plan costs, if that is known. docs/FORMATS.md has its
 /// schema.
 ///
 /// # Errors

@@ -10,14 +10,14 @@ use dsa_descriptor::{Descriptor, MOST_PIECES};
 use dsa_plan::{Costs, LegalFault, Plan, Settings, is_legal_with, plan_costs};
 use std::alloc::{AllocError, Global};
 
-/// What a plan costs, why its fences stand, and where its pieces stand in a picture.
+/// What a plan costs, why it has its fences, and the places of its pieces in a picture.
 #[derive(Debug, Drop)]
 pub struct Explanation {
     /// What its groups cost, and what its pieces cost one by one.
     pub costs: Costs,
     /// Its fences, in order, each with what needs it.
     pub fences: Vec<Fence>,
-    /// Where its pieces and fences stand in a picture.
+    /// The places of its pieces and fences in a picture.
     pub cells: Vec<Cell>,
     /// Whether each piece begins after a barrier; empty if none does.
     pub barriers: Vec<bool>,
@@ -30,7 +30,7 @@ pub enum ExplainFault {
     TooManyPieces,
     /// The plan is not legal for the pieces.
     Legal(LegalFault),
-    /// A growth of memory was refused.
+    /// An allocation failed.
     Memory,
 }
 
@@ -42,11 +42,11 @@ impl From<AllocError> for ExplainFault {
     }
 }
 
-/// The explanation of a legal plan of the pieces and their barriers, in which each fence has the
-/// first of its conflicts, or all. The mark of a piece says whether it begins after a barrier.
+/// The explanation of a legal plan of the pieces and their barriers; each fence names the first of
+/// its conflicts, or all. The mark of a piece says whether it begins after a barrier.
 ///
 /// # Errors
-/// [`ExplainFault::TooManyPieces`] where there are more than [`MOST_PIECES`]; else
+/// [`ExplainFault::TooManyPieces`] if there are more than [`MOST_PIECES`]; else
 /// [`ExplainFault::Legal`] with the first fault of the plan, as [`is_legal_with`] reports it;
 /// [`ExplainFault::Memory`] at the first allocation that fails.
 pub fn explain(

@@ -1,4 +1,4 @@
-//! The fences of a plan, each with the conflicts that it alone separates.
+//! The fences of a plan, each with the conflicts that only this fence separates.
 
 ghost use Rattle.std.specs.Prelude.{◌≡◌, ◌+◌, ◌≤◌, ◌++◌, ◌↔◌, IfOk, IsTrue, OnOk, length, map};
 ghost use Rattle.dsa_descriptor.specs.Descriptors.{fields};
@@ -13,7 +13,7 @@ use dsa_descriptor::Descriptor;
 use dsa_plan::{Group, Plan, is_barrier};
 use std::alloc::{AllocError, Global};
 
-/// How many of the conflicts that a fence separates an explanation names.
+/// Which of the conflicts that a fence separates an explanation names.
 #[derive(Clone, Copy, Debug, PartialEq, Eq)]
 pub enum Detail {
     /// The first one.
@@ -25,13 +25,13 @@ pub enum Detail {
 /// A fence.
 #[derive(Debug, Drop)]
 pub struct Fence {
-    /// The piece that it stands before.
+    /// The piece that it is before.
     pub piece: usize,
     /// Whether a barrier is before that piece, and so needs the fence.
     pub barrier: bool,
-    /// The first of the conflicts that it alone separates, or all; none where no conflict needs it alone.
+    /// The first of the conflicts that only this fence separates, or all; empty if there is no such conflict.
     pub named: Vec<Reason>,
-    /// How many more conflicts it alone separates.
+    /// How many more conflicts only this fence separates.
     pub more: usize,
 }
 
@@ -40,7 +40,7 @@ fn named_of(alloc: Global, detail: Detail, reasons: Vec<Reason>) -> Result<Vec<R
     ensures { IfOk result (λ named. named.items ≡ named_of detail reasons.items) }
 {
     match detail {
-        // A copy, so that the memory of a long list is given back.
+        // A copy, so that the memory of a long list is freed.
         Detail::First => {
             let (first, _) = reasons.split_at(reasons.len().min(1));
             Vec::from_slice(alloc, first)

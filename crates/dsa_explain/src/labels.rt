@@ -1,6 +1,6 @@
 //! Where pieces come from: which piece of which operation each is, and what the operations are called.
 
-/// Of which operation a piece is, where that was split.
+/// The operation that a piece is of, and which of its pieces.
 #[derive(Clone, Copy, Debug, PartialEq, Eq)]
 pub struct Origin {
     /// The index of the operation.
@@ -11,11 +11,11 @@ pub struct Origin {
     pub pieces: usize,
 }
 
-/// Of which operation each piece is, and the names of the operations.
+/// The operation that each piece is of, and the names of the operations.
 #[derive(Clone, Copy, Debug)]
 pub struct Labels<'a> {
-    /// That of each piece; none if no operations are known.
+    /// The origin of each piece; empty if no operations are known.
     pub origins: &'a [Origin],
-    /// That of each operation, empty if it has none.
+    /// The name of each operation, empty if it has none.
     pub names: &'a [String],
 }

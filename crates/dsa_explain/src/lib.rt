@@ -1,5 +1,5 @@
-//! What a plan does and why: what each group costs, which conflict each fence separates, and where groups, pieces and
-//! fences stand in a picture.
+//! What a plan does and why: what each group costs, which conflict each fence separates, and the places of groups,
+//! pieces and fences in a picture.
 #![tactic(auto)]
 
 mod cells;

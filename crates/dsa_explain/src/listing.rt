@@ -165,14 +165,14 @@ fn fences_left<'a>(fences: &'a [Fence], cell: &Cell) -> &'a [Fence]
     }
 }
 
-/// The line of a piece that shares it with none, up to its operation.
+/// The line of a piece that shares its line with no other, up to its operation.
 fn piece_front(alloc: Global, index: usize) -> Result<String, AllocError>
     ensures { IfOk result (λ s. string_bytes s ≡ codes "  " ++ (decimal index ++ codes ": ")) }
 {
     format!(in alloc; "  {index}: ")
 }
 
-/// Writes the line of a piece that shares it with none.
+/// Writes the line of a piece that shares its line with no other.
 fn push_piece_line(
     alloc: Global,
     text: &mut String,
@@ -267,7 +267,7 @@ fn parts_text(alloc: Global, more: usize, origin: Origin) -> Result<String, Allo
     format!(in alloc; ", pieces {first} to {last} of {pieces}")
 }
 
-/// Of which operation the pieces of a run are, and how far apart.
+/// The operation that the pieces of a run are of, and how far apart they are.
 fn origins_text(
     alloc: Global,
     more: usize,
@@ -284,7 +284,7 @@ fn origins_text(
     format!(in alloc; " (operation {operation}{parts}{step}")
 }
 
-/// Writes of which operation the pieces of a run are, and how far apart.
+/// Writes the operation that the pieces of a run are of, and how far apart they are.
 fn push_origins(
     alloc: Global,
     text: &mut String,
@@ -329,7 +329,7 @@ fn push_run_line(
     push_line(text, &words)
 }
 
-/// Writes the line of a run, the first piece of which is given.
+/// Writes the line of a run, whose first piece is given.
 fn push_pieces_line(
     alloc: Global,
     text: &mut String,
@@ -373,8 +373,8 @@ fn push_line_of_run(
     }
 }
 
-/// Writes the lines of a run that begins with a piece, after which these come: of its groups, of the fence before it,
-/// and of its pieces.
+/// Writes the lines of a run that begins with a piece, before these cells: of its groups, of the fence before it, and
+/// of its pieces.
 fn push_run_lines(
     alloc: Global,
     text: &mut String,
@@ -397,7 +397,7 @@ fn push_run_lines(
     push_line_of_run(alloc, text, listing, index, more)
 }
 
-/// Writes the lines that begin with a piece, after which these come: none if it shares that of the piece before it.
+/// Writes the lines that begin with a piece, before these cells: none if it shares the line of the piece before it.
 fn push_run(
     alloc: Global,
     text: &mut String,
@@ -441,8 +441,8 @@ fn push_cells(
 }
 
 /// The explanation of a plan in words: a line for each group, fence and piece, and one for the costs. Pieces of one
-/// operation that follow each other without a fence share a line, and so do groups of them that are alike, unless all
-/// is to be named.
+/// operation that follow each other without a fence share a line, and so do groups of them that are alike, unless the
+/// detail is [`Detail::All`].
 pub fn explanation_text(
     alloc: Global,
     explanation: &Explanation,

@@ -203,7 +203,8 @@ fn drawn_pieces(
     Ok(columns)
 }
 
-/// What is below a fence: the kind of its first conflict and how many more it alone separates; whether a barrier needs it.
+/// What is below a fence: the kind of its first conflict, how many more only this fence separates, and whether a
+/// barrier needs it.
 fn fence_label(alloc: Global, fence: &Fence) -> Result<String, AllocError> {
     let Some(reason) = fence.named.first() else {
         let words = if fence.barrier {
@@ -254,7 +255,7 @@ fn drawn_fences(
     Ok(bars)
 }
 
-/// The words of the costs in a picture, and of the least cost where that is below the plan's.
+/// The words of the costs in a picture, and of the least cost if that is below the plan's.
 fn costs_drawn(
     alloc: Global,
     costs: &Costs,
@@ -281,9 +282,9 @@ fn notes_of(alloc: Global, costs: &str, has_fences: bool) -> Result<Vec<String>,
     Ok(notes)
 }
 
-/// The picture of a plan as SVG, in black, white, grey and red and without scripts: its pieces in columns by their groups,
-/// with the names that comments give them, buffers in rows, and its fences with the first of their conflicts. The costs are
-/// at the end, with the least cost if that is given and below the plan's.
+/// The picture of a plan as SVG, in black, white, grey and red and without scripts: its pieces in columns by their
+/// groups, with the names that comments give them, buffers in rows, and its fences with the first of their conflicts.
+/// The costs are at the end, with the least cost if that is given and below the plan's.
 pub fn draw(
     alloc: Global,
     explanation: &Explanation,

@@ -15,13 +15,13 @@ use std::alloc::{AllocError, Global};
 pub struct Reason {
     /// The piece before the fence.
     pub earlier: usize,
-    /// The piece at the fence, or behind it.
+    /// The piece at the fence, or after it.
     pub later: usize,
     /// Where the two conflict, and why the later waits.
     pub hazard: Hazard,
 }
 
-/// In a group that begins with piece `start`, the first fenced piece behind `at`, or the group's end.
+/// In a group that begins with piece `start`, the first fenced piece after `at`, or the group's end.
 fn next_fence(fences: &[bool], start: usize, at: usize) -> usize
     requires begun { start ≤ at }
     requires within { at < start + length fences.now }
@@ -39,8 +39,8 @@ fn next_fence(fences: &[bool], start: usize, at: usize) -> usize
     start + fences.len()
 }
 
-/// Adds a reason for each piece between the fence before `at` and this one that conflicts with the piece `later`, from the
-/// last one down.
+/// Adds a reason for each piece from the fence before `at` to before `at` that conflicts with the piece `later`, from
+/// the last one down.
 fn push_conflicts(
     reasons: &mut Vec<Reason>,
     fences: &[bool],
@@ -77,11 +77,11 @@ fn push_conflicts(
     Ok(())
 }
 
-/// In a group that begins with piece `start`, all conflicts that the fence at piece `at` alone separates, one for each two
-/// pieces: by the later piece, and for the same later piece from the greatest earlier one down.
+/// In a group that begins with piece `start`, all conflicts that only the fence at piece `at` separates, one for each
+/// pair of pieces: by the later piece, and for the same later piece from the greatest earlier one down.
 ///
 /// # Errors
-/// [`AllocError`] at the first growth that is refused.
+/// [`AllocError`] at the first allocation that fails.
 pub(crate) fn reasons_of(
     alloc: Global,
     fences: &[bool],

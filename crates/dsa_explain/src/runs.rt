@@ -9,7 +9,7 @@ use crate::labels::{Labels, Origin};
 use dsa_descriptor::Descriptor;
 use dsa_plan::{GroupCost, Settings};
 
-/// What is listed: the pieces of a plan, of which operation each is, and what the groups cost under settings; in such
+/// What is listed: the pieces of a plan, the operation that each is of, what the groups cost under settings, and the
 /// detail.
 #[derive(Clone, Copy, Debug)]
 pub(crate) struct Listing<'a> {
@@ -20,7 +20,7 @@ pub(crate) struct Listing<'a> {
     pub(crate) labels: Labels<'a>,
 }
 
-/// Whether the later piece is of the same operation, so many of its pieces after the other.
+/// Whether the later piece is of the same operation, so many of the operation's pieces after the other.
 fn is_so_far_after(count: usize, origin: Option<Origin>, later: Option<Origin>) -> bool
     ensures { result ≡ is_so_far_after count origin later }
 {
@@ -44,8 +44,8 @@ fn are_as_large(pieces: &[Descriptor], before: usize, index: usize) -> bool
     }
 }
 
-/// Whether the piece at this index and the one so many before it are of one operation, as many of its pieces apart,
-/// and of one size.
+/// Whether the piece at this index and the one so many before it are of the same operation, as many of its pieces
+/// apart, and of the same size.
 fn repeats(listing: &Listing<'_>, count: usize, index: usize) -> bool
     ensures { result ≡ repeats (listed listing.now) count index }
 {
@@ -54,7 +54,7 @@ fn repeats(listing: &Listing<'_>, count: usize, index: usize) -> bool
     is_so_far_after(count, origin, later) && are_as_large(listing.pieces, before, index)
 }
 
-/// Whether from this piece on its operation has so many pieces.
+/// Whether from this piece on, its operation has exactly so many pieces left.
 fn has_from(count: usize, origin: Option<Origin>) -> bool
     ensures { result ≡ has_from count origin }
 {
@@ -64,7 +64,7 @@ fn has_from(count: usize, origin: Option<Origin>) -> bool
     }
 }
 
-/// Whether both groups have as many pieces, no fences and one cost.
+/// Whether both groups have the same number of pieces, no fences and the same cost.
 fn are_alike(before: &GroupCost, group: &GroupCost) -> bool
     ensures { result ≡ are_alike before.now group.now }
 {

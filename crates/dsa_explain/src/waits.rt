@@ -12,7 +12,7 @@ use dsa_plan::Plan;
 use dsa_tracker::{Slots, TrackFault, Tracker};
 use std::alloc::{AllocError, Global};
 
-/// How many slots a tracker has at most, so how many groups can be explained.
+/// The most slots of a tracker, and so the most groups that can be explained.
 const MOST_GROUPS: u32 = 64;
 
 /// How many spans a group of 1,024 pieces may read or write.
@@ -27,12 +27,12 @@ pub struct Waits {
     pub sets: Vec<Slots>,
 }
 
-/// Why waits are not told.
+/// Why waits cannot be reported.
 #[derive(Clone, Copy, Debug, PartialEq, Eq)]
 pub enum WaitsFault {
     /// A tracker refuses the groups.
     Track(TrackFault),
-    /// A growth of memory was refused.
+    /// An allocation failed.
     Memory,
 }
 

@@ -23,14 +23,14 @@ pub fn kind_text(kind: HazardKind) -> &'static str
     }
 }
 
-/// An s, but behind a single one.
+/// An s, unless the number is 1.
 pub(crate) fn plural(count: u128) -> &'static str
     ensures { result.now ≡ plural count }
 {
     if count == 1 { "" } else { "s" }
 }
 
-/// How many fences a batch has, the epochs that these part it into, and its cost.
+/// How many fences a batch has, how many epochs they divide it into, and its cost.
 #[tactic(auto, unfolding(crate::specs::Words::fences_words))]
 fn fences_text(alloc: Global, fences: usize, cost: u64) -> Result<String, AllocError>
     ensures { IfOk result (λ s. string_bytes s ≡ fences_words fences cost) }
@@ -58,7 +58,7 @@ fn full_text(greatest: u64, size: usize) -> &'static str
     }
 }
 
-/// The size of a batch, its fences and the epochs that they part it into, and its cost.
+/// The size of a batch, its fences and the epochs that they divide it into, and its cost.
 fn size_text(alloc: Global, greatest: u64, group: &GroupCost) -> Result<String, AllocError>
     ensures { IfOk result (λ s. string_bytes s ≡ size_words greatest group.now) }
 {
@@ -162,7 +162,7 @@ pub(crate) fn record_of(pieces: &[Descriptor], reason: &Reason) -> Option<usize>
     }
 }
 
-/// Writes that the address lies in a completion record, where it does.
+/// Writes that the address lies in a completion record, if it does.
 fn push_record(alloc: Global, text: &mut String, piece: Option<usize>) -> Result<(), AllocError>
     ensures { OnOk result (string_bytes text.new ≡ string_bytes text.old ++ record_words piece) }
 {
@@ -193,7 +193,7 @@ fn barrier_text(barrier: bool) -> &'static str
     if barrier { "a barrier, and " } else { "" }
 }
 
-/// What needs a fence that separates no conflict alone.
+/// What needs a fence, if there is no conflict that only this fence separates.
 fn alone_text(barrier: bool) -> &'static str
     ensures { result.now ≡
         if barrier then codes "a barrier" else codes "no conflict needs it alone" }
@@ -224,7 +224,7 @@ fn need_text(
     Ok(text)
 }
 
-/// Writes how many more conflicts a fence alone separates, where there are any.
+/// Writes how many more conflicts only this fence separates, if there are any.
 fn push_more(alloc: Global, text: &mut String, more: usize) -> Result<(), AllocError>
     ensures { OnOk result (string_bytes text.new ≡ string_bytes text.old ++ more_words more) }
 {
@@ -235,8 +235,8 @@ fn push_more(alloc: Global, text: &mut String, more: usize) -> Result<(), AllocE
     text.push_str(&words)
 }
 
-/// The words of a fence: a barrier that needs it, the first conflict that it alone separates, and
-/// how many more there are that are not named.
+/// The words of a fence: a barrier that needs it, the first conflict that only this fence
+/// separates, and how many more there are that are not named.
 pub fn fence_text(alloc: Global, pieces: &[Descriptor], fence: &Fence) -> Result<String, AllocError>
     ensures { IfOk result (λ s. string_bytes s ≡ fence_words pieces.now fence.now) }
 {
@@ -245,7 +245,7 @@ pub fn fence_text(alloc: Global, pieces: &[Descriptor], fence: &Fence) -> Result
     Ok(text)
 }
 
-/// Writes which of its operation's pieces a piece is, where that was split.
+/// Writes which of its operation's pieces a piece is, if the operation was split.
 pub(crate) fn push_origin(
     alloc: Global,
     text: &mut String,
@@ -288,7 +288,7 @@ pub(crate) fn name_of(names: &[String], origin: Option<Origin>) -> &str
     }
 }
 
-/// The words of a piece: its canonical line, of a split operation which of its pieces it is, and the operation's name.
+/// The words of a piece: its canonical line, which piece it is if its operation was split, and the operation's name.
 pub(crate) fn piece_text(
     alloc: Global,
     d: &Descriptor,
@@ -322,7 +322,7 @@ fn cost_front(alloc: Global, cost: u64) -> Result<String, AllocError>
     format!(in alloc; "cost {cost}; ")
 }
 
-/// How many lone submissions cost what stands behind.
+/// The words that say that so many lone submissions cost the number that follows.
 #[tactic(auto, unfolding(crate::specs::Words::pieces_words))]
 fn pieces_text(alloc: Global, pieces: usize) -> Result<String, AllocError>
     ensures { IfOk result (λ s. string_bytes s ≡ pieces_words pieces) }
@@ -333,7 +333,7 @@ fn pieces_text(alloc: Global, pieces: usize) -> Result<String, AllocError>
     format!(in alloc; "{pieces} lone submissions cost")
 }
 
-/// Writes how many lone submissions cost what stands behind.
+/// Writes that so many lone submissions cost the number that follows.
 fn push_pieces(alloc: Global, text: &mut String, pieces: usize) -> Result<(), AllocError>
     ensures { OnOk result (string_bytes text.new ≡ string_bytes text.old ++ pieces_words pieces) }
 {

@@ -92,7 +92,7 @@ bit_again op flags i listed fit =
           (bit_at_above flags 24 i fit above) (bit_at_above required_flags 24 i (omega arith) above)
     ]
 
--- the options of the canonical line stand for the flags
+-- the options of the canonical line give the flags
 pub flags_again : (op : Op) (flags : ℕ) → AreListedFlags op flags → flags < 2 ^ 24 → flags_with (carried_flags flags) (checks_result flags) ≡ flags
 flags_again op flags listed fit =
     ap (bit_or (bit_or required_flags (carried_flags flags))) (check_is flags)

@@ -37,7 +37,7 @@ numeral_again : (base : ℕ) (ds : List ℕ) → 1 ≤ base → IsNumeral base d
 numeral_again base [] le h lt = absurd (omega arith)
 numeral_again base (c ∷ cs) le h lt = numeral_after_again base 0 (c ∷ cs) le h.1 lt
 
--- ---- digits stand in words
+-- ---- digits are bytes of words
 
 digit_byte : (c : ℕ) → digit_value c < 16 → is_in_word c ≡ true
 digit_byte c lt =
@@ -108,7 +108,7 @@ size_again n lt =
     let last = last_digit (digits 10 false n) d.0 in
     rw (ne_eqb (last_byte (decimal n)) 75 last.0, ne_eqb (last_byte (decimal n)) 77 last.1) (decimal_again n lt)
 
--- ---- a blank stands before a number
+-- ---- a blank comes before a number
 
 spaced_plain : (ds : List ℕ) → IsNumeral 10 ds → spaced ds ≡ 32 ∷ ds
 spaced_plain [] h = absurd (omega arith)

@@ -235,7 +235,7 @@ pattern_fits (w ∷ ws) r e =
 
 -- ---- operations
 
--- the operation and its size fit their places, and words without a newline stand behind such words alone
+-- the operation and its size fit their places, and if the words that are left have no newline, none of the words has
 abbrev OpFits : List Word → Op × ℕ × List Word → Type 0
 OpFits ws r = FieldsFit r.0 × (r.1 < 2 ^ 32) × (Lined r.2 → Lined ws)
 
@@ -375,7 +375,7 @@ dualcast_fits ws r e =
           after_lined (codes ",") dst2.0.1 comma.0 refl comma.1 (sized.1 h)))))),
     )
 
--- the same behind the operation's name
+-- the same after the operation's name
 op_named : (w name : Word) (ws : List Word) (r : Op × ℕ × List Word) → begins_newline name ≡ false → OpFits ws r → bytes_eq w name ≡ true → OpFits (w ∷ ws) r
 op_named w name ws r plain fits e = (fits.0, fits.1, λ h. (same_lined w name e plain, fits.2 h))
 

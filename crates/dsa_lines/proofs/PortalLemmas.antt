@@ -226,7 +226,7 @@ same_submission bytes other (Other b f) (Other c g) p q e =
 
 -- ---- texts
 
--- the first line of a text, and what stands behind it
+-- the first line of a text, and what comes after it
 pub first_line : (a b x y : List ℕ) → is_line a ≡ true → is_line b ≡ true → (a ++ 10 ∷ []) ++ x ≡ (b ++ 10 ∷ []) ++ y → (a ≡ b) × (x ≡ y)
 first_line [] [] x y p q e = (refl, cc)
 first_line [] (d ∷ ds) x y p q e =

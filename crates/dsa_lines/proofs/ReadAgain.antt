@@ -31,7 +31,7 @@ use Rattle.dsa_lines.proofs.StagingTexts.{fenced_line, written_line}
 
 -- ---- lines
 
--- a line stands before others
+-- a line before others
 pub line_before : (line rest : List ℕ) (here more : List Fields) → is_line line ≡ true → line_fields (words_of line) ≡ Some here → all_fields (lines_of rest) ≡ Some more
     → all_fields (lines_of ((line ++ 10 ∷ []) ++ rest)) ≡ Some (here ++ more)
 unfolding all_fields
@@ -145,7 +145,7 @@ pub comment_read : (text : List ℕ) → is_line text ≡ true → line_fields (
 unfolding words_in line_fields
 comment_read text e = rw (comment text e) refl
 
--- ---- a comment behind a line
+-- ---- a comment after a line
 
 goes_on_same : (line text : List ℕ) → goes_on (line ++ (32 ∷ text)) ≡ goes_on line
 goes_on_same [] text = refl
@@ -163,7 +163,7 @@ comment_behind_in false (c ∷ cs) text e =
 pub comment_behind : (line text : List ℕ) → is_line text ≡ true → words_of (line ++ (32 ∷ 35 ∷ text)) ≡ words_of line
 comment_behind line text e = comment_behind_in false line text (comment text e)
 
--- a canonical line with a comment behind it spells its fields
+-- a canonical line with a comment after it spells its fields
 pub commented_read : (f : Fields) (text : List ℕ) → IsListed f → is_line text ≡ true → line_fields (words_of (line_text f ++ (32 ∷ 35 ∷ text))) ≡ Some (f ∷ [])
 commented_read f text listed e = ap line_fields (comment_behind (line_text f) text e) ∙ spelt_line (words_of (line_text f)) f (line_spells f listed)
 
@@ -175,7 +175,7 @@ place_line batch address =
     (line_append (decimal batch) (codes " at " ++ hex address) (digits_line 10 batch (omega arith) (omega arith))
     (line_append (codes " at 0x") (digits 16 false address) refl (digits_line 16 address (omega arith) (omega arith))))
 
--- what stands behind `#`
+-- what comes after `#`
 abbrev pub comment_text : ℕ → ℕ → List ℕ → List ℕ
 comment_text batch address r = codes " " ++ (record_place batch address ++ written_text r)
 

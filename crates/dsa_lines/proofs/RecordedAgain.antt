@@ -32,7 +32,7 @@ use Rattle.dsa_lines.proofs.PortalLemmas.{batch_read, submission_line}
 use Rattle.dsa_lines.proofs.StagingTexts.{fenced_line}
 use Rattle.dsa_lines.proofs.ReadAgain.{batch_again, comment, comment_line, comment_text, fence_front, record_is}
 
--- a line stands before others
+-- a line before others
 line_before : (line rest : List ℕ) (here more : List Recorded) → is_line line ≡ true → line_recorded (words_of line) ≡ Some here → all_recorded (lines_of rest) ≡ Some more
     → all_recorded (lines_of ((line ++ 10 ∷ []) ++ rest)) ≡ Some (here ++ more)
 unfolding all_recorded

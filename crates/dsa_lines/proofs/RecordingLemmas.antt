@@ -22,7 +22,7 @@ said_line (w ∷ ws) r some e = rw e refl
 grow : (a x y : List ℕ) {b c : List ℕ} → b ≡ a ++ x → c ≡ b ++ y → c ≡ a ++ (x ++ y)
 grow a x y e f = f ∙ ap (λ (l : List ℕ). l ++ y) e ∙ append_assoc a x y
 
--- seven parts, written one behind the other
+-- seven parts, written one after the other
 pub batch_written : (b0 b1 b2 b3 b4 b5 b6 b7 owner : List ℕ) (record_at list_at count : ℕ) → b1 ≡ b0 ++ owner → b2 ≡ b1 ++ to_le_bytes w32 0x0100000c
     → b3 ≡ b2 ++ to_le_bytes w64 record_at → b4 ≡ b3 ++ to_le_bytes w64 list_at → b5 ≡ b4 ++ replicate 8 0 → b6 ≡ b5 ++ to_le_bytes w32 count
     → b7 ≡ b6 ++ replicate 28 0 → b7 ≡ b0 ++ batch_spelling owner record_at list_at count

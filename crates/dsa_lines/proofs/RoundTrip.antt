@@ -114,7 +114,7 @@ op_again (Dualcast src dst dst2) size ws fit bit s = dualcast_again src dst dst2
 abbrev opts : Option ℕ → Bool → Bool → Option ℕ → Option ℕ → Options
 opts pasid privileged check flags handle = record { pasid = pasid; privileged = privileged; check = check; flags = flags; handle = handle }
 
--- what stands of an option that is written where it isn't 0
+-- what is read of an option that is written if it isn't 0
 abbrev some_number : ℕ → Option ℕ
 some_number n = cond (n == 0) None (Some n)
 
@@ -266,7 +266,7 @@ more_words f = codes "," ∷ codes "record" ∷ hex f.record_at ∷ option_words
 more_are : (f : Fields) → IsListed f → AreWords (more_words f)
 more_are f listed = (refl, (refl, (hex_word f.record_at listed.record_at_fits, options_are f listed)))
 
--- the fields that the options stand for are those of the line
+-- the options give the fields of the line again
 fields_again : (f : Fields) → IsListed f
     → fields_with f.op f.size f.record_at (opts (some_number f.pasid) f.privileged (checks_result f.flags) (some_number (carried_flags f.flags)) (some_number f.int_handle)) ≡ f
 fields_again f listed =

@@ -14,7 +14,7 @@ use Rattle.dsa_lines.specs.Stagings.{StagedEntry, AreEntries, BeginsRecord, IsFi
 use Rattle.dsa_lines.proofs.EmittedLemmas.{only_memory, refused_for_length, whole_or_fault}
 use Rattle.dsa_lines.proofs.StagingLemmas.{one_staging, whole_staging}
 
--- ---- the records behind the entries
+-- ---- the records after the entries
 
 pub length-records : (n : ℕ) (bytes : List ℕ) → length (first_chunks 32 n bytes) ≡ n
 length-records zero bytes = refl
@@ -34,7 +34,7 @@ joined_records (suc n) bytes =
 all_records : (bytes : List ℕ) → length bytes % 32 ≡ 0 → concat (records_of bytes) ≡ bytes
 all_records bytes whole = joined_records (length bytes / 32) bytes ∙ take_all (32 * (length bytes / 32)) bytes (omega arith)
 
--- entries and the records behind them are a staging area
+-- entries and the records after them are a staging area
 pub staging_of : (bytes : List ℕ) (number : ℕ) (es : List StagedEntry) → length bytes % 32 ≡ 0 → IsBytes bytes → AreEntries bytes number es → IsStaging bytes es (records_of (drop (64 * number) bytes))
 staging_of bytes number es whole are h =
     let rest = drop (64 * number) bytes in

@@ -1,4 +1,4 @@
--- What stands in a staging area is determined.
+-- The entries and records of a staging area are determined.
 use Rattle.std.proofs.Common.{◌≡◌, ℕ, ◌*◌, ◌%◌, ◌^◌, ◌<◌, ◌≤◌, Bool, true, false, inl, inr, List, [], ◌∷◌, ◌++◌, length, get_or, take, drop, refl, sym, ap, subst, ◌∙◌, bit_or, append_assoc, length-append, arith}
 use Rattle.std.specs.Prelude.{◌≢◌, ◌⊎◌, slice_range}
 use Rattle.std.specs.List.{AllByRecursion, concat, flat_map}
@@ -72,7 +72,7 @@ begins_front a b long =
 byte_front : (a b : List ℕ) (i : ℕ) → i < length a → get_or (a ++ b) i 0 ≡ get_or a i 0
 byte_front a b i lt = get_or_append_left a b 0 i lt
 
--- a status or zeros stand in the same bytes
+-- equal bytes both have a status or zeros
 written_there : (x y : ℕ) (r t : List ℕ) → x ≡ y → r ≡ t → (x ≢ 0) ⊎ AreZero r → (y ≢ 0) ⊎ AreZero t
 written_there x y r t e f (inl some) = inl (λ none. some (e ∙ none))
 written_there x y r t e f (inr zeros) = inr (subst AreZero f zeros)

@@ -65,7 +65,7 @@ same_entry (Other b f) (Piece q) h k same = absurd (piece_or_other_text q b f sa
 same_entry (Other b f) (Other c g) h k same =
     same_other b c f g (same_other_bytes b c f g h.shown.1.whole k.shown.1.whole h.shown.1.are_bytes k.shown.1.are_bytes same) h.shown.1 k.shown.1
 
--- ---- the lines of entries, with what stands behind them: nothing, or what begins with `#` or with `unknown r`
+-- ---- the lines of entries, with what comes after them: nothing, or what begins with `#` or with `unknown r`
 
 begins_more : (a b : List ℕ) → (get_or a 0 35 ≡ 35 → ⊥) → get_or (a ++ b) 0 35 ≡ 35 → ⊥
 begins_more [] b plain e = plain refl
@@ -84,7 +84,7 @@ no_mark (Piece p) t (inr e) = fenced_known p.fence p.piece (sym (first_more (pie
 no_mark (Other bytes fault) t (inl e) = let no : ◌≡◌ {A = ℕ} 117 35 = e in absurd (omega arith)
 no_mark (Other bytes fault) t (inr e) = let no : ◌≡◌ {A = ℕ} 48 114 = e.1 in absurd (omega arith)
 
--- what stands first in four parts
+-- the first of four parts, taken out
 parted : (p w n x : List ℕ) → ((p ++ w) ++ n) ++ x ≡ p ++ ((w ++ n) ++ x)
 parted p w n x = ap (λ (l : List ℕ). l ++ x) (append_assoc p w n) ∙ append_assoc p (w ++ n) x
 
@@ -191,7 +191,7 @@ bytes_line r h = words_line (byte_words r) (more_are false r h)
 same_digits : (r t : List ℕ) → IsRecord r → IsRecord t → text_of (byte_words r) ≡ text_of (byte_words t) → r ≡ t
 same_digits r t p q e = one_encoding r t p.are_bytes q.are_bytes (ap (drop 11) (sym (bytes_are r p) ∙ e ∙ bytes_are t q))
 
--- a line is its place, and then what stands in the record
+-- a line is its place, and then what the record has
 behind_place : (place v w x y : List ℕ) → is_line v ≡ true → is_line w ≡ true → ((place ++ v) ++ 10 ∷ []) ++ x ≡ ((place ++ w) ++ 10 ∷ []) ++ y → (v ≡ w) × (x ≡ y)
 behind_place place v w x y p q e = first_line v w x y p q (append_cancel_left place _ _ (sym (parted place v (10 ∷ []) x) ∙ e ∙ parted place w (10 ∷ []) y))
 

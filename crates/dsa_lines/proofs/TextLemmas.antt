@@ -30,7 +30,7 @@ unfolding lines_of
 len_by true c cs e so_far = rw e refl
 len_by false c cs e so_far = rw e (ap (with_byte c) so_far)
 
--- the first line, and those behind its newline
+-- the first line, and those after its newline
 pub lines_at : (text : List ℕ) → lines_of text ≡ take (line_len text) text ∷ lines_behind (drop (line_len text) text)
 unfolding lines_of
 lines_at [] = refl
@@ -42,7 +42,7 @@ unfolding lines_of
 line_by true c cs rest e p so_far = let no : false ≡ true = rw e at p in absurd cc
 line_by false c cs rest e p so_far = rw e (ap (with_byte c) so_far)
 
--- a line and a newline stand first
+-- a line and a newline come first
 pub line_first : (line rest : List ℕ) → is_line line ≡ true → lines_of (line ++ (10 ∷ rest)) ≡ line ∷ lines_of rest
 unfolding lines_of
 line_first [] rest e = refl
@@ -124,7 +124,7 @@ fields_then None first rest = refl
 fields_then (Some h) None rest = refl
 fields_then (Some h) (Some f) rest = with_more h f rest
 
--- the operations of lines behind others
+-- the operations of lines after others
 fields_append : (lines more : List (List ℕ)) → all_fields (lines ++ more) ≡ (all_fields lines >>= λ fs. with_fields fs (all_fields more))
 unfolding all_fields
 fields_append [] more = with_none (all_fields more)
@@ -195,12 +195,12 @@ pub no_fields : all_fields [] ≡ Some []
 unfolding all_fields
 no_fields = refl
 
--- the line before a newline, and the lines behind it
+-- the line before a newline, and the lines after it
 pub more_lines : (rest line back : List ℕ) (n : ℕ) → n ≡ line_len rest → line ≡ take n rest → back ≡ drop n rest → 1 ≤ length back
     → lines_of rest ≡ line ∷ lines_of (take (length back - 1) (drop 1 back))
 more_lines rest line back n e f g lt = first_line rest line back n e f g ∙ ap (λ (ls : List (List ℕ)). line ∷ ls) (behind_newline back lt)
 
--- what stands behind a newline is shorter than what the line stood in
+-- what comes after a newline is shorter than the whole text
 pub next_shorter : (rest back : List ℕ) (n : ℕ) → back ≡ drop n rest → 1 ≤ length back → length (take (length back - 1) (drop 1 back)) + 1 ≤ length rest
 next_shorter rest back n e lt =
     let here : length back ≡ length rest - n = ap length e ∙ length-drop n rest in

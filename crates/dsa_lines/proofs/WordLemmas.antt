@@ -14,7 +14,7 @@ none_of false false true h e = absurd cc
 none_of false false false true e = absurd cc
 none_of false false false false e = (refl, refl, refl, refl)
 
--- a byte of a word stands first
+-- a byte of a word comes first
 pub word_byte : (c : ℕ) (cs : List ℕ) → is_in_word c ≡ true → words_of (c ∷ cs) ≡ cond (goes_on cs) (with_front c (words_of cs)) ((c ∷ []) ∷ words_of cs)
 unfolding words_in
 word_byte c cs e =
@@ -36,13 +36,13 @@ at_front : (b : Bool) (c : ℕ) (cs : List ℕ) → is_in_word c ≡ b → 0 < w
 at_front true c cs e lt step = rw e (step e)
 at_front false c cs e lt step = absurd (let none : 0 < 0 = rw e at lt in omega arith)
 
--- the word at the front, and the words behind it
+-- the word at the front, and the words after it
 pub word_front : (text : List ℕ) → 0 < word_len text → Front text
 word_front [] lt = absurd (omega arith)
 word_front (c ∷ []) lt = at_front (is_in_word c) c [] refl lt (λ e. word_byte c [] e)
 word_front (c ∷ d ∷ ds) lt = at_front (is_in_word c) c (d ∷ ds) refl lt (λ e. behind (is_in_word d) c d ds e refl (word_front (d ∷ ds)))
 
--- ---- what stands first
+-- ---- what comes first
 
 pub none_here : (text : List ℕ) → length text ≡ 0 → words_of text ≡ []
 unfolding words_in
@@ -64,7 +64,7 @@ unfolding words_in
 newline_here [] lt e = absurd (omega arith)
 newline_here (c ∷ cs) lt e = rw e refl
 
--- where no blank, comma, newline or comment stands first, a word does
+-- if no blank, comma, newline or comment comes first, a word does
 pub word_here : (text : List ℕ) → 0 < length text → begins_blank text ≡ false → (get_or text 0 0 == 44) ≡ false → (get_or text 0 0 == 10) ≡ false → (get_or text 0 0 == 35) ≡ false
     → Front text
 word_here [] lt e f n g = absurd (omega arith)

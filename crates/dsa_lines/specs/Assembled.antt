@@ -29,9 +29,8 @@ pub record LeavesGrammarAt (lines : List (List ℕ)) (number : ℕ) : Type 0 whe
   pub spelled : (fs : List Fields) × (all_fields before ≡ Some fs)
   pub outside : line_fields (words_of line) ≡ None
 
--- of lines that spell a list, its bytes; of others that spell operations, their first fault as a
--- list, which is no allocation failure; else the first line that leaves the grammar; or that memory
--- ran out
+-- if the lines spell a list, its bytes; if they spell operations, their first fault as a list, which
+-- is no allocation failure; else the first line that leaves the grammar; or that memory ran out
 abbrev pub Assembles : {X : Type 0} → (X → List ℕ) → List (List ℕ) → Result X TextFault → Type 0
 Assembles shown lines (Ok bytes) = IsListing lines (shown bytes)
 Assembles shown lines (Err (Grammar line column what)) = LeavesGrammarAt lines line
@@ -60,13 +59,13 @@ Gathers shown lines (Ok bytes) =
     (fs : List Fields) × (all_fields lines ≡ Some fs) × (shown bytes ≡ list_spelling fs)
 Gathers shown lines (Err fault) = Stops lines fault
 
--- why the line of this number, of which this is read, has no bytes
+-- why the line of this number has no bytes, where `read` is what it spells
 abbrev pub StopsAt : ℕ → Option (List Fields) → TextFault → Type 0
 StopsAt number read (Grammar line column what) = (line ≡ number) × (read ≡ None)
 StopsAt number read (Listed line fault) = ⊥
 StopsAt number read Memory = ⊤
 
--- the bytes of what was read, behind those before
+-- the bytes of what was read, after those before
 abbrev pub Pushes : List ℕ → List ℕ → ℕ → Option (List Fields) → Result Unit TextFault → Type 0
 Pushes before after number read (Ok done) =
     (fs : List Fields) × (read ≡ Some fs) × (after ≡ before ++ list_spelling fs)

@@ -82,7 +82,7 @@ pub record IsMarkedListing (keep : Bool) (lines : List (List ℕ)) (bytes : List
   pub one_owner : HaveOneOwner (map fields operations)
   pub bytes_are : bytes ≡ marked_spelling (map fields operations) (barriers_of keep lines)
 
--- of lines that spell a list, its bytes with the barriers; of others what assembling the list without them refuses
+-- if the lines spell a list, its bytes with the barriers; else the fault of assembling the list without them
 abbrev pub AssemblesMarked : {X : Type 0} → (X → List ℕ) → Bool → List (List ℕ) → Result X TextFault → Type 0
 AssemblesMarked shown keep lines (Ok bytes) = IsMarkedListing keep lines (shown bytes)
 AssemblesMarked shown keep lines (Err fault) = Assembles {X = List ℕ} (λ bytes. bytes) lines (Err fault)

@@ -18,16 +18,16 @@ o >>= f = option_and_then f o
 abbrev pub greatest : ℕ → ℕ
 greatest bits = 2 ^ bits - 1
 
--- the words behind this one
+-- the words after this one
 abbrev pub after : Word → List Word → Option (List Word)
 after word [] = None
 after word (w ∷ ws) = if bytes_eq w word then Some ws else None
 
--- the words behind a comma and this name
+-- the words after a comma and this name
 abbrev pub named : Word → List Word → Option (List Word)
 named name words = after (codes ",") words >>= after name
 
--- a number of at most this, and the words behind it
+-- a number of at most this, and the words after it
 abbrev pub number_at : ℕ → List Word → Option (ℕ × List Word)
 number_at most [] = None
 number_at most (w ∷ ws) = number_of w >>= λ n. if nat_le n most then Some (n, ws) else None
@@ -49,7 +49,7 @@ size_at words = do
   rest ← after (codes "bytes") size.1
   Some (size.0, rest)
 
--- ---- operations, each with its size and the words behind these
+-- ---- operations, each with its size and the words after it
 
 -- what follows `move`
 unfoldable pub move_at : List Word → Option (Op × ℕ × List Word)
@@ -71,7 +71,7 @@ fill_at words = do
   size ← size_at comma
   Some (Fill pattern.0 dst.0, size.0, size.1)
 
--- of a comparison, its size, the expected result, and the words behind these
+-- the size and the expected result of a comparison, and the words after them
 unfoldable pub expected_at : List Word → Option (ℕ × ℕ × List Word)
 expected_at words = do
   comma ← after (codes ",") words
@@ -94,7 +94,7 @@ compare_pattern_at src words = do
   expected ← expected_at pattern.1
   Some (ComparePattern src pattern.0 expected.1, expected.0, expected.2)
 
--- with the pattern behind `pattern`, or with a second region where that word doesn't stand
+-- with the pattern after `pattern`, or with a second region if that word is missing
 abbrev pub compare_other_at : ℕ → List Word → Option (List Word) → Option (Op × ℕ × List Word)
 compare_other_at src words None = compare_region_at src words
 compare_other_at src words (Some rest) = compare_pattern_at src rest
@@ -156,7 +156,7 @@ privileged_at o words = if o.privileged then None else Some (record o { privileg
 unfoldable pub check_at : Options → List Word → Option (Options × List Word)
 check_at o words = if o.check then None else Some (record o { check = true }, words)
 
--- no flag that is refused, required or named
+-- the number after `flags`: no flag that is refused, required or named
 unfoldable pub flags_at : Options → List Word → Option (Options × List Word)
 flags_at o words =
     if is_some o.flags then None else
@@ -169,7 +169,7 @@ handle_at o words =
     if is_some o.handle then None else
     (number_at (greatest 16) words >>= λ n. Some (record o { handle = Some n.0 }, n.1))
 
--- one option more, and the words behind it
+-- one option more, and the words after it
 unfoldable pub option_at : Options → List Word → Option (Options × List Word)
 option_at o [] = None
 option_at o (w ∷ ws) =
@@ -179,7 +179,7 @@ option_at o (w ∷ ws) =
     if bytes_eq w (codes "flags") then flags_at o ws else
     if bytes_eq w (codes "handle") then handle_at o ws else None
 
--- so many options more at most, each behind a comma, to the end
+-- at most so many options more, each after a comma, to the end
 unfoldable pub options_at : ℕ → Options → List Word → Option Options
 options_at most o [] = Some o
 options_at zero o (w ∷ ws) = None

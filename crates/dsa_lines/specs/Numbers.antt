@@ -7,7 +7,7 @@ use Rattle.hex.specs.Hex.{encode_lower, decode_sized}
 use Rattle.hex.specs.declared.error.FromHexError.{FromHexError}
 use Rattle.dsa_lines.specs.Words.{Word}
 
--- the number that digits write behind those of n, if each is a digit of the base and it is below 2 ^ 64
+-- the number that the digits write after those of n, if each is a digit of the base and it stays below 2 ^ 64
 unfoldable pub numeral_after : ℕ → ℕ → List ℕ → Option ℕ
 numeral_after base n [] = Some n
 numeral_after base n (c ∷ cs) =
@@ -20,7 +20,7 @@ abbrev pub numeral : ℕ → List ℕ → Option ℕ
 numeral base [] = None
 numeral base (c ∷ cs) = numeral_after base 0 (c ∷ cs)
 
--- hexadecimal behind 0x, else decimal
+-- hexadecimal after 0x, else decimal
 abbrev pub number_of : Word → Option ℕ
 number_of (c ∷ d ∷ ds) = if c == 48 && d == 120 then numeral 16 ds else numeral 10 (c ∷ d ∷ ds)
 number_of word = numeral 10 word

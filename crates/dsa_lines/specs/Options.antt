@@ -1,11 +1,11 @@
--- The options behind the record of a line, and the flags that they stand for.
+-- The options after the record of a line, and the flags that they set.
 use Rattle.std.specs.Prelude.{ℕ, ◌==◌, Bool, false, not, Option, Some, None, bit_and, bit_or, if◌then◌else◌}
 use Rattle.dsa_descriptor.specs.declared.op.Op.{Op}
 use Rattle.dsa_descriptor.specs.Fields.{Fields}
 use Rattle.dsa_descriptor.specs.Profile.{required_flags}
 use Rattle.dsa_lines.specs.declared.options.Options.{Options}
 
--- no option stands yet
+-- no option has been read yet
 abbrev pub no_options : Options
 no_options = record { pasid = None; privileged = false; check = false; flags = None; handle = None }
 
@@ -26,7 +26,7 @@ or_zero (Some n) = n
 abbrev pub flags_with : ℕ → Bool → ℕ
 flags_with carried check = bit_or (bit_or required_flags carried) (if check then check_mask else 0)
 
--- an option with a number that doesn't stand is 0
+-- the number of an option that the line leaves out is 0
 abbrev pub fields_with : Op → ℕ → ℕ → Options → Fields
 fields_with op size record_at o =
     record {
@@ -39,7 +39,7 @@ fields_with op size record_at o =
       op = op;
     }
 
--- of the flags of a descriptor, what stands under `flags`, and whether `check` stands
+-- the flags of a descriptor that are written under `flags`
 abbrev pub carried_flags : ℕ → ℕ
 carried_flags flags = bit_and flags carried_mask
 

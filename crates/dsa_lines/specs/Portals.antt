@@ -22,7 +22,7 @@ use Rattle.dsa_lines.specs.Text.{text_of, line_text}
 -- ---- what entries submit
 
 -- a batch of so many descriptors, with their address and that of its record; a lone descriptor; or other bytes, with the
--- first fault for which they are none
+-- first fault that makes them no descriptor
 pub data Submission : Type 0 where
   Batch : (count list_at record_at : ℕ) → Submission
   Lone : (d : Descriptor) → Submission
@@ -39,7 +39,7 @@ pub record IsBatchOf (count list_at record_at : ℕ) (bytes : List ℕ) : Type 0
   pub list_fits : list_at < 2 ^ 64
   pub record_fits : record_at < 2 ^ 64
 
--- these 64 bytes are no batch's, and they are no descriptor for this fault
+-- these 64 bytes are no batch entry, and this fault makes them no descriptor
 pub record IsOther (bytes : List ℕ) (fault : FieldFault) : Type 0 where
   pub no_batch : is_batch_entry bytes ≡ false
   pub fault_is : IsFirstFault bytes fault
@@ -57,7 +57,7 @@ pub record IsPortal (bytes : List ℕ) (submissions : List Submission) : Type 0 
   pub whole : length bytes % 64 ≡ 0
   pub each : AllZip Submits (entries bytes) submissions
 
--- it is no other bytes
+-- it is a batch or a descriptor
 abbrev pub IsKnown : Submission → Type 0
 IsKnown (Batch count list_at record_at) = ⊤
 IsKnown (Lone d) = ⊤
@@ -107,7 +107,7 @@ IsFirstPortalFault bytes fault = IsFirstLengthFault 64 PortalLength bytes fault
 abbrev pub OnePortalShown : Type 0
 OnePortalShown = (bytes : List ℕ) (ss ts : List Submission) → IsPortal bytes ss → IsPortal bytes ts → ss ≡ ts
 
--- portals of one text submit the same
+-- portals with the same text submit the same
 abbrev pub OnePortalText : Type 0
 OnePortalText =
     (bytes other : List ℕ) (ss ts : List Submission) → IsPortal bytes ss → IsPortal other ts →

@@ -26,7 +26,7 @@ PortalTextIsRead =
     (bytes : List ℕ) (ss : List Submission) → IsPortal bytes ss → AllByRecursion IsKnown ss →
     TextSpells (portal_text ss) (lone_fields ss)
 
--- the text of a staging area without other bytes spells its pieces but for their fences, where each record can be one
+-- the text of a staging area without other bytes spells its pieces, but for their fences, if each record can be one
 abbrev pub StagingTextIsRead : Type 0
 StagingTextIsRead =
     (at : ℕ) (bytes : List ℕ) (ps : List StagedPiece) (records : List (List ℕ)) →
@@ -43,14 +43,14 @@ said_by (Batch count list_at record_at ∷ ss) =
 said_by (Lone d ∷ ss) = EntrySaid (spelling (fields d)) ∷ said_by ss
 said_by (Other bytes fault ∷ ss) = said_by ss
 
--- as a recording the text of a portal without other bytes says its batches and its lone descriptors
+-- read as a recording, the text of a portal without other bytes says its batches and its lone descriptors
 abbrev pub PortalTextIsRecorded : Type 0
 PortalTextIsRecorded =
     (bytes : List ℕ) (ss : List Submission) → IsPortal bytes ss → AllByRecursion IsKnown ss →
     all_recorded (lines_of (portal_text ss)) ≡ Some (said_by ss)
 
--- as a recording the text of a staging area without other bytes spells the bytes of its pieces, with their fences, where
--- each record can be one
+-- read as a recording, the text of a staging area without other bytes spells the bytes of its pieces, with their fences,
+-- if each record can be one
 abbrev pub StagingTextIsRecorded : Type 0
 StagingTextIsRecorded =
     (at : ℕ) (bytes : List ℕ) (ps : List StagedPiece) (records : List (List ℕ)) →

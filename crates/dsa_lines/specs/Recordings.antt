@@ -1,5 +1,5 @@
--- A recording as lines (this project's choice): the lines of a portal, and behind the line of each batch those of its
--- members, as a staging area has them.
+-- A recording as lines (this project's choice): the lines of a portal, with those of the members of a batch, as a
+-- staging area has them, after the line of the batch.
 use Rattle.std.specs.Prelude.{◌≡◌, ◌≢◌, ⊤, ℕ, ◌+◌, List, [], ◌∷◌, ◌++◌, length, replicate, take, codes, bit_or, Option, Some, None, Result, Ok, Err, if◌then◌else◌}
 use Rattle.std.specs.Str.{bytes_eq}
 use Rattle.dsa_descriptor.specs.Fields.{Fields}
@@ -21,7 +21,7 @@ abbrev pub at_end : {A : Type 0} → A → List Word → Option A
 at_end x [] = Some x
 at_end x (w ∷ ws) = None
 
--- a batch behind its name: `of COUNT at ADDRESS, record ADDRESS`
+-- a batch, after its name: `of COUNT at ADDRESS, record ADDRESS`
 unfoldable pub batch_at : List Word → Option BatchLine
 batch_at words = do
   of ← after (codes "of") words
@@ -36,7 +36,7 @@ batch_at words = do
 abbrev pub fenced : Fields → Fields
 fenced f = record f { flags = bit_or f.flags 0x0001 }
 
--- a descriptor in bytes, and a fenced one
+-- the bytes of a descriptor
 abbrev pub entry_at : List Word → Option (List ℕ)
 entry_at words = fields_of words >>= λ f. Some (spelling f)
 
@@ -44,7 +44,7 @@ entry_at words = fields_of words >>= λ f. Some (spelling f)
 abbrev pub fenced_at : List Word → Option (List ℕ)
 fenced_at words = fields_of words >>= λ f. Some (spelling (fenced f))
 
--- a line with words is that of a batch, of a fenced descriptor behind `fence`, or of a descriptor
+-- a line with words is that of a batch, of a fenced descriptor after `fence`, or of a descriptor
 unfoldable pub recorded_at : List Word → Option Recorded
 recorded_at [] = None
 recorded_at (w ∷ ws) =
@@ -69,17 +69,17 @@ all_recorded (line ∷ lines) = line_recorded (words_of line) >>= λ here. with_
 
 -- ---- its bytes
 
--- the PASID and privilege of the descriptor that stands first; zero where none does
+-- the PASID and privilege of a descriptor that comes first; zero if none does
 abbrev pub first_owner : List Recorded → List ℕ
 first_owner [] = replicate 4 0
 first_owner (Batch b ∷ rs) = replicate 4 0
 first_owner (Entry bytes ∷ rs) = take 4 bytes
 
--- the entry of a batch, which has the owner of the descriptor behind it
+-- the entry of a batch, with this owner: that of the descriptor after it
 abbrev pub batch_bytes : BatchLine → List ℕ → List ℕ
 batch_bytes b owner = batch_spelling owner b.record_at b.list_at b.count
 
--- what stands before others, in bytes
+-- the bytes of one that has the others after it
 abbrev pub recorded_bytes : Recorded → List Recorded → List ℕ
 recorded_bytes (Batch b) rs = batch_bytes b (first_owner rs)
 recorded_bytes (Entry bytes) rs = bytes
@@ -133,7 +133,7 @@ abbrev pub owned_bytes : Option BatchLine → List ℕ → List ℕ
 owned_bytes None owner = []
 owned_bytes (Some b) owner = batch_bytes b owner
 
--- these bytes and a batch that waits for its owner are what was said before, whatever comes behind
+-- these bytes and a batch that waits for its owner are what was said so far, whatever comes after
 abbrev pub AreRecorded : List ℕ → Option BatchLine → List Recorded → Type 0
 AreRecorded bytes pending said =
     (rs : List Recorded) → bytes ++ (owned_bytes pending (first_owner rs) ++ recording_bytes rs) ≡ recording_bytes (said ++ rs)
@@ -144,7 +144,7 @@ StopsRecording number read (Grammar line column what) = (line ≡ number) × (re
 StopsRecording number read (Listed line fault) = ⊥
 StopsRecording number read Memory = ⊤
 
--- what is read goes behind what was said
+-- what is read is added after what was said
 abbrev pub PushesRecorded : List ℕ → Option BatchLine → List ℕ → ℕ → Option (List Recorded) → Result (Option BatchLine) TextFault → Type 0
 PushesRecorded before pending after number read (Ok next) =
     (here : List Recorded) × (read ≡ Some here)

@@ -20,7 +20,7 @@ use Rattle.dsa_lines.specs.Numbers.{hex}
 use Rattle.dsa_lines.specs.Text.{text_of, line_text}
 use Rattle.dsa_lines.specs.Portals.{IsFirstLengthFault, other_words}
 
--- ---- what stands in a staging area: entries of 64 bytes, and behind them records of 32
+-- ---- what is in a staging area: entries of 64 bytes, and after them records of 32
 
 -- a piece of a batch: whether it is fenced, and its descriptor
 pub record StagedPiece : Type 0 where
@@ -31,7 +31,7 @@ pub record StagedPiece : Type 0 where
 abbrev pub staged_bytes : StagedPiece → List ℕ
 staged_bytes p = spelling (with_fence p.fence (fields p.piece))
 
--- an entry: a piece; or other bytes, with the first fault for which they are none
+-- an entry: a piece; or other bytes, with the first fault that makes them no piece
 pub data StagedEntry : Type 0 where
   Piece : (p : StagedPiece) → StagedEntry
   Other : (bytes : List ℕ) (fault : FieldFault) → StagedEntry
@@ -52,17 +52,16 @@ abbrev pub Shows : List ℕ → StagedEntry → Type 0
 Shows bytes (Piece p) = bytes ≡ staged_bytes p
 Shows bytes (Other others fault) = (bytes ≡ others) × IsNoPiece others fault
 
--- The records begin where byte 7 is 0, and byte 0 is not 0 or bytes 8 to 31 are all 0 (this project's choice, since no
--- byte says how many entries there are). Byte 7 of a record belongs to how many descriptors finished, which are fewer
--- than 2^24, and byte 0 is its status, which is not 0 once it is written. So a written record is always known, and one
--- that is all zero too. Byte 7 of an entry is its operation code, which is not 0 for a piece. It is 0 for a no-op: one is
--- taken for a record where the low byte of its PASID is not 0, or where bytes 8 to 31, with the address of its record,
--- are 0
+-- The records begin at the first slot whose byte 7 is 0, and whose byte 0 is not 0 or whose bytes 8 to 31 are all 0 (this
+-- project's choice, since no byte says how many entries there are). In a record, byte 7 is the high byte of the number of
+-- finished descriptors, which is below 2^24, and byte 0 is the status, which is not 0 once it is written. So a record is
+-- known whether it is written or all zero. In an entry, byte 7 is the operation code, which is 0 for a no-op only: a no-op
+-- is taken for a record if the low byte of its PASID is not 0, or if bytes 8 to 31, with the address of its record, are 0
 abbrev pub BeginsRecord : List ℕ → Type 0
 BeginsRecord bytes =
     (slice_index bytes 7 ≡ 0) × ((slice_index bytes 0 ≢ 0) ⊎ AreZero (slice_range bytes 8 32))
 
--- an entry shows what stands there, and begins no record
+-- an entry is what its bytes show, and they begin no record
 pub record IsEntry (e : StagedEntry) : Type 0 where
   pub shown : Shows (entry_bytes e) e
   pub no_record : ¬ BeginsRecord (entry_bytes e)
@@ -72,8 +71,8 @@ pub record IsRecord (bytes : List ℕ) : Type 0 where
   pub whole : length bytes ≡ 32
   pub are_bytes : IsBytes bytes
 
--- The bytes are these entries, and behind them these records. The first record begins as one does where 64 bytes or more
--- are left, which could be an entry; where it stands alone it may be any
+-- The bytes are these entries, and after them these records. Two records or more have 64 bytes, as an entry has, so their
+-- bytes must begin as a record does; a single record may be any
 pub record IsStaging (bytes : List ℕ) (entries : List StagedEntry) (records : List (List ℕ)) : Type 0 where
   pub bytes_are : bytes ≡ flat_map entry_bytes entries ++ concat records
   pub each_entry : AllByRecursion IsEntry entries
@@ -82,11 +81,11 @@ pub record IsStaging (bytes : List ℕ) (entries : List StagedEntry) (records : 
 
 -- ---- its text
 
--- the line of a piece, `fence` before it where it is fenced
+-- the line of a piece, after `fence` if it is fenced
 abbrev pub piece_text : StagedPiece → List ℕ
 piece_text p = (if p.fence then codes "fence " else []) ++ line_text (fields p.piece)
 
--- other bytes have the line that they have in a portal
+-- other bytes have the same line as in a portal
 abbrev pub entry_text : StagedEntry → List ℕ
 entry_text (Piece p) = piece_text p
 entry_text (Other bytes fault) = text_of (other_words bytes fault)
@@ -117,17 +116,17 @@ is_plain bytes = bytes_eq bytes (written_record (status_at bytes) (finished_at b
 abbrev pub byte_words : List ℕ → List Word
 byte_words bytes = codes "," ∷ codes "32" ∷ codes "bytes" ∷ encode_lower bytes ∷ []
 
--- the same, where it has more than its status and how many have finished
+-- the same, if the record has more than its status and how many have finished
 abbrev pub more_words : List ℕ → List Word
 more_words bytes = if is_plain bytes then [] else byte_words bytes
 
--- what stands in a record that was written; its status is the whole of byte 0
+-- the words of a record that was written; its status is the whole of byte 0
 abbrev pub written_words : List ℕ → List Word
 written_words bytes =
     codes ":" ∷ codes "status" ∷ hex (status_at bytes) ∷
     codes "," ∷ decimal (finished_at bytes) ∷ codes "finished" ∷ more_words bytes
 
--- nothing of a record that is all zero, as it is before a run
+-- nothing for a record that is all zero, as it is before a run
 abbrev pub written_text : List ℕ → List ℕ
 written_text bytes = if bytes_eq bytes (replicate 32 0) then [] else text_of (written_words bytes)
 
@@ -135,7 +134,7 @@ written_text bytes = if bytes_eq bytes (replicate 32 0) then [] else text_of (wr
 abbrev pub record_place : ℕ → ℕ → List ℕ
 record_place batch address = codes "record " ++ (decimal batch ++ (codes " at " ++ hex address))
 
--- it can be the record of a batch, of which fewer than 2^24 descriptors have finished
+-- it can be the record of a batch: fewer than 2^24 descriptors have finished
 abbrev pub is_plausible : List ℕ → Bool
 is_plausible bytes = slice_index bytes 7 == 0
 
@@ -143,14 +142,14 @@ is_plausible bytes = slice_index bytes 7 == 0
 abbrev pub IsPlausible : List ℕ → Type 0
 IsPlausible bytes = is_plausible bytes ≡ true
 
--- the line of the record of a batch: a comment, where it can be one; else a line that all readers refuse
+-- the line of a record of a batch: a comment, if the bytes can be such a record; else a line that all readers refuse
 abbrev pub record_text : ℕ → ℕ → List ℕ → List ℕ
 record_text batch address bytes =
     if is_plausible bytes
     then codes "# " ++ (record_place batch address ++ written_text bytes)
     else codes "unknown " ++ (record_place batch address ++ text_of (byte_words bytes))
 
--- a line for each record, of which the first is that of this batch and stands at this address
+-- a line for each record, from that of this batch at this address on
 unfoldable pub records_text : ℕ → ℕ → List (List ℕ) → List ℕ
 records_text batch address [] = []
 records_text batch address (r ∷ rs) =
@@ -168,7 +167,7 @@ IsFirstStagingFault bytes fault = IsFirstLengthFault 32 StagingLength bytes faul
 
 -- ---- laws
 
--- what stands in a staging area is determined, so it has one text at each address
+-- the entries and records of a staging area are determined, so it has one text at each address
 abbrev pub OneStagingShown : Type 0
 OneStagingShown =
     (bytes : List ℕ) (es fs : List StagedEntry) (rs ts : List (List ℕ)) → IsStaging bytes es rs → IsStaging bytes fs ts →
@@ -186,7 +185,7 @@ OneStagingText =
 abbrev pub records_of : List ℕ → List (List ℕ)
 records_of bytes = first_chunks 32 (length bytes / 32) bytes
 
--- the bytes begin with these entries, which are `number`, and behind them the records begin, or no entry is left
+-- the bytes begin with these `number` entries; after them the records begin, or fewer than 64 bytes are left
 pub record AreEntries (bytes : List ℕ) (number : ℕ) (entries : List StagedEntry) : Type 0 where
   pub count : length entries ≡ number
   pub inside : number ≤ length bytes / 64

@@ -16,7 +16,7 @@ op_words (ComparePattern src pattern expected) size = codes "compare" ∷ hex sr
 op_words (ApplyDelta delta dst record_size) size = codes "delta" ∷ hex delta ∷ codes "," ∷ decimal record_size ∷ codes "bytes" ∷ codes "->" ∷ hex dst ∷ codes "," ∷ decimal size ∷ codes "bytes" ∷ []
 op_words (Dualcast src dst dst2) size = codes "dualcast" ∷ hex src ∷ codes "->" ∷ hex dst ∷ codes "and" ∷ hex dst2 ∷ codes "," ∷ decimal size ∷ codes "bytes" ∷ []
 
--- an option is written where it isn't 0, or where it is set
+-- an option with a number is written if that is not 0
 abbrev pub number_option : Word → ℕ → List Word
 number_option name n = if n == 0 then [] else (codes "," ∷ name ∷ decimal n ∷ [])
 
@@ -37,7 +37,7 @@ option_words f =
 abbrev pub line_words : Fields → List Word
 line_words f = op_words f.op f.size ++ codes "," ∷ codes "record" ∷ hex f.record_at ∷ option_words f
 
--- a blank stands before each word but a comma
+-- a blank before each word but a comma
 abbrev pub spaced : Word → List ℕ
 spaced [] = []
 spaced (c ∷ cs) = if c == 44 then c ∷ cs else 32 ∷ c ∷ cs

@@ -12,13 +12,13 @@ abbrev pub with_byte : ℕ → List (List ℕ) → List (List ℕ)
 with_byte c [] = (c ∷ []) ∷ []
 with_byte c (line ∷ lines) = (c ∷ line) ∷ lines
 
--- the lines of a text: what stands before, between and behind its newlines
+-- the lines of a text: what is before, between and after its newlines
 unfoldable pub lines_of : List ℕ → List (List ℕ)
 lines_of [] = [] ∷ []
 lines_of (c ∷ cs) = if c == 10 then [] ∷ lines_of cs else with_byte c (lines_of cs)
 
--- the operation of a line: of one without words, of a batch or of a barrier none, else the one that it spells, behind
--- `fence` where that stands first. A plan has batches and fences of its own, so those of the text are passed over
+-- the operation of a line, after `fence` if the line begins with that word. A line without words, of a batch or of a
+-- barrier has none. A plan has batches and fences of its own, so those of the text are passed over
 unfoldable pub line_fields : List Word → Option (List Fields)
 line_fields [] = Some []
 line_fields (w ∷ ws) =
@@ -52,12 +52,12 @@ list_text (f ∷ fs) = text_line f ++ list_text fs
 
 -- ---- for private clauses
 
--- how many bytes stand before the first newline
+-- how many bytes come before the first newline
 abbrev pub line_len : List ℕ → ℕ
 line_len [] = 0
 line_len (c ∷ cs) = if c == 10 then 0 else suc (line_len cs)
 
--- the lines behind a newline
+-- the lines after a newline
 abbrev pub lines_behind : List ℕ → List (List ℕ)
 lines_behind [] = []
 lines_behind (c ∷ cs) = lines_of cs

@@ -5,7 +5,7 @@ use Rattle.dsa_descriptor.specs.Fields.{Fields}
 use Rattle.dsa_lines.specs.declared.line.Line.{Line}
 use Rattle.dsa_lines.specs.Words.{Word, words_of}
 
--- all words, of the first and the text behind it
+-- all words, from the first one and the text after it
 abbrev pub first_word : Option (Bor (List ℕ) × Bor (List ℕ)) → List Word
 first_word None = []
 first_word (Some x) = x.0.now ∷ words_of x.1.now

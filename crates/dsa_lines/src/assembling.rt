@@ -26,7 +26,7 @@ pub(crate) fn push_entry(bytes: &mut Vec<u8>, entry: &[u8]) -> Result<(), TextFa
     }
 }
 
-/// Writes the bytes of the line's operation at the end, where the line has one.
+/// Writes the bytes of the line's operation at the end, if the line has one.
 fn push_line(bytes: &mut Vec<u8>, line: &[u8], number: usize) -> Result<(), TextFault>
     ensures { Pushes bytes.old.items bytes.new.items number
         (line_fields (words_of line.now)) result }
@@ -90,7 +90,8 @@ fn text_fault(text: &[u8], fault: ListFault) -> TextFault
     }
 }
 
-/// The operations that a text spells, one for each of its lines that names one: the list that [`assemble`] answers in bytes.
+/// The operations that a text spells, one for each of its lines that names one: the list that [`assemble`] returns as
+/// bytes.
 ///
 /// # Errors
 /// Those of [`assemble`].
@@ -106,8 +107,8 @@ pub fn parse_operations(alloc: Global, text: &[u8]) -> Result<Vec<Descriptor>, T
     }
 }
 
-/// The bytes of the list that a text spells, 64 for each of its lines that names an operation. A plan has batches and fences of
-/// its own, so the line of a batch is passed over, and so is `fence` before an operation.
+/// The bytes of the list that a text spells, 64 for each of its lines that names an operation. A plan has batches and
+/// fences of its own, so the line of a batch is passed over, and so is `fence` before an operation.
 ///
 /// # Errors
 /// The first line that leaves the grammar; else the first fault of the bytes as a list, as
@@ -120,7 +121,7 @@ pub fn assemble(alloc: Global, text: &[u8]) -> Result<Vec<u8>, TextFault>
         (λ bytes. bytes.items ≡ list_spelling (map fields ds)) (λ fault. fault ≡ Memory) }
 {
     let bytes = bytes_of_lines(alloc, text)?;
-    // read for its faults alone
+    // read for its faults only
     if let Err(fault) = read_list(alloc, bytes.as_slice()) {
         return Err(text_fault(text, fault));
     }

@@ -36,7 +36,7 @@ pub fn text_of_list(alloc: Global, list: &[Descriptor]) -> Result<String, AllocE
 /// The canonical lines of the descriptors that the bytes spell, as [`read_list`] reads them.
 ///
 /// # Errors
-/// Those of [`read_list`], and [`ListFault::Memory`] where a growth is refused.
+/// Those of [`read_list`], and [`ListFault::Memory`] if an allocation fails.
 pub fn disassemble(alloc: Global, bytes: &[u8]) -> Result<String, ListFault>
     ensures answer { IfOk result (λ text. (ds : List Descriptor) ×
         (bytes.now ≡ list_spelling (map fields ds)) ×

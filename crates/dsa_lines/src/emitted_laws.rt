@@ -2,7 +2,7 @@
 
 ghost use Rattle.dsa_lines.specs.EmittedTexts.{EmissionsHaveTexts};
 
-/// The bytes that submit a plan are a portal, each entry of which is known, and a staging area, so both have a text.
+/// The bytes that submit a plan are a portal with no unknown entry, and a staging area, so both have a text.
 #[tactic(auto, using(crate::proofs::EmittedTexts::emissions_have_texts))]
 pub fn emissions_have_texts()
     ensures { EmissionsHaveTexts }

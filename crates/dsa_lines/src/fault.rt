@@ -49,14 +49,14 @@ pub enum Expected {
     Of,
     /// The word `at`.
     At,
-    /// The name of an option that does not stand before.
+    /// The name of an option that the line does not have yet.
     Option,
     /// The end of the line.
     End,
 }
 
 impl Expected {
-    /// The words that tell a reader what is missing.
+    /// What is missing, in words for a reader.
     pub fn text(self) -> &'static str {
         match self {
             Expected::Operation => "move, fill, compare, delta or dualcast",
@@ -85,7 +85,7 @@ impl Expected {
     }
 }
 
-/// Why a line is none of a descriptor.
+/// Why a line spells no descriptor.
 #[derive(Clone, Copy, Debug, PartialEq, Eq)]
 pub enum LineFault {
     /// The line leaves the grammar at this column, from 1 on, where this was expected.
@@ -99,9 +99,9 @@ pub enum LineFault {
 pub enum TextFault {
     /// The line leaves the grammar at the column, where this was expected.
     Grammar(usize, usize, Expected),
-    /// The operations are no list: the fault names one of them by its index, and stands on this line.
+    /// The operations are no list: the fault names one of them by its index, and this is its line.
     List(usize, ListFault),
-    /// A growth of memory was refused.
+    /// An allocation failed.
     Memory,
 }
 
@@ -116,7 +116,7 @@ impl From<AllocError> for TextFault {
 pub enum EmittedFault {
     /// The length of a portal or a staging area.
     Emission(EmissionFault),
-    /// A growth of memory was refused.
+    /// An allocation failed.
     Memory,
 }
 

@@ -1,4 +1,4 @@
-//! The bytes of a list with barriers, from its text, and the text of one.
+//! The bytes of a list with barriers from its text, and its text.
 
 ghost use Rattle.std.specs.Prelude.{◌≡◌, ◌++◌, false, slice_index_or, map, string_bytes, IfOk, OnOk};
 ghost use Rattle.dsa_descriptor.specs.Descriptors.{fields};
@@ -14,7 +14,7 @@ use crate::fault::TextFault;
 use dsa_descriptor::Descriptor;
 use std::alloc::{AllocError, Global};
 
-/// The mark of an operation; one that has no mark has no barrier.
+/// The mark of an operation; an operation without a mark has no barrier.
 fn mark_at(marks: &[bool], index: usize) -> bool
     ensures { result ≡ slice_index_or marks.now index false }
 {
@@ -49,8 +49,8 @@ fn marked_bytes(
     Ok(bytes)
 }
 
-/// The bytes of the list that a text spells, as [`assemble`](crate::assemble) answers them, in
-/// which each operation after a barrier has the flag 0x0001, fence. `fence` before an operation is
+/// The bytes of the list that a text spells, as [`assemble`](crate::assemble) returns them, but
+/// each operation after a barrier has the flag 0x0001, fence. `fence` before an operation is
 /// a barrier if fences are kept; else it is passed over.
 ///
 /// # Errors

@@ -3,7 +3,7 @@
 ghost use Rattle.std.specs.Prelude.{◌≡◌, ◌≤◌, ◌∷◌, length, take, drop};
 ghost use Rattle.dsa_lines.specs.Texts.{line_len, lines_of, lines_behind};
 
-/// How many bytes stand before the first newline.
+/// How many bytes come before the first newline.
 #[tactic(auto, using(crate::proofs::TextLemmas::lines_at))]
 pub(crate) fn line_len(text: &[u8]) -> usize
     ensures value { result ≡ line_len text.now }

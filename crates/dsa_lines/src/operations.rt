@@ -8,7 +8,7 @@ use crate::reading::{after, count_at, named, number_at, pattern_at};
 use crate::words::next_word;
 use dsa_descriptor::Op;
 
-/// A size in bytes, and what stands behind it.
+/// A size in bytes, and what comes after it.
 #[tactic(auto, unfolding(crate::specs::Grammar::size_at))]
 fn size_at(text: &[u8]) -> Result<(u32, &[u8]), Stop>
     ensures { Gives (λ x. (x.0, words_of x.1.now)) result (size_at (words_of text.now)) }
@@ -18,7 +18,7 @@ fn size_at(text: &[u8]) -> Result<(u32, &[u8]), Stop>
     Ok((size as u32, rest))
 }
 
-/// A move behind its name.
+/// A move, after its name.
 #[tactic(auto, unfolding(crate::specs::Grammar::move_at))]
 fn move_at(text: &[u8]) -> Result<(Op, u32, &[u8]), Stop>
     ensures { Gives (λ x. (x.0, x.1, words_of x.2.now)) result (move_at (words_of text.now)) }
@@ -31,7 +31,7 @@ fn move_at(text: &[u8]) -> Result<(Op, u32, &[u8]), Stop>
     Ok((Op::Move { src, dst }, size, rest))
 }
 
-/// A fill behind its name.
+/// A fill, after its name.
 #[tactic(auto, unfolding(crate::specs::Grammar::fill_at))]
 fn fill_at(text: &[u8]) -> Result<(Op, u32, &[u8]), Stop>
     ensures { Gives (λ x. (x.0, x.1, words_of x.2.now)) result (fill_at (words_of text.now)) }
@@ -72,7 +72,7 @@ fn compare_region_at(src: u64, text: &[u8]) -> Result<(Op, u32, &[u8]), Stop>
     Ok((op, size, rest))
 }
 
-/// A comparison with a pattern, behind the word `pattern`.
+/// A comparison with a pattern, after the word `pattern`.
 #[tactic(auto, unfolding(crate::specs::Grammar::compare_pattern_at))]
 fn compare_pattern_at(src: u64, text: &[u8]) -> Result<(Op, u32, &[u8]), Stop>
     ensures { Gives
@@ -88,7 +88,7 @@ fn compare_pattern_at(src: u64, text: &[u8]) -> Result<(Op, u32, &[u8]), Stop>
     Ok((op, size, rest))
 }
 
-/// A comparison behind its name.
+/// A comparison, after its name.
 #[tactic(auto, unfolding(crate::specs::Grammar::compare_at))]
 fn compare_at(text: &[u8]) -> Result<(Op, u32, &[u8]), Stop>
     ensures { Gives (λ x. (x.0, x.1, words_of x.2.now)) result (compare_at (words_of text.now)) }
@@ -101,7 +101,7 @@ fn compare_at(text: &[u8]) -> Result<(Op, u32, &[u8]), Stop>
     }
 }
 
-/// A delta behind its name.
+/// A delta, after its name.
 #[tactic(auto, unfolding(crate::specs::Grammar::delta_at))]
 fn delta_at(text: &[u8]) -> Result<(Op, u32, &[u8]), Stop>
     ensures { Gives (λ x. (x.0, x.1, words_of x.2.now)) result (delta_at (words_of text.now)) }
@@ -121,7 +121,7 @@ fn delta_at(text: &[u8]) -> Result<(Op, u32, &[u8]), Stop>
     Ok((op, size, rest))
 }
 
-/// A dualcast behind its name.
+/// A dualcast, after its name.
 #[tactic(auto, unfolding(crate::specs::Grammar::dualcast_at))]
 fn dualcast_at(text: &[u8]) -> Result<(Op, u32, &[u8]), Stop>
     ensures { Gives (λ x. (x.0, x.1, words_of x.2.now)) result (dualcast_at (words_of text.now)) }
@@ -136,7 +136,7 @@ fn dualcast_at(text: &[u8]) -> Result<(Op, u32, &[u8]), Stop>
     Ok((Op::Dualcast { src, dst, dst2 }, size, rest))
 }
 
-/// The operation that a line begins with, its size, and what stands behind these.
+/// The operation that a line begins with, its size, and what comes after it.
 #[tactic(auto, unfolding(crate::specs::Grammar::op_at))]
 pub(crate) fn op_at(text: &[u8]) -> Result<(Op, u32, &[u8]), Stop>
     ensures { Gives (λ x. (x.0, x.1, words_of x.2.now)) result (op_at (words_of text.now)) }

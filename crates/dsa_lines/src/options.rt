@@ -21,7 +21,7 @@ const CHECK_RESULT: u16 = 0x0080;
 /// The most options that a line may have.
 const MOST_OPTIONS: usize = 5;
 
-/// The options that stand on a line.
+/// The options of a line.
 #[derive(Clone, Copy, Debug)]
 pub(crate) struct Options {
     pub(crate) pasid: Option<u32>,
@@ -65,7 +65,7 @@ impl Options {
         }
     }
 
-    /// The flags that the options stand for.
+    /// The flags under `flags`, 0 if there are none.
     fn carried(self) -> u16
         ensures { result ≡ or_zero self.flags }
     {
@@ -75,7 +75,7 @@ impl Options {
         }
     }
 
-    /// All flags that the options stand for.
+    /// All flags of the descriptor: the required ones, those under `flags`, and check result.
     fn flag_word(self) -> u16
         ensures { result ≡ flags_with (or_zero self.flags) self.check }
     {
@@ -92,7 +92,7 @@ impl Options {
     }
 }
 
-/// The PASID behind its name; `name` is the text from its name on, where a second one is reported.
+/// The PASID, after its name; `name` is the text from its name on, where a second PASID is reported.
 #[tactic(auto, unfolding(crate::specs::Grammar::pasid_at))]
 fn pasid_at<'a>(options: Options, name: &[u8], text: &'a [u8]) -> Result<(Options, &'a [u8]), Stop>
     ensures value { Gives
@@ -110,7 +110,7 @@ fn pasid_at<'a>(options: Options, name: &[u8], text: &'a [u8]) -> Result<(Option
     Ok((options, rest))
 }
 
-/// The privilege behind its name.
+/// The privilege, after its name.
 #[tactic(auto, unfolding(crate::specs::Grammar::privileged_at))]
 fn privileged_at<'a>(
     options: Options,
@@ -131,7 +131,7 @@ fn privileged_at<'a>(
     Ok((options, text))
 }
 
-/// Check result behind its name.
+/// Check result, after its name.
 #[tactic(auto, unfolding(crate::specs::Grammar::check_at))]
 fn check_at<'a>(options: Options, name: &[u8], text: &'a [u8]) -> Result<(Options, &'a [u8]), Stop>
     ensures value { Gives
@@ -148,7 +148,7 @@ fn check_at<'a>(options: Options, name: &[u8], text: &'a [u8]) -> Result<(Option
     Ok((options, text))
 }
 
-/// The carried flags behind their name.
+/// The carried flags, after their name.
 #[tactic(auto, unfolding(crate::specs::Grammar::flags_at))]
 fn flags_at<'a>(options: Options, name: &[u8], text: &'a [u8]) -> Result<(Options, &'a [u8]), Stop>
     ensures value { Gives
@@ -169,7 +169,7 @@ fn flags_at<'a>(options: Options, name: &[u8], text: &'a [u8]) -> Result<(Option
     Ok((options, rest))
 }
 
-/// The interrupt handle behind its name.
+/// The interrupt handle, after its name.
 #[tactic(auto, unfolding(crate::specs::Grammar::handle_at))]
 fn handle_at<'a>(options: Options, name: &[u8], text: &'a [u8]) -> Result<(Options, &'a [u8]), Stop>
     ensures value { Gives
@@ -187,7 +187,7 @@ fn handle_at<'a>(options: Options, name: &[u8], text: &'a [u8]) -> Result<(Optio
     Ok((options, rest))
 }
 
-/// One option more, and what stands behind it.
+/// One option more, and what comes after it.
 #[tactic(auto, unfolding(crate::specs::Grammar::option_at))]
 fn option_at(options: Options, text: &[u8]) -> Result<(Options, &[u8]), Stop>
     ensures value { Gives

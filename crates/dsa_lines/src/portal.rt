@@ -113,7 +113,7 @@ fn text_of_portal(alloc: Global, bytes: &[u8]) -> Result<String, EmittedFault>
 /// descriptor, or `unknown CODE (FAULT), 64 bytes DIGITS` of an entry that is neither.
 ///
 /// # Errors
-/// [`EmissionFault::PortalLength`] where the length is no multiple of 64; else [`EmittedFault::Memory`] at the first
+/// [`EmissionFault::PortalLength`] if the length is no multiple of 64; else [`EmittedFault::Memory`] at the first
 /// allocation that fails.
 pub fn disassemble_portal(alloc: Global, bytes: &[u8]) -> Result<String, EmittedFault>
     ensures answer { IfOk result (λ text. (ss : List Submission) × IsPortal bytes.now ss ×

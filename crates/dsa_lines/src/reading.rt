@@ -17,7 +17,7 @@ use crate::options::options_at;
 use crate::words::{is_over, next_word};
 use dsa_descriptor::Descriptor;
 
-/// What stands behind this word.
+/// What comes after this word.
 pub(crate) fn after<'a>(text: &'a [u8], word: &[u8], expected: Expected) -> Result<&'a [u8], Stop>
     ensures { Gives (λ x. words_of x.now) result (after word.now (words_of text.now)) }
 {
@@ -31,7 +31,7 @@ pub(crate) fn after<'a>(text: &'a [u8], word: &[u8], expected: Expected) -> Resu
     }
 }
 
-/// What stands behind a comma and this name.
+/// What comes after a comma and this name.
 pub(crate) fn named<'a>(text: &'a [u8], name: &[u8], expected: Expected) -> Result<&'a [u8], Stop>
     ensures { Gives (λ x. words_of x.now) result (named name.now (words_of text.now)) }
 {
@@ -39,7 +39,7 @@ pub(crate) fn named<'a>(text: &'a [u8], name: &[u8], expected: Expected) -> Resu
     after(rest, name, expected)
 }
 
-/// A number of at most this, and what stands behind it.
+/// A number of at most this, and what comes after it.
 pub(crate) fn number_at(text: &[u8], most: u64, expected: Expected) -> Result<(u64, &[u8]), Stop>
     ensures value { Gives
         (λ x. (x.0, words_of x.1.now)) result (number_at most (words_of text.now)) }
@@ -76,7 +76,7 @@ pub(crate) fn count_at(text: &[u8]) -> Result<(u64, &[u8]), Stop>
     }
 }
 
-/// A pattern, and what stands behind it.
+/// A pattern, and what comes after it.
 pub(crate) fn pattern_at(text: &[u8]) -> Result<(u64, &[u8]), Stop>
     ensures { Gives (λ x. (x.0, words_of x.1.now)) result (pattern_at (words_of text.now)) }
 {
@@ -110,7 +110,7 @@ pub(crate) fn read_line(text: &[u8]) -> Result<Line, Stop>
     })
 }
 
-/// The 64 bytes of the fields that a line spells, which may be no listed descriptor; none where it has no words.
+/// The 64 bytes of the fields that a line spells, which may be no listed descriptor; none if it has no words.
 /// A text with a newline is no line.
 ///
 /// # Errors

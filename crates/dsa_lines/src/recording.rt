@@ -36,7 +36,7 @@ pub(crate) enum Recorded {
     Entry([u8; 64]),
 }
 
-/// The batch, where no word stands behind it.
+/// The batch, if no word comes after it.
 fn at_end(batch: BatchLine, text: &[u8]) -> Result<BatchLine, Stop>
     ensures { Gives (λ x. x) result (at_end batch (words_of text.now)) }
 {
@@ -46,7 +46,7 @@ fn at_end(batch: BatchLine, text: &[u8]) -> Result<BatchLine, Stop>
     }
 }
 
-/// A batch behind its name.
+/// A batch, after its name.
 #[tactic(auto, unfolding(crate::specs::Recordings::batch_at))]
 fn batch_at(text: &[u8]) -> Result<BatchLine, Stop>
     ensures { Gives (λ x. x) result (batch_at (words_of text.now)) }
@@ -113,7 +113,7 @@ fn nothing_in(text: &[u8]) -> Result<(), Stop>
     }
 }
 
-/// The operation that a line names, in bytes; none of a line without words, of a batch, and of a
+/// The operation that a line names, in bytes; none for a line without words, of a batch, or of a
 /// barrier.
 #[tactic(auto, unfolding(crate::specs::Texts::line_fields))]
 fn operation_at(text: &[u8]) -> Result<Option<[u8; 64]>, Stop>
@@ -153,7 +153,7 @@ pub fn operation_bytes(text: &[u8]) -> Result<Option<[u8; 64]>, (usize, Expected
     }
 }
 
-/// What a line says; nothing where it has no words.
+/// What a line says; nothing if it has no words.
 fn recorded_line(text: &[u8]) -> Result<Option<Recorded>, (usize, Expected)>
     ensures { SaysLine (words_of text.now) result }
 {
@@ -203,7 +203,7 @@ fn push_pending(
     }
 }
 
-/// Writes what a line says at the end. A batch is pending until the owner of what stands behind it is known.
+/// Writes what a line says at the end. A batch is pending until its owner is known: that of the line after it.
 fn push_recorded(
     bytes: &mut Vec<u8>,
     pending: Option<BatchLine>,
@@ -228,8 +228,8 @@ fn push_recorded(
     }
 }
 
-/// The bytes of a recording that is written as lines: those of a portal, and behind the line of each batch those of its
-/// members, as a staging area has them. The entry of a batch gets the owner of the descriptor behind it.
+/// The bytes of a recording that is written as lines: the lines of a portal, with those of the members of a batch, as a
+/// staging area has them, after the line of the batch. The entry of a batch gets the owner of the descriptor after it.
 ///
 /// # Errors
 /// The first line that leaves the grammar; [`TextFault::Memory`] at the first allocation that fails.

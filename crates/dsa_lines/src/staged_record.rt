@@ -1,4 +1,4 @@
-//! The text of the records behind the entries of a staging area.
+//! The text of the records after the entries of a staging area.
 
 ghost use Rattle.std.specs.Prelude.{◌≡◌, ◌+◌, ◌^◌, ◌<◌, ◌++◌, ◌∷◌, [], length, replicate, IfOk, OnOk, codes, decimal, string_bytes};
 ghost use Rattle.std.specs.Str.{bytes_eq};
@@ -61,7 +61,7 @@ fn bytes_text(alloc: Global, bytes: &[u8; 32]) -> Result<String, AllocError>
     format!(in alloc; ", 32 bytes {digits}")
 }
 
-/// What stands in a record that was written.
+/// The text of a record that was written: its status, how many have finished, and what else it has.
 fn written_text(alloc: Global, bytes: &[u8; 32]) -> Result<String, AllocError>
     ensures { IfOk result (λ text. string_bytes text ≡ text_of (written_words bytes.now)) }
 {
@@ -110,7 +110,7 @@ fn push_record(
     push_line(text, &line)
 }
 
-/// Writes the lines of the records at the end, of which the first stands at this address.
+/// Writes the lines of the records at the end; the first record is at this address.
 pub(crate) fn push_records(
     alloc: Global,
     text: &mut String,

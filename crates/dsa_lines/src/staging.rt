@@ -77,7 +77,7 @@ fn push_entry(alloc: Global, text: &mut String, entry: &[u8; 64]) -> Result<(), 
     push_line(text, &line)
 }
 
-/// Writes the lines of the entries, and answers how many they are.
+/// Writes the lines of the entries, and returns how many there are.
 fn push_entries(alloc: Global, text: &mut String, bytes: &[u8]) -> Result<usize, AllocError>
     ensures { IfOk result (λ number. (es : List StagedEntry) × AreEntries bytes.now number es ×
         (string_bytes text.new ≡ string_bytes text.old ++ entries_text es)) }
@@ -116,15 +116,15 @@ fn text_of_staging(alloc: Global, bytes: &[u8], at: u64) -> Result<String, Emitt
 /// The text of a staging area at an address, before a run or after it: a line for each entry of 64 bytes, and then one
 /// for the record of each batch, 32 bytes.
 ///
-/// The line of an entry is the canonical line of a piece, `fence` before it where it is fenced, or that of other bytes as
-/// in a portal, `unknown CODE (FAULT), 64 bytes DIGITS`. The entries end where byte 7 is 0, and byte 0 is not 0 or bytes
-/// 8 to 31 are all 0, or where fewer than 64 bytes are left. A record has the line `# record K at ADDRESS`. Behind it
-/// stands `: status S, N finished` where it is not all zero, S in hexadecimal, and behind that `, 32 bytes DIGITS` where
-/// it has more. Bytes of which byte 7 is not 0 can be no record, and have the line `unknown record K at ADDRESS, 32 bytes
-/// DIGITS`, which is no comment.
+/// The line of an entry is the canonical line of a piece, after `fence` if it is fenced, or that of other bytes as in a
+/// portal, `unknown CODE (FAULT), 64 bytes DIGITS`. The records begin at the first slot whose byte 7 is 0, and whose
+/// byte 0 is not 0 or whose bytes 8 to 31 are all 0; or when fewer than 64 bytes are left. A record has the line
+/// `# record K at ADDRESS`. If it is not all zero, `: status S, N finished` follows, S in hexadecimal, and if it has
+/// more, also `, 32 bytes DIGITS`. Bytes whose byte 7 is not 0 can be no record; their line is `unknown record K at
+/// ADDRESS, 32 bytes DIGITS`, which is no comment.
 ///
 /// # Errors
-/// [`EmissionFault::StagingLength`] where the length is no multiple of 32; else [`EmittedFault::Memory`] at the first
+/// [`EmissionFault::StagingLength`] if the length is no multiple of 32; else [`EmittedFault::Memory`] at the first
 /// allocation that fails.
 pub fn disassemble_staging(alloc: Global, bytes: &[u8], at: u64) -> Result<String, EmittedFault>
     requires { at ≤ 2 ^ 63 }

@@ -34,7 +34,7 @@ pub(crate) fn skip_blanks(text: &[u8]) -> &[u8]
     rest
 }
 
-/// What stands behind the comment that the text begins in: its newline first, or nothing.
+/// What comes after the comment that the text begins in: its newline first, or nothing.
 #[tactic(auto, unfolding(crate::specs::Words::words_in))]
 fn behind_comment(text: &[u8]) -> &[u8]
     ensures words { words_of result.now ≡ words_in true text.now }
@@ -92,7 +92,7 @@ pub(crate) fn next_word(text: &[u8]) -> Option<(&[u8], &[u8])>
     Some(text.split_at(word_len(text)))
 }
 
-/// Whether no word stands in the text.
+/// Whether the text has no word.
 pub(crate) fn is_over(text: &[u8]) -> bool
     ensures { IsTrue result ↔ (words_of text.now ≡ []) }
 {

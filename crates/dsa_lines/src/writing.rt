@@ -33,7 +33,7 @@ fn push_pattern(alloc: Global, line: &mut String, pattern: u64) -> Result<(), Al
     line.push_str(&text)
 }
 
-/// Writes a size behind a comma.
+/// Writes a size after a comma.
 fn push_size(alloc: Global, line: &mut String, size: u32) -> Result<(), AllocError>
     ensures { OnOk result (string_bytes line.new ≡ string_bytes line.old ++
         (codes ", " ++ (decimal size ++ codes " bytes"))) }
@@ -213,7 +213,7 @@ fn number_text(alloc: Global, name: &str, number: u32) -> Result<String, AllocEr
     format!(in alloc; ", {name} {number}")
 }
 
-/// Writes an option and its number, where that is not 0.
+/// Writes an option and its number, if that is not 0.
 fn push_number(alloc: Global, line: &mut String, name: &str, number: u32) -> Result<(), AllocError>
     requires { spaced name.now ≡ 32 ∷ name.now }
     ensures { OnOk result (string_bytes line.new ≡ string_bytes line.old ++
@@ -226,7 +226,7 @@ fn push_number(alloc: Global, line: &mut String, name: &str, number: u32) -> Res
     line.push_str(&text)
 }
 
-/// Writes an option that is a name alone, where it stands.
+/// Writes an option that is only a name, if it is set.
 fn push_name(alloc: Global, line: &mut String, name: &str, stands: bool) -> Result<(), AllocError>
     requires { spaced name.now ≡ 32 ∷ name.now }
     ensures { OnOk result (string_bytes line.new ≡ string_bytes line.old ++

@@ -1,4 +1,4 @@
--- What `audit` answers of an input and options (this project's choice).
+-- What `audit` answers to an input and options (this project's choice).
 use Rattle.std.specs.Prelude.{◌≡◌, ◌⊎◌, ◌==◌, ◌+◌, nat_lt, ℕ, Bool, false, List, [], ◌∷◌, length, codes, Option, Some, None, Result, Ok, Err, option_map, if◌then◌else◌}
 use Rattle.std.specs.List.{count_by, slice_split}
 use Rattle.std.specs.Io.KnownBytes.{Consumes, IsAtEnd}
@@ -34,7 +34,7 @@ findings_named words =
     times_named (codes "needless") words + times_named (codes "guarding") words + times_named (codes "signalling") words
     + times_named (codes "unseen") words + times_named (codes "waits") words
 
--- those that words name, where each word names some; missing waits are errors in any case
+-- the findings that words name, if each word names some; missing waits are always errors
 abbrev pub denied_by : List (List ℕ) → Option Denied
 denied_by words =
     if findings_named words == length words
@@ -46,23 +46,25 @@ denied_by words =
     })
     else None
 
--- those of the option, with commas between; none without it
+-- the findings of the option's value, names with commas between; no finding without the option
 abbrev pub denied_of : Option (List ℕ) → Option Denied
 denied_of None = Some (record { needless = false; guarding = false; signalling = false; unseen = false })
 denied_of (Some names) = denied_by (slice_split (λ c. c == 44) names)
 
+-- the findings that the option `deny` names
 abbrev pub denied_in : ArgMatches → Option Denied
 denied_in m = denied_of (first_value (found_of m) (codes "deny"))
 
 -- ---- what is assumed of the software
 
--- what a word says that it looks at
+-- what a word says that the software looks at
 abbrev pub awaited_by : List ℕ → Option Await
 awaited_by word =
     if bytes_eq word (codes "writes") then Some Writes else
     if bytes_eq word (codes "signals") then Some Signals else
     if bytes_eq word (codes "batches") then Some Batches else None
 
+-- what the option `await` says
 abbrev pub awaited_in : ArgMatches → Option Await
 awaited_in m = awaited_by (word_of m (codes "await"))
 
@@ -73,7 +75,7 @@ abbrev pub format_of : Bool → Bool → Bool → Bool → AuditFormat
 format_of json svg list keys =
     if json then Json else (if svg then Picture else (if list then Listed else (if keys then Keys else Text)))
 
--- it is that of the options that were given
+-- it is the format of the given options
 abbrev pub IsFormat : ArgMatches → AuditFormat → Type 0
 IsFormat m format =
     (json svg list keys : Bool) × IsFlag m (codes "json") json × IsFlag m (codes "svg") svg × IsFlag m (codes "list") list
@@ -91,7 +93,7 @@ pub record AreAuditWords (m : ArgMatches) (w : SettingsWords) : Type 0 where
 
 -- ---- the answer
 
--- that of a recording; or where there are dumps of memory, that of what was written to a portal
+-- the answer for a recording; or, if there are dumps of memory, for what was written to a portal
 abbrev pub AnswersWith : AuditOptions → List Dump → List ℕ → AuditAnswer → Type 0
 AnswersWith options [] input a = AnswersInput options input a
 AnswersWith options (d ∷ ds) input a = AnswersStaged options (d ∷ ds) input a
@@ -113,6 +115,7 @@ AuditsAssuming None awaited m g input a = a.status ≡ 2
 AuditsAssuming (Some denied) None m g input a = a.status ≡ 2
 AuditsAssuming (Some denied) (Some awaited) m g input a = AuditsWithOptions m g denied awaited input a
 
+-- the answer to an input
 abbrev pub AuditsInput : ArgMatches → Given → List ℕ → AuditAnswer → Type 0
 AuditsInput m g input a = AuditsAssuming (denied_in m) (awaited_in m) m g input a
 
@@ -133,7 +136,7 @@ RefusesWith m g denied awaited a = (input : List ℕ) → AuditsWithOptions m g 
 abbrev pub Refuses : ArgMatches → Given → AuditAnswer → Type 0
 Refuses m g a = (input : List ℕ) → AuditsInput m g input a
 
--- ---- of what is read
+-- ---- what is read
 
 -- the answer to all that the reader gave up to its end; or to any input, without reading
 abbrev pub AuditsReader : ArgMatches → Given → Option (List ℕ) → Option (List ℕ) → Result AuditAnswer ReadFault → Type 0

@@ -18,8 +18,8 @@ after_mark (c ∷ cs) = if c == 35 then cs else after_mark cs
 abbrev pub is_obeyed : ℕ → Bool
 is_obeyed c = not (c == 9) && is_control c
 
--- a text, unless it has more than 256 bytes, since each piece of an operation shows its name, or a terminal would obey a
--- part of it
+-- a text; none if it has more than 256 bytes, since each piece of an operation shows its name, or if a terminal would obey
+-- a part of it
 unfoldable pub harmless : List ℕ → List ℕ
 harmless text = if nat_lt 256 (length text) then [] else (if list_any is_obeyed (chars text) then [] else text)
 
@@ -38,7 +38,7 @@ unfoldable pub names_of : List (List ℕ) → List (List ℕ)
 names_of [] = []
 names_of (line ∷ lines) = line_names line (line_fields (words_of line)) ++ names_of lines
 
--- the names that operations have by where they come from: those of a job have none
+-- the names of operations, by where they come from: those of a job have none
 abbrev pub names_from : Source → List (List ℕ)
 names_from (Text text) = names_of (lines_of text.now)
 names_from Job = []

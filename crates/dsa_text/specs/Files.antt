@@ -1,4 +1,4 @@
--- What `audit` of several files comes to (this project's choice). `Answers` says which answers there are to an input.
+-- What `audit` of several files answers (this project's choice). `Answers` says which answers there are to an input.
 use Rattle.std.specs.Prelude.{◌≡◌, ◌⊎◌, ◌<◌, ◌==◌, max, ℕ, List, [], ◌∷◌, ◌++◌, length, codes, decimal, Option}
 use Rattle.std.specs.List.{AllByRecursion, count_by}
 use Rattle.std.specs.Io.KnownBytes.{Consumes, IsAtEnd}
@@ -9,7 +9,7 @@ use Rattle.dsa_recording.specs.Inputs.{AnswersInput}
 use Rattle.dsa_text.specs.Audited.{times_named}
 use Rattle.dsa_text.specs.Options.{IsGiven}
 
--- an option is given that is of one file alone
+-- an option is given that goes with a single file only
 abbrev pub TakesOneFile : ArgMatches → Type 0
 TakesOneFile m =
     (IsGiven m (codes "svg") ⊎ IsGiven m (codes "list")) ⊎ (IsGiven m (codes "staging") ⊎ IsGiven m (codes "events"))
@@ -23,7 +23,7 @@ abbrev pub AnswersFile : AuditOptions → Option (List ℕ) → Option (List ℕ
 AnswersFile options old new a =
     (a.status ≡ 2) ⊎ ((input : List ℕ) × Consumes old new input × IsAtEnd new × AnswersInput options input a)
 
--- an answer to what a file has; or status 2, where the file can't be opened or read
+-- an answer to what a file has; or status 2, if the file can't be opened or read
 abbrev pub IsFileAnswer : (List ℕ → AuditAnswer → Type 0) → AuditAnswer → Type 0
 IsFileAnswer Answers a = (a.status ≡ 2) ⊎ ((input : List ℕ) × Answers input a)
 
@@ -31,7 +31,7 @@ IsFileAnswer Answers a = (a.status ≡ 2) ⊎ ((input : List ℕ) × Answers inp
 abbrev pub IsFileStatus : (List ℕ → AuditAnswer → Type 0) → ℕ → Type 0
 IsFileStatus Answers status = (a : AuditAnswer) × IsFileAnswer Answers a × (status ≡ a.status)
 
--- those of so many files
+-- the statuses of so many files
 pub record AreFileStatuses (Answers : List ℕ → AuditAnswer → Type 0) (files : ℕ) (statuses : List ℕ) : Type 0 where
   pub count : length statuses ≡ files
   pub each : AllByRecursion (IsFileStatus Answers) statuses
@@ -41,7 +41,7 @@ abbrev pub greatest : List ℕ → ℕ
 greatest [] = 0
 greatest (status ∷ statuses) = max status (greatest statuses)
 
--- the status of so many files is the greatest of theirs; or 2, where the options are refused or a report can't be written
+-- the status for so many files is the greatest of theirs; or 2, if the options are refused or a report can't be written
 abbrev pub AuditsFiles : (List ℕ → AuditAnswer → Type 0) → ℕ → ℕ → Type 0
 AuditsFiles Answers files status =
     (status ≡ 2) ⊎ ((statuses : List ℕ) × AreFileStatuses Answers files statuses × (status ≡ greatest statuses))

@@ -11,7 +11,7 @@ use Rattle.dsa_text.specs.declared.form.Form.{Form}
 use Rattle.dsa_text.specs.Refusals.{IsRefusal}
 use Rattle.dsa_text.specs.Explained.{ExplainsChecked, ExplainsJudged, ExplainsList}
 
--- of a job to plan, to judge or to check what that of its members answers; one to replay or to run is
+-- for a job to plan, to judge or to check, the answer for its members; a job to replay or to run is
 -- refused
 abbrev pub ExplainsJob : Job → Form → Answer → Type 0
 ExplainsJob (Plan job) form a = ExplainsList job.list.items [] [] job.settings form a
@@ -21,7 +21,7 @@ ExplainsJob (Check job) form a =
 ExplainsJob (Replay job) form a = IsRefusal Do a
 ExplainsJob (Run job) form a = IsRefusal Do a
 
--- refused where the text spells no job, for the cause why; else that of the job that it spells
+-- refused if the text spells no job, for the cause; else the answer for the job that it spells
 pub data ExplainsJobText (text : List ℕ) (form : Form) (a : Answer) : Type 0 where
   is_no_job : (fault : PlanFault) → ReadsJobText text (Err fault) → IsRefusal fault a → ExplainsJobText text form a
   is_read : (job : Job) → ReadsJobText text (Ok job) → ExplainsJob job form a → ExplainsJobText text form a

@@ -10,14 +10,14 @@ use Rattle.dsa_calls.specs.Fenced.{PiecesConflict, PlansWith}
 use Rattle.dsa_calls.specs.Planned.{Submission, Plans}
 use Rattle.dsa_explain.specs.Reasons.{NeedsFence}
 
--- of a plan that planning answers, each fence is needed by the fenced piece and an earlier one
+-- each fence of a plan that planning answers is needed by the fenced piece and an earlier one
 abbrev pub PlannedFencesAreNeeded : Type 0
 PlannedFencesAreNeeded =
     (bytes : List ℕ) (s : Limits) (p : Submission) → Plans bytes s (Ok p) →
     (number : ℕ) (group : Group) (k : ℕ) → slice_get p.plan number ≡ Some group → IsFenced (start_of p.plan number) group k →
     (a : ℕ) × NeedsFence (ConflictAt (map fields p.pieces)) (start_of p.plan number) group k a k
 
--- of a plan of operations and their barriers, each fence is needed by the fenced piece and an earlier one: they conflict, or
+-- each fence of a plan of operations and their barriers is needed by the fenced piece and an earlier one: they conflict, or
 -- a barrier is between them
 abbrev pub MarkedFencesAreNeeded : Type 0
 MarkedFencesAreNeeded =

@@ -5,7 +5,7 @@ use Rattle.clap.specs.declared.parser.matches.ArgMatches.{ArgMatches}
 use Rattle.clap.specs.declared.parser.matches.ValueSource.TheVariants.{CommandLine}
 use Rattle.dsa_text.specs.declared.settings.SettingsWords.{SettingsWords}
 
--- the option was given among the arguments, and is not there by default
+-- the option was given among the arguments, and does not only have its default
 abbrev pub IsGiven : ArgMatches → List ℕ → Type 0
 IsGiven m name = option_and_then (λ a. a.source) (matched_of (found_of m) name) ≡ Some CommandLine
 
@@ -23,7 +23,7 @@ ArePricesGiven m =
 abbrev pub AreSettingsGiven : ArgMatches → Type 0
 AreSettingsGiven m = AreSizesGiven m ⊎ ArePricesGiven m
 
--- the value of an option, empty where it has none
+-- the value of an option, empty if it has none
 abbrev pub word_of : ArgMatches → List ℕ → List ℕ
 word_of m name = unwrap_or (first_value (found_of m) name) []
 
@@ -37,7 +37,7 @@ pub record AreWords (m : ArgMatches) (w : SettingsWords) : Type 0 where
   pub fence : w.fence.now ≡ word_of m (codes "fence")
   pub staging : w.staging.now ≡ word_of m (codes "staging")
 
--- whether a flag was set, where the parser says so
+-- whether a flag was set, by what the parser says
 pub record IsFlag (m : ArgMatches) (name : List ℕ) (flag : Bool) : Type 0 where
   pub set : one_text (found_of m) name ≡ Some (codes "true") → flag ≡ true
   pub clear : one_text (found_of m) name ≡ Some (codes "false") → flag ≡ false

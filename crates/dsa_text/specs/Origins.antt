@@ -1,4 +1,4 @@
--- Of which operation of a planned list each piece is.
+-- The operation of a planned list that each piece is of.
 use Rattle.std.specs.Prelude.{ℕ, zero, suc, List, [], ◌∷◌, ◌++◌}
 use Rattle.dsa_descriptor.specs.Fields.{Fields}
 use Rattle.dsa_splitter.specs.Pieces.{piece_count}
@@ -15,7 +15,7 @@ abbrev pub operation_origins : ℕ → ℕ → Fields → List Origin
 operation_origins greatest operation f =
     first_origins operation (piece_count f greatest) (piece_count f greatest)
 
--- those of operations, of which the first has that index
+-- those of operations, the first of which has that index
 abbrev pub origins_from : ℕ → ℕ → List Fields → List Origin
 origins_from greatest operation [] = []
 origins_from greatest operation (f ∷ fs) =

@@ -15,12 +15,12 @@ abbrev pub cause_words : PlanFault → List ℕ
 cause_words fault =
     decimal (fault_number fault) ++ (codes " " ++ (fault_name fault ++ (indices_text (fault_indices fault) ++ inner_text (fault_inner fault))))
 
--- behind other words the message names the cause, in brackets
+-- after other words the message names the cause, in brackets
 abbrev pub NamesCause : PlanFault → List ℕ → Type 0
 NamesCause fault message =
     (front behind : List ℕ) × (message ≡ front ++ (codes " [" ++ (cause_words fault ++ (codes "]\n" ++ behind))))
 
--- behind other words the message names the grammar as the cause
+-- after other words the message names the grammar as the cause
 abbrev pub NamesGrammar : List ℕ → Type 0
 NamesGrammar message = (front : List ℕ) × (message ≡ front ++ codes " [90 Line]\n")
 

@@ -9,7 +9,7 @@ use Rattle.dsa_text.specs.declared.settings.SettingsNumbers.{SettingsNumbers}
 use Rattle.dsa_lines.specs.Numbers.{size_of}
 use Rattle.dsa_text.specs.Numbers.{numbers_of}
 
--- one price for all batches; or prices by size, where there are words for them
+-- one price for all batches; or prices by size, if there are words for them
 abbrev pub SpellsBatch : List ℕ → Option (List ℕ) → BatchPrices → Type 0
 SpellsBatch batch None prices = (price : ℕ) × (number_of batch ≡ Some price) × (prices ≡ SamePrice price)
 SpellsBatch batch (Some batches) prices = (table : List ℕ) × (numbers_of batches ≡ Some table) × (prices ≡ BySize table)
@@ -24,7 +24,7 @@ pub record SpellSettings (w : SettingsWords) (s : SettingsText) : Type 0 where
   pub fence : number_of w.fence.now ≡ Some s.fence
   pub staging : number_of w.staging.now ≡ Some s.staging
 
--- the settings of a job with the members that the words spell; or none, where they spell no settings
+-- the settings of a job with the members that the words spell; or none, if they spell no settings
 abbrev pub GivesSettings : SettingsWords → Option Limits → Type 0
 GivesSettings w (Some settings) =
     (s : SettingsText) × SpellSettings w s × AreSettings s × (settings ≡ limits_of s)

@@ -55,7 +55,7 @@ pub record TellsPlan (s : Limits) (detail : Detail) (plan : Plan) (pieces : List
   pub is : IsExplanationOf s detail pieces barriers plan explanation
   pub words : text ≡ explanation_words s detail explanation pieces labels
 
--- the text is the line of the explanation in JSON, with all conflicts and what the least plan costs, where that is known
+-- the text is the line of the explanation in JSON, with all conflicts and what a least plan costs, if that is known
 pub record SpellsPlan (s : Limits) (plan : Plan) (pieces : List Descriptor) (barriers : List Bool) (labels : Labelling) (least : Option ℕ) (text : List ℕ) : Type 0 where
   pub can : CanBeExplained s pieces barriers plan
   pub explanation : Explanation
@@ -83,18 +83,18 @@ ShowsPlan Picture s plan pieces barriers labels least text = DrawsPlan s plan pi
 ShowsPlan Json s plan pieces barriers labels least text = SpellsPlan s plan pieces barriers labels least text
 ShowsPlan Waits s plan pieces barriers labels least text = TellsWaits s plan pieces barriers text
 
--- the message where a plan has too many groups to draw
+-- the message if a plan has too many groups to draw
 abbrev pub too_many_groups : ℕ → List ℕ
 too_many_groups groups =
     codes "error: " ++ (decimal groups ++ codes " groups, a picture has 1024 at most [91 Picture]\n")
 
--- the message where a tracker refuses the groups
+-- the message if a tracker refuses the groups
 abbrev pub untracked : TrackFault → List ℕ
 untracked fault =
     codes "error: a tracker with 64 slots refuses the groups" ++ (codes " [" ++ (decimal (track_number fault) ++ (codes " " ++ (track_name fault ++ codes "]\n"))))
 
--- A plan that can be explained has status 0, and is shown. Refused is one that can't be, for the cause
--- that `explain` finds, one with too many groups to draw, and one of which a tracker refuses the groups.
+-- A plan that can be explained is shown, with status 0. A plan is refused if it can't be explained, for
+-- the cause that `explain` finds, if it has too many groups to draw, or if a tracker refuses its groups.
 pub data AnswersPlan (s : Limits) (plan : Plan) (pieces : List Descriptor) (barriers : List Bool) (labels : Labelling) (least : Option ℕ) (form : Form) (a : Answer) : Type 0 where
   is_shown : a.status ≡ 0 → ShowsPlan form s plan pieces barriers labels least (string_bytes a.text) → AnswersPlan s plan pieces barriers labels least form a
   is_unfit : (fault : ExplainFault) → Explains s (detail_of form) pieces barriers plan (Err fault) → IsRefusal (explain_cause fault) a → AnswersPlan s plan pieces barriers labels least form a

@@ -20,7 +20,7 @@ AnswersEvents format accepted input events a =
 abbrev pub joined_status : ℕ → ℕ → ℕ
 joined_status report waits = if waits == 2 then 2 else max report waits
 
--- that of the report, if it is 2; else that of both, in the format of the options
+-- the status of the report, if that is 2; else that of both, in the format of the options
 abbrev pub AuditsEvents : ArgMatches → Given → List ℕ → List ℕ → AuditAnswer → Type 0
 AuditsEvents m g input events a =
     (report : AuditAnswer) × AuditsInput m g input report

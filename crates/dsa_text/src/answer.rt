@@ -18,7 +18,7 @@ pub struct Answer {
     pub text: String,
     /// The status of the program: 0 for an answer and 1 for a refusal.
     pub status: u8,
-    /// What is said beside an answer, on standard error.
+    /// Notes and warnings beside an answer, for standard error.
     pub warnings: Option<String>,
 }
 
@@ -66,7 +66,7 @@ impl Answer {
         Ok(Answer::refused(message_of(alloc, fault)?))
     }
 
-    /// The refusal of a job or a list, in words that tell more than its cause does.
+    /// The refusal of a job or a list, in words that say more than its cause does.
     pub(crate) fn fault_with(
         alloc: Global,
         fault: PlanFault,

@@ -21,7 +21,7 @@ use dsa_recording::{
 use std::alloc::{AllocError, Global};
 use std::io::Read;
 
-/// What files that options name have.
+/// The contents of the files that options name.
 #[derive(Clone, Copy)]
 pub(crate) struct Given<'a> {
     /// The kinds of errors that are known.
@@ -332,14 +332,14 @@ fn audit_words<'a>(matches: &ArgMatches<'a>) -> SettingsWords<'a>
     }
 }
 
-/// The answer where the options of `audit` are none.
+/// The answer if the options of `audit` are invalid.
 fn refusal(text: String) -> AuditAnswer
     ensures { result.status ≡ 2 }
 {
     AuditAnswer { text, status: 2 }
 }
 
-/// The answer where the options spell no settings.
+/// The answer if the options spell no settings.
 fn refused_settings(alloc: Global, words: &SettingsWords<'_>) -> Result<AuditAnswer, AllocError>
     ensures { IfOk result (λ a. a.status ≡ 2) }
 {
@@ -347,7 +347,7 @@ fn refused_settings(alloc: Global, words: &SettingsWords<'_>) -> Result<AuditAns
     Ok(refusal(message_with(alloc, PlanFault::Settings, &message)?))
 }
 
-/// The report on an input: a recording, or where there are dumps what was written to a portal.
+/// The report on an input: a recording, or, if there are dumps, what was written to a portal.
 fn audit_with(
     alloc: Global,
     dumps: &[Dump],
@@ -421,7 +421,7 @@ pub(crate) fn options_in<'a>(
     }
 }
 
-/// What `audit` answers of an input, options, and the files that they name.
+/// What `audit` answers to an input, options, and the files that they name.
 pub(crate) fn audit_input(
     alloc: Global,
     matches: &ArgMatches<'_>,
@@ -436,7 +436,7 @@ pub(crate) fn audit_input(
     }
 }
 
-/// What `audit` answers of what a reader gives, options, and the file of errors that they name, without dumps.
+/// What `audit` answers to what a reader gives, options, and the file of errors that they name, without dumps.
 pub(crate) fn audit_reader<R: Read>(
     alloc: Global,
     matches: &ArgMatches<'_>,

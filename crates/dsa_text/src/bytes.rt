@@ -1,4 +1,4 @@
-//! Bytes as hexadecimal text, in any form that `audit` reads, or as they stand.
+//! Bytes as hexadecimal text, in any form that `audit` reads, or as they are.
 
 use crate::answer::Answer;
 use dsa_calls::PlanFault;

@@ -1,4 +1,4 @@
-//! What is said of compares whose results stop nothing.
+//! Notes on compares whose results stop nothing.
 
 use crate::kept::cuts_of;
 use crate::notes::Notes;
@@ -9,10 +9,10 @@ use dsa_descriptor::{Descriptor, FlagWord, Op};
 use dsa_plan::{Plan, Settings};
 use std::alloc::{AllocError, Global};
 
-/// What is said of a compare whose result is not checked, with a barrier after it.
+/// The note on a compare whose result is not checked, with a barrier after it.
 const UNCHECKED: &str = "without check its result does not stop what is after a barrier";
 
-/// What is said of a compare whose result is checked, without a barrier just after it.
+/// The note on a compare whose result is checked, without a barrier just after it.
 const UNGUARDED: &str = "what is after its check, up to a barrier, may run even if it fails";
 
 /// The last operation with a barrier before it.
@@ -20,8 +20,8 @@ fn last_barrier(marks: &[bool]) -> Option<usize> {
     marks.iter().rposition(|mark| *mark)
 }
 
-/// Why what an operation finds stops nothing, if it is a compare: a barrier is after it, but its result is not checked;
-/// or it is, but the operation after it is of its epoch of the plan.
+/// Why the result of an operation stops nothing, if it is a compare: a barrier is after it, but its result is not
+/// checked; or it is checked, but the operation after it is in the same epoch of the plan.
 fn cause_of(d: &Descriptor, is_before_barrier: bool, goes_on: bool) -> Option<&'static str> {
     let is_checked = d.flags.0 & FlagWord::CHECK_RESULT.0 != 0;
     match d.op {

@@ -154,7 +154,7 @@ fn comments_of(alloc: Global, text: &[u8], is_drawn: bool) -> Result<Comments, A
     }
 }
 
-/// What comments name where operations come from: nothing in a job, and buffers in pictures alone.
+/// What comments name, by where operations come from: nothing in a job, and buffers only for pictures.
 pub(crate) fn comments_in(
     alloc: Global,
     source: Source<'_>,

@@ -1,4 +1,4 @@
-//! What is said of addresses in decimal digits that may be meant otherwise.
+//! Notes on addresses in decimal digits that may be meant otherwise.
 
 use crate::unplanned::Source;
 use dsa_lines::number_of;
@@ -126,7 +126,7 @@ fn pattern_note(alloc: Global, decimal: Decimal<'_>) -> Result<String, AllocErro
     Ok(text)
 }
 
-/// That an address is in decimal digits where others are in hexadecimal ones.
+/// That an address is in decimal digits although others are in hexadecimal ones.
 fn decimal_note(alloc: Global, decimal: Decimal<'_>, count: usize) -> Result<String, AllocError> {
     let address = number_of(decimal.digits).unwrap_or(0);
     let mut text = place_of(alloc, decimal)?;
@@ -140,8 +140,8 @@ fn decimal_note(alloc: Global, decimal: Decimal<'_>, count: usize) -> Result<Str
     Ok(text)
 }
 
-/// What is said of the addresses of a text in decimal digits: of one that a compare has in place of a pattern; else of
-/// the first of them, if others are in hexadecimal digits.
+/// The note on addresses in decimal digits: on one that a compare has in place of a pattern; else on the first of them,
+/// if others are in hexadecimal digits.
 pub(crate) fn decimal_notes(
     alloc: Global,
     source: Source<'_>,

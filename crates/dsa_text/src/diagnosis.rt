@@ -33,7 +33,7 @@ const SETTINGS: [&str; 7] = [
 /// The members that are bytes.
 const BYTES: [&str; 3] = ["list", "portal", "staging"];
 
-/// Why a refusal can't be told better than by its cause: nothing was found, or memory was refused.
+/// A better reason for a refusal than its cause; none if nothing was found, or that an allocation failed.
 type Found = Result<Option<String>, AllocError>;
 
 /// What is wrong with the names of an object's members.
@@ -55,7 +55,7 @@ fn names_fault(alloc: Global, value: &Value, whole: &str, names: &[&str]) -> Fou
     Ok(None)
 }
 
-/// The kind that a member of a job has to be of, where it is not.
+/// The kind that a member of a job has to be of, if it is not.
 fn wrong_kind(name: &str, value: &Value) -> Option<&'static str> {
     match name {
         "do" | "list" | "portal" | "staging" => (!value.is_string()).then_some("text"),

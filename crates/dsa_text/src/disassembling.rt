@@ -77,8 +77,8 @@ pub fn disassemble_portal(alloc: Global, portal: &[u8]) -> Result<Answer, AllocE
     answer_of(alloc, dsa_lines::disassemble_portal(alloc, portal))
 }
 
-/// The text of a staging area at an address: a line for each entry and each record. The address is a multiple of 64 and at
-/// most 2^63, as that of settings is.
+/// The text of a staging area at an address: a line for each entry and each record. The address is a multiple of 64 and
+/// at most 2^63, as that of settings is.
 pub fn disassemble_staging(alloc: Global, staging: &[u8], at: u64) -> Result<Answer, AllocError> {
     if at % 64 != 0 || at > 1 << 63 {
         return Answer::fault(alloc, PlanFault::Settings);

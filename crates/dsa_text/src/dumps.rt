@@ -23,7 +23,7 @@ fn address_and_file(word: &str) -> Option<(u64, &str)> {
     Some((address, file))
 }
 
-/// The bytes of a dump: as they stand, or as a text of digits spells them. Else the message that says why there are none.
+/// The bytes of a dump: as they are, or as a text of digits spells them. Else the message that says why there are none.
 fn bytes_of_dump(
     alloc: Global,
     file: &str,
@@ -41,7 +41,7 @@ fn bytes_of_dump(
     }
 }
 
-/// The dump that a word names, or the status where there is none.
+/// The dump that a word names, or the status if there is none.
 fn read_dump(rt: &HostRuntime, word: &str) -> Result<Result<Dump, ExitCode>, AllocError> {
     let alloc = rt.alloc();
     let Some((address, file)) = address_and_file(word) else {
@@ -58,7 +58,7 @@ fn read_dump(rt: &HostRuntime, word: &str) -> Result<Result<Dump, ExitCode>, All
     }
 }
 
-/// The dumps that the options name, in their order, or the status where one is none.
+/// The dumps that the options name, in their order, or the status if one can't be read.
 pub(crate) fn dumps_in(
     rt: &HostRuntime,
     matches: &ArgMatches<'_>,

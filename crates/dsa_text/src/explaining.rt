@@ -70,7 +70,7 @@ fn marks_of_pieces(
     piece_barriers(alloc, operations, marks, settings)
 }
 
-/// The answer of planned operations with these barriers.
+/// The answer for planned operations with these barriers.
 fn answer_planned(
     alloc: Global,
     operations: &[Descriptor],
@@ -103,7 +103,7 @@ fn answer_planned(
     answer_plan(alloc, &subject, settings, form)
 }
 
-/// What is said of operations by themselves: of their records, and of regions that overlap.
+/// The notes and warnings about the operations themselves: about their records, and about regions that overlap.
 pub(crate) fn operation_notes(
     alloc: Global,
     operations: &[Descriptor],
@@ -115,8 +115,8 @@ pub(crate) fn operation_notes(
     joined(joined(shared, overwritten)?, overlaps)
 }
 
-/// The same, with what is said of its operations, of fences that the plan does not keep, of
-/// barriers that a tracker does not see, and of the text.
+/// The same, with the notes and warnings about its operations, about fences that the plan does
+/// not keep, about barriers that a tracker does not see, and about the text.
 fn answer_with_warnings(
     alloc: Global,
     operations: &[Descriptor],
@@ -207,7 +207,7 @@ pub fn explain_text(
     }
 }
 
-/// What the plan of these pieces does and why, if the certificate shows that none costs less.
+/// What the plan of these pieces does and why, if the certificate proves that none costs less.
 fn explain_emission(
     alloc: Global,
     plan: &Plan,
@@ -231,7 +231,7 @@ fn explain_emission(
     }
 }
 
-/// What the plan that a portal and a staging area submit does and why, if the certificate shows that none costs less.
+/// What the plan that a portal and a staging area submit does and why, if the certificate proves that none costs less.
 pub fn explain_checked(
     alloc: Global,
     portal: &[u8],

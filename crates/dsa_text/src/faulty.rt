@@ -57,7 +57,7 @@ fn push_wrap(alloc: Global, text: &mut String, entry: &[u8; 64]) -> Result<(), A
     Ok(())
 }
 
-/// Writes what of a delta is at fault.
+/// Writes which part of a delta is at fault.
 fn push_delta(alloc: Global, text: &mut String, entry: &[u8; 64]) -> Result<(), AllocError> {
     let (size, dst) = (u32_at(entry, 32), u64_at(entry, 24));
     let record_size = u32_at(entry, 40);
@@ -83,7 +83,7 @@ fn push_owner(alloc: Global, text: &mut String, owner: u32) -> Result<(), AllocE
     text.push_str(&format!(in alloc; "pasid {pasid}{privilege}")?)
 }
 
-/// Writes the owner of an operation, and that of the first one, which is another.
+/// Writes the owner of an operation, and that of the first one, which differs.
 pub(crate) fn push_owners(
     alloc: Global,
     text: &mut String,

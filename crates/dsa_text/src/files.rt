@@ -1,4 +1,4 @@
-//! `audit` of several files: the report on each, and what they come to.
+//! `audit` of several files: the report on each, and a summary.
 
 ghost use Rattle.std.specs.Prelude.{◌≡◌, ◌↔◌, ◌==◌, [], IfOk, IsTrue, MatchOption, length, map, string_bytes};
 ghost use Rattle.std.specs.List.{count_by};
@@ -19,7 +19,7 @@ use std::alloc::{AllocError, Global};
 use std::io;
 use std::io::Read;
 
-/// Whether an option is given that is of one file alone.
+/// Whether an option is given that goes with a single file only.
 fn takes_one_file(matches: &ArgMatches<'_>) -> bool
     ensures { IsTrue result ↔ TakesOneFile matches.now }
 {
@@ -29,7 +29,7 @@ fn takes_one_file(matches: &ArgMatches<'_>) -> bool
     is_either_given(matches, "staging", "events")
 }
 
-/// Why files of these names are refused with one another, or with the options, if they are.
+/// Why files of these names are refused together, or with the options, if they are.
 pub(crate) fn refusal_together(matches: &ArgMatches<'_>, names: &[&str]) -> Option<&'static str>
     ensures { MatchOption result
         (¬ AreRefusedTogether matches.now (map (λ name. name.now) names.now))
@@ -47,7 +47,7 @@ pub(crate) fn refusal_together(matches: &ArgMatches<'_>, names: &[&str]) -> Opti
     None
 }
 
-/// The answer where a file can't be opened or read.
+/// The answer if a file can't be opened or read.
 fn refused(alloc: Global, reason: NoText) -> Result<AuditAnswer, AllocError>
     ensures { IfOk result (λ a. a.status ≡ 2) }
 {
@@ -92,12 +92,12 @@ fn answer_of(
     }
 }
 
-/// Writes a text to standard output, and answers whether all of it was taken.
+/// Writes a text to standard output, and returns whether all of it was taken.
 fn write_text(rt: &HostRuntime, text: &str) -> bool {
     write_line(&mut io::writer(rt), text.as_bytes())
 }
 
-/// Writes a report between two texts, and answers whether all was taken.
+/// Writes a report between two texts, and returns whether all was taken.
 fn write_between(rt: &HostRuntime, before: &str, report: &str, after: &str) -> bool {
     if !write_text(rt, before) {
         return false;
@@ -147,7 +147,7 @@ fn named_lines(alloc: Global, name: &str, text: &str) -> Result<String, AllocErr
 }
 
 /// Writes the report on a file; why there is none goes to standard error, and in JSON also into the object of the file.
-/// Answers whether all was written to standard output.
+/// Returns whether all was written to standard output.
 fn write_answer(
     rt: &HostRuntime,
     format: AuditFormat,
@@ -214,7 +214,7 @@ fn times_of(status: u8, statuses: &[u8]) -> usize
     statuses.iter().filter(|other| **other == status).count()
 }
 
-/// The last line of the reports: what the files come to.
+/// The last line of the reports, the summary of the files.
 fn summary_text(alloc: Global, statuses: &[u8]) -> Result<String, AllocError>
     ensures { IfOk result (λ s. string_bytes s ≡ summary_words statuses.now) }
 {
@@ -223,7 +223,7 @@ fn summary_text(alloc: Global, statuses: &[u8]) -> Result<String, AllocError>
     format!(in alloc; "{files} files: {faulty} with errors, {refused} refused\n")
 }
 
-/// Writes what follows the reports, and answers whether all was written.
+/// Writes what follows the reports, and returns whether all was written.
 fn write_end(rt: &HostRuntime, format: AuditFormat, statuses: &[u8]) -> Result<bool, AllocError> {
     match format {
         AuditFormat::Json => Ok(write_text(rt, "]}\n")),

@@ -48,7 +48,7 @@ fn refused_options(alloc: Global) -> Result<Answer, AllocError>
     Ok(Answer::refused(String::from_str(alloc, line)?))
 }
 
-/// What `explain` answers of a job, which has settings of its own.
+/// What `explain` answers to a job, which has settings of its own.
 fn explain_with_options(
     alloc: Global,
     matches: &ArgMatches<'_>,
@@ -63,7 +63,7 @@ fn explain_with_options(
     explain_job_text(alloc, text, form)
 }
 
-/// What `explain` answers of operations, with the settings that the options spell.
+/// What `explain` answers to operations, with the settings that the options spell.
 fn explain_operations(
     alloc: Global,
     matches: &ArgMatches<'_>,
@@ -80,7 +80,7 @@ fn explain_operations(
     }
 }
 
-/// What `explain` answers, of a job, which begins with a brace and has settings of its own, or of a text.
+/// What `explain` answers to a job, which begins with a brace and has settings of its own, or to a text.
 pub(crate) fn explain(
     alloc: Global,
     matches: &ArgMatches<'_>,

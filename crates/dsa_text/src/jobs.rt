@@ -22,7 +22,7 @@ fn not_explained(alloc: Global) -> Result<Answer, AllocError>
     Answer::fault_with(alloc, PlanFault::Do, message)
 }
 
-/// What `explain` answers of a job: one to plan, to judge or to check.
+/// What `explain` answers to a job to plan, to judge or to check.
 fn explain_job(alloc: Global, job: &Job, form: Form) -> Result<Answer, AllocError>
     ensures { IfOk result (ExplainsJob job.now form) }
 {
@@ -41,7 +41,7 @@ fn explain_job(alloc: Global, job: &Job, form: Form) -> Result<Answer, AllocErro
     }
 }
 
-/// What `explain` answers of the text of a job.
+/// What `explain` answers to the text of a job.
 pub(crate) fn explain_job_text(alloc: Global, text: &[u8], form: Form) -> Result<Answer, AllocError>
     ensures { IfOk result (ExplainsJobText text.now form) }
 {

@@ -1,4 +1,4 @@
-//! What a plan of one's own lacks.
+//! The fences that a given plan lacks.
 
 ghost use Rattle.std.specs.Prelude.{IfOk, string_bytes};
 ghost use Rattle.dsa_text.specs.Refusals.{NamesCause};

@@ -1,4 +1,4 @@
-//! `explain` of a plan of one's own.
+//! `explain` of a given plan.
 
 ghost use Rattle.std.specs.Prelude.{◌≡◌, ◌⊎◌, IfOk, List, Some, Err, map, string_bytes, ℕ};
 ghost use Rattle.dsa_descriptor.specs.Descriptors.{fields};
@@ -22,8 +22,8 @@ use dsa_explain::Detail;
 use dsa_plan::{LegalFault, Plan, Settings};
 use std::alloc::{AllocError, Global};
 
-/// What the least plan of the pieces costs, if there is one: the planner needs a staging area of its own, which settings may
-/// not have.
+/// What a least plan of the pieces costs, if one can be made: the planner needs a staging area of its own, which
+/// settings may not have.
 fn least_cost(
     alloc: Global,
     pieces: &[Descriptor],
@@ -39,7 +39,7 @@ fn least_cost(
     }
 }
 
-/// What a plan costs above the least.
+/// How much more a plan costs than a least plan.
 fn more_text(alloc: Global, more: u64) -> Result<String, AllocError>
     ensures { IfOk result (λ s. string_bytes s ≡ more_words more) }
 {
@@ -58,7 +58,7 @@ fn least_line(alloc: Global, cost: u64, least: u64) -> Result<String, AllocError
     Ok(line)
 }
 
-/// The line that names the least cost; empty where there is none.
+/// The line that names the least cost; empty if there is none.
 fn least_text(alloc: Global, cost: u64, least: Option<u64>) -> Result<String, AllocError>
     ensures { IfOk result (λ s. string_bytes s ≡ least_words cost least) }
 {
@@ -68,7 +68,7 @@ fn least_text(alloc: Global, cost: u64, least: Option<u64>) -> Result<String, Al
     }
 }
 
-/// A judged plan in words, with what the least plan costs.
+/// A judged plan in words, with what a least plan costs.
 fn judged_words(
     alloc: Global,
     plan: &Plan,
@@ -90,7 +90,7 @@ fn judged_words(
     Ok(Answer::done(text))
 }
 
-/// A judged plan as a picture, with what the least plan costs.
+/// A judged plan as a picture, with what a least plan costs.
 fn judged_picture(
     alloc: Global,
     plan: &Plan,
@@ -105,7 +105,7 @@ fn judged_picture(
     answer_plan(alloc, &plain(plan, pieces, least), settings, Form::Picture)
 }
 
-/// A judged plan as JSON, with what the least plan costs.
+/// A judged plan as JSON, with what a least plan costs.
 fn judged_json(
     alloc: Global,
     plan: &Plan,
@@ -153,7 +153,7 @@ fn judged_in_form(
     }
 }
 
-/// The answer of a judged plan, with what is said of its pieces.
+/// The answer for a judged plan, with the notes and warnings about its pieces.
 fn answer_judged(
     alloc: Global,
     plan: &Plan,
@@ -169,7 +169,7 @@ fn answer_judged(
     Ok(answer.with_warnings(operation_notes(alloc, pieces, settings)?))
 }
 
-/// The refusal of a plan of one's own. That of a plan that lacks fences lists each of them.
+/// The refusal of a given plan. If the plan lacks fences, the refusal lists each of them.
 fn refuse_judged(
     alloc: Global,
     pieces: &[Descriptor],
@@ -190,7 +190,7 @@ fn is_unfenced(fault: PlanFault) -> bool {
     matches!(fault, PlanFault::Legal(LegalFault::Unfenced(_, _)))
 }
 
-/// What a plan of these pieces does and why, if it may be submitted, and what the least plan costs.
+/// What a plan of these pieces does and why, if it may be submitted, and what a least plan costs.
 fn explain_pieces(
     alloc: Global,
     pieces: &[Descriptor],
@@ -211,8 +211,8 @@ fn explain_pieces(
     }
 }
 
-/// What a plan of listed pieces does and why, if it may be submitted, and what the least plan costs. The refusal of a plan
-/// that lacks fences lists each of them.
+/// What a plan of listed pieces does and why, if it may be submitted, and what a least plan costs. The refusal of a
+/// plan that lacks fences lists each of them.
 pub fn explain_judged(
     alloc: Global,
     list: &[u8],

@@ -1,5 +1,5 @@
-//! What is said of the fences and the barriers of a text: which fences a plan does not keep, and
-//! that a tracker sees no barriers.
+//! Notes and warnings about the fences and the barriers of a text: which fences a plan does not
+//! keep, and that a tracker sees no barriers.
 
 use crate::form::Form;
 use crate::notes::Notes;
@@ -11,7 +11,7 @@ use dsa_lines::text_barriers;
 use dsa_plan::{Plan, Settings};
 use std::alloc::{AllocError, Global};
 
-/// The one text and the other after it.
+/// One text and the other after it.
 pub(crate) fn joined(
     first: Option<String>,
     second: Option<String>,
@@ -25,8 +25,8 @@ pub(crate) fn joined(
     Ok(Some(text))
 }
 
-/// That a tracker sees no barriers, if what is asked of a list with barriers is what groups wait
-/// for.
+/// The warning that a tracker sees no barriers, if a list with barriers is explained by what its
+/// groups wait for.
 pub(crate) fn barrier_notes(
     alloc: Global,
     source: Source<'_>,
@@ -66,8 +66,7 @@ pub(crate) fn fenced_in(alloc: Global, text: &[u8]) -> Result<Vec<usize>, AllocE
     Ok(fenced)
 }
 
-/// Those of the operations before whose first piece the plan has neither a fence nor the start of a
-/// group.
+/// The operations whose first piece neither is fenced in the plan nor begins a group.
 fn unkept_in(
     alloc: Global,
     fenced: &[usize],

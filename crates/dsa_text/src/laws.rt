@@ -10,7 +10,7 @@ pub fn planned_fences_are_needed()
 {}
 
 /// Each fence of a plan of operations and their barriers separates the fenced piece from an earlier
-/// one, with which it conflicts or a barrier is between, and no other fence does.
+/// one, and no other fence does: the two conflict, or a barrier is between them.
 #[tactic(auto, using(crate::proofs::PlannedNeeded::marked_needed))]
 pub fn marked_fences_are_needed()
     ensures { MarkedFencesAreNeeded }

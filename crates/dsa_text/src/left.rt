@@ -1,4 +1,4 @@
-//! What is said of a list and the completion records that are to be resumed.
+//! Notes and warnings about a list and the completion records that are to be resumed.
 
 ghost use Rattle.std.specs.Prelude.{map};
 ghost use Rattle.dsa_descriptor.specs.Descriptors.{fields};
@@ -12,7 +12,7 @@ use dsa_lines::{TextFault, parse_operations, text_barriers};
 use dsa_plan::Settings;
 use std::alloc::{AllocError, Global};
 
-/// What is said of a list with barriers.
+/// The note on a list with barriers.
 const BARRIERS: &str =
     "note: a list with barriers is not resumed: resume what is between two barriers by itself\n";
 
@@ -39,7 +39,7 @@ impl Unfinished {
         self.within = None;
     }
 
-    /// Adds a piece by the status in its record: 0 before it begins, 1 if it has succeeded. Answers the piece that has
+    /// Adds a piece by the status in its record: 0 before it begins, 1 if it has succeeded. Returns the piece that has
     /// not succeeded, though it had to before this one began.
     fn push(&mut self, piece: usize, status: u8) -> Option<usize> {
         if self.within.is_none() && status != 1 {
@@ -78,7 +78,7 @@ fn piece_total(operations: &[Descriptor], settings: &Settings) -> usize {
     total
 }
 
-/// What is said of records that submitting the groups of the list's plan in turn does not leave.
+/// The warning about records that submitting the groups of the list's plan in turn does not leave.
 fn early_note(
     alloc: Global,
     operations: &[Descriptor],
@@ -104,8 +104,8 @@ fn early_note(
     Ok(Some(text))
 }
 
-/// What is said of a list and records: that it has barriers, how long the records should be, or that submitting the
-/// groups of its plan in turn does not leave them.
+/// The note or warning about a list and records: that the list has barriers, how long the records should be, or that
+/// submitting the groups of its plan in turn does not leave them.
 pub(crate) fn resume_notes(
     alloc: Global,
     text: &[u8],

@@ -72,10 +72,10 @@ const BYTES: &str =
     "Hexadecimal as xxd, xxd -p and hexdump -v -C write it, or the bytes as they stand.
 Example: dsa_text disassemble --staging --at 0x10000 staging.hex";
 
-/// What is said where memory was refused, which takes none.
+/// The message if an allocation failed; printing it allocates nothing.
 const NO_MEMORY: &str = "error: there was not enough memory [73 Memory]\n";
 
-/// What is said where standard output can't be written.
+/// The message if standard output can't be written.
 const UNWRITTEN: &str = "error: the answer can't be written\n";
 
 /// What the help of the program says of input and statuses.
@@ -335,7 +335,7 @@ fn lines_of(
     }
 }
 
-/// What `disassemble` answers. An input that is no text is its bytes as they stand.
+/// What `disassemble` answers. An input that is no text is taken as its bytes.
 fn disassemble(
     alloc: Global,
     matches: &ArgMatches<'_>,
@@ -370,7 +370,7 @@ fn answer_command(
     }
 }
 
-/// Writes the message of a refusal to standard error, and ends with a status, or with 2 where writing fails.
+/// Writes the message of a refusal to standard error, and ends with a status, or with 2 if writing fails.
 fn refuse(rt: &HostRuntime, message: &str) -> ExitCode {
     match eprint!(rt; "{message}") {
         Ok(()) => ExitCode::from(1),
@@ -387,8 +387,8 @@ fn written(rt: &HostRuntime, text: &str, status: u8) -> ExitCode {
     }
 }
 
-/// Writes an answer to standard output and its warnings to standard error, and ends. The status is that of the answer, also
-/// if the warnings can't be written.
+/// Writes an answer to standard output and its warnings to standard error, and ends. The status is that of the answer,
+/// also if the warnings can't be written.
 fn written_answer(rt: &HostRuntime, answer: &Answer) -> ExitCode {
     let code = written(rt, &answer.text, 0);
     if let Some(warnings) = &answer.warnings {
@@ -406,7 +406,7 @@ fn ended(rt: &HostRuntime, answer: &Answer) -> ExitCode {
     }
 }
 
-/// Writes what the parser of the arguments says: to help with them, or why they are none.
+/// Writes what the parser of the arguments says: its help, or why the arguments are refused.
 fn show(rt: &HostRuntime, error: &clap::Error) -> Result<ExitCode, AllocError> {
     if error.kind() == ErrorKind::OutOfMemory {
         return Err(AllocError);
@@ -417,7 +417,7 @@ fn show(rt: &HostRuntime, error: &clap::Error) -> Result<ExitCode, AllocError> {
     }
 }
 
-/// The arguments; none where they are no text.
+/// The arguments; none if they are no text.
 fn arguments(rt: &HostRuntime) -> Result<Option<Vec<String>>, AllocError> {
     match std::env::args(rt) {
         Ok(words) => Ok(Some(words.collect(rt.alloc())?)),
@@ -433,7 +433,7 @@ fn say(rt: &HostRuntime, message: &str) {
     }
 }
 
-/// Says what failed, and ends. The status tells enough where standard error is not there.
+/// Says what failed, and ends. Without standard error the status says enough.
 fn failed(rt: &HostRuntime, message: &str) -> ExitCode {
     say(rt, message);
     ExitCode::from(2)
@@ -466,7 +466,7 @@ fn unopened(kind: io::ErrorKind) -> NoText {
     }
 }
 
-/// The file that the arguments name; none where that is standard input, which `-` stands for.
+/// The file that the arguments name; none if that is standard input, which `-` stands for.
 fn file_in<'a>(matches: &ArgMatches<'a>) -> Option<&'a str> {
     match matches.get_str("file") {
         Some("-") | None => None,
@@ -488,7 +488,7 @@ fn file_at(rt: &HostRuntime, path: &str) -> Result<File, NoText> {
     Ok(opened)
 }
 
-/// The text of the file, or of standard input where none is named.
+/// The text of the file, or of standard input if none is named.
 fn input(rt: &HostRuntime, file: Option<&str>) -> Result<Vec<u8>, NoText> {
     let Some(path) = file else {
         return text_or_reason(read_text(rt.alloc(), &mut rt.reader()));
@@ -552,7 +552,7 @@ fn accepted_in(
     }
 }
 
-/// The answer of `audit` to the text of the file, in the light of the files that the options name.
+/// The answer of `audit` to the text of the file, with the files that the options name.
 fn audit_whole(
     rt: &HostRuntime,
     matches: &ArgMatches<'_>,
@@ -665,7 +665,7 @@ fn audited_all(rt: &HostRuntime, matches: &ArgMatches<'_>) -> Result<ExitCode, A
     Ok(ExitCode::from(audit_files(rt, matches, given, names)?))
 }
 
-/// What `resume` answers to a text and the bytes of records, with what is said of them.
+/// What `resume` answers to a text and the bytes of records, with the notes and warnings about them.
 fn resume_records(
     alloc: Global,
     matches: &ArgMatches<'_>,
@@ -755,7 +755,7 @@ fn run(rt: &HostRuntime) -> Result<ExitCode, AllocError> {
     }
 }
 
-/// Runs one command. The status is 0 for an answer; 1 for a refusal, which is one line on standard error; 2 where reading
+/// Runs one command. The status is 0 for an answer; 1 for a refusal, which is one line on standard error; 2 if reading
 /// or writing failed, and for invalid arguments, with a message on standard error if they are text.
 fn main(rt: HostRuntime) -> ExitCode {
     match run(&rt) {

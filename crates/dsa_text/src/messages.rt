@@ -1,4 +1,4 @@
-//! What a refusal tells a person: the place, the cause, and what was expected; its number and name stand at the end.
+//! The message of a refusal: the place, the cause, and what was expected; its number and name come last.
 
 ghost use Rattle.std.specs.Prelude.{◌≡◌, ◌++◌, IfOk, OnOk, codes, string_bytes};
 ghost use Rattle.dsa_calls.specs.Fault.{indices_text, inner_text, list_cause, named_text, place_text};
@@ -129,7 +129,7 @@ pub(crate) fn message_of(alloc: Global, fault: PlanFault) -> Result<String, Allo
     Ok(text)
 }
 
-/// The message of a refusal of which more is known than its cause.
+/// The message of a refusal that more is known about than its cause.
 pub(crate) fn message_with(
     alloc: Global,
     fault: PlanFault,
@@ -208,7 +208,7 @@ pub(crate) fn line_message(
     Ok(text)
 }
 
-/// Writes what was expected at a place, what stands there, and what helps.
+/// Writes what was expected at a place, what is there, and what helps.
 fn push_expected(
     alloc: Global,
     text: &mut String,
@@ -226,7 +226,7 @@ fn push_expected(
     Ok(())
 }
 
-/// The message of a line that leaves the grammar: what was expected at the place, what stands there, and what helps.
+/// The message of a line that leaves the grammar: what was expected at the place, what is there, and what helps.
 pub(crate) fn grammar_message(
     alloc: Global,
     given: &[u8],

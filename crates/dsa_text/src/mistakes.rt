@@ -21,7 +21,7 @@ enum Mistake {
     Operation(ListFault),
 }
 
-/// What the operations of the lines so far come to.
+/// What is known of the operations of the lines so far.
 #[derive(Clone, Copy, Debug)]
 struct Sofar {
     /// How many there are.
@@ -62,9 +62,9 @@ impl Sofar {
 /// The lines that are wrong beside one.
 #[derive(Debug, Drop)]
 struct Others {
-    /// What is said of those before it.
+    /// The messages of those before it.
     before: String,
-    /// What is said of those after it.
+    /// The messages of those after it.
     after: String,
     /// How many of them are named.
     named: usize,
@@ -127,7 +127,7 @@ fn others_of(alloc: Global, text: &[u8], known: usize) -> Result<Others, AllocEr
     Ok(others)
 }
 
-/// How many lines are wrong, of which one is not among the others, and how many are not named.
+/// How many lines are wrong, with the one that is not among the others, and how many of them are not named.
 fn count_text(alloc: Global, others: &Others) -> Result<String, AllocError> {
     let count = others.count.saturating_add(1);
     let left = others.count.saturating_sub(others.named);

@@ -1,4 +1,4 @@
-//! Lines that are said of operations beside an answer.
+//! Notes and warnings about operations beside an answer.
 
 use std::alloc::{AllocError, Global};
 
@@ -21,7 +21,7 @@ impl Notes {
         }
     }
 
-    /// Counts a line, and says whether it is to be written.
+    /// Counts a line, and returns whether it is to be written.
     pub(crate) fn count(&mut self) -> bool {
         self.count = self.count.saturating_add(1);
         self.count <= MOST_WRITTEN

@@ -14,7 +14,7 @@ pub fn number_of(word: &str) -> Option<u64>
     dsa_lines::number_of(word.as_bytes())
 }
 
-/// A number of bytes: `K` or `M` after it stands for 1,024 or 1,048,576 of them.
+/// A number of bytes: `K` after it means 1,024 and `M` 1,048,576 of them.
 pub(crate) fn size_of(word: &str) -> Option<u64>
     ensures { result ≡ size_of word.now }
 {

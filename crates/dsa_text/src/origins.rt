@@ -1,4 +1,4 @@
-//! Of which operation of a planned list each piece is.
+//! The operation of a planned list that each piece is of.
 
 ghost use Rattle.std.specs.Prelude.{◌≡◌, ◌++◌, IfOk, OnOk, map};
 ghost use Rattle.dsa_descriptor.specs.Descriptors.{fields};
@@ -10,7 +10,7 @@ use dsa_explain::Origin;
 use dsa_plan::Settings;
 use std::alloc::{AllocError, Global};
 
-/// Into how many pieces an operation is split: one at each multiple of the greatest transfer.
+/// How many pieces an operation is split into: one at each multiple of the greatest transfer.
 #[tactic(auto, unfolding(dsa_image::specs::Lines::quotient_up))]
 pub(crate) fn count_of(d: &Descriptor, settings: &Settings) -> usize
     ensures { result ≡ piece_count (fields d.now) settings.now.greatest_transfer }
@@ -37,7 +37,7 @@ fn push_origins(
     Ok(())
 }
 
-/// Of which operation each piece is.
+/// The operation that each piece is of.
 pub(crate) fn origins_of(
     alloc: Global,
     operations: &[Descriptor],

@@ -1,4 +1,4 @@
-//! What is said of moves whose source and destination overlap.
+//! Notes on moves whose source and destination overlap.
 
 use crate::notes::Notes;
 use dsa_descriptor::{Descriptor, Op};
@@ -20,7 +20,7 @@ fn overlaps(d: &Descriptor, settings: &Settings) -> bool {
     }
 }
 
-/// A line for each move of which a piece has a source and a destination that overlap.
+/// A line for each move that has a piece whose source and destination overlap.
 pub(crate) fn overlap_notes(
     alloc: Global,
     operations: &[Descriptor],

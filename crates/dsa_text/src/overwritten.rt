@@ -1,4 +1,4 @@
-//! What is said of operations whose data meets the completion records of others: data that they write, and data that
+//! Warnings about operations whose data meets the completion records of others: data that they write, and data that
 //! they read before a record is written there.
 
 use crate::notes::Notes;
@@ -15,7 +15,7 @@ struct Meeting {
     row: Row,
 }
 
-/// For each of the rows, which are in the order of their addresses, the one of it and those before it that ends last.
+/// For each of the rows, which are in the order of their addresses, the row that ends last of it and those before it.
 fn farthest_of(alloc: Global, rows: &[Row]) -> Result<Vec<Row>, AllocError> {
     let mut farthest = Vec::with_capacity(alloc, rows.len())?;
     let mut last: Option<Row> = None;
@@ -30,8 +30,8 @@ fn farthest_of(alloc: Global, rows: &[Row]) -> Result<Vec<Row>, AllocError> {
     Ok(farthest)
 }
 
-/// A row that shares an address with a span. `farthest` has for each row the one of it and those before it that ends
-/// last.
+/// A row that shares an address with a span. `farthest` has for each row the row that ends last of it and those before
+/// it.
 fn row_at(rows: &[Row], farthest: &[Row], span: Span) -> Option<Row> {
     let count = rows.partition_point(|row| u128::from(row.span().first) < span.end());
     let row = farthest.get(count.checked_sub(1)?)?;

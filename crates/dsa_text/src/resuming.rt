@@ -23,7 +23,7 @@ What is written are the lines of the pieces that have not finished (status other
 their records set to zero.
 Example: dsa_text resume --records records.hex store.txt";
 
-/// What is said of records of another length.
+/// The refusal of records of another length.
 const OTHER_RECORDS: &str =
     "error: there are not 32 bytes of completion records for each piece [112 Records]\n";
 
@@ -64,7 +64,7 @@ pub(crate) fn resume_text(
 ) -> Result<Answer, AllocError>
     ensures { IfOk result (ResumesText text.now settings.now records.now order) }
 {
-    // a barrier is a fence of the list, which is refused
+    // a barrier becomes a fence of the list, which is refused
     let list = match assemble_fenced(alloc, text, false) {
         Ok(list) => list,
         Err(fault) => return Answer::text_fault(alloc, text, fault),

@@ -1,4 +1,4 @@
-//! What is said of operations whose completion records are in the row of another's.
+//! Warnings about operations whose completion records are in the row of another's.
 
 use crate::origins::count_of;
 use dsa_descriptor::{Descriptor, RECORD_LEN, Span};
@@ -143,8 +143,8 @@ fn push_shared(
     text.push_str("\n")
 }
 
-/// A line for each operation whose record is in the row of another, up to 20, and how many more there are; none where each
-/// operation has records of its own. The addresses that are named are free, also beside each other.
+/// A line for each operation whose record is in the row of another, up to 20, and how many more there are; none if each
+/// operation has records of its own. The addresses that are named are free, also if all of them are used.
 pub(crate) fn warnings_of(
     alloc: Global,
     operations: &[Descriptor],

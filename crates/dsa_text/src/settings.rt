@@ -74,7 +74,7 @@ impl Setting {
         }
     }
 
-    /// What it has to be: a ..
+    /// What it has to be, after "a".
     pub(crate) fn limits(self) -> &'static str {
         match self {
             Setting::GreatestBatch => "number from 2 to 1024",
@@ -108,7 +108,7 @@ impl Setting {
         }
     }
 
-    /// The number that the word spells; sizes may have a K or an M behind them.
+    /// The number that the word spells; a K or an M may follow a size.
     fn read(self, word: &str) -> Option<u64> {
         match self {
             Setting::GreatestTransfer => size_of(word),
@@ -208,7 +208,7 @@ fn with_price(words: &SettingsWords<'_>) -> Option<Settings>
     }
 }
 
-/// The settings with a price of each size of batches.
+/// The settings with a price for each size of batches.
 fn with_table(words: &SettingsWords<'_>, batches: &str, table: &[u64]) -> Option<Settings>
     requires given { option_map (λ word. word.now) words.now.batches ≡ Some batches.now }
     requires spelled { numbers_of batches.now ≡ Some table.now }

@@ -18,8 +18,8 @@ use dsa_plan::{Plan, Settings};
 use dsa_tracker::TrackFault;
 use std::alloc::{AllocError, Global};
 
-/// What is shown: a plan of pieces and their barriers, of which operation each piece is, what operations
-/// and buffers are called, and what the least plan costs, where that is known.
+/// What is shown: a plan of pieces and their barriers, the operation that each piece is of, the names of
+/// operations and buffers, and what a least plan costs, if that is known.
 #[derive(Clone, Copy, Debug)]
 pub(crate) struct Subject<'a> {
     pub(crate) plan: &'a Plan,
@@ -30,7 +30,7 @@ pub(crate) struct Subject<'a> {
     pub(crate) least: Option<u64>,
 }
 
-/// A plan of pieces that have no barriers, and of which no operations are known.
+/// A plan of pieces without barriers, whose operations are not known.
 pub(crate) fn plain<'a>(plan: &'a Plan, pieces: &'a [Descriptor], least: Option<u64>) -> Subject<'a>
     ensures plan { result.plan.now ≡ plan.now }
     ensures pieces { result.pieces.now ≡ pieces.now }
@@ -85,7 +85,7 @@ pub(crate) fn plan_words(
     }
 }
 
-/// The answer of a plan of pieces in words.
+/// The answer for a plan of pieces in words.
 fn answer_words(
     alloc: Global,
     subject: &Subject<'_>,
@@ -127,7 +127,7 @@ fn plan_line(
     }
 }
 
-/// The answer of a plan of pieces as JSON.
+/// The answer for a plan of pieces as JSON.
 fn answer_json(
     alloc: Global,
     subject: &Subject<'_>,
@@ -151,7 +151,7 @@ fn too_many_groups(alloc: Global, groups: usize) -> Result<Answer, AllocError>
     Ok(Answer::refused(text))
 }
 
-/// The answer of a plan of pieces as a picture.
+/// The answer for a plan of pieces as a picture.
 fn answer_picture(
     alloc: Global,
     subject: &Subject<'_>,
@@ -199,7 +199,7 @@ fn untracked(alloc: Global, fault: TrackFault) -> Result<Answer, AllocError>
     Ok(Answer::refused(text))
 }
 
-/// The answer of a plan of pieces by what its groups wait for.
+/// The answer for a plan of pieces by what its groups wait for.
 fn answer_waits(
     alloc: Global,
     subject: &Subject<'_>,
@@ -223,7 +223,7 @@ fn answer_waits(
     }
 }
 
-/// The answer of a plan of pieces in a form.
+/// The answer for a plan of pieces in a form.
 pub(crate) fn answer_plan(
     alloc: Global,
     subject: &Subject<'_>,

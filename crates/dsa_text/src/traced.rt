@@ -73,7 +73,7 @@ fn joined(
     Ok(AuditAnswer { text, status })
 }
 
-/// What `audit` answers of an input, options, and the events of a file.
+/// What `audit` answers to an input, options, and the events of a file.
 pub(crate) fn audit_traced(
     alloc: Global,
     matches: &ArgMatches<'_>,

@@ -1,4 +1,5 @@
-//! What a person reads of operations that can't be planned: which stands where, what it does, and which setting to change.
+//! The message about operations that can't be planned: which operation is where, what it does, and which setting to
+//! change.
 
 ghost use Rattle.std.specs.Prelude.{IfOk};
 ghost use Rattle.dsa_text.specs.Refusals.{IsRefusal};
@@ -33,7 +34,7 @@ struct Given<'a> {
 /// An address of an operation that another range has too.
 #[derive(Clone, Copy, Debug)]
 struct Meeting {
-    /// What of the operation it is.
+    /// What part of the operation it is.
     what: &'static str,
     address: u64,
 }
@@ -56,7 +57,7 @@ impl Source<'_> {
     }
 }
 
-/// Which operation has the piece of this number.
+/// The operation that has the piece of this number.
 fn operation_of_piece(given: Given<'_>, piece: usize) -> usize {
     let mut before: usize = 0;
     for (index, d) in given.operations.iter().enumerate() {
@@ -204,7 +205,7 @@ fn push_cause(
     }
 }
 
-/// What a person reads of operations that are not split.
+/// The message about operations that can't be split.
 fn words_of(alloc: Global, given: Given<'_>, cause: SplitFault) -> Result<String, AllocError> {
     let mut text = String::new(alloc);
     let index = operation_at_fault(given, cause);

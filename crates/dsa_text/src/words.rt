@@ -65,7 +65,7 @@ fn column_of(line: &[u8], name: &[u8], is_behind: bool) -> Option<usize> {
     None
 }
 
-/// The column of the word that is at fault in an operation's line, where one is.
+/// The column of the word that is at fault in an operation's line, if there is such a word.
 pub(crate) fn column_at_fault(text: &[u8], line: usize, fault: ListFault) -> Option<usize> {
     let line = line_at(text, line);
     match fault {
@@ -129,7 +129,7 @@ fn is_hexadecimal(word: &[u8]) -> bool {
     word.iter().all(u8::is_ascii_hexdigit) && word.iter().any(u8::is_ascii_alphabetic)
 }
 
-/// What helps where a number was expected.
+/// What helps if a number was expected.
 fn hint_of_number(word: &[u8]) -> Option<&'static str> {
     if word.contains(&b'_') {
         return Some("digits without separators, as 262144");
@@ -146,7 +146,7 @@ fn hint_of_number(word: &[u8]) -> Option<&'static str> {
     }
 }
 
-/// What helps where a size was expected.
+/// What helps if a size was expected.
 fn hint_of_size(word: &[u8]) -> Option<&'static str> {
     match word {
         [b'0'..=b'9', .., b'K' | b'M'] => None,
@@ -157,7 +157,7 @@ fn hint_of_size(word: &[u8]) -> Option<&'static str> {
     }
 }
 
-/// What helps where `bytes` was expected.
+/// What helps if `bytes` was expected.
 fn hint_of_bytes(word: &[u8]) -> Option<&'static str> {
     match word {
         b"," => Some("`bytes` comes after each size, whose digits have no separators"),
@@ -168,7 +168,7 @@ fn hint_of_bytes(word: &[u8]) -> Option<&'static str> {
     }
 }
 
-/// What helps where an operation was expected.
+/// What helps if an operation was expected.
 fn hint_of_operation(word: &[u8]) -> Option<&'static str> {
     match word {
         b"unknown" => Some("an entry that is no listed descriptor, so it can't be planned"),
@@ -185,7 +185,7 @@ fn hint_of_operation(word: &[u8]) -> Option<&'static str> {
     }
 }
 
-/// What helps where an option was expected.
+/// What helps if an option was expected.
 fn hint_of_option(word: &[u8]) -> &'static str {
     match word {
         b"fence" => "a line `barrier` makes what comes after it wait; the plan sets other fences",
@@ -194,7 +194,7 @@ fn hint_of_option(word: &[u8]) -> &'static str {
     }
 }
 
-/// What helps where flags were expected.
+/// What helps if flags were expected.
 fn hint_of_flags(word: &[u8]) -> Option<&'static str> {
     match word {
         b"0x1" | b"0x0001" | b"1" => Some("a line `barrier` makes what comes after it wait"),
@@ -204,7 +204,7 @@ fn hint_of_flags(word: &[u8]) -> Option<&'static str> {
     }
 }
 
-/// What helps where a comma, or the end of the line, was expected.
+/// What helps if a comma, or the end of the line, was expected.
 fn hint_of_comma(word: &[u8]) -> Option<&'static str> {
     match word {
         [] => Some("`, record ADDRESS` follows: of 32 bytes, at a multiple of 32"),
@@ -213,7 +213,7 @@ fn hint_of_comma(word: &[u8]) -> Option<&'static str> {
     }
 }
 
-/// What helps where something else was expected than this word.
+/// What helps if something else was expected than this word.
 pub(crate) fn hint_of(word: &[u8], expected: Expected) -> Option<&'static str> {
     if word.starts_with(&MARK) {
         return Some("a byte order mark: save the text without one");

@@ -5,7 +5,7 @@ use Rattle.dsa_lines.specs.Stagings.{StagedEntry, entries_text, records_of, reco
 use Rattle.dsa_lines.proofs.StagingAnswers.{staging_of}
 use Rattle.dsa_lines.proofs.staging.text_of_staging.Goals as goal
 
--- the text of entries, behind nothing, and of the records behind them
+-- the text of entries, after nothing, and of the records after them
 text_is : (at number : ℕ) (es : List StagedEntry) (rs : List (List ℕ)) (none before whole : List ℕ) → none ≡ [] → before ≡ none ++ entries_text es → length es ≡ number
     → whole ≡ before ++ records_text 0 (at + 64 * number) rs → whole ≡ staging_text at es rs
 text_is at number es rs none before whole nothing entries count records =

@@ -104,7 +104,7 @@ module _ (touches : List Touch) (window p : ℕ) (t : Touch) (at : slice_get tou
       (λ b a h. record { place = h.place; here = h.here; there = h.there; behind = h.behind; in_reach = omega (arith, h.in_reach); at_here = h.at_here; at_there = h.at_there; begins = h.begins; clash = h.clash })
       (λ b a clash. record { place = q; here = t; there = u; behind = behind; in_reach = omega arith; at_here = at; at_there = at_u; begins = begins; clash = clash })
 
-  -- where one does not begin in it, none behind that does
+  -- if one does not begin in it, none after that one does
   pub notes_last : IsNonDecreasingBy (λ (x : Touch). x.span.first) touches → (q : ℕ) (u : Touch) → p < q → slice_get touches q ≡ Some u → (BeginsIn t u → ⊥) → (new : List (Option ℕ)) → Notes (ClashFrom touches window p q) old new
       → Notes (ClashFrom touches window p (length touches)) old new
   notes_last sorted q u behind at_u out new =

@@ -30,7 +30,7 @@ rising_none fs low from = record {
   top = omega arith;
 }
 
--- one piece more: behind all data so far, or on in both areas
+-- one piece more: after all data so far, or on in both areas
 module _ (fs : List Fields) (n : ℕ) (f : Fields) (at : slice_get fs n ≡ Some f) (first second first_end second_end : ℕ) (ordered : first ≤ second) (long : second ≤ second_end) (ends : first_end ≤ second_end) (some : first ≤ first_end)
     (its : (x : ℕ) → InSome (sources f.op f.size) x ⊎ InSome (targets f.op f.size) x → ((first ≤ x) × (x < first_end)) ⊎ ((second ≤ x) × (x < second_end)))
     (low middle bound high from to low' middle' bound' from' to' : ℕ) (cut : middle' ≡ min first_end bound') (l0 : low' ≤ low) (l1 : low' ≤ first) (r0 : from' ≤ from) (r1 : from' ≤ f.record_at) (r2 : to ≤ f.record_at) (r3 : f.record_at + 32 ≡ to') where

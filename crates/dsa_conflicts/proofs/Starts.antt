@@ -15,7 +15,7 @@ use Rattle.dsa_conflicts.specs.Ranks.{HasStarts, HoldsFirsts}
 use Rattle.dsa_conflicts.specs.Touches.{HasTouches, touch}
 use Rattle.dsa_conflicts.proofs.Touching.{at_contains}
 
--- the starts of the first accesses stand in order, and none is past one to come
+-- the starts of the first accesses are in order, and none is past one to come
 pub record AreStarts (touches : List Touch) (n : ℕ) (starts : List ℕ) : Type 0 where
   pub sorted : IsNonDecreasing starts
   pub held : HasStarts starts touches n

@@ -14,7 +14,7 @@ use Rattle.dsa_conflicts.specs.declared.touches.Kind.{Kind}
 use Rattle.dsa_conflicts.specs.declared.touches.Kind.TheVariants.{Source, Record, Target}
 use Rattle.dsa_conflicts.specs.Touches.{HasKind, HasTouches, IsTouchOf, access_of, spans_by, spans_of, touch}
 
--- what stands at a place is an element, and the other way round
+-- what is at a place is an element, and the other way round
 pub contains_at : {X : Type 0} (xs : List X) (k : ℕ) (x : X) → slice_get xs k ≡ Some x → Contains xs x
 contains_at xs k x e = (k, slice_get_within xs k x e, get_or_from_slice_get xs k x x e)
 

@@ -11,7 +11,8 @@ BeginsIn t u = (t.span.first ≤ u.span.first) × (u.span.first < t.span.first +
 abbrev pub AreBy : Touch → Touch → ℕ → ℕ → Type 0
 AreBy t u a b = ((t.piece ≡ a) × (u.piece ≡ b)) ⊎ ((u.piece ≡ a) × (t.piece ≡ b))
 
--- if the second begins in the first, then piece b conflicts by them with piece a, which stands before it in its window
+-- by these two accesses piece b conflicts with piece a, which is before it in its window, if the second access begins in
+-- the first
 pub record Clash (window : ℕ) (t u : Touch) (b a : ℕ) : Type 0 where
   pub some : 0 < u.span.len
   pub writes : (t.access ≡ Write) ⊎ (u.access ≡ Write)
@@ -19,7 +20,7 @@ pub record Clash (window : ℕ) (t u : Touch) (b a : ℕ) : Type 0 where
   pub before : a < b
   pub within : b ≤ a + window
 
--- the access at place p conflicts so with one that begins in it, behind it and before this place
+-- the access at place p conflicts so with one after it and before place `end`, which begins in it
 pub record ClashFrom (touches : List Touch) (window p end b a : ℕ) : Type 0 where
   pub place : ℕ
   pub here : Touch
@@ -31,7 +32,7 @@ pub record ClashFrom (touches : List Touch) (window p end b a : ℕ) : Type 0 wh
   pub begins : BeginsIn here there
   pub clash : Clash window here there b a
 
--- one of the first accesses conflicts so with one behind it
+-- one of the first n accesses conflicts so with one after it
 abbrev pub ClashAmong : List Touch → ℕ → ℕ → ℕ → ℕ → Type 0
 ClashAmong touches window n b a = (p : ℕ) × (p < n) × ClashFrom touches window p (length touches) b a
 

@@ -19,7 +19,7 @@ HasData fs i x = (f : Fields) × (slice_get fs i ≡ Some f) × (InSome (sources
 abbrev pub HasRecord : List Fields → ℕ → ℕ → Type 0
 HasRecord fs i x = (f : Fields) × (slice_get fs i ≡ Some f) × InSpan (record_span f.record_at) x
 
--- of two descriptors, the data of one holds an address that the other writes beside its record
+-- the data of one of two descriptors holds an address that the other writes beside its record
 abbrev pub DataConflict : Fields → Fields → Type 0
 DataConflict f g = SpansConflict (sources f.op f.size) (targets f.op f.size) (sources g.op g.size) (targets g.op g.size)
 
@@ -27,14 +27,15 @@ DataConflict f g = SpansConflict (sources f.op f.size) (targets f.op f.size) (so
 abbrev pub DataConflictAt : List Fields → ℕ → ℕ → Type 0
 DataConflictAt fs i j = (f g : Fields) × (slice_get fs i ≡ Some f) × (slice_get fs j ≡ Some g) × DataConflict f g
 
--- piece a conflicts with piece b, at most `window` places later, and by its data no piece between them does; none: by its
--- data no piece of the window does
+-- piece a conflicts with piece b, at most `window` places later, and no piece between them conflicts with b by its data;
+-- none: no piece of the window conflicts with b by its data
 abbrev pub IsNoted : List Fields → ℕ → ℕ → Option ℕ → Type 0
 IsNoted fs window b (Some a) = IsBack (ConflictAt fs) window b a × ((other : ℕ) → IsBack (DataConflictAt fs) window b other → other ≤ a)
 IsNoted fs window b None = (other : ℕ) → IsBack (DataConflictAt fs) window b other → ⊥
 
--- of the first n pieces: the units of their data have later stamps than they; the last conflicts are noted, and none of
--- other pieces; no two share an address of their records; and between which addresses the data and the records lie
+-- what holds once the first n pieces are noted: the units of their data have later stamps than they; their last conflicts
+-- are noted, and none of other pieces; no two share an address of their records; and the data and the records lie between
+-- these addresses
 pub record AreNoted (fs : List Fields) (stamps : List ℕ) (lasts : List (Option ℕ)) (window shift low high from to n : ℕ) : Type 0 where
   pub held : (i x : ℕ) → i < n → HasData fs i x → i < slice_index stamps (key_of (x / 2 ^ shift))
   pub most : (k : ℕ) → slice_index stamps k ≤ n

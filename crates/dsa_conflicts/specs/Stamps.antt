@@ -13,7 +13,7 @@ pub record Covered (old new : ℕ → ℕ) (from to stamp : ℕ) : Type 0 where
   pub before : (p : ℕ) → p < from → new p ≡ old p
   pub behind : (p : ℕ) → to ≤ p → new p ≡ old p
 
--- the greatest stamp from one place to before another, 0 where there is none
+-- the greatest stamp from one place to before another, 0 if there is none
 pub record IsMost (f : ℕ → ℕ) (from to most : ℕ) : Type 0 where
   pub upper : (p : ℕ) → from ≤ p → p < to → f p ≤ most
   pub attained : 0 < most → (p : ℕ) × (from ≤ p) × (p < to) × (f p ≡ most)
@@ -33,7 +33,7 @@ pub record Sums (f g : ℕ → ℕ) : Type 0 where
 abbrev pub join : (ℕ → ℕ) → (ℕ → ℕ) → ℕ → ℕ
 join f g p = max (f p) (g (p / 64))
 
--- the greatest stamp that begins in a range or covers its first place, 0 where there is none
+-- the greatest stamp that begins in a range or covers its first place, 0 if there is none
 pub record IsLatest (points covers : ℕ → ℕ) (from to latest : ℕ) : Type 0 where
   pub points_upper : (p : ℕ) → from ≤ p → p < to → points p ≤ latest
   pub covers_upper : covers from ≤ latest

@@ -20,7 +20,7 @@ abbrev pub spans_by : Access → Fields → List Span
 spans_by Read f = read_spans f
 spans_by Write f = written_spans f
 
--- what a piece does with its spans of a kind, and which these are
+-- what a piece does with its spans of a kind
 abbrev pub access_of : Kind → Access
 access_of Source = Read
 access_of Record = Write

@@ -1,4 +1,4 @@
-//! Last conflicts from overlaps of spans, where those are few.
+//! Last conflicts from overlaps of spans, if those are few.
 
 ghost use Rattle.std.specs.Prelude.{◌≡◌, ℕ, ◌<◌, ◌≤◌, ◌↔◌, ◌⊎◌, All, length, IfSome, IsTrue};
 ghost use Rattle.std.specs.List.Sorted.{IsNonDecreasingBy};
@@ -10,7 +10,7 @@ use crate::touches::Touch;
 
 /// How many overlaps are looked at for each span, on average.
 const OVERLAPS: usize = 4;
-/// How many are looked at in any list.
+/// How many overlaps may be looked at in any list, however short.
 const ALWAYS: usize = 1024;
 
 /// Whether one of the two writes.
@@ -33,7 +33,7 @@ fn begins_in(here: Touch, there: Touch) -> bool
     there.span.first - here.span.first < here.span.len
 }
 
-/// Notes the conflict of two accesses of which the second begins in the first, if it is one.
+/// Notes the conflict of two accesses, if they have one; the second begins in the first.
 fn note(lasts: &mut [Option<u32>], here: Touch, there: Touch, window: u32)
     requires here { here.piece < length lasts.old }
     requires there { there.piece < length lasts.old }
@@ -52,8 +52,8 @@ fn note(lasts: &mut [Option<u32>], here: Touch, there: Touch, window: u32)
     }
 }
 
-/// Notes the conflicts of the access at this place with those that begin in it. The answer is how many more may be looked
-/// at, or none where they are too many.
+/// Notes the conflicts of the access at this place with those that begin in it. The answer is how many more may be
+/// looked at, or none if there are too many.
 fn note_from(
     lasts: &mut [Option<u32>],
     touches: &[Touch],

@@ -7,9 +7,9 @@ ghost use Rattle.dsa_conflicts.specs.Spread.{NoneConflict};
 use crate::spread::data_at;
 use dsa_descriptor::{Descriptor, RECORD_LEN};
 
-/// Whether the data of the pieces rises, and so do their records, on one side of all data: true only where no two pieces
-/// conflict. A piece's data lies behind that of all earlier pieces, or its two ranges go on in two areas: the lower one
-/// below `bound`, where it ends so far at `middle`, the upper one from `bound` on, where it ends at `high`.
+/// Whether the data of the pieces rises, and so do their records, on one side of all data: true only if no two pieces
+/// conflict. A piece's data lies after that of all earlier pieces, or its two ranges go on in two areas: the lower one
+/// is below `bound` and ends at `middle` so far, the upper one begins at `bound` and ends at `high`.
 pub(crate) fn are_rising(pieces: &[Descriptor]) -> bool
     ensures { IsTrue result → NoneConflict (map fields pieces.now) }
 {

@@ -25,7 +25,7 @@ fn key_of(unit: u64) -> usize
     (unit.wrapping_mul(0x9e37_79b9_7f4a_7c15) >> 53) as usize
 }
 
-/// Stamps the unit, and answers the stamp before.
+/// Stamps the unit, and returns the stamp that it had.
 fn mark(stamps: &mut [u8; PLACES], unit: u64, stamp: u8) -> u8
     requires { (k : ℕ) → slice_index stamps.old k ≤ stamp }
     ensures before { slice_index stamps.old (key_of unit) ≡ result }
@@ -103,7 +103,7 @@ fn unit_of(pieces: &[Descriptor]) -> u32
         .min(63)
 }
 
-/// Whether two spans that have addresses have one in common: no branch, since it is asked often.
+/// Whether two spans that are not empty have an address in common: without a branch, since it is called often.
 #[inline(always)]
 fn overlap(first: u64, len: u32, other: u64, other_len: u32) -> bool
     requires some { 0 < len }
@@ -166,8 +166,8 @@ fn conflict(first: &Descriptor, second: &Descriptor) -> bool
     moves_conflict(src, dst, first.size, other_src, other_dst, second.size)
 }
 
-/// The last piece before this one, `window` places back at most, that conflicts with it. The data of none from
-/// `latest` on does.
+/// The last piece before this one, at most `window` places back, that conflicts with it. No piece from `latest` on
+/// conflicts with it by its data.
 fn last_back(pieces: &[Descriptor], piece: usize, latest: usize, window: u32) -> Option<u32>
     requires few { length pieces.now ≤ most_pieces }
     requires inside { piece < length pieces.now }
@@ -188,9 +188,9 @@ fn last_back(pieces: &[Descriptor], piece: usize, latest: usize, window: u32) ->
     None
 }
 
-/// Notes the last conflict of each piece; it is compared with pieces up to the last one that has a unit of its data, or a
-/// place for one, in common with it. True only if that tells: the records have to rise, and to lie on one side of all
-/// data. It stays a call, so that the loop has more registers.
+/// Notes the last conflict of each piece; it is compared with pieces up to the last one that has a unit of its data, or
+/// a place for one, in common with it. True only if that decides: the records have to rise, and to lie on one side of
+/// all data. It stays a call, so that the loop has more registers.
 #[inline(never)]
 pub(crate) fn note_by_units(lasts: &mut [Option<u32>], pieces: &[Descriptor], window: u32) -> bool
     requires few { length pieces.now ≤ 64 }

@@ -1,4 +1,4 @@
-//! Stamps at places, of which the greatest ones are asked for. A stamp is never below one that stands already.
+//! Stamps at places, and the greatest stamp of a range of places. A new stamp is never below an earlier one.
 
 ghost use Rattle.std.specs.Prelude.{◌≡◌, ℕ, ◌+◌, ◌*◌, ◌/◌, ◌<◌, ◌≤◌, length, slice_index, IfOk};
 ghost use Rattle.dsa_conflicts.specs.Latest.{FitAll, IsAmong, IsLatestOf, Stamped};
@@ -44,7 +44,7 @@ fn cover(stamps: &mut [u32], from: usize, to: usize, stamp: u32)
     }
 }
 
-/// The same where whole blocks have stamps of their own.
+/// The same if whole blocks have stamps of their own.
 fn cover_blocks(places: &mut [u32], blocks: &mut [u32], from: usize, to: usize, stamp: u32)
     requires order { from ≤ to }
     requires bound { to ≤ length places.old }
@@ -64,7 +64,7 @@ fn cover_blocks(places: &mut [u32], blocks: &mut [u32], from: usize, to: usize, 
     cover(blocks, first, end, stamp);
 }
 
-/// The same where blocks of blocks have stamps, too.
+/// The same if blocks of blocks have stamps, too.
 fn cover_levels(
     places: &mut [u32],
     blocks: &mut [u32],
@@ -94,7 +94,7 @@ fn cover_levels(
     cover_blocks(blocks, tops, first, end, stamp);
 }
 
-/// The greatest stamp from `from` to before `to`; 0 where there is none.
+/// The greatest stamp from `from` to before `to`; 0 if there is none.
 fn most(stamps: &[u32], from: usize, to: usize) -> u32
     requires order { from ≤ to }
     requires bound { to ≤ length stamps.now }
@@ -107,8 +107,8 @@ fn most(stamps: &[u32], from: usize, to: usize) -> u32
     most
 }
 
-/// The greater of a known stamp and the greatest one of places within one block. They are not looked at where the stamp of
-/// their block is no greater.
+/// The greater of a known stamp and the greatest one of places within one block. The places are not looked at if the
+/// stamp of their block is no greater.
 fn greater_in_block(places: &[u32], blocks: &[u32], from: usize, to: usize, known: u32) -> u32
     requires order { from ≤ to }
     requires bound { to ≤ length places.now }
@@ -126,7 +126,7 @@ fn greater_in_block(places: &[u32], blocks: &[u32], from: usize, to: usize, know
     known.max(most(places, from, to))
 }
 
-/// The greatest stamp from `from` to before `to` where blocks have the greatest stamp of their places.
+/// The greatest stamp from `from` to before `to`, if blocks have the greatest stamp of their places.
 fn most_in_blocks(places: &[u32], blocks: &[u32], from: usize, to: usize) -> u32
     requires order { from ≤ to }
     requires bound { to ≤ length places.now }
@@ -144,7 +144,7 @@ fn most_in_blocks(places: &[u32], blocks: &[u32], from: usize, to: usize) -> u32
     greater_in_block(places, blocks, end * BLOCK, to, before)
 }
 
-/// The same where blocks of blocks have, too.
+/// The same if blocks of blocks have, too.
 fn most_in_levels(places: &[u32], blocks: &[u32], tops: &[u32], from: usize, to: usize) -> u32
     requires order { from ≤ to }
     requires bound { to ≤ length places.now }

@@ -106,7 +106,7 @@ pub(crate) fn touches_of(alloc: Global, pieces: &[Descriptor]) -> Result<Vec<Tou
     push_kind(&mut touches, pieces, Kind::Source)?;
     push_kind(&mut touches, pieces, Kind::Target)?;
     touches.sort_by_key(|touch| touch.span.first)?;
-    // Most records rise behind all data: then the second sort sees that nothing has to move.
+    // Most records rise after all data: then the second sort sees that nothing has to move.
     push_kind(&mut touches, pieces, Kind::Record)?;
     touches.sort_by_key(|touch| touch.span.first)?;
     Ok(touches)

@@ -36,14 +36,14 @@ list_is_memory Length = false
 list_is_memory (Field index fault) = false
 list_is_memory (MixedPasid index) = false
 
--- the number, the name and the indices of a list's fault
+-- the number of a list's fault
 abbrev pub list_number : ListFault → ℕ
 list_number Length = 1
 list_number (Field index fault) = number fault
 list_number (MixedPasid index) = 12
 list_number Memory = 73
 
--- its name; of the fault of an entry that of the fault
+-- its name; for a fault of an entry, the name of that fault
 abbrev pub list_name : ListFault → List ℕ
 list_name Length = codes "Length"
 list_name (Field index fault) = field_name fault

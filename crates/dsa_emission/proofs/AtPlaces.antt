@@ -20,7 +20,7 @@ use Rattle.dsa_emission.proofs.Told.{Fits, fits_at, group_at, entry_at, staged_a
 
 -- ---- parts one after another
 
--- the part of each number, behind those before it
+-- the part of each number, after those before it
 pub part_at : (part : ℕ → List ℕ) (n m : ℕ) (rest : List ℕ) → m < n → take (length (part m)) (drop (length (joined part m)) (joined part n ++ rest)) ≡ part m
 part_at part zero m rest lt = absurd (omega arith)
 part_at part (suc n) m rest lt =

@@ -138,7 +138,7 @@ module _ (s : Limits) (portal staging : List ℕ) (plan : Plan) (ds : List Descr
   placed : (n : ℕ) → place_of plan n ≡ place_before (entries portal) n
   placed n = place_same (entries portal) plan n shape
 
-  -- each piece stands in its bytes
+  -- each piece is in its bytes
   record Piece (number k : ℕ) : Type 0 where
     piece : Descriptor
     at : slice_get ds ((place_before (entries portal) number).start + k) ≡ Some piece

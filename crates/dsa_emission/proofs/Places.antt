@@ -1,4 +1,4 @@
--- Where the groups of a plan stand, and what each adds to the portal and to the staging area.
+-- The places of the groups of a plan, and what each adds to the portal and to the staging area.
 use Rattle.std.proofs.Common.{ℕ, zero, suc, ◌≡◌, ◌+◌, ◌-◌, ◌*◌, ◌<◌, ◌≤◌, inl, inr, true, false, cond, List, [], ◌∷◌, ◌++◌, length, take, drop, get_or, Some, refl, sym, ap, ◌∙◌, slice_get, add-one, append_assoc, arith}
 use Rattle.std.specs.Prelude.{map, slice_index_or, replicate}
 use Rattle.std.proofs.lemmas.Bool.{cases_lt, lt-ltb, le-ltb}

@@ -27,7 +27,7 @@ slice_get-right [] ys i n e = let same : i ≡ n = omega arith in ap (slice_get 
 slice_get-right (x ∷ xs) ys zero n e = absurd (omega arith)
 slice_get-right (x ∷ xs) ys (suc i) n e = slice_get-right xs ys i n (omega arith)
 
--- the element behind a list
+-- the element after a list
 pub slice_get-last : {X : Type 0} (xs : List X) (x y : X) (i : ℕ) → length xs ≤ i → slice_get (xs ++ x ∷ []) i ≡ Some y → (i ≡ length xs) × (x ≡ y)
 slice_get-last xs x y i le e =
     let lt : i < length (xs ++ x ∷ []) = slice_get_within (xs ++ x ∷ []) i y e in

@@ -131,7 +131,7 @@ some_at [] i lt = absurd (omega arith)
 some_at (d ∷ ds) zero lt = (d, refl)
 some_at (d ∷ ds) (suc i) lt = some_at ds i (omega arith)
 
--- the group has pieces, and they stand in the list
+-- the group has pieces, and they are in the list
 pub record Fits (place : Place) (g : Group) (ds : List Descriptor) : Type 0 where
   pub nonempty : 0 < length g
   pub room : place.start + length g ≤ length ds

@@ -10,7 +10,7 @@ use Rattle.dsa_emission.specs.declared.emission_fault.EntryFault.TheVariants.{Fi
 use Rattle.dsa_emission.specs.declared.emission_fault.EmissionFault.{EmissionFault}
 use Rattle.dsa_emission.specs.declared.emission_fault.EmissionFault.TheVariants.{PortalLength, StagingLength, BatchFields, EntryFence, Entry, RecordBytes, Memory}
 
--- the number and the name of the fault of a piece that was read back
+-- the number of the fault of a piece that was read back
 abbrev pub entry_number : EntryFault → ℕ
 entry_number (Field fault) = number fault
 entry_number OverTransfer = 37
@@ -34,7 +34,7 @@ emission_is_memory (Entry index fault) = false
 emission_is_memory (EntryFence group) = false
 emission_is_memory (RecordBytes batch) = false
 
--- the number, the name and the indices of an emission's fault, and the fault of the piece within
+-- the number of an emission's fault
 abbrev pub emission_number : EmissionFault → ℕ
 emission_number PortalLength = 44
 emission_number (BatchFields group) = 45
@@ -64,7 +64,7 @@ emission_indices (EntryFence group) = One group
 emission_indices (RecordBytes batch) = One batch
 emission_indices Memory = Empty
 
--- the fault of the piece, if it is one of a piece
+-- the fault within the piece, if the fault is that of a piece
 abbrev pub emission_entry : EmissionFault → Option EntryFault
 emission_entry PortalLength = None
 emission_entry (BatchFields group) = None

@@ -19,11 +19,11 @@ use Rattle.dsa_settings.specs.Staging.{staging_area}
 abbrev pub is_batch : Group → Bool
 is_batch group = nat_lt 1 (length group)
 
--- the number of its pieces that are in a batch
+-- how many of its pieces are in a batch
 abbrev pub batched : Group → ℕ
 batched group = if is_batch group then length group else 0
 
--- of a plan: the number of its batches, and of the pieces in them
+-- the number of a plan's batches
 abbrev pub batch_count : Plan → ℕ
 batch_count plan = count_by is_batch plan
 
@@ -31,7 +31,7 @@ batch_count plan = count_by is_batch plan
 abbrev pub batched_count : Plan → ℕ
 batched_count plan = sum_by batched plan
 
--- what stands before the group of that number: pieces, batches, and pieces in batches
+-- what comes before the group of that number: pieces, batches, and pieces in batches
 abbrev pub place_of : Plan → ℕ → Place
 place_of plan number =
     record {
@@ -40,7 +40,7 @@ place_of plan number =
       batched = batched_count (take number plan);
     }
 
--- what stands before the group after that one
+-- what comes before the group after that one
 abbrev pub place_after : Place → Group → Place
 place_after place group =
     record {
@@ -49,7 +49,7 @@ place_after place group =
       batched = place.batched + batched group;
     }
 
--- the flag 0x0001, fence, is added where it is asked for; no listed descriptor has it
+-- the flag 0x0001, fence, is added if asked for; no listed descriptor has it
 abbrev pub with_fence : Bool → Fields → Fields
 with_fence fence f = record f { flags = f.flags + (if fence then 0x0001 else 0) }
 
@@ -60,15 +60,15 @@ unfoldable pub batch_spelling : List ℕ → ℕ → ℕ → ℕ → List ℕ
 batch_spelling owner record_at list_at count =
     owner ++ to_le_bytes w32 0x0100000c ++ to_le_bytes w64 record_at ++ to_le_bytes w64 list_at ++ replicate 8 0 ++ to_le_bytes w32 count ++ replicate 28 0
 
--- the entry of a group: its piece, or a batch descriptor whose descriptors and record stand in the staging area, the
--- records behind the descriptors of all `total` pieces in batches
+-- the entry of a group: its piece, or a batch descriptor whose descriptors and record are in the staging area, where the
+-- records come after the descriptors of all `total` pieces in batches
 abbrev pub portal_entry : Limits → ℕ → Place → Group → List Fields → List ℕ
 portal_entry s total place group pieces =
     if is_batch group
     then batch_spelling (take 4 (list_spelling pieces)) (s.staging + 64 * total + 32 * place.batches) (s.staging + 64 * place.batched) (length group)
     else list_spelling (take (length group) (drop place.start pieces))
 
--- the descriptors of a batch, each fenced where the group says so
+-- the descriptors of a batch, each fenced if the group says so
 abbrev pub fenced_spelling : Group → List Fields → List ℕ
 fenced_spelling group pieces = flat_map (λ p. spelling (with_fence p.0 p.1)) (zip group pieces)
 

@@ -23,11 +23,11 @@ use Rattle.dsa_emission.specs.Emission.{batch_spelling, portal_bytes, staging_by
 
 -- ---- what entries say
 
--- an entry of the portal is that of a batch where its operation code is 0x01 (linux/idxd.h)
+-- an entry of the portal is that of a batch if its operation code is 0x01 (linux/idxd.h)
 abbrev pub is_batch_entry : List ℕ → Bool
 is_batch_entry entry = slice_index entry 7 == 1
 
--- how many pieces the entry submits, and how many of them are in a batch
+-- how many pieces the entry submits
 abbrev pub entry_size : List ℕ → ℕ
 entry_size entry = if is_batch_entry entry then u32_at 32 entry else 1
 
@@ -35,7 +35,7 @@ entry_size entry = if is_batch_entry entry then u32_at 32 entry else 1
 abbrev pub entry_batched : List ℕ → ℕ
 entry_batched entry = if is_batch_entry entry then u32_at 32 entry else 0
 
--- by the entries of the portal, what stands before the one of that number
+-- by the entries of the portal, what comes before the entry of that number
 abbrev pub place_before : List (List ℕ) → ℕ → Place
 place_before es number =
     record {
@@ -44,7 +44,7 @@ place_before es number =
       batched = sum_by entry_batched (take number es);
     }
 
--- what stands after the entry
+-- what comes before the entry after this one
 abbrev pub after_entry : Place → List ℕ → Place
 after_entry place entry =
     record {
@@ -53,11 +53,11 @@ after_entry place entry =
       batched = place.batched + entry_batched entry;
     }
 
--- what stands in all entries
+-- what all entries have
 abbrev pub place_at_end : List (List ℕ) → Place
 place_at_end es = place_before es (length es)
 
--- piece k of the group with this entry: in the staging area behind those of earlier batches, or the entry itself
+-- piece k of the group with this entry: in the staging area after those of earlier batches, or the entry itself
 abbrev pub bytes_at : List (List ℕ) → Place → List ℕ → ℕ → List ℕ
 bytes_at staged place entry k = if is_batch_entry entry then slice_index_or staged (place.batched + k) [] else entry
 
@@ -65,7 +65,7 @@ bytes_at staged place entry k = if is_batch_entry entry then slice_index_or stag
 abbrev pub piece_bytes : List (List ℕ) → List (List ℕ) → ℕ → ℕ → List ℕ
 piece_bytes es staged number k = bytes_at staged (place_before es number) (slice_index_or es number []) k
 
--- the PASID and the privilege stand in bytes 0 to 3
+-- bytes 0 to 3 have the PASID and the privilege
 abbrev pub owner_at : List ℕ → List ℕ
 owner_at bytes = slice_index bytes 0 ∷ slice_index bytes 1 ∷ slice_index bytes 2 ∷ slice_index bytes 3 ∷ []
 
@@ -113,14 +113,14 @@ IsFirstEntryFault demands bytes StagingMeets =
 
 -- ---- one group, by the bytes of its pieces
 
--- piece k is a descriptor that is fit, and fenced only behind the first
+-- piece k is a descriptor that is fit, and it is not fenced if it is the first
 pub record IsSoundPiece (demands : Demands) (bytes : ℕ → List ℕ) (k : ℕ) : Type 0 where
   pub first_unfenced : k ≡ 0 → is_fenced (bytes k) ≡ false
   pub piece : Descriptor
   pub spelt : Spells (bytes k) piece
   pub fit : IsFit demands (fields piece)
 
--- piece k is the first that is not sound, with its fault, though it is no first piece with a fence
+-- piece k is the first that is not sound, with its fault, which is not that it is a first piece with a fence
 pub record IsFirstPieceFault (demands : Demands) (bytes : ℕ → List ℕ) (k : ℕ) (fault : EntryFault) : Type 0 where
   pub before : (j : ℕ) → j < k → IsSoundPiece demands bytes j
   pub first_unfenced : k ≡ 0 → is_fenced (bytes k) ≡ false
@@ -144,13 +144,13 @@ pub record HasStagingLength (es : List (List ℕ)) (staging : List ℕ) : Type 0
   pub long : length staging ≡ 64 * (place_at_end es).batched + 32 * (place_at_end es).batches
   pub few : (place_at_end es).start ≤ most_pieces
 
--- where the entry is that of a batch, it has from 2 pieces to as many as a batch may have, and the bytes of its place
+-- a batch entry with from 2 pieces to as many as a batch may have, and the bytes of its place
 pub record IsBatchAt (s : Limits) (owner : List ℕ) (total : ℕ) (place : Place) (entry : List ℕ) : Type 0 where
   pub least : 2 ≤ u32_at 32 entry
   pub most : u32_at 32 entry ≤ s.greatest_batch
   pub bytes : entry ≡ batch_spelling owner (s.staging + 64 * total + 32 * place.batches) (s.staging + 64 * place.batched) (u32_at 32 entry)
 
--- the entry of that number is right, if it is one of a batch
+-- the entry of that number is right, if it is that of a batch
 abbrev pub IsRightAt : Limits → List (List ℕ) → List ℕ → ℕ → Type 0
 IsRightAt s es owner number =
     is_batch_entry (slice_index_or es number []) ≡ true →
@@ -161,7 +161,7 @@ pub record HasLengths (portal staging : List ℕ) : Type 0 where
   pub whole : length portal % 64 ≡ 0
   pub staged : HasStagingLength (entries portal) staging
 
--- they are not: first that of the portal, then that of the staging area
+-- the first wrong length: that of the portal, then that of the staging area
 abbrev pub IsFirstLengthFault : List ℕ → List ℕ → EmissionFault → Type 0
 IsFirstLengthFault portal staging PortalLength = length portal % 64 ≢ 0
 IsFirstLengthFault portal staging StagingLength = (length portal % 64 ≡ 0) × ¬ HasStagingLength (entries portal) staging
@@ -185,7 +185,7 @@ abbrev pub IsSoundGroup : Demands → List (List ℕ) → List (List ℕ) → �
 IsSoundGroup demands es staged number =
     (k : ℕ) → k < entry_size (slice_index_or es number []) → IsSoundPiece demands (piece_bytes es staged number) k
 
--- so are those of the groups before one, in which the fault is the first
+-- each piece of the groups before one is sound, and this is the first fault of that group
 pub record IsFirstPortalFault (demands : Demands) (es staged : List (List ℕ)) (fault : EmissionFault) : Type 0 where
   pub number : ℕ
   pub inside : number < length es
@@ -199,7 +199,7 @@ pub record HasPieces (s : Limits) (portal staging : List ℕ) : Type 0 where
   pub batches : HasBatches s portal staging
   pub sound : (g : ℕ) → g < length (entries portal) → IsSoundGroup (demands_of s (entries portal) (entries staging)) (entries portal) (entries staging) g
 
--- behind the descriptors of the staging area, the 32 record bytes of that batch are zero
+-- the 32 record bytes of that batch, after the descriptors of the staging area, are zero
 abbrev pub HasZeroRecord : List ℕ → ℕ → Type 0
 HasZeroRecord records batch = AreZero (take 32 (drop (32 * batch) records))
 
@@ -207,9 +207,9 @@ HasZeroRecord records batch = AreZero (take 32 (drop (32 * batch) records))
 abbrev pub records_of : List ℕ → List ℕ → List ℕ
 records_of portal staging = drop (64 * (place_at_end (entries portal)).batched) staging
 
--- the fault stands in the bytes, and none before it, in this order: the length of the portal and that of the staging
--- area, the entries of batches, the pieces in order, the records of batches. Out of memory is reported once the entries
--- of batches are right (this project's choice)
+-- the first fault of the bytes, in this order: the length of the portal and that of the staging area, the entries of
+-- batches, the pieces in order, the records of batches. Out of memory is reported once the entries of batches are right
+-- (this project's choice)
 abbrev pub IsFirstEmissionFault : Limits → List ℕ → List ℕ → EmissionFault → Type 0
 IsFirstEmissionFault s portal staging PortalLength = IsFirstLengthFault portal staging PortalLength
 IsFirstEmissionFault s portal staging StagingLength = IsFirstLengthFault portal staging StagingLength
@@ -236,7 +236,7 @@ pub record IsEmission (s : Limits) (portal staging : List ℕ) (plan : Plan) (ds
 
 -- ---- what was read
 
--- a group and its pieces are what these bytes say, so far: each fence, and each descriptor, which is fit
+-- a group and its pieces so far are what these bytes say: each fence, and each descriptor, which is fit
 pub record IsGroupRead (demands : Demands) (bytes : ℕ → List ℕ) (size : ℕ) (group : Group) (ds : List Descriptor) : Type 0 where
   pub fences : length group ≡ size
   pub pieces : length ds ≡ size

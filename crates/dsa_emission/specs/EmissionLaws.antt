@@ -17,7 +17,7 @@ OneEmission =
     staging_bytes plan (map fields ds) ≡ staging_bytes plan' (map fields ds') →
     (plan ≡ plan') × (ds ≡ ds')
 
--- what stands at each place of the portal and the staging area of a plan and its pieces
+-- what is at each place of the portal and the staging area of a plan and its pieces
 pub record StandsAtPlaces (s : Limits) (plan : Plan) (ds : List Descriptor) (portal staging : List ℕ) : Type 0 where
   pub portal_length : length portal ≡ 64 * length plan
   pub staging_length : length staging ≡ 64 * batched_count plan + 32 * batch_count plan
@@ -25,14 +25,14 @@ pub record StandsAtPlaces (s : Limits) (plan : Plan) (ds : List Descriptor) (por
   pub entries :
       (number : ℕ) (group : Group) → slice_get plan number ≡ Some group →
       entry portal number ≡ portal_entry s (batched_count plan) (place_of plan number) group (map fields ds)
-  -- behind the pieces of the batches before it, piece k of a batch stands in entry k of the staging area
+  -- piece k of a batch is in the staging area, k entries after the pieces of the batches before it
   pub descriptors :
       (number : ℕ) (group : Group) (k : ℕ) (fence : Bool) (d : Descriptor) → slice_get plan number ≡ Some group → 1 < length group →
       slice_get group k ≡ Some fence → slice_get ds (start_of plan number + k) ≡ Some d →
       entry staging (batched_count (take number plan) + k) ≡ spelling (with_fence fence (fields d))
   pub records : drop (64 * batched_count plan) staging ≡ replicate (32 * batch_count plan) 0
 
--- bytes are the emission of a plan and its pieces just where each entry is the one of its place
+-- bytes are the emission of a plan and its pieces exactly if each entry is that of its place
 abbrev pub EmissionStandsAtPlaces : Type 0
 EmissionStandsAtPlaces =
     (s : Limits) (plan : Plan) (ds : List Descriptor) (portal staging : List ℕ) → CanBeEmitted s plan (map fields ds) →

@@ -21,7 +21,7 @@ const BATCH: u32 = 0x0100_000c;
 pub struct Emission {
     /// What is written to the portal, in this order: for each group 64 bytes.
     pub portal: Vec<u8>,
-    /// What has to stand at the staging address: the descriptors of the batches, and room for their completion records.
+    /// What has to be at the staging address: the descriptors of the batches, and room for their completion records.
     pub staging: Vec<u8>,
 }
 
@@ -36,7 +36,7 @@ fn fenced_bytes(piece: &Descriptor, fence: bool) -> [u8; 64]
     bytes
 }
 
-/// The PASID and the privilege of the descriptor, as they stand in its first bytes.
+/// The PASID and the privilege of the descriptor, as its first bytes have them.
 fn owner_bytes(piece: &Descriptor) -> [u8; 4]
     ensures { result ≡ take 4 (spelling (fields piece.now)) }
 {
@@ -74,7 +74,7 @@ fn batch_bytes(first: &Descriptor, record_at: u64, list_at: u64, count: u32) -> 
     batch_entry(&owner_bytes(first), record_at, list_at, count)
 }
 
-/// What stands before the end of the groups.
+/// What comes before the end of the groups.
 fn end_of(groups: &[Group]) -> Place
     requires { piece_count groups.now ≤ most_pieces }
     ensures { result ≡ place_of groups.now (length groups.now) }
@@ -135,7 +135,7 @@ fn portal_bytes(
     Ok(portal)
 }
 
-/// Adds the descriptors of a batch, each fenced where the group says so.
+/// Adds the descriptors of a batch, each fenced if the group says so.
 fn stage_batch(
     staging: &mut Vec<u8>,
     group: &Group,

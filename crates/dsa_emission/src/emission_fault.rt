@@ -61,9 +61,9 @@ impl From<FieldFault> for EntryFault {
 pub enum EmissionFault {
     /// The portal isn't made of entries of 64 bytes.
     PortalLength,
-    /// The staging area isn't as long as the entries of the batches say, or there are more than 65,536 pieces.
+    /// The staging area is not as long as the entries of the batches say, or there are more than 65,536 pieces.
     StagingLength,
-    /// The group's batch entry has a size that it may not have, or another byte than its place asks for.
+    /// The group's batch entry has a size that it may not have, or a byte that differs from what its place asks for.
     BatchFields(usize),
     /// The first piece of the group is fenced.
     EntryFence(usize),

@@ -3,13 +3,13 @@
 
 ghost use Rattle.dsa_emission.specs.EmissionLaws.{OneEmission, EmissionStandsAtPlaces};
 
-/// What was emitted tells the plan and the pieces: no other plan and pieces have these bytes.
+/// The emitted bytes determine the plan and the pieces: no other plan and pieces have these bytes.
 #[tactic(auto, using(crate::proofs::Told::one_emission))]
 pub fn one_emission()
     ensures { OneEmission }
 {}
 
-/// Bytes are the emission of a plan and its pieces just where each entry is the one of its place.
+/// Bytes are the emission of a plan and its pieces exactly if each entry is that of its place.
 pub fn emission_at_places()
     ensures { EmissionStandsAtPlaces }
 {}

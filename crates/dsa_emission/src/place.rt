@@ -1,4 +1,4 @@
-//! Where the groups of a plan stand.
+//! The places of the groups of a plan.
 
 ghost use Rattle.std.specs.Prelude.{◌≡◌, ◌+◌, ◌≤◌, length};
 ghost use Rattle.dsa_descriptor.specs.Pieces.{most_pieces};
@@ -6,12 +6,12 @@ ghost use Rattle.dsa_settings.specs.Plan.{piece_count};
 
 use dsa_settings::Group;
 
-/// What stands before a group of a plan.
+/// What comes before a group of a plan.
 #[derive(Clone, Copy, Debug, Default, PartialEq, Eq)]
 pub struct Place {
     /// The number of the first piece of the group.
     pub start: usize,
-    /// How many batches stand before it.
+    /// How many batches come before it.
     pub batches: usize,
     /// How many pieces are in these batches.
     pub batched: usize,

@@ -1,4 +1,4 @@
-//! What the entries of a portal tell, and whether those of the batches are right.
+//! What the entries of a portal say, and whether those of the batches are right.
 
 ghost use Rattle.std.specs.Prelude.{◌≡◌, ◌≢◌, ℕ, true, ◌+◌, ◌*◌, ◌<◌, ◌≤◌, ◌^◌, ◌↔◌, length, IsTrue, IfOk, IfErr, MatchOption};
 ghost use Rattle.dsa_descriptor.specs.Faults.{AreZero};
@@ -42,7 +42,7 @@ pub(crate) fn entry_size(entry: &[u8; 64]) -> usize
     }
 }
 
-/// What stands after the entry.
+/// What comes before the entry after this one.
 pub(crate) fn after_entry(place: Place, entry: &[u8; 64]) -> Place
     requires few { place.start ≤ most_pieces }
     requires batches { place.batches < 2 ^ 60 }
@@ -65,7 +65,7 @@ pub(crate) fn after_entry(place: Place, entry: &[u8; 64]) -> Place
     }
 }
 
-/// What stands in all entries, if that isn't too much.
+/// What all entries have, if that is not too much.
 pub(crate) fn place_at_end(all: &[[u8; 64]]) -> Option<Place>
     requires { length all.now < 2 ^ 58 }
     ensures { MatchOption result (most_pieces < (place_at_end all.now).start)
@@ -81,7 +81,7 @@ pub(crate) fn place_at_end(all: &[[u8; 64]]) -> Option<Place>
     Some(place)
 }
 
-/// What stands in all entries, where the lengths are right, and else the first fault.
+/// What all entries have, if the lengths are right; else the first fault.
 pub(crate) fn end_of_portal(portal: &[u8], staging: &[u8]) -> Result<Place, EmissionFault>
     ensures ok { IfOk result (λ end. (end ≡ place_at_end (entries portal.now)) ×
         HasLengths portal.now staging.now) }
@@ -100,7 +100,7 @@ pub(crate) fn end_of_portal(portal: &[u8], staging: &[u8]) -> Result<Place, Emis
     Err(EmissionFault::StagingLength)
 }
 
-/// The PASID and the privilege of the first piece, as they stand in its first bytes.
+/// The PASID and the privilege of the first piece, as its first bytes have them.
 pub(crate) fn first_owner(all: &[[u8; 64]], staged: &[[u8; 64]]) -> [u8; 4]
     ensures { result ≡ owner_at (piece_bytes all.now staged.now 0 0) }
 {
@@ -157,7 +157,7 @@ fn is_right_at(
     true
 }
 
-/// The first group whose entry is that of a batch, and wrong.
+/// The first group with a wrong batch entry.
 pub(crate) fn wrong_batch(
     all: &[[u8; 64]],
     total: usize,

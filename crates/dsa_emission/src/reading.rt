@@ -131,7 +131,7 @@ fn read_group(
     Ok(Group::new(fences))
 }
 
-/// The plan and the pieces that right entries tell.
+/// The plan and the pieces of entries that are right.
 fn read_groups(
     alloc: Global,
     all: &[[u8; 64]],
@@ -157,14 +157,14 @@ fn read_groups(
     Ok((Plan::new(groups), pieces))
 }
 
-/// The plan and the pieces that these bytes submit: exactly where the bytes are what [`emit`](crate::emit) makes of a
-/// plan and pieces, they are read again.
+/// The plan and the pieces that these bytes submit. The bytes are read exactly if they are what [`emit`](crate::emit)
+/// makes of a plan and pieces.
 ///
 /// # Errors
 /// The first of these: [`EmissionFault::PortalLength`]; [`EmissionFault::StagingLength`]; for the least group
 /// [`EmissionFault::BatchFields`]; for the least piece [`EmissionFault::EntryFence`], or else
 /// [`EmissionFault::Entry`] with its first fault; for the least batch [`EmissionFault::RecordBytes`]. Once the entries
-/// of batches are right, [`EmissionFault::Memory`] comes where a growth is refused, before the faults not yet found.
+/// of batches are right, [`EmissionFault::Memory`] is reported if an allocation fails, before the faults not yet found.
 pub fn read_emission(
     alloc: Global,
     portal: &[u8],

@@ -87,7 +87,7 @@ keeps_at In to [] i f all there = absurd cc
 keeps_at In to (g ∷ fs) zero f all there = subst (λ (x : Fields). SpansKeepOffsets In to x) (same_Some g f there) all.0
 keeps_at In to (g ∷ fs) (suc i) f all there = keeps_at In to fs i f all.1 there
 
--- what stands at a place of the relocated list is relocated
+-- the element at a place of the relocated list is relocated
 from_map : (to : ℕ → ℕ) (o : Option Fields) (e : Fields) → option_map (relocated_fields to) o ≡ Some e → (f : Fields) × (o ≡ Some f) × (e ≡ relocated_fields to f)
 from_map to (Some f) e h = (f, refl, sym (same_Some (relocated_fields to f) e h))
 from_map to None e h = absurd cc

@@ -85,7 +85,7 @@ staged_here rs plan m g start fs old new is added = added ∙ ap (λ (n : ℕ). 
 pub total_few : (plan : Plan) (n total : ℕ) → piece_count plan ≡ n → n ≤ most_pieces → total ≡ batched_count plan → total ≤ most_pieces
 total_few plan n total covers few is = let c = counts_within plan in omega (arith, c.1, covers, few, is)
 
--- what stands before a group and what the group adds are few
+-- what comes before a group and what the group adds are few
 pub batched_next : (plan : Plan) (m : ℕ) (g : Group) → m < length plan → g ≡ get_or plan m g → batched_count (take (m + 1) plan) ≡ batched_count (take m plan) + batched g
 batched_next plan m g lt is = ap (λ (p : Place). p.batched) (place_of-next plan m g lt is)
 

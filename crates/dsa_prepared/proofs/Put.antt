@@ -80,7 +80,7 @@ entries_have rs bases staging entries count fit low all k d lt =
 
 -- ---- one entry
 
--- eight bytes more, behind those that were written from a place on
+-- eight bytes more, after those that were written from a place on
 pub word_more : (old now next done part : List ℕ) (place n at : ℕ) → now ≡ take place old ++ (done ++ drop (place + n) old) → length done ≡ n → at ≡ place + n → at + 8 ≤ length old →
     next ≡ take at now ++ (part ++ drop (at + 8) now) → next ≡ take place old ++ ((done ++ part) ++ drop (place + (n + 8)) old)
 word_more old now next done part place n at was long is room put =

@@ -56,7 +56,7 @@ lies_there [] s j lt lies = absurd (omega (arith, lt))
 lies_there (r ∷ rs) s zero lt lies = inl lies
 lies_there (r ∷ rs) s (suc j) lt lies = inr (lies_there rs s j (omega (arith, lt)) lies)
 
--- ---- the search by halves stopped at i: the regions before it end at the address or before, the others behind it
+-- ---- the search by halves stopped at i: the regions before it end at the address or before, the others after it
 pub found_by_halves : (rs : List Span) (a i : ℕ) → ((j : ℕ) → j < i → end_of (region_at rs j) ≤ a) → ((j : ℕ) → i ≤ j → j < length rs → a < end_of (region_at rs j)) →
     i < length rs → (region_at rs i).first ≤ a → (i, a - (region_at rs i).first) ≡ place_in rs a
 found_by_halves rs a i ended ahead inside low =

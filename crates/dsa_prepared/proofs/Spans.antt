@@ -10,7 +10,7 @@ use Rattle.dsa_prepared.specs.Entries.{place_in}
 use Rattle.dsa_prepared.specs.Preparing.{region_at, AreRegions, relocation}
 use Rattle.dsa_prepared.specs.Filling.{AllBelow, new_region, FitsAt, IsApartFromEarlier, IsClearAt}
 
--- each begins at the address or behind it, and behind those before it
+-- each begins at the address or after it, and after those before it
 abbrev pub Ascend : ℕ → List Span → Type 0
 Ascend from [] = ⊤
 Ascend from (r ∷ rs) = (from ≤ r.first) × Ascend (r.first + r.len) rs

@@ -24,7 +24,7 @@ use Rattle.dsa_prepared.specs.Preparing.{relocation}
 
 -- ---- addresses
 
--- an address behind the first region
+-- an address in a later region
 later_has : (r : Span) (rs : List Span) (a : ℕ) → InSome (r ∷ rs) a → (a < r.first) ⊎ (r.first + r.len ≤ a) → InSome rs a
 later_has r rs a (inl here) (inl out) = absurd (omega (arith, here.0, out))
 later_has r rs a (inl here) (inr out) = absurd (omega (arith, here.1, out))

@@ -9,7 +9,7 @@ use Rattle.dsa_prepared.specs.declared.fault.PrepareFault.TheVariants.{Plan, Reg
 use Rattle.dsa_prepared.specs.declared.fault.FillFault.{FillFault}
 use Rattle.dsa_prepared.specs.declared.fault.FillFault.TheVariants.{Bases, Room, RegionWrap, Misaligned, DualcastBits, RegionsMeet, StagingMeets, Staging}
 
--- of preparing: the number, the name and the indices
+-- the number of a fault of preparing
 abbrev pub prepare_number : PrepareFault → ℕ
 prepare_number (Plan fault) = fault_number fault
 prepare_number (PrepareWrap region) = 100
@@ -30,7 +30,7 @@ prepare_indices (PrepareWrap region) = One region
 prepare_indices (RegionOrder region) = One region
 prepare_indices (Outside operation) = One operation
 
--- of filling
+-- the number of a fault of filling
 abbrev pub fill_number : FillFault → ℕ
 fill_number Bases = 103
 fill_number Room = 104

@@ -1,4 +1,4 @@
--- The entries of a submission, with each address as a region and an offset, and the bytes that they stand for.
+-- The entries of a submission, with each address as a region and an offset, and the bytes that they give.
 use Rattle.std.specs.Prelude.{ℕ, suc, ◌+◌, ◌-◌, ◌*◌, Bool, List, [], ◌∷◌, ◌++◌, drop, length, replicate, slice_index, take, if◌then◌else◌}
 use Rattle.std.specs.Int.{w32, w64, to_le_bytes}
 use Rattle.std.specs.List.{flat_map}
@@ -18,21 +18,21 @@ use Rattle.dsa_prepared.specs.declared.entry.Entry.{Entry}
 
 -- ---- addresses
 
--- a place behind one region more
+-- the same place, with one region more before it
 abbrev pub behind : ℕ × ℕ → ℕ × ℕ
 behind p = (suc p.0, p.1)
 
--- the number of the first region that has the address, and the address's offset in it; of an address that lies in none,
+-- the number of the first region that has the address, and the address's offset in it; for an address that lies in none,
 -- the number of regions and the address
 abbrev pub place_in : List Span → ℕ → ℕ × ℕ
 place_in [] address = (0, address)
 place_in (r ∷ rs) address = if has_address r address then (0, address - r.first) else behind (place_in rs address)
 
--- the word that stands for an address
+-- the word for an address
 abbrev pub word_at : List Span → ℕ → Word
 word_at rs address = InRegion (place_in rs address).0 (place_in rs address).1
 
--- the number that a word stands for, where regions have these bases and the staging area this address
+-- the number that a word gives if the regions have these bases and the staging area this address
 abbrev pub word_value : List ℕ → ℕ → Word → ℕ
 word_value bases staging (InRegion region offset) = slice_index bases region + offset
 word_value bases staging (InStaging offset) = staging + offset
@@ -40,8 +40,8 @@ word_value bases staging (Fixed value) = value
 
 -- ---- entries
 
--- the 64 bytes that an entry stands for (places of linux/idxd.h; no descriptor and no batch has other bytes behind byte 47
--- than zeros)
+-- the 64 bytes that an entry gives (places of linux/idxd.h; in every descriptor and batch the bytes after byte 47 are
+-- zeros)
 abbrev pub filled_entry : List ℕ → ℕ → Entry → List ℕ
 filled_entry bases staging e =
     e.head
@@ -56,7 +56,7 @@ filled_entry bases staging e =
 abbrev pub filled : List ℕ → ℕ → List Entry → List ℕ
 filled bases staging entries = flat_map (filled_entry bases staging) entries
 
--- bytes 16 to 23, 24 to 31 and 40 to 47 of an operation
+-- bytes 16 to 23 of an operation
 abbrev pub first_word : List Span → Op → Word
 first_word rs (Move src dst) = word_at rs src
 first_word rs (Fill pattern dst) = Fixed pattern
@@ -95,13 +95,13 @@ entry_of rs fence f =
       own = own_word rs f.op;
     }
 
--- the entries of the pieces of a group, each fenced where the group says so
+-- the entries of the pieces of a group, each fenced if the group says so
 abbrev pub fenced_entries : List Span → Group → List Fields → List Entry
 fenced_entries rs [] fs = []
 fenced_entries rs (fence ∷ group) [] = []
 fenced_entries rs (fence ∷ group) (f ∷ fs) = entry_of rs fence f ∷ fenced_entries rs group fs
 
--- the entry of a batch, whose record and descriptors stand in the staging area
+-- the entry of a batch, whose record and descriptors are in the staging area
 abbrev pub batch_entry_of : ℕ → Place → Group → List Fields → Entry
 batch_entry_of total place group fs =
     record {

@@ -19,17 +19,17 @@ use Rattle.dsa_prepared.specs.Preparing.{region_at, relocation}
 
 -- ---- first of several
 
--- each number below n is like that
+-- this holds of each number below n
 abbrev pub AllBelow : ℕ → (ℕ → Type 0) → Type 0
 AllBelow n Is = (i : ℕ) → i < n → Is i
 
--- below n, this is the first that is not
+-- this is the first number below n of which it does not hold
 abbrev pub IsFirstNot : ℕ → (ℕ → Type 0) → ℕ → Type 0
 IsFirstNot n Is i = (i < n) × AllBelow i Is × ¬ Is i
 
 -- ---- what new bases have to meet
 
--- where the region goes
+-- the region at its new base
 abbrev pub new_region : List Span → List ℕ → ℕ → Span
 new_region rs bases i = span (slice_index bases i) (region_at rs i).len
 
@@ -62,7 +62,7 @@ tie_at ties k = slice_index_or ties k (record { region = 0; offset = 0; other = 
 abbrev pub IsTiedAt : List Tie → List ℕ → ℕ → Type 0
 IsTiedAt ties bases k = IsTied bases (tie_at ties k)
 
--- two regions have no address in common; no earlier region has one in common with this
+-- two regions have no address in common
 abbrev pub AreApartAt : List Span → List ℕ → ℕ → ℕ → Type 0
 AreApartAt rs bases i j = Apart (new_region rs bases i) (new_region rs bases j)
 
@@ -78,7 +78,7 @@ IsClearAt rs bases area i = Apart area (new_region rs bases i)
 abbrev pub IsStaging : ℕ → Type 0
 IsStaging staging = (staging ≤ 2 ^ 63) × (staging % 64 ≡ 0)
 
--- where it goes, the region lies from the first of these addresses to before the second (private clauses alone cite this)
+-- at its new base the region lies from the first of these addresses to before the second (only private clauses cite this)
 abbrev pub LiesBetween : List Span → List ℕ → ℕ → ℕ → ℕ → Type 0
 LiesBetween rs bases bottom top i =
     (bottom ≤ (new_region rs bases i).first) × ((new_region rs bases i).first + (new_region rs bases i).len ≤ top)
@@ -126,10 +126,10 @@ pub record CanFill (t : Template) (bases : List ℕ) (staging : ℕ) : Type 0 wh
   pub clear : AllClear t bases staging
   pub address : IsStaging staging
 
--- The first cause why nothing is filled, in this order: another number of bases than of regions; buffers that are too
--- small; the least region that goes past 2^64; the least that is misaligned; the first two addresses that have to agree in
--- their low 12 bits and do not, by their regions; the least region that meets an earlier one, and of these the least; the
--- least that meets the staging area; a staging address that is none.
+-- The first cause why nothing is filled, in this order: not as many bases as regions; buffers that are too small; the
+-- least region that goes past 2^64; the least that is misaligned; the first two addresses that have to agree in their low
+-- 12 bits and do not, by their regions; the least region that meets an earlier one, and the least one that it meets; the
+-- least that meets the staging area; an address at which no staging area may begin.
 abbrev pub IsFirstFillFault : Template → List ℕ → ℕ → ℕ → ℕ → FillFault → Type 0
 IsFirstFillFault t bases staging portal_len staging_len Bases = ¬ HasBases t bases
 IsFirstFillFault t bases staging portal_len staging_len Room = HasBases t bases × ¬ HasRoom t portal_len staging_len
@@ -160,7 +160,7 @@ written bytes old = bytes ++ drop (length bytes) old
 abbrev pub relocated_list : List Span → List ℕ → List Descriptor → List ℕ
 relocated_list rs bases ds = list_spelling (map (relocated_fields (relocated (relocation rs bases))) (map fields ds))
 
--- the buffers have at their front what planning the relocated list answers, and their rest is left
+-- the buffers have at their front what planning the relocated list answers, and their rest is unchanged
 pub record IsPlannedInto (rs : List Span) (bases : List ℕ) (staging : ℕ) (s : Limits) (ds : List Descriptor) (portal new_portal area new_area : List ℕ) : Type 0 where
   pub submission : Submission
   pub planned : Plans (relocated_list rs bases ds) (staged_at staging s) (Ok submission)

@@ -28,7 +28,7 @@ FilledIsEmission =
     × (filled_staging (template_of rs (map fields operations) plan (map fields pieces)) bases staging
     ≡ staging_bytes plan (map (relocated_fields (relocated (relocation rs bases))) (map fields pieces)))
 
--- where bases keep the units and the ties of operations, each is aligned at its relocated addresses
+-- if bases keep the units and the ties of operations, each operation is aligned at its relocated addresses
 abbrev pub AlignedBasesAlign : Type 0
 AlignedBasesAlign =
     (rs : List Span) (bases : List ℕ) (operations pieces : List Descriptor) (plan : Plan) →

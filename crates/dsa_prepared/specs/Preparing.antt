@@ -24,11 +24,11 @@ use Rattle.dsa_prepared.specs.Templates.{Template, template_of}
 abbrev pub region_at : List Span → ℕ → Span
 region_at rs i = slice_index_or rs i (span 0 0)
 
--- where the region ends: the address behind its last
+-- where the region ends: the address after its last
 abbrev pub end_of : Span → ℕ
 end_of r = r.first + r.len
 
--- it begins where the region before it ends, or behind that
+-- it begins where the region before it ends, or after that
 abbrev pub FollowsAt : List Span → ℕ → Type 0
 FollowsAt rs i = (j : ℕ) → suc j ≡ i → end_of (region_at rs j) ≤ (region_at rs i).first
 
@@ -94,9 +94,9 @@ pub record IsFirstOutside (rs : List Span) (greatest : ℕ) (fs : List Fields) (
   pub outside : ¬ LiesWhole rs greatest operation
   pub before : (j : ℕ) (f : Fields) → j < i → slice_get fs j ≡ Some f → LiesWhole rs greatest f
 
--- The first cause why a list is not prepared, of which planning says this and whose operations these bytes spell, in this
--- order: what planning refuses; for the least region that it goes past 2^64, or else that it begins before the one before
--- it has ended; the least operation of which a range, or the row of records, lies in no one region.
+-- The first cause why a list is not prepared, if planning it gives this result and these bytes spell its operations, in
+-- this order: what planning refuses; the least region that goes past 2^64, or else begins before the one before it has
+-- ended; the least operation that has a range, or the row of records, in no one region.
 abbrev pub IsFirstPrepareFaultBy : (Result Submission PlanFault → Type 0) → List ℕ → Limits → List Span → PrepareFault → Type 0
 IsFirstPrepareFaultBy Says list s rs (Plan fault) = Says (Err fault)
 IsFirstPrepareFaultBy Says list s rs (RegionWrap i) = ((p : Submission) × Says (Ok p)) × IsRegionFault rs (RegionWrap i)
@@ -105,11 +105,11 @@ IsFirstPrepareFaultBy Says list s rs (Outside i) =
     ((p : Submission) × Says (Ok p)) × AreRegions rs
     × ((ds : List Descriptor) × IsListOf list ds × IsFirstOutside rs s.greatest_transfer (map fields ds) i)
 
--- that of a list without barriers
+-- the same for a list without barriers
 abbrev pub IsFirstPrepareFault : List ℕ → Limits → List Span → PrepareFault → Type 0
 IsFirstPrepareFault list s rs fault = IsFirstPrepareFaultBy (Plans list s) list s rs fault
 
--- that of a list in which a fence is a barrier
+-- the same for a list in which a fence is a barrier
 abbrev pub IsFirstFencedFault : List ℕ → Limits → List Span → PrepareFault → Type 0
 IsFirstFencedFault list s rs fault = IsFirstPrepareFaultBy (PlansFenced list s) (unfenced_list list) s rs fault
 

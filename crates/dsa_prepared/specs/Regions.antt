@@ -28,7 +28,7 @@ new_span r = span r.new_base r.len
 unfoldable pub has_address : Span → ℕ → Bool
 has_address s address = nat_le s.first address && nat_lt address (s.first + s.len)
 
--- the relocated address: at the same offset from the new base of the region that has it; one that lies in none stays
+-- the relocated address: at the same offset from the new base of the region that has it; an address in no region stays
 abbrev pub relocated : List Region → ℕ → ℕ
 relocated [] address = address
 relocated (r ∷ rs) address = if has_address (base_span r) address then r.new_base + (address - r.base) else relocated rs address
@@ -42,10 +42,10 @@ abbrev pub AreDisjoint : List Region → Type 0
 AreDisjoint [] = ⊤
 AreDisjoint (r ∷ rs) = ApartFrom (base_span r) (map base_span rs) × ApartFrom (new_span r) (map new_span rs) × AreDisjoint rs
 
--- ---- spans that lie in regions, of which only the addresses before relocation count
+-- ---- spans that lie in regions, by their addresses before relocation
 
--- the span begins in the region, and does not go past its end; so an empty span, as a delta record of 0 bytes, lies in one
--- region at most
+-- the span begins in the region, and does not go past its end; so an empty span, as a delta record of 0 bytes, lies in at
+-- most one region
 abbrev pub LiesIn : Span → Span → Type 0
 LiesIn r s = (r.first ≤ s.first) × (s.first < r.first + r.len) × (s.first + s.len ≤ r.first + r.len)
 
@@ -62,8 +62,8 @@ LieInOne rs f = AllByRecursion (LiesInOne rs) (read_spans f) × AllByRecursion (
 abbrev pub AllLieInOne : List Span → List Fields → Type 0
 AllLieInOne rs fs = AllByRecursion (LieInOne rs) fs
 
--- of an operation that is split into pieces of at most `greatest` bytes, each whole range and the row of the pieces' records
--- lies in one region, and a delta is one piece
+-- an operation that is split into pieces of at most `greatest` bytes has each whole range, and the row of the pieces'
+-- records, in one region; and a delta is one piece
 pub record LiesWhole (rs : List Span) (greatest : ℕ) (f : Fields) : Type 0 where
   pub from : AllByRecursion (LiesInOne rs) (sources f.op f.size)
   pub into : AllByRecursion (LiesInOne rs) (targets f.op f.size)

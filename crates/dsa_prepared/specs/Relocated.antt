@@ -25,7 +25,7 @@ relocated_fields to f = record f { record_at = to f.record_at; op = relocated_op
 abbrev pub relocated_span : (ℕ → ℕ) → Span → Span
 relocated_span to s = span (to s.first) s.len
 
--- no two of these addresses go to one
+-- no two of these addresses go to the same address
 abbrev pub IsOneToOne : (ℕ → Type 0) → (ℕ → ℕ) → Type 0
 IsOneToOne In to = (a b : ℕ) → In a → In b → to a ≡ to b → a ≡ b
 

@@ -12,19 +12,19 @@ use Rattle.dsa_prepared.specs.Regions.{Region, base_span, relocated, HasAddress,
 use Rattle.std.specs.List.{AllByRecursion}
 use Rattle.dsa_splitter.specs.Pieces.{all_pieces}
 
--- two spans, each of which lies in one region, meet exactly where the relocated spans do
+-- two spans, each of which lies in one region, meet exactly if the relocated spans do
 abbrev pub MeetingSpansStay : Type 0
 MeetingSpansStay =
     (rs : List Region) (s t : Span) → AreDisjoint rs → LiesInOne (map base_span rs) s → LiesInOne (map base_span rs) t →
     (Meets s t ↔ Meets (relocated_span (relocated rs) s) (relocated_span (relocated rs) t))
 
--- two descriptors whose spans each lie in one region conflict exactly where the relocated ones do
+-- two descriptors whose spans each lie in one region conflict exactly if the relocated ones do
 abbrev pub ConflictsStay : Type 0
 ConflictsStay =
     (rs : List Region) (f g : Fields) → AreDisjoint rs → LieInOne (map base_span rs) f → LieInOne (map base_span rs) g →
     (Conflicts f g ↔ Conflicts (relocated_fields (relocated rs) f) (relocated_fields (relocated rs) g))
 
--- so do those of two places of a list
+-- the same of the descriptors at two places of a list
 abbrev pub PlacesStay : Type 0
 PlacesStay =
     (rs : List Region) (fs : List Fields) → AreDisjoint rs → AllLieInOne (map base_span rs) fs →
@@ -38,7 +38,7 @@ ChoiceStays =
     IsChosen (ConflictAt fs) greatest_batch tariff n costs pairs plan →
     IsChosen (ConflictAt (map (relocated_fields (relocated rs)) fs)) greatest_batch tariff n costs pairs plan
 
--- disjoint regions relocate no two of their addresses to one
+-- disjoint regions relocate no two of their addresses to the same address
 abbrev pub RegionsAreOneToOne : Type 0
 RegionsAreOneToOne = (rs : List Region) → AreDisjoint rs → IsOneToOne (HasAddress rs) (relocated rs)
 
@@ -52,7 +52,7 @@ PiecesRelocate =
     (rs : List Region) (greatest : ℕ) (fs : List Fields) → AreDisjoint rs → 0 < greatest → AllByRecursion (LiesWhole (map base_span rs) greatest) fs →
     all_pieces (map (relocated_fields (relocated rs)) fs) greatest ≡ map (relocated_fields (relocated rs)) (all_pieces fs greatest)
 
--- the spans of each piece lie in one region, where those of its operation do
+-- each span of a piece lies in one region, if those of its operation do
 abbrev pub PiecesLie : Type 0
 PiecesLie =
     (rs : List Span) (greatest : ℕ) (fs : List Fields) → 0 < greatest → AllByRecursion (LiesWhole rs greatest) fs →

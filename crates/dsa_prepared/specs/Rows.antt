@@ -39,7 +39,7 @@ unit_in row = word_of row 2
 abbrev pub tie_in : Row → Tie
 tie_in row = record { region = word_of row 0; offset = word_of row 1; other = word_of row 2; other_offset = word_of row 3 }
 
--- a kind and a value: 0 for a number, 1 for an offset in the staging area, and 2 + r for one in region r
+-- a kind and a value: 0 for a number, 1 for an offset in the staging area, and 2 + r for an offset in region r
 abbrev pub word_in : ℕ → ℕ → Word
 word_in kind value = if kind == 0 then Fixed value else if kind == 1 then InStaging value else InRegion (kind - 2) value
 
@@ -64,7 +64,7 @@ header_word rows k = word_of (slice_index_or rows 0 (record { words = [] })) k
 abbrev pub part : List Row → ℕ → ℕ → List Row
 part rows start count = take count (drop start rows)
 
--- where the rows of the ties and of the entries begin
+-- where the rows of the ties begin
 abbrev pub ties_at : List Row → ℕ
 ties_at rows = 1 + header_word rows 1
 
@@ -76,7 +76,7 @@ portal_at rows = ties_at rows + header_word rows 2
 abbrev pub staging_at : List Row → ℕ
 staging_at rows = portal_at rows + header_word rows 3
 
--- the rows of each part
+-- the rows of the regions
 abbrev pub region_rows : List Row → List Row
 region_rows rows = part rows 1 (header_word rows 1)
 
@@ -102,7 +102,7 @@ template_in rows =
 abbrev pub magic : ℕ
 magic = 0x3150455250415344
 
--- the header is that of so many rows, and of no more entries, batches and pieces than there may be
+-- the header fits the number of rows, and has no more entries, batches and pieces than there may be
 pub record HaveHeader (rows : List Row) : Type 0 where
   pub magic : header_word rows 0 ≡ magic
   pub count : staging_at rows + header_word rows 4 ≡ length rows
@@ -117,7 +117,7 @@ pub record ArePrepared (rows : List Row) : Type 0 where
   pub header : HaveHeader rows
   pub sound : IsSound (template_in rows)
 
--- words of this kind may have values up to `last` (private clauses alone cite this and the next ones)
+-- words of this kind may have values up to `last` (only private clauses cite this and what follows)
 abbrev pub IsBound : List Span → ℕ → ℕ → Type 0
 IsBound rs kind last = (value : ℕ) → value < 2 ^ 64 → (IsWithin rs (word_in kind value) ↔ (value ≤ last))
 
@@ -163,13 +163,13 @@ kind_of (InRegion region offset) = region + 2
 kind_of (InStaging offset) = 1
 kind_of (Fixed value) = 0
 
--- the value that stands for a word
+-- the value of a word
 abbrev pub value_of : Word → ℕ
 value_of (InRegion region offset) = offset
 value_of (InStaging offset) = offset
 value_of (Fixed value) = value
 
--- the region's number is one of those that a kind can say; so it is of each word of an entry
+-- a kind can say the region's number
 abbrev pub IsNumbered : Word → Type 0
 IsNumbered (InRegion region offset) = region + 2 < 2 ^ 64
 IsNumbered (InStaging offset) = ⊤

@@ -7,7 +7,7 @@ use Rattle.dsa_plan.specs.Settings.{Limits, limits}
 use Rattle.dsa_plan.specs.Settings.BatchPrices.{SamePrice}
 use Rattle.dsa_prepared.specs.Regions.{Region}
 
--- the source, the destination and the records; the source goes behind the destination, and to an odd address
+-- the source, the destination and the records; the source goes to after the destination, and to an odd address
 abbrev pub sample_regions : List Region
 sample_regions =
     record { base = 0x1000; len = 4100; new_base = 0x900001 }

@@ -1,4 +1,4 @@
--- What the code keeps of a prepared submission, so that filling it is safe. Private clauses alone cite these.
+-- What the code keeps of a prepared submission, so that filling it is safe. Only private clauses cite these.
 use Rattle.std.specs.Prelude.{◌≡◌, ◌⊎◌, ⊤, ℕ, ◌+◌, ◌*◌, ◌^◌, ◌<◌, ◌≤◌, All, List, ◌++◌, drop, length, slice_get, slice_index, take, Some}
 use Rattle.dsa_descriptor.specs.declared.span.Span.{Span}
 use Rattle.dsa_descriptor.specs.Pieces.{most_pieces}
@@ -73,7 +73,7 @@ AreNonempty plan = (number : ℕ) (group : Group) → slice_get plan number ≡ 
 
 -- ---- filling
 
--- the first entries stand in the buffer, and its rest is as before
+-- the first entries are in the buffer, and its rest is as before
 pub record ArePut (bases : List ℕ) (staging : ℕ) (entries : List Entry) (k : ℕ) (before now : List ℕ) : Type 0 where
   pub bytes : now ≡ filled bases staging (take k entries) ++ drop (64 * k) before
   pub long : length (filled bases staging (take k entries)) ≡ 64 * k

@@ -16,14 +16,14 @@ use Rattle.dsa_prepared.specs.Entries.{place_in, filled, entry_of, fenced_entrie
 pub record Template : Type 0 where
   -- the regions as they were when the list was planned
   pub regions : List Span
-  -- what each new base has to be congruent to its region's old base modulo
+  -- the unit of each region: its new base has to be congruent to its old base modulo this
   pub units : List ℕ
-  -- the addresses that have to agree in their low 12 bits, two and two
+  -- the addresses that have to agree in their low 12 bits, in pairs
   pub ties : List Tie
   -- the entries of the portal, and of the batches in the staging area
   pub portal : List Entry
   pub staging : List Entry
-  -- how many records of batches stand behind them
+  -- how many records of batches come after them
   pub batches : ℕ
   -- how many pieces there are, for each of which the staging area has 96 bytes
   pub pieces : ℕ
@@ -70,11 +70,11 @@ staging_entries rs plan fs = gathered (λ number. group_staged rs (place_of plan
 
 -- ---- alignment
 
--- the units, where this region's is at least that
+-- the units, with that of this region raised to at least this one
 abbrev pub raised : List ℕ → ℕ → ℕ → List ℕ
 raised units region unit = slice_set units region (max (slice_index units region) unit)
 
--- a delta's destination has to be a multiple of 8
+-- the units, after a delta's destination has to be a multiple of 8
 abbrev pub op_asked : List Span → List ℕ → Op → List ℕ
 op_asked rs units (Move src dst) = units
 op_asked rs units (Fill pattern dst) = units
@@ -83,7 +83,7 @@ op_asked rs units (ComparePattern src pattern expected) = units
 op_asked rs units (ApplyDelta delta dst record_size) = raised units (place_in rs dst).0 8
 op_asked rs units (Dualcast src dst dst2) = units
 
--- and a completion record a multiple of 32 (specification 341204, restrictions)
+-- and after a completion record has to be a multiple of 32 (specification 341204, restrictions)
 abbrev pub asked : List Span → List ℕ → Fields → List ℕ
 asked rs units f = op_asked rs (raised units (place_in rs f.record_at).0 32) f.op
 
@@ -118,7 +118,7 @@ ties_of rs fs = flat_map (λ f. op_ties rs f.op) fs
 
 -- ---- all of it
 
--- the template of operations, their pieces and the plan of these; pieces are aligned where their operations are
+-- the template of operations, their pieces and the plan of these; pieces are aligned if their operations are
 abbrev pub template_of : List Span → List Fields → Plan → List Fields → Template
 template_of rs operations plan pieces =
     template rs (units_of rs operations) (ties_of rs operations) (portal_entries rs plan pieces) (staging_entries rs plan pieces) (batch_count plan) (length pieces)

@@ -15,7 +15,7 @@ pub enum PrepareFault {
     RegionWrap(usize),
     /// The region begins before the one before it has ended: they overlap, or are out of order.
     RegionOrder(usize),
-    /// A range of the operation, or the row of its records, lies in no one region.
+    /// A range of the operation, or the row of its records, does not lie in one region.
     Outside(usize),
 }
 

@@ -137,8 +137,8 @@ fn is_beside(region: Span, bottom: u64, top: u128) -> bool
     region.end() <= u128::from(bottom)
 }
 
-/// The same as [`first_earlier`], where the earlier regions lie from `bottom` to before `top`. It looks at them where
-/// the region does not lie beside all of them: not at all, if bases rise or fall with the regions.
+/// The same as [`first_earlier`]; the earlier regions lie from `bottom` to before `top`. It looks at them only if the
+/// region does not lie beside all of them: not at all, if bases rise or fall with the regions.
 #[inline(always)]
 fn first_met(regions: &[Row], bases: &[u64], region: usize, bottom: u64, top: u128) -> Option<usize>
     requires inside { region < length regions.now }
@@ -155,7 +155,7 @@ fn first_met(regions: &[Row], bases: &[u64], region: usize, bottom: u64, top: u1
     first_earlier(regions, bases, region)
 }
 
-/// The first region that has an address in common with an earlier one, and the first such.
+/// The first region that has an address in common with an earlier one, and the first such earlier one.
 fn first_meeting(regions: &[Row], bases: &[u64]) -> Option<(usize, usize)>
     requires { length bases.now ≡ length regions.now }
     ensures { MatchOption result
@@ -171,7 +171,7 @@ fn first_meeting(regions: &[Row], bases: &[u64]) -> Option<(usize, usize)>
     first_meeting_by_pairs(regions, bases)
 }
 
-/// The same, by a look at each two regions of which the later one lies among the earlier ones.
+/// The same, by a look at each pair of regions, unless the later one lies beside all earlier ones.
 fn first_meeting_by_pairs(regions: &[Row], bases: &[u64]) -> Option<(usize, usize)>
     requires { length bases.now ≡ length regions.now }
     ensures { MatchOption result
@@ -217,8 +217,8 @@ fn is_staging(staging: u64) -> bool
     staging <= 1 << 63 && staging % 64 == 0
 }
 
-/// Writes the bytes of the entries from `start` on, as long as their words are of these kinds: up to which entry.
-/// Most lists have the same regions in entry after entry.
+/// Writes the bytes of the entries from `start` on, as long as their words are of these kinds, and returns where that
+/// ends. Most lists have the same regions in entry after entry.
 #[inline(always)]
 fn put_alike(
     buffer: &mut [u8],
@@ -300,7 +300,7 @@ fn buffer_fault(
 }
 
 /// Whether all regions go where they may, by one look at each: the bases rise or fall with the regions, and the
-/// staging area lies above or below them all. It can say no of others that may.
+/// staging area lies above or below them all. The answer may be no for regions that may go there.
 #[inline(always)]
 fn are_in_place(regions: &[Row], bases: &[u64], area: Span) -> bool
     requires based { length bases.now ≡ length regions.now }
@@ -343,7 +343,8 @@ fn area_of(rows: &[Row], staging: u64) -> Span
     }
 }
 
-/// Whether the submission can be filled, by one look at each region and each tie. It can say no of others that can.
+/// Whether the submission can be filled, by one look at each region and each tie. The answer may be no for one that
+/// can.
 #[inline(always)]
 fn can_fill(rows: &[Row], bases: &[u64], staging: u64) -> bool
     requires prepared { ArePrepared rows.now }
@@ -418,7 +419,7 @@ fn first_base_fault(rows: &[Row], bases: &[u64], staging: u64) -> Option<FillFau
     }
 }
 
-/// Writes what is submitted where the regions have these bases and the staging area this address, as
+/// Writes what is submitted if the regions have these bases and the staging area this address, as
 /// [`Prepared::fill`](crate::Prepared::fill) does, from rows that are prepared: [`are_prepared`](crate::are_prepared)
 /// tests that. Nothing is allocated.
 ///
@@ -442,7 +443,7 @@ pub fn fill_rows(
         (λ _. IsPlannedInto (template_in rows.now).regions bases.now staging s ds
         portal.old portal.new area.old area.new) }
     ensures can { IfOk result (λ _. CanFill (template_in rows.now) bases.now staging) }
-    // A refusal is the first cause, and where one stands it is the answer.
+    // A refusal is the first cause, and if there is a cause, it is the answer.
     ensures fault { IfErr result (IsFirstFillFault (template_in rows.now) bases.now staging
         (length portal.old) (length area.old)) }
     ensures refused { (fault : FillFault) → IsFirstFillFault (template_in rows.now) bases.now

@@ -21,7 +21,7 @@ use dsa_descriptor::{Descriptor, Span};
 use dsa_plan::Group;
 use std::alloc::{AllocError, Global};
 
-/// The entry of a batch of this owner, whose record and descriptors stand at these offsets of the staging area.
+/// The entry of a batch of this owner, whose record and descriptors are at these offsets of the staging area.
 fn batch_entry(first: &Descriptor, record_at: u64, list_at: u64, count: u32) -> Entry
     ensures { result ≡ record {
       head = take 4 (spelling (fields first.now)) ++ to_le_bytes w32 0x0100000c;
@@ -44,7 +44,7 @@ fn batch_entry(first: &Descriptor, record_at: u64, list_at: u64, count: u32) -> 
     }
 }
 
-/// How many batches the group is: one, or none where it is a single piece.
+/// How many batches the group is: one, or none if it is a single piece.
 fn batches_of(group: &Group) -> usize
     ensures { result ≡ if is_batch group.now then 1 else 0 }
 {
@@ -82,8 +82,8 @@ fn batched_total(groups: &[Group]) -> usize
     total
 }
 
-/// The entry of the group whose pieces begin at `start`: of its piece, or of its batch, whose record and descriptors stand
-/// at these offsets of the staging area.
+/// The entry of the group whose pieces begin at `start`: of its piece, or of its batch, whose record and descriptors
+/// are at these offsets of the staging area.
 fn group_entry(
     regions: &[Span],
     group: &Group,
@@ -135,7 +135,7 @@ pub(crate) fn portal_entries(
     Ok(entries)
 }
 
-/// Adds the entries of the pieces of a batch, each fenced where the group says so.
+/// Adds the entries of the pieces of a batch, each fenced if the group says so.
 fn stage_batch(
     entries: &mut Vec<Entry>,
     regions: &[Span],

@@ -9,12 +9,12 @@ ghost use Rattle.dsa_prepared.specs.Samples.{sample_regions, sample_settings, sa
 ghost use Rattle.dsa_prepared.specs.Submissions.{MayRelocate, SubmissionRelocates};
 ghost use Rattle.dsa_prepared.specs.Listed.{IsAlignedAt, ListedRelocates, PlansRelocate};
 
-/// Two spans that each lie in one region meet exactly where their relocated spans do.
+/// Two spans that each lie in one region meet exactly if their relocated spans do.
 pub fn meeting_spans_stay()
     ensures { MeetingSpansStay }
 {}
 
-/// Two descriptors conflict exactly where the relocated ones do, by themselves and by their places in a list.
+/// Two descriptors conflict exactly if the relocated ones do, by themselves and by their places in a list.
 pub fn conflicts_stay()
     ensures two { ConflictsStay }
     ensures places { PlacesStay }
@@ -25,12 +25,12 @@ pub fn choice_stays()
     ensures { ChoiceStays }
 {}
 
-/// Disjoint regions relocate no two of their addresses to one.
+/// Disjoint regions relocate no two of their addresses to the same address.
 pub fn regions_are_one_to_one()
     ensures { RegionsAreOneToOne }
 {}
 
-/// Each address of a span that lies in one of such regions keeps its offset in the span.
+/// Each address of a span that lies in one such region keeps its offset in the span.
 pub fn regions_keep_offsets()
     ensures { RegionsKeepOffsets }
 {}
@@ -40,12 +40,13 @@ pub fn pieces_relocate()
     ensures { PiecesRelocate }
 {}
 
-/// The submission of relocated operations: the same plan, certificate and cost, and the emission of the relocated pieces.
+/// The submission of relocated operations: the same plan, certificate and cost, and the emission of the relocated
+/// pieces.
 pub fn submission_relocates()
     ensures { SubmissionRelocates }
 {}
 
-/// A listed descriptor is listed after relocation, where it is aligned there.
+/// A listed descriptor is listed after relocation, if it is aligned there.
 pub fn listed_relocates()
     ensures { ListedRelocates }
 {}
@@ -55,12 +56,12 @@ pub fn plans_relocate()
     ensures { PlansRelocate }
 {}
 
-/// The spans of each piece lie in one region, where those of its operation do.
+/// Each span of a piece lies in one region, if those of its operation do.
 pub fn pieces_lie()
     ensures { PiecesLie }
 {}
 
-/// The premises of the laws can hold: they do of a computed sample, a move in two pieces on three regions.
+/// The premises of the laws can hold: they do for a computed sample, a move in two pieces on three regions.
 pub fn samples_relocate()
     ensures may { MayRelocate sample_regions sample_staging sample_settings sample_list }
     ensures aligned { AllByRecursion (IsAlignedAt (relocated sample_regions)) sample_list }

@@ -24,7 +24,8 @@ fn ended_at(regions: &[Span], address: u64) -> usize
     regions.partition_point(|region| region.end() <= u128::from(address))
 }
 
-/// The number of the region that has the address, and its offset there; else how many regions there are, and the address.
+/// The number of the region that has the address, and its offset there; else how many regions there are, and the
+/// address.
 pub(crate) fn place_in(regions: &[Span], address: u64) -> (usize, u64)
     requires { AreRegions regions.now }
     ensures { result ≡ place_in regions.now address }
@@ -40,7 +41,7 @@ pub(crate) fn place_in(regions: &[Span], address: u64) -> (usize, u64)
     (i, address - region.first)
 }
 
-/// The word that stands for the address.
+/// The word for the address.
 pub(crate) fn word_at(regions: &[Span], address: u64) -> Word
     requires { AreRegions regions.now }
     ensures { result ≡ word_at regions.now address }

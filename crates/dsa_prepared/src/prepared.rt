@@ -76,9 +76,9 @@ impl Prepared {
         64 * staging_rows(&self.rows).len() + 32 * header_word(&self.rows, 5)
     }
 
-    /// Writes what is submitted where the regions have these bases and the staging area this address: the portal's
-    /// bytes at the front of `portal`, those of the staging area at the front of `area`. Nothing is allocated. The bytes
-    /// are those that [`plan_list`](dsa_calls::plan_list) answers for the list on the new buffers.
+    /// Writes what is submitted if the regions have these bases and the staging area this address: the portal's bytes
+    /// at the front of `portal`, those of the staging area at the front of `area`. Nothing is allocated. The bytes are
+    /// those that [`plan_list`](dsa_calls::plan_list) returns for the list on the new buffers.
     ///
     /// # Errors
     /// The first of these, and nothing is written: [`FillFault::Bases`]; `Room`; for the least region `RegionWrap`;
@@ -101,7 +101,7 @@ impl Prepared {
             (λ _. IsPlannedInto self.now.regions bases.now staging s ds
             portal.old portal.new area.old area.new) }
         ensures can { IfOk result (λ _. CanFill self.now bases.now staging) }
-        // A refusal is the first cause, and where one stands it is the answer.
+        // A refusal is the first cause, and if there is a cause, it is the answer.
         ensures fault { IfErr result
             (IsFirstFillFault self.now bases.now staging (length portal.old) (length area.old)) }
         ensures refused { (fault : FillFault) → IsFirstFillFault self.now bases.now staging

@@ -105,7 +105,7 @@ fn prepare_operations_with(
     }
 }
 
-/// Prepares a list as [`prepare`] does, and answers what the plan costs, too.
+/// Prepares a list as [`prepare`] does, and also returns what the plan costs.
 ///
 /// # Errors
 /// Those of [`prepare`].
@@ -137,8 +137,9 @@ pub fn prepare_costed(
 /// records of its pieces, lies in one of them. They come in the order of their addresses.
 ///
 /// # Errors
-/// What [`plan_list`](dsa_calls::plan_list()) refuses, as [`PrepareFault::Plan`]; for the least region [`PrepareFault::RegionWrap`], or else
-/// `RegionOrder`; the least operation that is `Outside`; `Plan(PlanFault::Memory)` at the first allocation that fails.
+/// What [`plan_list`](dsa_calls::plan_list()) refuses, as [`PrepareFault::Plan`]; for the least region
+/// [`PrepareFault::RegionWrap`], or else `RegionOrder`; the least operation that is `Outside`;
+/// `Plan(PlanFault::Memory)` at the first allocation that fails.
 pub fn prepare(
     alloc: Global,
     list: &[u8],
@@ -163,10 +164,10 @@ pub fn prepare(
 }
 
 /// Prepares a list in which a fence is a barrier, as [`plan_fenced_list`](dsa_calls::plan_fenced_list()) plans it:
-/// [`Prepared::fill`] writes what that answers for the list on the new buffers, with the fences that keep its barriers.
+/// [`Prepared::fill`] writes what that returns for the list on the new buffers, with the fences that keep its barriers.
 ///
 /// # Errors
-/// Those of [`prepare`], of the list without its fences.
+/// Those of [`prepare`] for the list without its fences.
 pub fn prepare_fenced(
     alloc: Global,
     list: &[u8],

@@ -68,7 +68,7 @@ pub(crate) fn staging_rows(rows: &[Row]) -> &[Row]
     &rows[start..start + header_word(rows, 4)]
 }
 
-/// Whether the header is that of as many rows.
+/// Whether the header fits the number of rows.
 fn has_count(rows: &[Row]) -> bool
     requires { 0 < length rows.now }
     ensures { IsTrue result ↔ ((staging_at rows.now + header_word rows.now 4) ≡ length rows.now) }
@@ -89,7 +89,7 @@ fn has_count(rows: &[Row]) -> bool
     header_word(rows, 4) == rest - regions - ties - portal
 }
 
-/// Whether the header is one.
+/// Whether the first row is a header.
 fn have_header(rows: &[Row]) -> bool
     ensures { IsTrue result ↔ HaveHeader rows.now }
 {
@@ -149,7 +149,7 @@ struct Bound {
     last: u64,
 }
 
-/// The bound of words of this kind. None, if they may have no value. One comparison tells the kinds of regions from
+/// The bound of words of this kind; none if they may have no value. One comparison separates the kinds of regions from
 /// the others, since 0 and 1 less 2 wrap to numbers that no region has.
 #[inline(always)]
 fn bound_of(regions: &[Row], kind: u64) -> Option<Bound>
@@ -254,8 +254,8 @@ fn are_bounded(regions: &[Row], bounds: Bounds, entry: &Row) -> bool
     is_bounded(bounds.own, words[8], words[9])
 }
 
-/// From `start` on, the first entry whose words are not of the kinds of the bounds, or not within them. Most lists
-/// have the same regions in entry after entry.
+/// The first entry from `start` on whose words are not of the kinds of the bounds, or not within them. Most lists have
+/// the same regions in entry after entry.
 #[inline(always)]
 fn first_unbounded(regions: &[Row], bounds: Bounds, entries: &[Row], start: usize) -> usize
     requires bounds { AreBounds (map region_in regions.now) bounds }
@@ -299,7 +299,7 @@ fn tie_lies(regions: &[Row], tie: &Row) -> bool
     is_within(regions, tie.words[2], tie.words[3])
 }
 
-/// Whether those of each tie do.
+/// Whether the offsets of each tie do.
 fn ties_lie(regions: &[Row], ties: &[Row]) -> bool
     ensures { IsTrue result ↔ All (IsTieWithin (map region_in regions.now)) (map tie_in ties.now) }
 {
@@ -311,8 +311,8 @@ fn ties_lie(regions: &[Row], ties: &[Row]) -> bool
     true
 }
 
-/// Whether the rows say a prepared submission that can be filled. The form is tested, on which filling rests: no damage
-/// makes it read or write outside its arrays. That the entries are those of one list is not.
+/// Whether the rows are a prepared submission that can be filled. This tests the form, which filling relies on: no
+/// damage makes it read or write outside its arrays. It does not test that the entries are those of one list.
 pub fn are_prepared(rows: &[Row]) -> bool
     ensures { IsTrue result ↔ ArePrepared rows.now }
 {

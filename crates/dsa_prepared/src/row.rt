@@ -15,7 +15,7 @@ use dsa_descriptor::Span;
 #[repr(C)]
 #[derive(Clone, Copy)]
 pub struct Row {
-    /// What they say depends on the place of the row.
+    /// Their meaning depends on the place of the row.
     pub words: [u64; 10],
 }
 
@@ -49,7 +49,7 @@ pub(crate) struct Origins {
     pub(crate) second: Origin,
 }
 
-/// The number that the operation's own word stands for: most often its value, which is tested first.
+/// The number that the operation's own word gives: most often its value, which is tested first.
 #[inline(always)]
 fn own_value_in(kind: u64, value: u64, bases: &[u64], staging: u64) -> u64
     requires { HasValue bases.now staging (word_in kind value) }
@@ -128,8 +128,7 @@ impl Row {
         }
     }
 
-    /// What the words of the entry that the row says count from, where the regions have these bases and the staging
-    /// area this address.
+    /// What the words of the row's entry count from, if the regions have these bases and the staging area this address.
     #[inline(always)]
     pub(crate) fn origins(&self, bases: &[u64], staging: u64) -> Origins
         requires { HasValues bases.now staging (entry_in self.now) }
@@ -144,7 +143,7 @@ impl Row {
         }
     }
 
-    /// Whether the words of the entry that the row says are of these kinds.
+    /// Whether the words of the row's entry are of these kinds.
     #[inline(always)]
     pub(crate) fn has_kinds(&self, origins: &Origins) -> bool
         ensures { IsTrue result ↔ HasKinds self.now origins.now }
@@ -155,8 +154,8 @@ impl Row {
             && words[6] == origins.second.kind
     }
 
-    /// Writes the bytes of the entry that the row says over those from the place on, where the regions have these
-    /// bases and the staging area this address, and its words count from these origins.
+    /// Writes the bytes of the row's entry over those from the place on, if the regions have these bases and the
+    /// staging area this address, and its words count from these origins.
     #[inline(always)]
     pub(crate) fn fill(
         &self,

@@ -7,7 +7,7 @@ ghost use Rattle.dsa_prepared.specs.Rows.{region_in};
 use crate::filling::new_region;
 use crate::row::Row;
 
-/// The fewest regions that are sorted: of fewer, a look at each two is faster.
+/// The fewest regions that are sorted: for fewer, a look at each pair is faster.
 const FEWEST_SORTED: usize = 17;
 
 /// The most regions that are sorted. Their numbers lie on the stack, since filling allocates nothing.
@@ -23,7 +23,7 @@ fn base_of(bases: &[u64], region: u16) -> u64 {
     }
 }
 
-/// Makes the numbers of the regions, in the order of their bases. No clause says so: what rests on it is tested.
+/// Makes the numbers of the regions, in the order of their bases. No clause says so: what relies on it tests it.
 fn sort_by_base(order: &mut [u16], bases: &[u64])
     requires { length order.old ≤ 1024 }
     ensures { length order.new ≡ length order.old }
@@ -86,8 +86,8 @@ fn are_ranks(order: &[u16], ranks: &[u16]) -> bool
     true
 }
 
-/// Whether no two regions have an address in common. It can say no of others, if there are too few or too many to
-/// sort, or one is empty.
+/// Whether no two regions have an address in common. The answer may also be no if there are too few or too many to
+/// sort, or a region is empty.
 #[inline(never)]
 pub(crate) fn are_apart(regions: &[Row], bases: &[u64]) -> bool
     requires { length bases.now ≡ length regions.now }

@@ -69,7 +69,7 @@ pub(crate) fn entry_of(regions: &[Span], fence: bool, piece: &Descriptor) -> Ent
     }
 }
 
-/// What stands in bytes 16 to 23 of the operation.
+/// Bytes 16 to 23 of the operation.
 fn first_word(regions: &[Span], op: &Op) -> Word
     requires { AreRegions regions.now }
     ensures { result ≡ first_word regions.now op.now }
@@ -84,7 +84,7 @@ fn first_word(regions: &[Span], op: &Op) -> Word
     }
 }
 
-/// What stands in bytes 24 to 31 of the operation.
+/// Bytes 24 to 31 of the operation.
 fn second_word(regions: &[Span], op: &Op) -> Word
     requires { AreRegions regions.now }
     ensures { result ≡ second_word regions.now op.now }
@@ -99,7 +99,7 @@ fn second_word(regions: &[Span], op: &Op) -> Word
     }
 }
 
-/// What stands in bytes 40 to 47 of the operation.
+/// Bytes 40 to 47 of the operation.
 fn own_word(regions: &[Span], op: &Op) -> Word
     requires { AreRegions regions.now }
     ensures { result ≡ own_word regions.now op.now }

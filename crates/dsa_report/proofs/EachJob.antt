@@ -42,8 +42,8 @@ are_ascending [] = true
 are_ascending (name ∷ []) = true
 are_ascending (name ∷ next ∷ names) = is_lt (slice_cmp nat_cmp name next) && are_ascending (next ∷ names)
 
--- the members are a row: they have the name and the settings, no member stands there twice, and their names ascend (no
--- object has them in another order, so each value with such a row would be refused)
+-- the members are a row: they have the name and the settings, no member twice, and their names ascend (as in every object:
+-- with any other order each value would be refused)
 pub record IsRow (members : List Member) : Type 0 where
   pub named : is_among the_name members ≡ true
   pub set : is_among the_settings members ≡ true

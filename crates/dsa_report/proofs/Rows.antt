@@ -23,7 +23,7 @@ use Rattle.dsa_report.specs.Read.{AreRead, IsRead, ReadsHeld, ReadsMembers}
 use Rattle.dsa_report.proofs.EachJob.{row}
 use Rattle.dsa_report.proofs.SameJobs.{same_member, one_member, get_among}
 
--- ---- what stands at the name of a member
+-- ---- the value at the name of a member
 
 is_itself : (m : Member) → is_same m m ≡ true
 is_itself the_certificate = refl
@@ -52,7 +52,7 @@ same_bytes m n = go (is_same m n) (bytes_eq (member_name m) (member_name n)) ref
     go false true e f = f ∙ sym (one f)
     go false false e f = f ∙ sym e
 
--- something stands at a name where it is that of the first member, or of one behind it
+-- there is a value at a name if the name is that of the first member, or of one after it
 some_picked : (o : Ordering) (here : Data) (rest : Option Data) → is_some (match_ordering o rest (Some here) rest) ≡ (is_eq o || is_some rest)
 some_picked Less here rest = refl
 some_picked Equal here rest = refl
@@ -80,7 +80,7 @@ is_held (number n) name m e = cc
 is_held (string s) name m e = cc
 is_held (array ds) name m e = cc
 
--- where what stands at the name of a member spells nothing, the value spells no job
+-- if the value at the name of a member spells nothing, the whole value spells no job
 apart : {A : Type 0} (there : Bool) (spelling : A → Data) (held : HeldIf there A) (found : Option Data) → (there ≡ true → found ≡ Some (value_if there spelling held))
     → there ≡ true → ((y : A) → found ≢ Some (spelling y)) → ⊥
 apart true spelling held found is there none = none held (is refl)
@@ -133,7 +133,7 @@ option_same : {A : Type 0} (o : Option A) → option_map (λ x. x) o ≡ o
 option_same (Some a) = refl
 option_same None = refl
 
--- something was read where something stands at the name, which is where the job has the member
+-- something was read if there is a value at the name, that is, if the job has the member
 some_read : {X Y : Type 0} (name : List ℕ) (spelling : Y → Data) (shown : X → Y) (d : Data) (found : Option X) → ReadsHeld name spelling shown d (Some found)
     → is_some (option_map shown found) ≡ is_some (get name d)
 some_read name spelling shown d (Some x) is = sym (ap is_some is)
@@ -150,7 +150,7 @@ read_value true name spelling shown d (Some x) e is there = is
 read_value true name spelling shown d None e is there = absurd (true≢false (sym e))
 read_value false name spelling shown d found e is there = absurd (true≢false (sym there))
 
--- a value that stands at a name, where it is looked at as it is
+-- the value at a name, if it is looked at as it is
 pub got : {X : Type 0} (found : Option X) (value : X → Data) (name : List ℕ) (d : Data) → option_map value found ≡ get name d → ReadsHeld name (λ x. x) value d (Some found)
 got (Some x) value name d is = sym is
 got None value name d is = sym is

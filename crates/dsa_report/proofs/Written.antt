@@ -18,7 +18,7 @@ part_before a b xs ys (n, short, part) = (
   subst (Appends a b) (sym (take-append-le n xs ys (omega (arith, short)))) part,
 )
 
--- the first bytes and a part of what comes behind them are a part of all
+-- the first bytes and a part of what comes after them are a part of all
 pub part_behind : (a b d : Option (List ℕ)) (xs ys : List ℕ) → Appends a b xs → WritesPart b d ys → WritesPart a d (xs ++ ys)
 part_behind a b d xs ys before (n, short, part) = (
   length xs + n,
@@ -26,7 +26,7 @@ part_behind a b d xs ys before (n, short, part) = (
   subst (Appends a d) (sym (take-append-add xs ys n)) (Appends-trans a b d xs (take n ys) before part),
 )
 
--- so is a part of what comes behind them, with more behind that
+-- so is a part of what comes after them, with more after that
 pub part_between : (a b d : Option (List ℕ)) (xs ys zs : List ℕ) → Appends a b xs → WritesPart b d ys → WritesPart a d (xs ++ (ys ++ zs))
 part_between a b d xs ys zs before part = part_behind a b d xs (ys ++ zs) before (part_before b d ys zs part)
 

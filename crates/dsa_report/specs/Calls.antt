@@ -116,7 +116,7 @@ call_of (RunEngines job) = (
   },
 )
 
--- what a member holds spells the argument, where it is there
+-- if the member is there, what it holds spells the argument
 abbrev pub SpellsIf : {A B : Type 0} (there : Bool) → (A → B → Type 0) → HeldIf there A → HeldIf there B → Type 0
 SpellsIf true Spells held argument = Spells held argument
 SpellsIf false Spells held argument = Unit {0}

@@ -23,7 +23,7 @@ pub(crate) struct AnswerLine {
     pub(crate) middle: &'static [u8],
     /// The bytes whose digits come second.
     pub(crate) second: Vec<u8>,
-    /// The text behind the digits.
+    /// The text after the digits.
     pub(crate) end: &'static [u8],
 }
 
@@ -62,7 +62,7 @@ impl AnswerLine {
         })
     }
 
-    /// The same, where the last two members are strings of digits: those of the portal, and those of the staging area.
+    /// The same, if the last two members are strings of digits: those of the portal, and those of the staging area.
     pub(crate) fn with_emission(
         text: Vec<u8>,
         portal: Vec<u8>,
@@ -95,7 +95,7 @@ fn keeps_digits(bytes: &[u8])
     let _ = bytes.len();
 }
 
-/// Writes the line, and answers whether all of it was taken.
+/// Writes the line, and returns whether all of it was taken.
 pub(crate) fn write_answer<W: Write>(writer: &mut W, line: &AnswerLine) -> bool
     ensures whole { OnTrue result
         (Appends (W.contents writer.old) (W.contents writer.new) (line_bytes line.now)) }

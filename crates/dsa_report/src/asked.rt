@@ -8,9 +8,9 @@ use std::io::{self, Read};
 
 /// A reader that can be asked in turns.
 ///
-/// The contract of [`Read::read`] counts no calls. Here `asks` is a count that each turn raises by one at most, and nothing
-/// is known of it after another call of the reader. A function over any such reader is proved for each count: so a clause
-/// that bounds the rise of `asks` bounds the turns.
+/// The contract of [`Read::read`] counts no calls. Here `asks` is a count that each turn raises by at most one, and
+/// nothing is known of it after any other call of the reader. A function over such readers is proved for each count, so
+/// a clause that bounds the rise of `asks` bounds the turns.
 pub trait Asked: Read {
     ghost asks: { Self → ℕ };
 

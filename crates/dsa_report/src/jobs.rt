@@ -29,18 +29,18 @@ pub enum JobName {
     Judge,
     /// `plan`: a plan of a list, with its certificate and the bytes that submit it.
     Plan,
-    /// `check`: the cost of the plan that bytes submit, where a certificate shows that none costs less.
+    /// `check`: the cost of the plan that bytes submit, if a certificate proves that none costs less.
     Check,
-    /// `replay`: what a run of a planned list leaves, where a trace is a complete one.
+    /// `replay`: what a run of a planned list leaves, if the trace is a complete one.
     Replay,
-    /// `run`: what engines leave that run a planned list.
+    /// `run`: what a run of a planned list by engines leaves.
     Run,
 }
 
 /// The row of a job.
 #[derive(Clone, Copy)]
 struct Row {
-    /// What stands under `do`.
+    /// The value of `do`.
     name: &'static str,
     /// The names of the members, in their order.
     members: &'static [&'static str],
@@ -134,7 +134,7 @@ fn job_of(alloc: Global, value: &Value) -> Result<Job, PlanFault>
     }
 }
 
-/// The name that stands under `do`.
+/// The name that is the value of `do`.
 fn job_name(value: &Value) -> Option<JobName>
     ensures { MatchOption result (¬ NamesJob (view value.now)) (HasName (view value.now)) }
 {

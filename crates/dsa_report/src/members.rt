@@ -34,7 +34,7 @@ pub(crate) struct Members<'v> {
     pub(crate) trace: Option<&'v Value>,
 }
 
-/// The members of a job of this name, or none where the value spells no such job.
+/// The members of a job of this name, or none if the value spells no such job.
 pub(crate) fn members_at(
     alloc: Global,
     value: &Value,
@@ -84,7 +84,7 @@ fn members_with(value: &Value, settings: Numbers, plan: Option<Plan>) -> Option<
     })
 }
 
-// Each member, where the value has it.
+// Each member, if the value has it.
 
 /// The number at a name.
 fn number_held(value: &Value, name: &str) -> Option<Option<u64>>

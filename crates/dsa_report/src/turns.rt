@@ -25,7 +25,7 @@ pub(crate) enum Turn {
 }
 
 /// A reader and the turns that are left of [`TURNS`]. Nobody else has the reader meanwhile, and no other file can write
-/// these fields: whoever reads a text through this can neither ask in more turns nor end before they are over.
+/// these fields: code that reads a text through this can neither ask in more turns nor end before they are over.
 #[derive(Drop)]
 pub(crate) struct Turns<'a, R> {
     reader: &'a mut R,

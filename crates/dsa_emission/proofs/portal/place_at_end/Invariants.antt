@@ -2,7 +2,7 @@ use Rattle.std.proofs.Common.{◌≡◌, ◌≤◌}
 use Rattle.dsa_emission.specs.EmissionFaults.{place_before}
 use Rattle.dsa_emission.proofs.portal.place_at_end.Given as goal
 
--- what stands in the entries so far
+-- what the entries so far have
 abbrev pub invariant-loop-entry : goal.invariant-loop-entry
 invariant-loop-entry l = record {
   placed : l.place ≡ place_before l.all l.entry-index;

@@ -30,7 +30,7 @@ read_group-requires-clause-inside c =
     λ is. subst (λ (p : Place). p.batched + entry_size e ≤ length c.args.staged.now) (sym c.loop-number.invariant.placed)
     (inside (is_batch_entry e) (u32_at 32 e) (place_before es n).batched (place_at_end es).batched (length c.args.staged.now) (batched_more es n c.loop-number-test.true) c.requires.inside is)
 
--- a fault of one group, behind those that were read
+-- a fault of one group, after those that were read
 group_fault : (demands : Demands) (es staged : List (List ℕ)) (n : ℕ) (place : Place) (plan : Plan) (ds : List Descriptor) (fault : EmissionFault) → n < length es → place ≡ place_before es n → IsRead demands es staged n plan ds →
     ((fault ≡ Memory) ⊎ IsFirstGroupFault demands (bytes_at staged place (slice_index_or es n [])) n place.start (entry_size (slice_index_or es n [])) fault) →
     (fault ≡ Memory) ⊎ IsFirstPortalFault demands es staged fault

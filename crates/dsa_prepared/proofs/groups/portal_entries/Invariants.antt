@@ -6,7 +6,7 @@ use Rattle.dsa_plan.specs.Emission.{batch_count, batched_count, place_of}
 use Rattle.dsa_prepared.specs.Templates.{gathered, group_entries}
 use Rattle.dsa_prepared.proofs.groups.portal_entries.Given as goal
 
--- the entries of the groups so far, and what stands before the next
+-- the entries of the groups so far, and what comes before the next
 abbrev pub invariant-loop-group : goal.invariant-loop-group
 invariant-loop-group l = record {
   starts : l.start ≡ start_of l.groups l.group-index;

@@ -24,7 +24,7 @@ NothingPassesABarrier =
     IsBarrier barriers k → i < k → k ≤ j →
     (now : State Partial) × IsPieceRun plan pieces engines m before now × At now i (Finished 1)
 
--- such a plan is legal, so that all that is known of runs of legal plans holds of it
+-- such a plan is legal, so what is known of runs of legal plans holds of it
 abbrev pub LegalWithoutBarriers : Type 0
 LegalWithoutBarriers =
     (greatest_batch : ℕ) (pieces : List Fields) (barriers : List Bool) (plan : Plan) →

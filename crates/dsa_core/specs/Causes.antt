@@ -13,7 +13,7 @@ core_is_memory TooLong = false
 core_is_memory (NotAStep event) = false
 core_is_memory Incomplete = false
 
--- the number, the name and the indices
+-- the number of the fault
 abbrev pub core_number : CoreFault → ℕ
 core_number Memory = 73
 core_number TooLong = 75

@@ -1,4 +1,4 @@
--- What is asked before a run by engines.
+-- What a run by engines requires.
 use Rattle.std.specs.Prelude.{ℕ, ◌<◌, ◌≤◌, All, List, length, map}
 use Rattle.dsa_descriptor.specs.declared.descriptor.Descriptor.{Descriptor}
 use Rattle.dsa_descriptor.specs.Descriptors.{fields}
@@ -9,7 +9,7 @@ use Rattle.dsa_settings.specs.Plan.{Plan}
 use Rattle.dsa_settings.specs.Legal.{IsLegal}
 use Rattle.dsa_core.specs.Accounts.{most_members}
 
--- what is asked before engines run the pieces under the plan, from the memory m
+-- what has to hold before engines run the pieces under the plan, from the memory m
 pub record IsRunnable (m : Memory) (plan : Plan) (pieces : List Descriptor) (engines : ℕ)
     : Type 0 where
   -- there are at most 65,536 pieces (this project's choice)

@@ -68,7 +68,7 @@ module _ {D P : Type 0} (machine : Machine D P) where
       let rest = shift_all subs lanes mid end d f within (holds_after machine d m mid same held) (fits_tail a subs m mid same fits) (λ z. apart (suc z)) order.2 in
       record { in_order = ((f mid).memory, first.orderly, rest.in_order); answer_is = rest.answer_is ∙ first.answer_is }
 
-  -- the piece of this event doesn't conflict with the begun pieces of the submissions behind y
+  -- the piece of this event doesn't conflict with the begun pieces of the submissions after y
   abbrev ApartBehind : Setup D → Event → ℕ → List (Setup D) → List (List (Progress P)) → Type 0
   ApartBehind a v y subs lanes =
       (d : D) → slice_get a.pieces v.piece ≡ Some d → (z : ℕ) (b : Setup D) (rs : List (Progress P)) → y < z →

@@ -3,7 +3,7 @@ use Rattle.std.proofs.Common.{◌≡◌, ℕ, zero, suc, ◌+◌, ◌-◌, ◌%�
 use Rattle.std.proofs.lemmas.Bool.{cases_lt}
 use Rattle.std.proofs.lemmas.List.{get_or-drop, get_or-take}
 
--- where the first eight are the row, and each byte behind is that of eight places before, each byte is the row's
+-- if the first eight are the row, and each later byte is the one eight places before it, each byte is the row's
 pub repeats_row : (bytes row : List ℕ) → take 8 bytes ≡ row → drop 8 bytes ≡ take (length bytes - 8) bytes → (n k : ℕ) → k < n → k < length bytes
     → get_or bytes k 0 ≡ get_or row (k % 8) 0
 repeats_row bytes row front shifted zero k lt inside = absurd (omega arith)

@@ -23,7 +23,7 @@ last_some f (x ∷ xs) = option_or (last_some f xs) (f x)
 
 -- ---- new bytes, each as a function of the old memory. `lo` and `hi` are offsets: what is done is done from `lo` to below `hi`
 
--- a copy from `src` to `dst`: each byte of the destination is the source's as it stood before, also where the two overlap
+-- a copy from `src` to `dst`: each byte of the destination is the source's as it was before, also if the two overlap
 -- (specification 341204, memory move; that overlap is supported is this project's choice)
 unfoldable pub copied : Memory → ℕ → ℕ → ℕ → ℕ → ℕ → Option ℕ
 copied m src dst lo hi a =
@@ -65,27 +65,27 @@ is_too_far m delta size i = nat_lt size (entry_place m delta i + 8)
 abbrev pub is_behind : Memory → ℕ → ℕ → Bool
 is_behind m delta i = nat_lt 0 i && nat_le (entry_place m delta i) (entry_place m delta (i - 1))
 
--- the status that entry i alone causes: 7 where it isn't greater than the one before, else 8 where it is too far (this
--- project's choice)
+-- the status that entry i by itself causes: 7 if its offset isn't greater than that of the entry before, else 8 if it is
+-- too far (this project's choice)
 unfoldable pub entry_fault : Memory → ℕ → ℕ → ℕ → Option ℕ
 entry_fault m delta size i =
     if is_behind m delta i then Some 7 else (if is_too_far m delta size i then Some 8 else None)
 
--- what entry i leaves at the address a: one of its 8 bytes of data, where they fit and one of them goes to a
+-- what entry i leaves at the address a: one of its 8 bytes of data, if they fit and one of them goes to a
 unfoldable pub entry_byte : Memory → ℕ → ℕ → ℕ → ℕ → ℕ → Option ℕ
 entry_byte m delta dst size a i =
     if not (is_too_far m delta size i) && is_between (dst + entry_place m delta i) (dst + entry_place m delta i + 8) a
     then Some (byte_at m (delta + 10 * i + 2 + (a - (dst + entry_place m delta i))))
     else None
 
--- the entries from `lo` to below `hi`, where the last one that goes to an address counts (specification 341204, apply
--- delta record)
+-- the entries from `lo` to below `hi`; for each address the last entry that goes there counts (specification 341204,
+-- apply delta record)
 unfoldable pub patched : Memory → ℕ → ℕ → ℕ → ℕ → ℕ → ℕ → Option ℕ
 patched m delta dst size lo hi a = last_some (entry_byte m delta dst size a) (numbers lo hi)
 
 -- ---- answers: the first difference of a compare, the status of the first fault of a delta
 
--- the offset k, where the bytes at it differ
+-- the offset k, if the bytes at it differ
 unfoldable pub difference_at : Memory → ℕ → ℕ → ℕ → Option ℕ
 difference_at m src src2 k = if byte_at m (src + k) == byte_at m (src2 + k) then None else Some k
 
@@ -93,12 +93,11 @@ difference_at m src src2 k = if byte_at m (src + k) == byte_at m (src2 + k) then
 unfoldable pub first_difference : Memory → ℕ → ℕ → ℕ → ℕ → Option ℕ
 first_difference m src src2 lo hi = first_some (difference_at m src src2) (numbers lo hi)
 
--- the offset k, where the byte at it is another than the pattern's
+-- the offset k, if the byte at it is not the pattern's
 unfoldable pub unlike_at : Memory → ℕ → ℕ → ℕ → Option ℕ
 unlike_at m src pattern k = if byte_at m (src + k) == pattern_byte pattern k then None else Some k
 
--- the first byte of a region that is another than the pattern's, from the offset `lo` to below `hi` (this project's
--- choice)
+-- the first byte of a region that is not the pattern's, from the offset `lo` to below `hi` (this project's choice)
 unfoldable pub first_unlike : Memory → ℕ → ℕ → ℕ → ℕ → Option ℕ
 first_unlike m src pattern lo hi = first_some (unlike_at m src pattern) (numbers lo hi)
 
@@ -120,15 +119,15 @@ plain_record status = record { status = status; result = 0; bytes_completed = 0 
 abbrev pub checks_result : ℕ → Bool
 checks_result flags = bit_and flags 0x80 == 0x80
 
--- 1 where a difference was found (specification 341204, compare)
+-- 1 if a difference was found (specification 341204, compare)
 abbrev pub compare_result : Option ℕ → ℕ
 compare_result difference = if is_some difference then 1 else 0
 
--- 2 where the result is to be checked and is not the expected one, else 1 (linux/idxd.h, completion status)
+-- 2 if the result is to be checked and is not the expected one, else 1 (linux/idxd.h, completion status)
 abbrev pub compare_status : ℕ → ℕ → ℕ → ℕ
 compare_status flags expected result = if checks_result flags && not (result == expected) then 2 else 1
 
--- the record of a compare: the offset of the first difference stands as the bytes completed (this project's choice)
+-- the record of a compare: the bytes completed are the offset of the first difference (this project's choice)
 abbrev pub compare_record : ℕ → ℕ → Option ℕ → Record
 compare_record flags expected difference =
     record {

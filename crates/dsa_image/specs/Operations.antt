@@ -67,7 +67,7 @@ bytes_of_op (ApplyDelta delta dst record_size) size t m p =
     if is_some p.fault then no_bytes else record { first = delta_bytes delta record_size t m; second = [] }
 bytes_of_op (Dualcast src dst dst2) size t m p = record { first = source_part m src size t; second = [] }
 
--- how many bytes stand in the second list, where the first one has this many
+-- how many bytes the second list has, if the first one has this many
 abbrev pub second_count : Op → ℕ → ℕ
 second_count (Compare src src2 expected) count = count
 second_count (Move src dst) count = 0

@@ -1,4 +1,5 @@
-//! What differs by operation: the record that an answer gives, how many lines there are, and what a line reads, does and gives.
+//! What differs by operation: the record that an answer gives, how many lines there are, and what a line reads, does
+//! and gives.
 
 ghost use Rattle.std.specs.Prelude.{◌≡◌, ◌<◌, ◌≤◌, length};
 ghost use Rattle.dsa_descriptor.specs.Descriptors.{fields};
@@ -122,7 +123,7 @@ impl Image {
 }
 
 impl Inputs {
-    /// Puts the outputs of the line, from its inputs alone, in the place of others.
+    /// Puts the outputs of the line, from only its inputs, in the place of others.
     pub fn compute_into(&self, outputs: &mut Outputs)
         ensures { AreWorkOf self.now outputs.new }
     {

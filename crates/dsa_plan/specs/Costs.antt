@@ -5,12 +5,12 @@ use Rattle.dsa_settings.specs.Settings.{Limits, tariff_of}
 use Rattle.dsa_plan.specs.declared.costs.GroupCost.{GroupCost}
 use Rattle.dsa_plan.specs.declared.costs.Costs.{Costs}
 
--- of a group: how many pieces and fences it has, and its cost
+-- how many pieces and fences a group has, and its cost
 abbrev pub costs_of_group : Tariff → Group → GroupCost
 costs_of_group tariff group =
     record { size = length group; fences = fence_count group; cost = group_cost tariff group }
 
--- of each group, in order
+-- the same for each group, in order
 abbrev pub costs_of_groups : Tariff → Plan → List GroupCost
 costs_of_groups tariff plan = map (costs_of_group tariff) plan
 

@@ -26,11 +26,11 @@ pub struct GroupCost {
 /// What the groups of a plan cost, and what its pieces cost one by one.
 #[derive(Debug, Drop)]
 pub struct Costs {
-    /// Of each group, in order.
+    /// Those of each group, in order.
     pub groups: Vec<GroupCost>,
-    /// Of the plan.
+    /// The cost of the plan.
     pub cost: u64,
-    /// Of as many lone submissions as there are pieces.
+    /// The cost of as many lone submissions as there are pieces.
     pub lone: u64,
 }
 

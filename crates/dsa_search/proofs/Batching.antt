@@ -1,4 +1,4 @@
--- One batch of all pieces, none of which conflict, is the plan that its costs stand for.
+-- One batch of all pieces, none of which conflict, is the plan that its costs choose.
 use Rattle.std.proofs.Common.{ℕ, ◌≡◌, ◌⊎◌, ◌+◌, ◌-◌, ◌*◌, ◌<◌, ◌≤◌, min, List, [], ◌∷◌, false, Option, Some, None, replicate, length, refl, sym, ap, ◌∙◌, subst, inl, inr, slice_index, arith}
 use Rattle.std.specs.Prelude.{slice_get}
 use Rattle.std.proofs.lemmas.Bool.{cases_lt, cases_eq}

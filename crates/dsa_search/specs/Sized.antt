@@ -4,7 +4,7 @@ use Rattle.dsa_descriptor.specs.Pieces.{most_pieces}
 use Rattle.dsa_plan.specs.Chain.{Pairs, GoForward, IsLastBelow, HasCountBelow}
 use Rattle.dsa_plan.specs.Settings.{Limits, ArePrices, batch_price, greatest_price}
 
--- the pieces are parted into blocks of 64: the first piece past that of x
+-- the pieces are divided into blocks of 64: the first piece past the block of x
 unfoldable pub past_block : ℕ → ℕ
 past_block x = x / 64 * 64 + 64
 
@@ -21,7 +21,7 @@ pub record HasRows (pairs : Pairs) (from : ℕ) (rows lasts : List ℕ) : Type 0
       IsLastBelow pairs x (past_block x) (slice_index rows (64 * x + 63)) (slice_index lasts x)
   pub blank : (k : ℕ) → k < 64 * from → slice_index rows k ≡ 0
 
--- pairs that lead forward, with the rows of all pieces, and prices within their limits: what the offers of groups go by
+-- what the offers of groups are made from: pairs that lead forward, the rows of all pieces, and prices within their limits
 pub record IsSheet (pairs : Pairs) (rows lasts : List ℕ) (lone fence : ℕ) (table : List ℕ) : Type 0 where
   pub forward : GoForward pairs
   pub few : length pairs ≤ most_pieces

@@ -24,7 +24,7 @@ pub(crate) fn none_last(lasts: &[Option<u32>]) -> bool
 }
 
 /// Whether one batch of so many pieces is known to cost less than any plan of other groups, if none of them conflict.
-/// It costs less than they do one by one, but something: other plans may cost nothing, too.
+/// The batch has to cost less than the pieces one by one, and more than nothing: other plans may cost nothing, too.
 pub(crate) fn is_best_batch(settings: &Settings, count: usize) -> bool
     ensures { IsTrue result →
         IsBestBatch settings.now.greatest_batch (tariff_of settings.now) count }
@@ -88,7 +88,7 @@ pub(crate) fn one_batch(alloc: Global, count: usize) -> Result<Plan, AllocError>
     Ok(Plan::new(groups))
 }
 
-/// Whether so many pieces fit one batch, and a fence costs no more than a group: so groups, of which one is a batch,
+/// Whether so many pieces fit one batch, and a fence costs no more than a group: so groups, one of which is a batch,
 /// cost no less than one batch of their pieces.
 pub(crate) fn has_cheap_fences(settings: &Settings, count: usize) -> bool
     ensures { IsTrue result →
@@ -160,7 +160,7 @@ fn is_best_joined(settings: &Settings, count: usize, cost: u64) -> bool
     cost < settings.lone() * count as u64
 }
 
-/// The plan that these costs stand for.
+/// The plan that has these costs.
 pub(crate) fn joined_plan(
     alloc: Global,
     pairs: &[Option<(u32, u32)>],

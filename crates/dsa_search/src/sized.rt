@@ -1,4 +1,4 @@
-//! The least costs where a batch has a price by its size.
+//! The least costs if a batch has a price by its size.
 
 ghost use Rattle.std.specs.Prelude.{◌≡◌, ◌⊎◌, ℕ, ◌+◌, ◌-◌, ◌*◌, ◌<◌, ◌≤◌, min, length, slice_index, IfOk};
 ghost use Rattle.dsa_descriptor.specs.Pieces.{most_pieces};
@@ -11,7 +11,7 @@ use crate::costs::{UNREACHED, lower};
 use dsa_plan::{chain_step, last_of_run};
 use std::alloc::{AllocError, Global};
 
-/// How many pieces a block has, and how many counts a row.
+/// How many pieces a block has, and how many counts a row has.
 const BLOCK: usize = 64;
 
 /// The pairs of pieces, the rows that count the pairs of their chains, and what groups cost.
@@ -90,7 +90,7 @@ fn fill_rows(pairs: &[Option<(u32, u32)>], rows: &mut [u8], lasts: &mut [u32])
     }
 }
 
-/// The lesser of two costs below 2^63, as signed numbers, of which a vector compares two at a time.
+/// The lesser of two costs below 2^63, as signed numbers, since a vector compares two of those at a time.
 fn lesser(one: u64, other: u64) -> u64
     requires small { one ≤ unreached }
     requires other_small { other ≤ unreached }
@@ -226,7 +226,7 @@ fn offer_row(
     (next, count, past + 1)
 }
 
-/// Offers the ends up to that where the chain goes on from its piece, between which there is no fence. Answers as
+/// Offers the ends up to that where the chain goes on from its piece; there is no fence between them. Answers as
 /// [`offer_row`].
 fn offer_run(
     sheet: &CostSheet,
@@ -335,8 +335,8 @@ fn fill_sizes(sheet: &CostSheet, costs: &mut [u64])
     }
 }
 
-/// The least cost of the first 0, 1, .. pieces, where a batch of `size` pieces has the price `table[size - 2]` without
-/// its fences, and a group has at most `table.len() + 1` pieces.
+/// The least cost of the first 0, 1, .. pieces, if a batch of `size` pieces has the price `table[size - 2]` without its
+/// fences, and a group has at most `table.len() + 1` pieces.
 ///
 /// # Errors
 /// An allocation failure.

@@ -67,7 +67,7 @@ first_member : (group : Group) → 0 < length group → slice_get (cuts_of_group
 first_member [] lt = absurd (omega arith)
 first_member (x ∷ xs) lt = refl
 
--- the cuts of a group stand from the group's start on
+-- the cuts of a group are those from the group's start on
 pub cut_at : (plan : Plan) (number : ℕ) (group : Group) (k : ℕ) → slice_get plan number ≡ Some group → k < length group →
     slice_get (cuts plan) (start_of plan number + k) ≡ slice_get (cuts_of_group group) k
 cut_at [] number group k h lt = absurd (none_read number group h)
@@ -115,7 +115,7 @@ is_in (g ∷ gs) j lt =
           ends = omega (arith, start, i.ends);
         }
 
--- a cut stands behind piece i, up to piece j
+-- there is a cut after piece i, up to piece j
 abbrev pub CutBetween : Plan → ℕ → ℕ → Type 0
 CutBetween plan i j = (k : ℕ) × (i < k) × (k ≤ j) × (slice_get (cuts plan) k ≡ Some true)
 
@@ -123,7 +123,7 @@ CutBetween plan i j = (k : ℕ) × (i < k) × (k ≤ j) × (slice_get (cuts plan
 cut_parts : (plan : Plan) (i j : ℕ) → CutBetween plan i j → epoch_of plan i < epoch_of plan j
 cut_parts plan i j (k, above, below, cut) = trues_cut (i + 1) (j + 1) k (cuts plan) (omega arith) (omega arith) cut
 
--- under a legal plan a cut stands between two conflicting pieces
+-- under a legal plan there is a cut between two conflicting pieces
 pub conflict_cut : (C : ℕ → ℕ → Type 0) (greatest_batch n : ℕ) (plan : Plan) (i j : ℕ) → IsLegal C greatest_batch n plan → i < j → j < n → C i j → CutBetween plan i j
 conflict_cut C greatest_batch n plan i j legal lt j_in conflict = by (is_in plan j (omega (arith, legal.covers)))
   where

@@ -197,7 +197,7 @@ legal_from C greatest_batch n plan covers shapes fenced = record {
       };
 }
 
--- a pair with no fence between stands in no legal plan
+-- no legal plan has a pair with no fence between
 pub legal_fenced : (C : ℕ → ℕ → Type 0) (greatest_batch n : ℕ) (plan : Plan) → IsLegal C greatest_batch n plan → (i j : ℕ) → IsUnfenced C plan i j → ⊥
 legal_fenced C greatest_batch n plan legal i j h =
     let group : IsLegalGroup C greatest_batch (start_of plan h.number) h.group = legal.groups h.number h.group h.is_group in

@@ -5,7 +5,7 @@ use Rattle.dsa_settings.specs.Plan.{Plan}
 use Rattle.dsa_settings.specs.Legal.{IsLegal}
 use Rattle.dsa_settings.specs.Epochs.{cuts, epoch_of}
 
--- piece k begins after a barrier; a piece that has no mark doesn't
+-- piece k begins after a barrier; a piece without a mark doesn't
 abbrev pub IsBarrier : List Bool → ℕ → Type 0
 IsBarrier barriers k = slice_get barriers k ≡ Some true
 
@@ -14,7 +14,7 @@ pub record IsBarrierPair (barriers : List Bool) (a b : ℕ) : Type 0 where
   pub next : b ≡ a + 1
   pub barrier : IsBarrier barriers b
 
--- the pieces conflict, or are one after the other with a barrier between; a list with no marks has no barriers
+-- the pieces conflict, or are one after the other with a barrier between; a list without marks has no barriers
 unfoldable pub WithBarriers : (ℕ → ℕ → Type 0) → List Bool → ℕ → ℕ → Type 0
 WithBarriers C [] a b = C a b
 WithBarriers C (mark ∷ marks) a b = C a b ⊎ IsBarrierPair (mark ∷ marks) a b

@@ -5,7 +5,7 @@ use Rattle.dsa_descriptor.specs.declared.indices.Indices.TheVariants.{Empty, One
 use Rattle.dsa_settings.specs.declared.legal.LegalFault.{LegalFault}
 use Rattle.dsa_settings.specs.declared.legal.LegalFault.TheVariants.{Count, GroupSize, FirstFence, Unfenced}
 
--- the number, the name and the indices of a plan's fault
+-- the number of a plan's fault
 abbrev pub legal_number : LegalFault → ℕ
 legal_number Count = 40
 legal_number (GroupSize group) = 41

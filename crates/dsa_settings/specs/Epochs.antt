@@ -4,7 +4,7 @@ use Rattle.std.specs.Prelude.{ℕ, ◌+◌, Bool, true, List, [], ◌∷◌, tak
 use Rattle.dsa_settings.specs.Plan.{Group, Plan}
 use Rattle.dsa_settings.specs.Legal.{IsLegal}
 
--- the first of a group is a cut, whether it is fenced or not
+-- the first piece of a group is a cut, whether it is fenced or not
 abbrev pub cuts_of_group : Group → List Bool
 cuts_of_group [] = []
 cuts_of_group (first ∷ others) = true ∷ others
@@ -13,7 +13,7 @@ cuts_of_group (first ∷ others) = true ∷ others
 abbrev pub cuts : Plan → List Bool
 cuts plan = flat_map cuts_of_group plan
 
--- the number of a piece's epoch: how many cuts stand at it or before it
+-- the number of a piece's epoch: how many cuts are at it or before it
 abbrev pub epoch_of : Plan → ℕ → ℕ
 epoch_of plan i = count_by (λ cut. cut) (take (i + 1) (cuts plan))
 

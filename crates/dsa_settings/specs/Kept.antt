@@ -3,7 +3,7 @@ use Rattle.std.specs.Prelude.{ℕ, List, [], ◌∷◌}
 use Rattle.dsa_settings.specs.Settings.{BatchPrices}
 use Rattle.dsa_settings.specs.Settings.BatchPrices.{SamePrice, BySize}
 
--- an empty table stands for the one price
+-- an empty table means the same price for all
 abbrev pub kept_prices : ℕ → List ℕ → BatchPrices
 kept_prices same [] = SamePrice same
 kept_prices same (first ∷ others) = BySize (first ∷ others)

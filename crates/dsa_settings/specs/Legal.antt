@@ -13,8 +13,8 @@ pub record ConflictsWithin (C : ℕ → ℕ → Type 0) (start end a b : ℕ) : 
   pub ends : b < end
   pub conflict : C a b
 
--- each two conflicting pieces of a group that begins with piece `start` have a fence between them: after the first, and
--- at the second at the latest (a fenced descriptor of a batch starts after those before it have completed,
+-- any two conflicting pieces of a group that begins with piece `start` have a fence between them: after the first, and
+-- no later than at the second (a fenced descriptor of a batch starts after those before it have completed,
 -- specification 341204, batch and fence)
 abbrev pub SeparatesConflicts : (ℕ → ℕ → Type 0) → ℕ → Group → Type 0
 SeparatesConflicts C start group =

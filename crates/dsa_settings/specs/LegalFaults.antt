@@ -6,19 +6,19 @@ use Rattle.dsa_settings.specs.Plan.{Group, Plan, piece_count, start_of}
 use Rattle.dsa_settings.specs.Legal.{IsFenced, ConflictsWithin, HasGroupSize, BeginsUnfenced}
 pub use Rattle.dsa_settings.specs.Shapes.{HasGroupShape, HasGroupShapes}
 
--- each group before the one of that number is
+-- each group before the one of that number has the shape of a group
 abbrev pub HasShapesBefore : ℕ → Plan → ℕ → Type 0
 HasShapesBefore greatest_batch plan number =
     (before : ℕ) (group : Group) → before < number → slice_get plan before ≡ Some group → HasGroupShape greatest_batch group
 
--- the group of that number is the first of another shape, and its size is wrong
+-- the group of that number is the first without that shape, and its size is wrong
 pub record IsFirstSizeFault (greatest_batch : ℕ) (plan : Plan) (number : ℕ) : Type 0 where
   pub before : HasShapesBefore greatest_batch plan number
   pub group : Group
   pub is_group : slice_get plan number ≡ Some group
   pub wrong : ¬ HasGroupSize greatest_batch group
 
--- the group of that number is the first of another shape, and not its size but its first piece is wrong
+-- the group of that number is the first without that shape, and its size is right, but its first piece is fenced
 pub record IsFirstFenceFault (greatest_batch : ℕ) (plan : Plan) (number : ℕ) : Type 0 where
   pub before : HasShapesBefore greatest_batch plan number
   pub group : Group
@@ -26,7 +26,7 @@ pub record IsFirstFenceFault (greatest_batch : ℕ) (plan : Plan) (number : ℕ)
   pub size : HasGroupSize greatest_batch group
   pub wrong : ¬ BeginsUnfenced group
 
--- the fault is that of the first group of another shape
+-- the fault is that of the first group without that shape
 abbrev pub IsShapeFault : ℕ → Plan → LegalFault → Type 0
 IsShapeFault greatest_batch plan Count = ⊥
 IsShapeFault greatest_batch plan (GroupSize number) = IsFirstSizeFault greatest_batch plan number
@@ -42,7 +42,7 @@ pub record IsUnfencedWithin (C : ℕ → ℕ → Type 0) (start : ℕ) (group : 
 abbrev pub HasNoUnfenced : (ℕ → ℕ → Type 0) → ℕ → Group → ℕ → Type 0
 HasNoUnfenced C start group j = (i : ℕ) → ¬ IsUnfencedWithin C start group i j
 
--- of the pairs of that group with the second piece j, (i, j) has the greatest first
+-- (i, j) has the greatest first piece of such pairs of that group with the second piece j
 pub record IsLastUnfenced (C : ℕ → ℕ → Type 0) (start : ℕ) (group : Group) (i j : ℕ) : Type 0 where
   pub stands : IsUnfencedWithin C start group i j
   pub greatest : (x : ℕ) → IsUnfencedWithin C start group x j → x ≤ i
@@ -58,24 +58,24 @@ pub record IsUnfenced (C : ℕ → ℕ → Type 0) (plan : Plan) (i j : ℕ) : T
   pub is_group : slice_get plan number ≡ Some group
   pub within : IsUnfencedWithin C (start_of plan number) group i j
 
--- of all such pairs of that group, (i, j) has the least second piece, and with it the greatest first
+-- (i, j) has the least second piece of all such pairs of that group, and the greatest first piece with that second
 pub record IsFirstUnfencedWithin (C : ℕ → ℕ → Type 0) (start : ℕ) (group : Group) (i j : ℕ) : Type 0 where
   pub stands : IsUnfencedWithin C start group i j
   pub least : (x y : ℕ) → IsUnfencedWithin C start group x y → j ≤ y
   pub greatest : (x : ℕ) → IsUnfencedWithin C start group x j → x ≤ i
 
--- in no group of the plan is there such a pair
+-- no group of the plan has such a pair
 abbrev pub IsFencedThroughout : (ℕ → ℕ → Type 0) → Plan → Type 0
 IsFencedThroughout C plan = (i j : ℕ) → ¬ IsUnfenced C plan i j
 
--- of all such pairs of the plan, (i, j) has the least second piece, and with it the greatest first
+-- (i, j) has the least second piece of all such pairs of the plan, and the greatest first piece with that second
 pub record IsFirstUnfenced (C : ℕ → ℕ → Type 0) (plan : Plan) (i j : ℕ) : Type 0 where
   pub stands : IsUnfenced C plan i j
   pub least : (x y : ℕ) → IsUnfenced C plan x y → j ≤ y
   pub greatest : (x : ℕ) → IsUnfenced C plan x j → x ≤ i
 
--- the fault stands in a plan for n pieces, and none before it: first the number of pieces, then group by group its
--- size and its first piece, then the pairs of conflicting pieces
+-- the first fault of a plan for n pieces: first the number of pieces, then group by group its size and its first piece,
+-- then the pairs of conflicting pieces
 abbrev pub IsFirstLegalFault : (ℕ → ℕ → Type 0) → ℕ → ℕ → Plan → LegalFault → Type 0
 IsFirstLegalFault C greatest_batch n plan Count = piece_count plan ≢ n
 IsFirstLegalFault C greatest_batch n plan (GroupSize number) = (piece_count plan ≡ n) × IsFirstSizeFault greatest_batch plan number

@@ -2,8 +2,8 @@
 use Rattle.std.specs.Prelude.{◌≡◌, ℕ, ◌+◌, ◌-◌, ◌^◌, ◌%◌, ◌<◌, ◌≤◌, List, length, slice_index}
 use Rattle.dsa_settings.specs.Plan.{Tariff}
 
--- what batches cost, without their fences: all the same, or by size, where the first price of the table is that of a
--- batch of two, and each later one that of one piece more (this project's choice)
+-- what batches cost, without their fences: all the same, or by size; the first price of the table is that of a batch of
+-- two, and each later one that of one piece more (this project's choice)
 pub data BatchPrices : Type 0 where
   SamePrice : (price : ℕ) → BatchPrices
   BySize : (table : List ℕ) → BatchPrices
@@ -48,13 +48,13 @@ greatest_price = 1000000000
 abbrev pub ArePrices : List ℕ → Type 0
 ArePrices table = (k : ℕ) → k < length table → slice_index table k ≤ greatest_price
 
--- the one price is in its limits, or a table has a price in its limits for each size from 2 to the greatest batch
+-- the single price is in its limits, or a table has a price in its limits for each size from 2 to the greatest batch
 abbrev pub AreBatchPrices : ℕ → BatchPrices → Type 0
 AreBatchPrices greatest_batch (SamePrice price) = price ≤ greatest_price
 AreBatchPrices greatest_batch (BySize table) = (length table + 1 ≡ greatest_batch) × ArePrices table
 
 -- each value is within its limits: a batch has 2 to 1024 pieces, a piece 8 to 2^31 bytes, by eights, the prices are at
--- most 10^9, and the staging address is at most 2^63, by cache lines of 64 bytes (this project's choice; a device tells
+-- most 10^9, and the staging address is at most 2^63, by cache lines of 64 bytes (this project's choice; a device reports
 -- its own limits of batches and transfers, specification 341204, GENCAP)
 pub record AreInLimits (s : Limits) : Type 0 where
   pub least_batch : 2 ≤ s.greatest_batch
@@ -85,6 +85,6 @@ version_of s = version_with s.batch
 abbrev pub HasSamePrice : Limits → Type 0
 HasSamePrice s = (size other : ℕ) → batch_price s.batch size ≡ batch_price s.batch other
 
--- what submissions cost where batches have the prices of this table
+-- what submissions cost if batches have the prices of this table
 abbrev pub sized_tariff : ℕ → ℕ → List ℕ → Tariff
 sized_tariff lone fence table = record { lone = lone; fence = fence; batch = batch_price (BySize table) }

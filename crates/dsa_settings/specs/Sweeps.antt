@@ -13,7 +13,7 @@ use Rattle.dsa_settings.specs.declared.sweep.Seen.{Seen}
 abbrev pub access : Span → ℕ → Bool → Access
 access span owner written = record { span = span; owner = owner; written = written }
 
--- the first address of an access, and the end of its addresses
+-- the first address of an access
 abbrev pub first_of : Access → ℕ
 first_of a = a.span.first
 
@@ -21,7 +21,7 @@ first_of a = a.span.first
 abbrev pub access_end : Access → ℕ
 access_end a = a.span.first + a.span.len
 
--- of two accesses of different pieces, one writes an address of the other
+-- two accesses of different pieces, one of which writes an address of the other
 pub record Clash (a b : Access) : Type 0 where
   pub owners : a.owner ≢ b.owner
   pub written : (a.written ≡ true) ⊎ (b.written ≡ true)
@@ -29,11 +29,11 @@ pub record Clash (a b : Access) : Type 0 where
   pub first : InSpan a.span address
   pub second : InSpan b.span address
 
--- no two of them do
+-- no two accesses do
 abbrev pub HasNoClash : List Access → Type 0
 HasNoClash accesses = (a b : Access) → Contains accesses a → Contains accesses b → ¬ Clash a b
 
--- the access ends by the reach: by its own end if it is of the reach's piece, by the other end if not
+-- the access ends within the reach: within its own end if the access is of the reach's piece, else within the other end
 pub record Covers (reach : Reach) (a : Access) : Type 0 where
   pub own : a.owner ≡ reach.owner → access_end a ≤ reach.own_end
   pub other : a.owner ≢ reach.owner → access_end a ≤ reach.other_end
@@ -48,7 +48,7 @@ pub record HasSeen (seen : Seen) (a : Access) : Type 0 where
   pub all : Covers seen.all a
   pub written : a.written ≡ true → Covers seen.written a
 
--- all that the piece of these fields touches is there
+-- the accesses have all that the piece of these fields touches
 pub record HasAccesses (accesses : List Access) (f : Fields) (owner : ℕ) : Type 0 where
   pub reads : (s : Span) → Contains (read_spans f) s → Contains accesses (access s owner false)
   pub writes : (s : Span) → Contains (written_spans f) s → Contains accesses (access s owner true)

@@ -1,4 +1,4 @@
-//! Conflicts between pieces, as laws speak of them.
+//! Conflicts between pieces, as laws take them.
 
 ghost use Rattle.std.specs.Prelude.{ℕ};
 

@@ -31,7 +31,7 @@ fn first_unkept_within(group: &Group, barriers: &[bool], start: usize) -> Option
     None
 }
 
-/// The first piece that begins after a barrier which the plan does not keep. A list with no marks is not gone through.
+/// The first piece that begins after a barrier which the plan does not keep. A list without marks is skipped.
 pub(crate) fn first_unkept(groups: &[Group], barriers: &[bool]) -> Option<usize>
     requires { piece_count groups.now ≤ most_pieces }
     ensures { MatchOption result

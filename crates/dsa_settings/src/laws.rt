@@ -5,8 +5,8 @@ ghost use Rattle.dsa_settings.specs.Epochs.{LegalEpochsPart, EpochsFollow, Legal
 
 use crate::conflicts::Conflicts;
 
-/// Epochs follow the list, and a legal plan has conflicting pieces in different ones, whichever pieces conflict. Larger
-/// batches make no legal plan illegal, and no price does.
+/// Epochs follow the list, and a legal plan has conflicting pieces in different epochs, whichever pieces conflict.
+/// Larger batches make no legal plan illegal, nor do prices.
 pub fn legal_epochs_part<C: Conflicts>()
     ensures follow { EpochsFollow }
     ensures part { LegalEpochsPart C.conflict }

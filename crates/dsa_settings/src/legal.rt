@@ -20,7 +20,7 @@ use arrayvec::ArrayVec;
 use dsa_descriptor::{Descriptor, Indices};
 use dsa_ranges::{in_conflict, touched};
 
-/// The greatest number of pieces with no fence between whose pairs are compared outright.
+/// The most pieces without a fence between them whose pairs are compared one by one.
 const FEW_PIECES: usize = 16;
 
 /// Why a plan is not legal. Groups and pieces are numbered from 0.
@@ -122,8 +122,8 @@ fn shape_fault(groups: &[Group], settings: &Settings) -> Option<LegalFault>
     None
 }
 
-/// In a group that begins with piece `start`: the greatest piece before `at` that conflicts with it, where no piece
-/// after it and up to `at` is fenced.
+/// In a group that begins with piece `start`: the greatest piece before `at` that conflicts with it, if no piece after
+/// it and up to `at` is fenced.
 fn unfenced_before(fences: &[bool], pieces: &[Descriptor], start: usize, at: usize) -> Option<usize>
     requires begun { start ≤ at }
     requires within { at < start + length fences.now }
@@ -243,10 +243,10 @@ fn first_unfenced_with(
     }
 }
 
-/// Whether the plan is legal for the pieces: its groups have as many pieces as there are, each from 1 to
-/// `greatest_batch`, the first of each unfenced, and of each two pieces of a group that conflict the second, or one
-/// between, is fenced. Else its first fault: `Count`; then for the least group `GroupSize` before `FirstFence`; then
-/// `Unfenced` with the least second piece, and for it the greatest first.
+/// Whether the plan is legal for the pieces: its groups have as many pieces as there are, each group from 1 to
+/// `greatest_batch`, the first piece of each group is unfenced, and for any two conflicting pieces of a group the
+/// second, or a piece between them, is fenced. Else its first fault: `Count`; then for the least group `GroupSize`
+/// before `FirstFence`; then `Unfenced` with the least second piece, and for it the greatest first.
 pub fn is_legal(plan: &Plan, pieces: &[Descriptor], settings: &Settings) -> Result<(), LegalFault>
     requires { length pieces.now ≤ most_pieces }
     ensures legal { IsOk result ↔ IsLegal (ConflictAt (map fields pieces.now))
@@ -254,7 +254,7 @@ pub fn is_legal(plan: &Plan, pieces: &[Descriptor], settings: &Settings) -> Resu
     ensures fault { (f : LegalFault) → (result ≡ Err f) ↔
         IsFirstLegalFault (ConflictAt (map fields pieces.now)) settings.now.greatest_batch
         (length pieces.now) plan.now f }
-    // what `cost` asks for
+    // what `cost` requires
     ensures shapes { IfOk result (λ _. (piece_count plan.now ≡ length pieces.now) ×
         HasGroupShapes settings.now.greatest_batch plan.now) }
 {

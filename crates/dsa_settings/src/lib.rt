@@ -1,5 +1,5 @@
-//! Settings of a planner, and plans: how a list of pieces is submitted in groups, which plans are legal for it, and why one
-//! is not.
+//! Settings of a planner, and plans: how a list of pieces is submitted in groups, which plans are legal for it, and why
+//! one is not.
 #![tactic(auto)]
 
 mod conflicts;

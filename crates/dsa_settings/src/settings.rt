@@ -13,7 +13,7 @@ const GREATEST_PRICE: u64 = 1_000_000_000;
 /// The greatest number of pieces that a batch may have.
 const GREATEST_BATCH: u64 = 1024;
 
-/// Why numbers are no settings.
+/// Why numbers are not valid settings.
 #[derive(Clone, Copy, Debug, PartialEq, Eq)]
 pub enum SettingsFault {
     /// A number is outside its limits.
@@ -29,7 +29,7 @@ pub struct Settings {
     greatest_batch: u64,
     greatest_transfer: u64,
     lone: u64,
-    // What each batch costs, where the table is empty.
+    // What each batch costs, if the table is empty.
     same: u64,
     table: ArrayVec<u64, 1023>,
     fence: u64,
@@ -90,7 +90,7 @@ fn are_in_limits(
 }
 
 impl Settings {
-    /// The settings of these numbers, where each is within its limits: `greatest_batch` from 2 to 1,024 pieces,
+    /// The settings of these numbers, if each is within its limits: `greatest_batch` from 2 to 1,024 pieces,
     /// `greatest_transfer` a multiple of 8 from 8 to 2^31 bytes, the prices `lone`, `batch` and `fence` at most
     /// 1,000,000,000, and `staging` an address that is a multiple of 64 and at most 2^63. Each batch costs `batch`,
     /// whatever its size.
@@ -124,8 +124,8 @@ impl Settings {
     }
 
     /// The settings of these numbers, with a price of a batch by its size: the first entry of `batch` is the price of a
-    /// batch of 2 pieces, the last that of one of `greatest_batch` pieces, each at most 1,000,000,000. The other limits
-    /// are those of [`Settings::new`].
+    /// batch of 2 pieces, the last that of a batch of `greatest_batch` pieces, each at most 1,000,000,000. The other
+    /// limits are those of [`Settings::new`].
     pub fn with_table(
         greatest_batch: u64,
         greatest_transfer: u64,
@@ -158,8 +158,8 @@ impl Settings {
         })
     }
 
-    /// The version of the settings, which a certificate names: 1 with one price for all batches, 2 with a price for each
-    /// size.
+    /// The version of the settings, which a certificate names: 1 with one price for all batches, 2 with a price for
+    /// each size.
     pub fn version(&self) -> u64
         ensures { result ≡ version_of self.now }
     {

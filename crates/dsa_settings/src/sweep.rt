@@ -1,4 +1,5 @@
-//! A sweep over the addresses that the pieces of a group touch: whether no two of them conflict without a fence between.
+//! A sweep over the addresses that the pieces of a group touch: whether no two of them conflict without a fence
+//! between.
 
 ghost use Rattle.std.specs.Prelude.{◌≡◌, ◌≢◌, ◌+◌, ◌<◌, ◌≤◌, ◌++◌, true, false, map, length, IsTrue};
 ghost use Rattle.std.specs.List.{Contains};
@@ -42,7 +43,7 @@ struct Reach {
 }
 
 impl Reach {
-    /// That of no spans.
+    /// The reach of no spans.
     fn new() -> Reach
         ensures { result.other_end ≤ result.own_end }
     {
@@ -93,7 +94,7 @@ impl Reach {
     }
 }
 
-/// How far the spans seen so far go, and of these the ones that are written.
+/// How far the spans seen so far go, and how far those of them go that are written.
 #[derive(Clone, Copy)]
 struct Seen {
     all: Reach,
@@ -111,8 +112,8 @@ impl Seen {
         }
     }
 
-    /// Whether the access may meet one seen so far, of another piece, where one of the two writes. Each of these begins
-    /// no later. A span of no addresses meets none.
+    /// Whether the access may meet one seen so far, of another piece, if one of the two writes. Each of those begins no
+    /// later. An empty span meets none.
     fn may_meet(&self, access: Access) -> bool
         requires { IsOrdered self.now }
         ensures { (a : Access) →
@@ -144,7 +145,7 @@ impl Seen {
     }
 }
 
-/// Whether no access meets an earlier one of another piece where one of the two writes.
+/// Whether no access meets an earlier one of another piece, if one of the two writes.
 fn walk(accesses: &[Access]) -> bool
     requires { IsNonDecreasingBy first_of accesses.now }
     ensures { IsTrue result → HasNoClash accesses.now }
@@ -159,7 +160,7 @@ fn walk(accesses: &[Access]) -> bool
     true
 }
 
-/// Whether no two accesses of different pieces meet where one of the two writes. Changes the order of the accesses.
+/// Whether no two accesses of different pieces meet, if one of the two writes. Changes the order of the accesses.
 fn is_clear(accesses: &mut [Access]) -> bool
     ensures { IsTrue result → HasNoClash accesses.old }
 {
@@ -194,8 +195,8 @@ fn push_piece(accesses: &mut ArrayVec<Access, ROOM>, piece: &Descriptor, owner: 
     push_all(accesses, touched.writes.as_slice(), owner, true);
 }
 
-/// In a group that begins with piece `start`: whether no two conflicting pieces have no fence between, where a sweep
-/// sees that. A `false` says nothing.
+/// In a group that begins with piece `start`: whether a sweep sees that any two conflicting pieces have a fence
+/// between. A `false` says nothing.
 pub(crate) fn is_seen_fenced(
     group: &Group,
     pieces: &[Descriptor],

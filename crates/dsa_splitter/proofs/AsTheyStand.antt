@@ -77,7 +77,7 @@ module _ (ds : List Descriptor) (g low high from to n : ℕ) (all : length ds �
         | inr w ↦ off_records x w.0 w.1 inside
       ]
 
--- such a list is split as it stands
+-- such a list is split as it is
 may_split : (ds : List Descriptor) (g : ℕ) → AreWhole ds g → AllMaySplit g (map fields ds)
 may_split [] g short i f at = absurd cc
 may_split (d ∷ ds) g short zero f at =

@@ -16,7 +16,7 @@ split_is_memory (StagingMeets index) = false
 split_is_memory (RowMeetsData index) = false
 split_is_memory (RowWrap index) = false
 
--- the number, the name and the indices
+-- the number of the fault
 abbrev pub split_number : SplitFault → ℕ
 split_number (DeltaTooLong index) = 30
 split_number (ExpectedSplit index) = 31

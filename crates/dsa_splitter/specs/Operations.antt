@@ -1,5 +1,5 @@
--- What differs by operation when a long one is split: how its data addresses move up, in which order its pieces are done,
--- and which may be split at all. No other file of these definitions has a case for each operation.
+-- What differs by operation when a long operation is split: how its data addresses move up, in which order its pieces are
+-- done, and which operations may be split at all. No other file of these definitions has a case for each operation.
 use Rattle.std.specs.Prelude.{ℕ, ◌+◌, ◌^◌, ◌<◌, ◌≤◌, ◌≡◌, ⊤, true, Bool}
 use Rattle.dsa_descriptor.specs.declared.op.Op.{Op}
 use Rattle.dsa_descriptor.specs.declared.op.Op.TheVariants.{Move, Fill, Compare, ComparePattern, ApplyDelta, Dualcast}
@@ -42,8 +42,8 @@ IsSplittable (Compare _ _ _) size greatest = ⊤
 IsSplittable (ComparePattern _ _ _) size greatest = ⊤
 IsSplittable (Dualcast _ _ _) size greatest = ⊤
 
--- a compare that checks its result and expects a difference needs no second piece: whether the regions differ is known
--- of all its pieces alone (this project's choice)
+-- a compare that checks its result and expects a difference has to be a single piece: whether the regions differ is known
+-- only from all pieces together (this project's choice)
 abbrev pub ExpectedFits : Op → ℕ → ℕ → ℕ → Type 0
 ExpectedFits (Move _ _) flags size greatest = ⊤
 ExpectedFits (Fill _ _) flags size greatest = ⊤

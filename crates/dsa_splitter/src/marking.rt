@@ -13,7 +13,7 @@ use dsa_descriptor::Descriptor;
 use dsa_settings::Settings;
 use std::alloc::{AllocError, Global};
 
-/// The mark of an operation; one that has no mark has no barrier.
+/// The mark of an operation; an operation without a mark has no barrier.
 fn mark_at(barriers: &[bool], index: usize) -> bool
     ensures { result ≡ slice_index_or barriers.now index false }
 {
@@ -86,12 +86,12 @@ fn marked_pieces(
     Ok(MarkedPieces { pieces, barriers })
 }
 
-/// The pieces of operations that the caller lets go of, as [`into_pieces`](crate::into_pieces) answers them, with their
-/// barriers from those of the operations. Where each operation is its own only piece and has its mark, both lists are
-/// answered as they are, and no memory is asked for.
+/// The pieces of operations that the caller hands over, as [`into_pieces`](crate::into_pieces) returns them, with their
+/// barriers from those of the operations. If each operation is its own only piece and has its mark, both lists are
+/// returned as they are, and nothing is allocated.
 ///
 /// # Errors
-/// As [`pieces`], and `Memory` where memory is asked for and there is none.
+/// As [`pieces`]; `Memory` only if an allocation is needed and fails.
 pub fn into_marked_pieces(
     alloc: Global,
     list: Vec<Descriptor>,

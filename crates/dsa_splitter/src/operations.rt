@@ -1,4 +1,5 @@
-//! What differs by operation: how its data addresses move up, in which order its pieces are done, and which may be split.
+//! What differs by operation: how its data addresses move up, in which order its pieces are done, and which may be
+//! split.
 
 ghost use Rattle.std.specs.Prelude.{◌≡◌, ◌↔◌, ◌≤◌, ◌⊎◌, ℕ, true, IfSome, IsTrue};
 ghost use Rattle.dsa_descriptor.specs.Data.{sources, targets};
@@ -123,7 +124,7 @@ fn checks_result(flags: FlagWord) -> bool
     flags.0 & check == check
 }
 
-/// Whether a compare of these fields expects no difference that it is to check, or needs no second piece.
+/// Whether a compare of these fields does not check for an expected difference, or needs no second piece.
 fn compare_fits(flags: FlagWord, expected: u8, size: u32, greatest: u64) -> bool
     ensures { IsTrue result ↔ (checks_result flags.0 ≡ true → expected ≡ 1 → size ≤ greatest) }
 {
@@ -136,7 +137,7 @@ fn compare_fits(flags: FlagWord, expected: u8, size: u32, greatest: u64) -> bool
     u64::from(size) <= greatest
 }
 
-/// Whether the operation is no compare that expects a difference and needs a second piece.
+/// Whether the operation is not a compare that checks for an expected difference and needs a second piece.
 pub(crate) fn expected_fits(d: &Descriptor, greatest: u64) -> bool
     ensures { IsTrue result ↔ ExpectedFits d.now.op d.now.flags.0 d.now.size greatest }
 {

@@ -1,4 +1,4 @@
-//! Lists whose operations are their own pieces and lie off the staging area, as most do: one pass tells.
+//! Lists whose operations are their own pieces and do not meet the staging area, as most lists: one pass finds out.
 
 ghost use Rattle.std.specs.Prelude.{◌≡◌, ℕ, ◌≤◌, ◌<◌, length, map, IsTrue};
 ghost use Rattle.dsa_descriptor.specs.Descriptors.{fields};
@@ -17,8 +17,8 @@ fn is_outside(area: Span, low: u64, high: u64) -> bool
     high <= area.first || area.end() <= u128::from(low)
 }
 
-/// Whether each operation is its own only piece, and none has an address in the area: true only where it is so. All data
-/// has to lie on one side of the area, and so do all records.
+/// True only if each operation is its own only piece, and none has an address in the area. All data has to lie on one
+/// side of the area, and so do all records.
 fn are_plain(list: &[Descriptor], greatest: u64, area: Span) -> bool
     ensures whole { IsTrue result → AreWhole list.now greatest }
     ensures clear { IsTrue result → IsClear area (map fields list.now) }
@@ -46,8 +46,8 @@ fn are_plain(list: &[Descriptor], greatest: u64, area: Span) -> bool
     is_outside(area, low, high) && is_outside(area, from, to)
 }
 
-/// Whether the list is split as it stands: true only where each operation is its own only piece, and the rules of a split
-/// list are kept.
+/// Whether the list is split as it is: true only if each operation is its own only piece, and the rules of a split list
+/// are kept.
 pub(crate) fn is_split(list: &[Descriptor], settings: &Settings) -> bool
     ensures whole { IsTrue result → AreWhole list.now settings.now.greatest_transfer }
     ensures split { IsTrue result → IsSplit

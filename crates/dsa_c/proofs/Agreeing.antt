@@ -52,7 +52,7 @@ marks_spell_plans plan full = record {
 
 -- ---- from marks to plans and back
 
--- the marks of the last group stand at the end
+-- the marks of the last group are at the end
 last_marks : (gs : Plan) (g : Group) → marks_of (gs ++ (g ∷ [])) ≡ marks_of gs ++ group_marks g
 last_marks gs g = flat_map-append group_marks gs (g ∷ []) ∙ ap (λ (l : List ℕ). marks_of gs ++ l) (append-nil (group_marks g))
 
@@ -69,7 +69,7 @@ one_longer gs y x g =
 group_more : (gs : Plan) (x : Bool) → marks_of (gs ++ ((x ∷ []) ∷ [])) ≡ marks_of gs ++ (mark true x ∷ [])
 group_more gs x = last_marks gs (x ∷ [])
 
--- the marks after an open group stand behind its marks
+-- the marks after an open group come after its marks
 marks_kept : (marks : List ℕ) (gs : Plan) (y : Bool) (g : List Bool) → AllByRecursion (λ (m : ℕ). m < 4) marks
     → marks_of (closed (fold next (gs, y ∷ g) marks)) ≡ marks_of (gs ++ ((y ∷ g) ∷ [])) ++ marks
 marks_kept [] gs y g all = sym (append-nil (marks_of (gs ++ ((y ∷ g) ∷ []))))

@@ -1,9 +1,9 @@
--- Certificates that cross from C and to it.
+-- Certificates that come from C or go to it.
 use Rattle.std.specs.Prelude.{ℕ, List, map, ◌&&◌, ◌==◌, Option, Some, None, if◌then◌else◌}
 use Rattle.dsa_plan.specs.Certificate.{Contents}
 use Rattle.dsa_c.specs.declared.certificate.RawPair.{RawPair}
 
--- what a pair stands for: two numbers of 2^32 - 1 for none (this project's choice)
+-- what a pair means: two numbers of 2^32 - 1 mean none (this project's choice)
 abbrev pub pair_of : RawPair → Option (ℕ × ℕ)
 pair_of raw = if (raw.first == 0xffffffff) && (raw.second == 0xffffffff) then None else Some (raw.first, raw.second)
 

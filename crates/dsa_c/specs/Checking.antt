@@ -1,4 +1,4 @@
--- What checking with a certificate of C promises.
+-- What checking with a certificate from C promises.
 use Rattle.std.specs.Prelude.{◌≡◌, ◌⊎◌, ℕ, List, length, map, Ok, Err}
 use Rattle.dsa_descriptor.specs.declared.descriptor.Descriptor.{Descriptor}
 use Rattle.dsa_descriptor.specs.Descriptors.{fields}
@@ -23,7 +23,7 @@ pub record IsCheckedCost (s : RawSettings) (table portal staging : List ℕ) (c 
       (plan : Plan) (ds : List Descriptor) → IsEmission (limits_of s table) portal staging plan ds →
       IsLeast (ConflictAt (map fields ds)) (limits_of s table).greatest_batch (tariff_of (limits_of s table)) (length ds) plan
 
--- why checking refuses: the numbers are no settings, of which one is named, an allocation failed, or checking answers this fault
+-- why checking refuses: the numbers are no settings, and one is named; an allocation failed; or checking answers this fault
 abbrev pub RefusesCheck : RawSettings → List ℕ → List ℕ → List ℕ → Contents → RawRefusal → Type 0
 RefusesCheck s table portal staging c r =
     RefusesSettings s table r

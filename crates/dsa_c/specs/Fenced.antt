@@ -9,8 +9,8 @@ use Rattle.dsa_c.specs.declared.certificate.RawPair.{RawPair}
 use Rattle.dsa_c.specs.Planning.{IsWrittenOf, IsCertifiedWrittenOf, LacksRoomOf, RefusesOf}
 use Rattle.dsa_c.specs.Raw.{limits_of, AreSettings}
 
--- this is what planning the bytes with their barriers answers: the plan is legal with them, no such plan costs less, and the
--- certificate is good
+-- this is what planning the bytes with their barriers answers: the plan is legal with them, no such plan costs less, and
+-- the certificate checks
 pub record IsFencedFor (s : RawSettings) (table list : List ℕ) (p : Submission) : Type 0 where
   pub settings : AreSettings s table
   pub planned : PlansFenced list (limits_of s table) (Ok p)
@@ -32,7 +32,7 @@ IsFencedCertified s table list portal new_portal staging new_staging prices new_
     IsCertifiedWrittenOf (IsFencedFor s table list) portal new_portal staging new_staging prices new_prices pairs new_pairs
     marks new_marks summary
 
--- why nothing is written then: as for planning alone; or the bytes fit, but not the certificate or the marks
+-- why nothing is written then: as for planning without them; or the bytes fit, but not the certificate or the marks
 abbrev pub RefusesFencedCertified : RawSettings → List ℕ → List ℕ → ℕ → ℕ → ℕ → ℕ → ℕ → RawRefusal → Type 0
 RefusesFencedCertified s table list portal staging prices pairs marks r =
     RefusesFenced s table list portal staging r ⊎ LacksRoomOf (IsFencedFor s table list) portal staging prices pairs marks r

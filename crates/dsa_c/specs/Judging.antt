@@ -11,11 +11,11 @@ use Rattle.dsa_c.specs.declared.settings.RawSettings.{RawSettings}
 use Rattle.dsa_c.specs.declared.refusal.RawRefusal.{RawRefusal}
 use Rattle.dsa_c.specs.Raw.{limits_of, AreSettings, RefusesSettings, refusal_of}
 
--- judging that answers as `judges` says answers this cost of the plan that the marks spell
+-- judging, as `judges` says, answers this cost of the plan that the marks spell
 abbrev pub IsCostBy : (List ℕ → Plan → Limits → Result ℕ PlanFault → Type 0) → RawSettings → List ℕ → List ℕ → List ℕ → ℕ → Type 0
 IsCostBy judges s table list marks cost = AreSettings s table × judges list (plan_of marks) (limits_of s table) (Ok cost)
 
--- why it refuses: the numbers are no settings, of which one is named, an allocation failed, or judging answers this fault
+-- why it refuses: the numbers are no settings, and one is named; an allocation failed; or judging answers this fault
 abbrev pub RefusesBy : (List ℕ → Plan → Limits → Result ℕ PlanFault → Type 0) → RawSettings → List ℕ → List ℕ → List ℕ → RawRefusal → Type 0
 RefusesBy judges s table list marks r =
     RefusesSettings s table r

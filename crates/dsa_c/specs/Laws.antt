@@ -3,16 +3,16 @@ use Rattle.std.specs.Prelude.{◌≡◌, ℕ, ◌<◌, true, List, [], ◌∷◌
 use Rattle.dsa_plan.specs.Plan.{Plan, piece_count}
 use Rattle.dsa_c.specs.Marks.{marks_of, plan_of, begins_group}
 
--- a plan whose groups are not empty is what its marks spell, and it has as many marks as pieces
+-- the marks of a plan spell it, and there are as many marks as pieces
 pub record AreSpelt (plan : Plan) : Type 0 where
   pub spell : plan_of (marks_of plan) ≡ plan
   pub count : length (marks_of plan) ≡ piece_count plan
 
--- law: the marks of such a plan spell it
+-- this holds of each plan without empty groups
 abbrev pub MarksSpellPlans : Type 0
 MarksSpellPlans = (plan : Plan) → All (λ group. 0 < length group) plan → AreSpelt plan
 
--- marks of two bits, the first of which begins a group
+-- marks of two bits; the first mark begins a group
 abbrev pub AreMarks : List ℕ → Type 0
 AreMarks [] = Unit {0}
 AreMarks (first ∷ rest) = (begins_group first ≡ true) × All (λ mark. mark < 4) (first ∷ rest)

@@ -1,4 +1,5 @@
--- A plan as one byte for each piece, its mark. Bit 0 begins a group, bit 1 is the fence (this project's choice).
+-- A plan as one byte for each piece, its mark. Bit 0 says that the piece begins a group, bit 1 that it is fenced (this
+-- project's choice).
 use Rattle.std.specs.Prelude.{ℕ, ◌+◌, ◌/◌, ◌%◌, ◌==◌, ◌++◌, ◌&&◌, not, Bool, true, false, List, [], ◌∷◌, map, flat_map, if◌then◌else◌}
 use Rattle.std.specs.List.{fold}
 use Rattle.dsa_plan.specs.Plan.{Group, Plan}
@@ -7,16 +8,16 @@ use Rattle.dsa_plan.specs.Plan.{Group, Plan}
 abbrev pub mark : Bool → Bool → ℕ
 mark begins fenced = (if begins then 1 else 0) + (if fenced then 2 else 0)
 
--- those of a group
+-- the marks of a group
 abbrev pub group_marks : Group → List ℕ
 group_marks [] = []
 group_marks (first ∷ rest) = mark true first ∷ map (mark false) rest
 
--- those of all pieces
+-- the marks of all pieces
 abbrev pub marks_of : Plan → List ℕ
 marks_of plan = flat_map group_marks plan
 
--- the piece of this mark begins a group; it is fenced
+-- bit 0 of a mark: its piece begins a group
 abbrev pub begins_group : ℕ → Bool
 begins_group mark = mark % 2 == 1
 
@@ -29,18 +30,18 @@ abbrev pub is_empty : Group → Bool
 is_empty [] = true
 is_empty (_ ∷ _) = false
 
--- the groups that are complete, and the one that goes on
+-- the groups that are complete, and the group that is not yet
 abbrev pub State : Type 0
 State = Plan × Group
 
--- after one more mark
+-- the state after one more mark
 abbrev pub next : State → ℕ → State
 next s mark =
     if begins_group mark && not (is_empty s.1)
     then (s.0 ++ (s.1 ∷ []), is_fenced mark ∷ [])
     else (s.0, s.1 ++ (is_fenced mark ∷ []))
 
--- after all of them
+-- the plan after all marks
 abbrev pub closed : State → Plan
 closed s = if is_empty s.1 then s.0 else (s.0 ++ (s.1 ∷ []))
 

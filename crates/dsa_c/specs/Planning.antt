@@ -17,7 +17,7 @@ use Rattle.dsa_c.specs.declared.certificate.RawPair.{RawPair}
 use Rattle.dsa_c.specs.Raw.{limits_of, AreSettings, RefusesSettings, written, refusal_of, no_room, no_room_for_certificate}
 use Rattle.dsa_c.specs.Certificates.{raw_pair_of}
 
--- this is what planning the bytes answers: the plan is legal and no legal plan costs less, the certificate is good for its
+-- this is what planning the bytes answers: the plan is legal and no legal plan costs less, the certificate checks for its
 -- cost, and checking the bytes that submit it with the certificate answers the cost
 pub record IsPlannedFor (s : RawSettings) (table list : List ℕ) (p : Submission) : Type 0 where
   pub settings : AreSettings s table
@@ -38,7 +38,8 @@ summary_of p = record { cost = p.cost; pieces = length p.pieces; portal_len = le
 abbrev pub FitsIn : Submission → ℕ → ℕ → Type 0
 FitsIn p portal staging = (length p.portal ≤ portal) × (length p.staging ≤ staging)
 
--- the emission of a submission that is answered is at the front of the two buffers, whose rest is left, and this is its summary
+-- the emission of an answered submission is at the front of the two buffers, whose rest is unchanged, and this is its
+-- summary
 pub record IsWrittenOf (Answers : Submission → Type 0) (portal new_portal staging new_staging : List ℕ) (summary : RawPlanned) : Type 0 where
   pub submission : Submission
   pub planned : Answers submission
@@ -47,12 +48,12 @@ pub record IsWrittenOf (Answers : Submission → Type 0) (portal new_portal stag
   pub staging_is : new_staging ≡ written submission.staging staging
   pub summary_is : summary ≡ summary_of submission
 
--- that of the planned list
+-- the same for the planned list
 abbrev pub IsWritten : RawSettings → List ℕ → List ℕ → List ℕ → List ℕ → List ℕ → List ℕ → RawPlanned → Type 0
 IsWritten s table list portal new_portal staging new_staging summary =
     IsWrittenOf (IsPlannedFor s table list) portal new_portal staging new_staging summary
 
--- Why nothing is written: the numbers are no settings, of which one is named; an allocation failed; planning refuses the list,
+-- Why nothing is written: the numbers are no settings, and one is named; an allocation failed; planning refuses the list,
 -- for this fault; or the bytes of what it answers don't fit, and this is what they need.
 abbrev pub RefusesOf : (PlanFault → Type 0) → (Submission → Type 0) → RawSettings → List ℕ → ℕ → ℕ → RawRefusal → Type 0
 RefusesOf Faults Answers s table portal staging r =
@@ -61,7 +62,7 @@ RefusesOf Faults Answers s table portal staging r =
     ⊎ ((fault : PlanFault) × AreSettings s table × Faults fault × (r ≡ refusal_of fault))
     ⊎ ((p : Submission) × Answers p × (¬ FitsIn p portal staging) × (r ≡ no_room (length p.portal) (length p.staging)))
 
--- that of planning the list
+-- the same for planning the list
 abbrev pub Refuses : RawSettings → List ℕ → List ℕ → ℕ → ℕ → RawRefusal → Type 0
 Refuses s table list portal staging r =
     RefusesOf (λ fault. Plans list (limits_of s table) (Err fault)) (IsPlannedFor s table list) s table portal staging r
@@ -95,7 +96,7 @@ LacksRoomOf Answers portal staging prices pairs marks r =
     (p : Submission) × Answers p × FitsIn p portal staging × (¬ CertificateFitsIn p prices pairs marks)
     × (r ≡ no_room_for_certificate (length p.pieces))
 
--- why nothing is written: as for planning alone; or the bytes fit, but not the certificate or the marks
+-- why nothing is written: as for planning without them; or the bytes fit, but not the certificate or the marks
 abbrev pub RefusesCertified : RawSettings → List ℕ → List ℕ → ℕ → ℕ → ℕ → ℕ → ℕ → RawRefusal → Type 0
 RefusesCertified s table list portal staging prices pairs marks r =
     Refuses s table list portal staging r ⊎ LacksRoomOf (IsPlannedFor s table list) portal staging prices pairs marks r

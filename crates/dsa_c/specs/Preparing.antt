@@ -33,7 +33,8 @@ prepare_refusal_of (Outside operation) = refusal_at 102 operation 0
 abbrev pub no_room_for_rows : ℕ → RawRefusal
 no_room_for_rows rows = refusal_at 92 rows 0
 
--- so many rows are room for a list of these pieces over these regions: a header, one for each region, and three for each piece
+-- so many rows are enough for a list of so many pieces over so many regions: a header, one for each region, and three for
+-- each piece
 abbrev pub prepared_room : ℕ → ℕ → ℕ
 prepared_room regions pieces = 1 + regions + 3 * pieces
 
@@ -54,7 +55,7 @@ pub record IsPreparedFor (s : RawSettings) (table list : List ℕ) (regions : Li
   pub operations : List Descriptor
   pub prepared : IsCostedOf list (limits_of s table) regions operations t cost
 
--- the same of a list in which a fence is a barrier
+-- the same for a list in which a fence is a barrier
 pub record IsFencedPreparedFor (s : RawSettings) (table list : List ℕ) (regions : List Span) (t : Template) (cost : ℕ) : Type 0 where
   pub settings : AreSettings s table
   pub operations : List Descriptor
@@ -72,16 +73,16 @@ pub record IsPreparedIntoBy (For : Template → ℕ → Type 0) (rows new_rows :
   pub fillable : ArePrepared (rows_of template)
   pub info_is : info ≡ info_of template cost
 
--- those of the prepared list
+-- the same for the prepared list
 abbrev pub IsPreparedInto : RawSettings → List ℕ → List ℕ → List Span → List Row → List Row → RawInfo → Type 0
 IsPreparedInto s table list regions rows new_rows info = IsPreparedIntoBy (IsPreparedFor s table list regions) rows new_rows info
 
--- those of the list in which a fence is a barrier
+-- the same for the list in which a fence is a barrier
 abbrev pub IsFencedPreparedInto : RawSettings → List ℕ → List ℕ → List Span → List Row → List Row → RawInfo → Type 0
 IsFencedPreparedInto s table list regions rows new_rows info = IsPreparedIntoBy (IsFencedPreparedFor s table list regions) rows new_rows info
 
--- Why nothing is written: the numbers are no settings, of which one is named; an allocation failed; preparing refuses the
--- list for this fault; or the rows of the prepared list don't fit, and these are needed.
+-- Why nothing is written: the numbers are no settings, and one is named; an allocation failed; preparing refuses the list
+-- for this fault; or the rows of the prepared list don't fit, and so many are needed.
 abbrev pub RefusesPrepareBy : (PrepareFault → Type 0) → (Template → ℕ → Type 0) → RawSettings → List ℕ → ℕ → RawRefusal → Type 0
 RefusesPrepareBy Faults For s table room r =
     RefusesSettings s table r
@@ -89,12 +90,12 @@ RefusesPrepareBy Faults For s table room r =
     ⊎ ((fault : PrepareFault) × AreSettings s table × Faults fault × (r ≡ prepare_refusal_of fault))
     ⊎ ((t : Template) × (cost : ℕ) × For t cost × (room < length (rows_of t)) × (r ≡ no_room_for_rows (length (rows_of t))))
 
--- of a list
+-- the same for a list
 abbrev pub RefusesPrepare : RawSettings → List ℕ → List ℕ → List Span → ℕ → RawRefusal → Type 0
 RefusesPrepare s table list regions room r =
     RefusesPrepareBy (IsFirstPrepareFault list (limits_of s table) regions) (IsPreparedFor s table list regions) s table room r
 
--- of a list in which a fence is a barrier
+-- the same for a list in which a fence is a barrier
 abbrev pub RefusesFencedPrepare : RawSettings → List ℕ → List ℕ → List Span → ℕ → RawRefusal → Type 0
 RefusesFencedPrepare s table list regions room r =
     RefusesPrepareBy (IsFirstFencedFault list (limits_of s table) regions) (IsFencedPreparedFor s table list regions) s table room r
@@ -109,7 +110,7 @@ not_prepared = refusal_at 111 0 0
 abbrev pub fill_refusal_of : FillFault → RawRefusal
 fill_refusal_of fault = refusal_at (fill_number fault) (slice_index_or (index_list (fill_indices fault)) 0 0) (slice_index_or (index_list (fill_indices fault)) 1 0)
 
--- the bytes of the rows' template for these bases stand at the front of the buffers, whose rest is left
+-- the bytes of the rows' template for these bases are at the front of the buffers, whose rest is unchanged
 pub record IsFilledInto (rows : List Row) (bases : List ℕ) (staging : ℕ) (portal new_portal area new_area : List ℕ) : Type 0 where
   pub prepared : ArePrepared rows
   pub can : CanFill (template_in rows) bases staging

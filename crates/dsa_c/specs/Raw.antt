@@ -1,4 +1,4 @@
--- What crosses to C and back.
+-- What goes to C and comes from it.
 use Rattle.std.specs.Prelude.{◌≡◌, ◌⊎◌, if◌then◌else◌, ◌==◌, ◌≤◌, ◌%◌, ◌^◌, ℕ, List, [], ◌++◌, drop, length, slice_index_or, Option, Some, None}
 use Rattle.dsa_plan.specs.Settings.{BatchPrices, Limits, AreBatchPrices, AreInLimits, greatest_price, limits}
 use Rattle.dsa_plan.specs.Settings.BatchPrices.{SamePrice, BySize}
@@ -10,7 +10,7 @@ use Rattle.dsa_sentences.specs.Texts.{refusal_text}
 use Rattle.dsa_c.specs.declared.settings.RawSettings.{RawSettings}
 use Rattle.dsa_c.specs.declared.refusal.RawRefusal.{RawRefusal}
 
--- what batches cost by these numbers: in version 2 the table tells it by size, and else they all cost the same
+-- what batches cost by these numbers: in version 2 the table has the price by size, else they all cost the same
 abbrev pub prices_in : RawSettings → List ℕ → BatchPrices
 prices_in r table = if r.version == 2 then BySize table else SamePrice r.batch
 
@@ -23,7 +23,7 @@ abbrev pub AreSettings : RawSettings → List ℕ → Type 0
 AreSettings r table = ((r.version ≡ 1) ⊎ (r.version ≡ 2)) × AreInLimits (limits_of r table)
 
 -- the setting of this number is outside its limits: 1 to 7 are the members of the struct in their order, 8 is the table of
--- prices, which counts in version 2 alone (this project's choice)
+-- prices, which counts only in version 2 (this project's choice)
 abbrev pub IsOutside : ℕ → RawSettings → List ℕ → Type 0
 IsOutside setting s table =
     ((setting ≡ 1) × (¬ ((s.version ≡ 1) ⊎ (s.version ≡ 2))))
@@ -48,7 +48,7 @@ RefusesSettings s table r =
 abbrev pub written : {X : Type 0} → List X → List X → List X
 written items old = items ++ drop (length items) old
 
--- the number of the cause within, of a piece or a plan that is refused in its turn, else 0
+-- the number of the cause within, if a piece or a plan within is refused, else 0
 abbrev pub inner_of : Option InnerFault → ℕ
 inner_of None = 0
 inner_of (Some cause) = inner_number cause
@@ -58,7 +58,7 @@ abbrev pub inner_places : Option InnerFault → List ℕ
 inner_places None = []
 inner_places (Some cause) = index_list (inner_indices cause)
 
--- all indices that a refusal names, and behind them those of the cause within
+-- all indices that a refusal names, and after them those of the cause within
 abbrev pub all_places : PlanFault → List ℕ
 all_places fault = index_list (fault_indices fault) ++ inner_places (fault_inner fault)
 

@@ -1,4 +1,4 @@
--- What resuming a list of C promises.
+-- What resuming a list from C promises.
 use Rattle.std.specs.Prelude.{◌≡◌, ◌⊎◌, ℕ, ◌<◌, ◌≤◌, ◌==◌, List, length, Ok, Err, if◌then◌else◌}
 use Rattle.dsa_calls.specs.declared.fault.PlanFault.TheVariants.{Memory}
 use Rattle.dsa_resume.specs.declared.fault.ResumeFault.{ResumeFault}
@@ -15,7 +15,7 @@ use Rattle.dsa_c.specs.Raw.{limits_of, AreSettings, RefusesSettings, written, re
 abbrev pub order_of : ℕ → LeftOrder
 order_of failed_first = if failed_first == 0 then AsListed else FailedFirst
 
--- the refusal of a cause why a list is not resumed; that of records of another length is number 112 (this project's choice)
+-- the refusal of a cause why a list is not resumed; number 112 for records of another length (this project's choice)
 abbrev pub resume_refusal_of : ResumeFault → RawRefusal
 resume_refusal_of (Plan fault) = refusal_of fault
 resume_refusal_of Records = refusal_at 112 0 0
@@ -37,8 +37,8 @@ pub record IsResumedInto (s : RawSettings) (table list records : List ℕ) (fail
   pub rest_is : new_rest ≡ written bytes rest
   pub count_is : count ≡ length bytes
 
--- Why nothing is written: the numbers are no settings, of which one is named; an allocation failed; resuming refuses the
--- list for this fault; or what is left does not fit, and so many bytes are needed.
+-- Why nothing is written: the numbers are no settings, and one is named; an allocation failed; resuming refuses the list
+-- for this fault; or what is left does not fit, and so many bytes are needed.
 abbrev pub RefusesResume : RawSettings → List ℕ → List ℕ → List ℕ → ℕ → ℕ → RawRefusal → Type 0
 RefusesResume s table list records failed_first room r =
     RefusesSettings s table r

@@ -30,7 +30,7 @@ use Rattle.dsa_c.specs.declared.settings.RawSettings.{RawSettings}
 use Rattle.dsa_c.specs.Preparing.{refusal_at}
 use Rattle.dsa_c.specs.Raw.{AreSettings, RefusesSettings, limits_of, refusal_of}
 
--- the slots that the bits of a word are
+-- the slots that the bits of a word say
 abbrev pub slots_of : ℕ → Slots
 slots_of word = record { 0 = word }
 
@@ -47,11 +47,11 @@ abbrev pub track_refusal_of : WordsFault → RawRefusal
 track_refusal_of fault =
     refusal_at (words_number fault) (slice_index_or (index_list (words_indices fault)) 0 0) (slice_index_or (index_list (words_indices fault)) 1 0)
 
--- a tracker of these measures fits into so many words
+-- a tracker of these sizes fits into so many words
 abbrev pub CanBegin : ℕ → ℕ → ℕ → ℕ → ℕ → Type 0
 CanBegin slots spans log2_rows log2_unit len = AreMeasures slots spans log2_rows log2_unit × (words_needed slots spans log2_rows ≤ len)
 
--- ---- what each call leaves: words of the form of a tracker, and of a tracker the next state of it
+-- ---- what each call leaves: words of the form of a tracker, which are its next state
 
 -- a submission that reads and writes these spans is taken
 abbrev pub TakesSpans : List ℕ → List Span → List Span → Slots → Submitted → List ℕ → Type 0
@@ -59,14 +59,14 @@ TakesSpans words reads writes also submitted new =
     IsShapedIn words × IsShapedIn new × CanKeep (room_in words) reads writes
     × (IsTracker words → IsTracker new × Submits (table_in words) reads writes also (owner_in words) submitted (table_in new))
 
--- one of these pieces is taken
+-- a submission of these pieces is taken
 abbrev pub TakesPieces : List ℕ → List Fields → Span → Slots → Submitted → List ℕ → Type 0
 TakesPieces words pieces staging also submitted new =
     IsShapedIn words × IsShapedIn new × CanKeepList (room_in words) (owner_with (owner_in words) pieces) pieces staging
     × (IsTracker words →
     IsTracker new × Submits (table_in words) (all_reads pieces) (staged_writes staging pieces) also (owner_with (owner_in words) pieces) submitted (table_in new))
 
--- one of the pieces that these bytes spell is taken
+-- a submission of the pieces that these bytes spell is taken
 abbrev pub TakesList : List ℕ → List ℕ → Span → Slots → Submitted → List ℕ → Type 0
 TakesList words list staging also submitted new =
     (pieces : List Descriptor) × IsListOf list pieces × TakesPieces words (map fields pieces) staging also submitted new
@@ -82,25 +82,25 @@ TakesPlan words pieces plan staging also places slots new =
     × SubmitsInTurn (table_in words) (group_reads plan pieces) (group_writes staging plan pieces) also (owner_with (owner_in words) pieces) slots (length plan) (table_in new))
     × ((k : ℕ) → length plan ≤ k → slice_get slots k ≡ slice_get places k)
 
--- those of the plan that these bytes submit
+-- the groups of the plan that these bytes submit are taken
 abbrev pub TakesGroups : RawSettings → List ℕ → List ℕ → List ℕ → List ℕ → Slots → List ℕ → List ℕ → List ℕ → Type 0
 TakesGroups s table words portal staging also places slots new =
     (plan : Plan) × (list : List Descriptor) × AreSettings s table × IsEmission (limits_of s table) portal staging plan list
     × TakesPlan words (map fields list) plan s.staging also places slots new
 
--- the submission of a slot is taken off, which was ready
+-- the submission of a slot is taken off; it was ready
 abbrev pub Completes : List ℕ → ℕ → Retired → List ℕ → Type 0
 Completes words slot retired new =
     IsShapedIn words × IsShapedIn new × IsReady (table_in words).slots slot × (IsTracker words → IsTracker new × Retires (table_in words) slot retired (table_in new))
 
--- or it was not rung
+-- or a submission that was not rung is taken off
 abbrev pub Withdraws : List ℕ → ℕ → Retired → List ℕ → Type 0
 Withdraws words slot retired new =
     IsShapedIn words × IsShapedIn new × IsHeld (table_in words).slots slot × (IsTracker words → IsTracker new × Retires (table_in words) slot retired (table_in new))
 
--- ---- what each call answers that changes nothing
+-- ---- what calls answer that change nothing
 
--- these are the outstanding submissions in conflict with what reads and writes these spans, if the words are a tracker
+-- these are the outstanding submissions that conflict with accesses to these spans, if the words are a tracker
 abbrev pub Asks : List ℕ → List Span → List Span → Slots → Type 0
 Asks words reads writes set = IsShapedIn words × (IsTracker words → IsExactly set (ConflictsWith (table_in words).slots reads writes))
 
@@ -115,7 +115,7 @@ abbrev pub RefusesSpans : List ℕ → List Span → List Span → RawRefusal �
 RefusesSpans words reads writes r =
     (fault : WordsFault) × RefusesIn words fault (λ f. IsRefused (table_in words) f (IsSpanFault (room_in words) reads writes f)) × (r ≡ track_refusal_of fault)
 
--- an allocation failed, the bytes are no list, with the first fault of it, or the tracker refuses the pieces
+-- an allocation failed, the bytes are no list, with their first fault, or the tracker refuses the pieces
 abbrev pub RefusesList : List ℕ → List ℕ → Span → RawRefusal → Type 0
 RefusesList words list staging r =
     (r ≡ refusal_of Memory)
@@ -129,7 +129,7 @@ abbrev pub RefusesPlan : List ℕ → List Fields → Plan → ℕ → ℕ → W
 RefusesPlan words pieces plan staging places fault =
     RefusesIn words fault (IsGroupsFault (room_in words) (min (free_count (shown_in words)) places) (owner_with (owner_in words) pieces) pieces plan staging)
 
--- the numbers are no settings, an allocation failed, the bytes are no emission, with the first fault of it, or the tracker
+-- the numbers are no settings, an allocation failed, the bytes are no emission, with their first fault, or the tracker
 -- refuses the groups that they submit
 abbrev pub RefusesGroups : RawSettings → List ℕ → List ℕ → List ℕ → List ℕ → ℕ → RawRefusal → Type 0
 RefusesGroups s table words portal staging places r =
@@ -140,7 +140,7 @@ RefusesGroups s table words portal staging places r =
     ⊎ ((plan : Plan) × (list : List Descriptor) × (fault : WordsFault) × AreSettings s table × IsEmission (limits_of s table) portal staging plan list
     × RefusesPlan words (map fields list) plan s.staging places fault × (r ≡ track_refusal_of fault))
 
--- the words have not the form
+-- the words do not have the form of a tracker
 abbrev pub RefusesAsk : List ℕ → RawRefusal → Type 0
 RefusesAsk words r = (r ≡ track_refusal_of NotATracker) × (¬ IsShapedIn words)
 

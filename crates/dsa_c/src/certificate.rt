@@ -8,10 +8,10 @@ ghost use Rattle.dsa_c.specs.Certificates.{pair_of, raw_pair_of, contents_of};
 use dsa_plan::Certificate;
 use std::alloc::{AllocError, Global};
 
-/// Both numbers of a pair that stands for none.
+/// Both numbers of a pair that means none.
 pub const NONE: u32 = 0xffff_ffff;
 
-/// `struct dsa_pair`: two pieces, or none, where both numbers are [`NONE`].
+/// `struct dsa_pair`: two pieces, or none, if both numbers are [`NONE`].
 #[repr(C)]
 #[derive(Clone, Copy)]
 pub struct RawPair {
@@ -21,7 +21,7 @@ pub struct RawPair {
     pub second: u32,
 }
 
-/// What the pair stands for.
+/// What the pair means.
 fn pair_of(raw: RawPair) -> Option<(u32, u32)>
     ensures { result ≡ pair_of raw }
 {
@@ -45,7 +45,7 @@ fn raw_pair_of(pair: Option<(u32, u32)>) -> RawPair
     }
 }
 
-/// What the pairs stand for.
+/// What the pairs mean.
 fn pairs_of(alloc: Global, raw: &[RawPair]) -> Result<Vec<Option<(u32, u32)>>, AllocError>
     ensures { IfOk result (λ pairs. pairs.items ≡ map pair_of raw.now) }
 {

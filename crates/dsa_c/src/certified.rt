@@ -85,7 +85,7 @@ fn certified_for(
 }
 
 /// Plans a list as [`dsa_plan_list`](crate::dsa_plan_list) does, and writes the plan's certificate too, to `prices` and
-/// `pairs`, and for each piece a mark to `marks`: 1 for one that begins a group, and 2 more for one that is fenced.
+/// `pairs`, and for each piece a mark to `marks`: 1 if it begins a group, and 2 more if it is fenced.
 #[unsafe(no_mangle)]
 pub extern "C" fn dsa_plan_list_certified(
     alloc: Global,

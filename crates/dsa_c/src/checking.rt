@@ -45,9 +45,9 @@ fn check_for(
     }
 }
 
-/// Checks the bytes of a portal and a staging area with a certificate of this version, and writes the cost of their plan
-/// to `cost` where no legal plan of their pieces costs less. It answers 0 then, and else the number of the refusal, and
-/// has written `refusal` alone.
+/// Checks the bytes of a portal and a staging area with a certificate of this version, and writes the cost of their
+/// plan to `cost` if no legal plan of their pieces costs less. It returns 0 then; else it returns the number of the
+/// refusal, and has written only `refusal`.
 #[unsafe(no_mangle)]
 pub extern "C" fn dsa_check(
     alloc: Global,

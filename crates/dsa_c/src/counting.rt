@@ -43,8 +43,8 @@ fn count(entries: &[[u8; 64]], greatest: u64) -> Option<u64>
 }
 
 /// How many pieces a planned list has: 64 bytes for each are enough room for the portal, and 80 for the staging area.
-/// It answers 65,537 for a list of more pieces than may be planned, and 0 for numbers that are no settings. It takes no
-/// memory, and looks at the sizes alone.
+/// It returns 65,537 for a list of more pieces than may be planned, and 0 for numbers that are no settings. It
+/// allocates nothing, and looks only at the sizes.
 #[unsafe(no_mangle)]
 pub extern "C" fn dsa_count_pieces(settings: &RawSettings, table: &[u64], list: &[u8]) -> u64
     ensures counted { IsCount settings.now table.now list.now result }

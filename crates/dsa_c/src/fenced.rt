@@ -15,7 +15,7 @@ use dsa_calls::{Planned, plan_fenced_list};
 use dsa_plan::Settings;
 use std::alloc::Global;
 
-/// The planned list under settings that are there, if it is planned and its bytes fit.
+/// The planned list under given settings, if it is planned and its bytes fit.
 fn plan_fenced_under(
     alloc: Global,
     settings: &Settings,
@@ -85,7 +85,7 @@ fn plan_fenced_at_one_price(
         (λ r. (0 < r.number)
         × RefusesFenced settings.now table.now list.now portal_room staging_room r) }
 {
-    // Asked before, the compiler knows below that there are settings, and does not copy them.
+    // Tested before, so that the compiler knows below that there are settings, and does not copy them.
     let Ok(_) = same_price(settings) else {
         return Err(settings_refusal(settings));
     };
@@ -120,8 +120,8 @@ pub(crate) fn plan_fenced_for(
 }
 
 /// The same as [`dsa_plan_list`](crate::dsa_plan_list), but an operation of the list may have the flag 0x0001, fence:
-/// it begins after a barrier, and of one that is split the first piece does. The plan keeps each barrier, and no legal
-/// plan that does costs less. It answers 0 then, and else the number of the refusal, and has written `refusal` alone.
+/// it begins after a barrier; if it is split, its first piece does. The plan keeps each barrier, and no legal plan that
+/// does costs less. It returns 0 then; else it returns the number of the refusal, and has written only `refusal`.
 #[unsafe(no_mangle)]
 pub extern "C" fn dsa_plan_fenced_list(
     alloc: Global,

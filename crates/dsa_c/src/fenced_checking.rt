@@ -56,8 +56,8 @@ fn check_fenced_for(
 
 /// Checks the bytes of a portal and a staging area as [`dsa_check`](crate::dsa_check) does, for a list whose operations
 /// may have the flag 0x0001, fence: writes the cost of their plan to `cost` if they submit the pieces of the list, the
-/// plan keeps each barrier, and no legal plan that does costs less. It answers 0 then, and else the number of the
-/// refusal, and has written `refusal` alone.
+/// plan keeps each barrier, and no legal plan that does costs less. It returns 0 then; else it returns the number of
+/// the refusal, and has written only `refusal`.
 #[unsafe(no_mangle)]
 pub extern "C" fn dsa_check_fenced_list(
     alloc: Global,

@@ -1,4 +1,4 @@
-//! Judging a plan of the caller's for a list in which a fence is a barrier.
+//! Judging the caller's plan for a list in which a fence is a barrier.
 
 ghost use Rattle.std.specs.Prelude.{◌≡◌, ◌≢◌, ◌<◌, MatchResult};
 ghost use Rattle.dsa_c.specs.Judging.{IsFencedJudgedCost, RefusesFencedJudge};
@@ -34,8 +34,8 @@ fn judge_fenced_for(
 }
 
 /// Judges a plan as [`dsa_judge`](crate::dsa_judge) does, for a list whose operations may have the flag 0x0001, fence:
-/// writes what it costs to `cost` if it may be submitted and keeps each barrier. It answers 0 then, and else the number
-/// of the refusal, and has written `refusal` alone.
+/// writes what it costs to `cost` if it may be submitted and keeps each barrier. It returns 0 then; else it returns the
+/// number of the refusal, and has written only `refusal`.
 #[unsafe(no_mangle)]
 pub extern "C" fn dsa_judge_fenced_list(
     alloc: Global,

@@ -15,7 +15,7 @@ use dsa_plan::Settings;
 use dsa_prepared::{Costed, Row, prepare_fenced};
 use std::alloc::Global;
 
-/// The prepared list under settings that are there, where it is prepared and its rows fit.
+/// The prepared list under given settings, if it is prepared and its rows fit.
 fn prepare_fenced_under(
     alloc: Global,
     settings: &Settings,
@@ -43,7 +43,7 @@ fn prepare_fenced_under(
     }
 }
 
-/// The prepared list, where it is prepared and its rows fit.
+/// The prepared list, if it is prepared and its rows fit.
 fn prepare_fenced_for(
     alloc: Global,
     settings: &RawSettings,
@@ -78,13 +78,13 @@ pub extern "C" fn dsa_prepare_fenced(
     info: &mut RawInfo,
     refusal: &mut RawRefusal,
 ) -> u32
-    // What is written are the rows of the prepared list, at the front of the array, and its rest is left.
+    // What is written are the rows of the prepared list, at the front of the array, and its rest is unchanged.
     ensures prepared { result ≡ 0 → IsFencedPreparedInto settings.now table.now list.now
         regions.now rows.old rows.new info.new }
     // So many rows are enough.
     ensures room { result ≡ 0 →
         info.new.rows ≤ prepared_room (length regions.now) info.new.pieces }
-    // Otherwise the array is left alone, and the refusal has its cause.
+    // Otherwise the array is unchanged, and the refusal has its cause.
     ensures unchanged { result ≢ 0 → (rows.new ≡ rows.old) × (info.new ≡ info.old) }
     ensures refused { result ≢ 0 → (result ≡ refusal.new.number)
         × RefusesFencedPrepare settings.now table.now list.now regions.now

@@ -24,9 +24,9 @@ fn fill_refusal(fault: FillFault) -> RawRefusal
     refusal_at(fault.number() as u32, first, second)
 }
 
-/// Writes what submits the prepared list where its regions have these bases and the staging area this address: the
-/// portal's bytes at the front of `portal`, those of the staging area at the front of `area`. It takes no memory. It
-/// answers 0 then, and else the number of the refusal, and has written `refusal` alone.
+/// Writes what submits the prepared list if its regions have these bases and the staging area this address: the
+/// portal's bytes at the front of `portal`, those of the staging area at the front of `area`. It allocates nothing. It
+/// returns 0 then; else it returns the number of the refusal, and has written only `refusal`.
 #[unsafe(no_mangle)]
 pub extern "C" fn dsa_fill(
     rows: &[Row],
@@ -36,7 +36,8 @@ pub extern "C" fn dsa_fill(
     area: &mut [u8],
     refusal: &mut RawRefusal,
 ) -> u32
-    // What is written are the bytes of the rows' template at the new addresses, and the rest of the buffers is left.
+    // What is written are the bytes of the rows' template at the new addresses, and the rest of the buffers is
+    // unchanged.
     ensures filled { result ≡ 0 → IsFilledInto rows.now bases.now staging
         portal.old portal.new area.old area.new }
     // They are what planning the relocated list answers.
@@ -44,7 +45,7 @@ pub extern "C" fn dsa_fill(
         IsPreparedOf list s (template_in rows.now).regions ds (template_in rows.now) →
         result ≡ 0 → IsPlannedInto (template_in rows.now).regions bases.now staging s ds
         portal.old portal.new area.old area.new }
-    // A refusal is the first cause, and where one stands it is the answer.
+    // A refusal is the first cause, and if there is a cause, it is the answer.
     ensures refused { result ≢ 0 → (result ≡ refusal.new.number)
         × RefusesFill rows.now bases.now staging (length portal.old) (length area.old) refusal.new }
     ensures exact { (r : RawRefusal) → RefusesFill rows.now bases.now staging

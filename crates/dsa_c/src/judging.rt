@@ -1,4 +1,4 @@
-//! Judging a plan of the caller's.
+//! Judging the caller's plan.
 
 ghost use Rattle.std.specs.Prelude.{◌≡◌, ◌≢◌, ◌<◌, MatchResult};
 ghost use Rattle.dsa_c.specs.Judging.{IsJudgedCost, RefusesJudge};
@@ -33,9 +33,9 @@ fn judge_for(
     }
 }
 
-/// Judges the plan that the marks spell, one for each descriptor of the list, none of which is split, and writes what it
-/// costs to `cost` where it may be submitted. It answers 0 then, and else the number of the refusal, and has written
-/// `refusal` alone.
+/// Judges the plan that the marks spell, one for each descriptor of the list, none of which is split, and writes what
+/// it costs to `cost` if it may be submitted. It returns 0 then; else it returns the number of the refusal, and has
+/// written only `refusal`.
 #[unsafe(no_mangle)]
 pub extern "C" fn dsa_judge(
     alloc: Global,

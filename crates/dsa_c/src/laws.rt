@@ -8,8 +8,8 @@ pub fn marks_spell_plans()
     ensures { MarksSpellPlans }
 {}
 
-/// Marks of two bits, the first of which begins a group, are the marks of the plan that they spell: so there is one
-/// such list for each plan. This is a law too.
+/// Marks of two bits whose first mark begins a group are the marks of the plan that they spell: so each plan has one
+/// such list of marks. This is a law too.
 pub fn plans_spell_marks()
     ensures { PlansSpellMarks }
 {}

@@ -47,8 +47,7 @@ fn push_group(marks: &mut Vec<u8>, group: &[bool]) -> Result<(), AllocError>
     Ok(())
 }
 
-/// The marks of the plan's pieces, in order: [`BEGINS`] for one that begins a group, and [`FENCED`] added for one that
-/// is fenced.
+/// The marks of the plan's pieces, in order: [`BEGINS`] if a piece begins a group, plus [`FENCED`] if it is fenced.
 pub(crate) fn marks_of(alloc: Global, plan: &Plan) -> Result<Vec<u8>, AllocError>
     ensures { IfOk result (λ marks. marks.items ≡ marks_of plan.now) }
 {
@@ -59,8 +58,8 @@ pub(crate) fn marks_of(alloc: Global, plan: &Plan) -> Result<Vec<u8>, AllocError
     Ok(marks)
 }
 
-/// The plan that these marks spell. The first piece begins a group, whatever its mark; of each mark the bits [`BEGINS`]
-/// and [`FENCED`] count alone.
+/// The plan that these marks spell. The first piece begins a group, whatever its mark; only the bits [`BEGINS`] and
+/// [`FENCED`] of a mark count.
 pub(crate) fn plan_of(alloc: Global, marks: &[u8]) -> Result<Plan, AllocError>
     ensures { IfOk result (λ plan. plan ≡ plan_of marks.now) }
 {

@@ -27,7 +27,7 @@ pub struct RawPlanned {
     pub staging_len: u64,
 }
 
-/// The cost of the planned list, and the lengths of what is written of it.
+/// The cost of the planned list, and the lengths of what is written for it.
 pub(crate) fn summary(planned: &Planned) -> RawPlanned
     ensures { result ≡ summary_of (submission_of planned.now) }
 {
@@ -39,7 +39,7 @@ pub(crate) fn summary(planned: &Planned) -> RawPlanned
     }
 }
 
-/// The planned list under settings that are there, where it is planned and its bytes fit.
+/// The planned list under given settings, if it is planned and its bytes fit.
 fn plan_under(
     alloc: Global,
     settings: &Settings,
@@ -108,7 +108,7 @@ fn plan_at_one_price(
         (λ r. (0 < r.number)
         × Refuses settings.now table.now list.now portal_room staging_room r) }
 {
-    // Asked before, the compiler knows below that there are settings, and does not copy them.
+    // Tested before, so that the compiler knows below that there are settings, and does not copy them.
     let Ok(_) = same_price(settings) else {
         return Err(settings_refusal(settings));
     };
@@ -118,7 +118,7 @@ fn plan_at_one_price(
     }
 }
 
-/// The planned list, where it is planned and its bytes fit.
+/// The planned list, if it is planned and its bytes fit.
 pub(crate) fn plan_for(
     alloc: Global,
     settings: &RawSettings,
@@ -143,7 +143,8 @@ pub(crate) fn plan_for(
 }
 
 /// Plans the operations that the bytes of `list` spell, and writes the bytes that submit the plan of least cost to
-/// `portal` and `staging`. It answers 0 then, and else the number of the refusal, and has written `refusal` alone.
+/// `portal` and `staging`. It returns 0 then; else it returns the number of the refusal, and has written only
+/// `refusal`.
 #[unsafe(no_mangle)]
 pub extern "C" fn dsa_plan_list(
     alloc: Global,
@@ -155,11 +156,11 @@ pub extern "C" fn dsa_plan_list(
     planned: &mut RawPlanned,
     refusal: &mut RawRefusal,
 ) -> u32
-    // What is written is the emission of the planned list, at the front of the buffers, and their rest is left.
+    // What is written is the emission of the planned list, at the front of the buffers, and their rest is unchanged.
     ensures planned { result ≡ 0 →
         IsWritten settings.now table.now list.now
         portal.old portal.new staging.old staging.new planned.new }
-    // Otherwise the buffers are left alone, and the refusal has its cause.
+    // Otherwise the buffers are unchanged, and the refusal has its cause.
     ensures unchanged { result ≢ 0 →
         (portal.new ≡ portal.old) × (staging.new ≡ staging.old) × (planned.new ≡ planned.old) }
     ensures refused { result ≢ 0 → (result ≡ refusal.new.number)

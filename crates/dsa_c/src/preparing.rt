@@ -59,7 +59,7 @@ pub(crate) fn info_of(costed: &Costed) -> RawInfo
     }
 }
 
-/// The prepared list under settings that are there, where it is prepared and its rows fit.
+/// The prepared list under given settings, if it is prepared and its rows fit.
 fn prepare_under(
     alloc: Global,
     settings: &Settings,
@@ -87,7 +87,7 @@ fn prepare_under(
     }
 }
 
-/// The prepared list, where it is prepared and its rows fit.
+/// The prepared list, if it is prepared and its rows fit.
 fn prepare_for(
     alloc: Global,
     settings: &RawSettings,
@@ -109,8 +109,8 @@ fn prepare_for(
 }
 
 /// Plans the operations that the bytes of `list` spell, and writes their submission to `rows`, with each address as a
-/// region and an offset, for [`dsa_fill`](crate::dsa_fill). It answers 0 then, and else the number of the refusal, and has
-/// written `refusal` alone.
+/// region and an offset, for [`dsa_fill`](crate::dsa_fill). It returns 0 then; else it returns the number of the
+/// refusal, and has written only `refusal`.
 #[unsafe(no_mangle)]
 pub extern "C" fn dsa_prepare(
     alloc: Global,
@@ -122,13 +122,13 @@ pub extern "C" fn dsa_prepare(
     info: &mut RawInfo,
     refusal: &mut RawRefusal,
 ) -> u32
-    // What is written are the rows of the prepared list, at the front of the array, and its rest is left.
+    // What is written are the rows of the prepared list, at the front of the array, and its rest is unchanged.
     ensures prepared { result ≡ 0 → IsPreparedInto settings.now table.now list.now
         regions.now rows.old rows.new info.new }
     // So many rows are enough.
     ensures room { result ≡ 0 →
         info.new.rows ≤ prepared_room (length regions.now) info.new.pieces }
-    // Otherwise the array is left alone, and the refusal has its cause.
+    // Otherwise the array is unchanged, and the refusal has its cause.
     ensures unchanged { result ≢ 0 → (rows.new ≡ rows.old) × (info.new ≡ info.old) }
     ensures refused { result ≢ 0 → (result ≡ refusal.new.number)
         × RefusesPrepare settings.now table.now list.now regions.now

@@ -21,7 +21,7 @@ pub const NO_ROOM_FOR_CERTIFICATE: u32 = 91;
 pub struct RawRefusal {
     /// The number of the cause.
     pub number: u32,
-    /// The number of the cause within, of a plan or a piece that is refused in its turn, else 0.
+    /// The number of the cause within, if a plan or a piece within is refused, else 0.
     pub inner: u32,
     /// The first index that the cause names, else 0.
     pub first: u64,

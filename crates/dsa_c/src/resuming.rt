@@ -70,9 +70,9 @@ fn left_for(
 }
 
 /// Writes to `rest` what is left of a list that was planned with these settings and submitted, and to `rest_len` its
-/// length: the pieces that have not finished, by their completion records, 32 bytes each in the order of the pieces, as
-/// they are listed, or if `failed_first` is not 0 those that failed before those that wait. It answers 0 then, and else
-/// the number of the refusal, and has written `refusal` alone.
+/// length: the pieces that have not finished, by their completion records, 32 bytes each in the order of the pieces.
+/// They come as they are listed, or, if `failed_first` is not 0, those that failed before those that wait. It returns 0
+/// then; else it returns the number of the refusal, and has written only `refusal`.
 #[unsafe(no_mangle)]
 pub extern "C" fn dsa_resume(
     alloc: Global,
@@ -85,7 +85,7 @@ pub extern "C" fn dsa_resume(
     rest_len: &mut u64,
     refusal: &mut RawRefusal,
 ) -> u32
-    // What is written is at the front of the buffer, and its rest is left.
+    // What is written is at the front of the buffer, and its rest is unchanged.
     ensures resumed { result ≡ 0 → IsResumedInto settings.now table.now list.now records.now
         failed_first rest.old rest.new rest_len.new }
     ensures unchanged { result ≢ 0 → (rest.new ≡ rest.old) × (rest_len.new ≡ rest_len.old) }

@@ -10,7 +10,7 @@ use dsa_plan::{Settings, SettingsFault};
 #[repr(C)]
 #[derive(Clone, Copy)]
 pub struct RawSettings {
-    /// 1, or 2 where a table has the prices of batches.
+    /// 1, or 2 if a table has the prices of batches.
     pub version: u64,
     /// The greatest number of pieces of a batch.
     pub greatest_batch: u64,
@@ -22,11 +22,11 @@ pub struct RawSettings {
     pub batch: u64,
     /// The price of each fence.
     pub fence: u64,
-    /// The address where the staging bytes will stand.
+    /// The address where the staging bytes will be.
     pub staging: u64,
 }
 
-/// The settings of numbers of version 1, where they are in their limits.
+/// The settings of numbers of version 1, if they are in their limits.
 /// Inlined, so that the result, which is large, is built in the caller's frame.
 #[inline(always)]
 pub(crate) fn same_price(raw: &RawSettings) -> Result<Settings, SettingsFault>
@@ -44,7 +44,7 @@ pub(crate) fn same_price(raw: &RawSettings) -> Result<Settings, SettingsFault>
     )
 }
 
-/// The settings of numbers of version 2, whose table has the price of a batch by its size, where they are in their limits.
+/// The settings of numbers of version 2, whose table has the price of a batch by its size, if they are in their limits.
 #[inline(always)]
 pub(crate) fn by_size(raw: &RawSettings, table: &[u64]) -> Result<Settings, SettingsFault>
     requires { raw.now.version ≡ 2 }
@@ -61,8 +61,8 @@ pub(crate) fn by_size(raw: &RawSettings, table: &[u64]) -> Result<Settings, Sett
     )
 }
 
-/// The settings of these numbers, where they are of a known version and in their limits. The table has the price of a
-/// batch by its size; it counts with version 2 alone.
+/// The settings of these numbers, if they are of a known version and in their limits. The table has the price of a
+/// batch by its size; it counts only with version 2.
 pub(crate) fn settings_of(raw: &RawSettings, table: &[u64]) -> Result<Settings, SettingsFault>
     ensures { let s = raw.now in let t = table.now in
         MatchResult result (λ l. (l ≡ limits_of s t) × AreSettings s t) (λ _. ¬ AreSettings s t) }
@@ -122,7 +122,7 @@ fn outside(raw: &RawSettings) -> u64
     if raw.version == 1 { 5 } else { 8 }
 }
 
-/// The refusal of settings, which names the one that is outside its limits.
+/// The refusal of settings, which names the setting that is outside its limits.
 pub(crate) fn settings_refusal(raw: &RawSettings) -> RawRefusal
     ensures some { 0 < result.number }
     ensures names { (table : List ℕ) → ¬ AreSettings raw.now table →

@@ -19,9 +19,9 @@ fn put_front(buffer: &mut [u8], bytes: &[u8])
     put(buffer, &bytes[..room]);
 }
 
-/// Writes what the refusal means, in a sentence with the numbers that it names, to the front of `text`, as far as there is
-/// room, and leaves the rest of it. It takes no memory. It answers how many bytes the sentence has, which are at most 512, and
-/// none for a number that no cause has.
+/// Writes what the refusal means, in a sentence with the numbers that it names, to the front of `text`, as far as there
+/// is room, and leaves the rest of it. It allocates nothing. It returns how many bytes the sentence has: at most 512,
+/// and 0 for a number that no cause has.
 #[unsafe(no_mangle)]
 pub extern "C" fn dsa_refusal_text(refusal: &RawRefusal, text: &mut [u8]) -> u64
     ensures len { result ≡ length (text_of refusal.now) }

@@ -1,4 +1,4 @@
-//! What a tracker in the caller's words answers of its submissions, and taking them off.
+//! What a tracker in the caller's words answers about its submissions, and taking them off.
 
 ghost use Rattle.std.specs.Prelude.{◌≡◌, ◌≢◌};
 ghost use Rattle.dsa_c.specs.Tracking.{Asks, Awaits, Completes, RefusesAsk, RefusesComplete, RefusesSlot, Withdraws, retired_of, slots_of};
@@ -9,8 +9,8 @@ use dsa_descriptor::Span;
 use dsa_tracker::words;
 
 /// Writes the slots of the outstanding submissions that conflict with accesses to these spans to `waits`, a bit for
-/// each: with none the accesses may be done at once, by the host too. It takes no memory. It answers 0 then, and else
-/// the number of the refusal, and has written `refusal` alone.
+/// each: with none the accesses may be done at once, by the host too. It allocates nothing. It returns 0 then; else it
+/// returns the number of the refusal, and has written only `refusal`.
 #[unsafe(no_mangle)]
 pub extern "C" fn dsa_track_ask(
     words: &[u64],
@@ -39,7 +39,7 @@ pub extern "C" fn dsa_track_ask(
 }
 
 /// Writes the slots that the submission of this slot waits for to `waits`, a bit for each: with none it is ready.
-/// It takes no memory. It answers 0 then, and else the number of the refusal, and has written `refusal` alone.
+/// It allocates nothing. It returns 0 then; else it returns the number of the refusal, and has written only `refusal`.
 #[unsafe(no_mangle)]
 pub extern "C" fn dsa_track_waits(
     words: &[u64],
@@ -66,9 +66,9 @@ pub extern "C" fn dsa_track_waits(
     }
 }
 
-/// Takes the submission of this slot off, which was ready and has ended: writes the slots of those that waited for
-/// it to `waited`, and of these those that wait for none now to `ready`. It takes no memory. It answers 0 then, and
-/// else the number of the refusal, and has written `refusal` alone.
+/// Takes off the submission of this slot, which was ready and has ended: writes the slots of those that waited for it
+/// to `waited`, and the slots of those of them that wait for nothing more to `ready`. It allocates nothing. It returns
+/// 0 then; else it returns the number of the refusal, and has written only `refusal`.
 #[unsafe(no_mangle)]
 pub extern "C" fn dsa_track_complete(
     words: &mut [u64],
@@ -99,7 +99,7 @@ pub extern "C" fn dsa_track_complete(
     }
 }
 
-/// The same of a submission that was not rung, ready or not.
+/// The same for a submission that was not rung, ready or not.
 #[unsafe(no_mangle)]
 pub extern "C" fn dsa_track_withdraw(
     words: &mut [u64],

@@ -24,7 +24,7 @@ pub(crate) fn track_refusal(fault: WordsFault) -> RawRefusal
 }
 
 /// Makes the words a tracker with so many slots, for submissions of at most so many spans that they read, and that
-/// they write. It takes no memory. It answers 0 then, and else 126, and has written `refusal` alone.
+/// they write. It allocates nothing. It returns 0 then; else it returns 126, and has written only `refusal`.
 #[unsafe(no_mangle)]
 pub extern "C" fn dsa_track_begin(
     words: &mut [u64],
@@ -78,8 +78,8 @@ fn take_list(
 }
 
 /// Takes a submission that reads and writes these spans: writes its slot to `slot`, and the slots of those that it
-/// waits for to `waits`, a bit for each. It takes no memory. It answers 0 then, and else the number of the refusal, and
-/// has written `refusal` alone.
+/// waits for to `waits`, a bit for each. It allocates nothing. It returns 0 then; else it returns the number of the
+/// refusal, and has written only `refusal`.
 #[unsafe(no_mangle)]
 pub extern "C" fn dsa_track_spans(
     words: &mut [u64],
@@ -113,8 +113,8 @@ pub extern "C" fn dsa_track_spans(
 }
 
 /// Takes a submission of the pieces that the bytes of `list` spell, whose staging area counts as written: writes
-/// its slot to `slot`, and the slots of those that it waits for to `waits`, a bit for each. It answers 0 then, and
-/// else the number of the refusal, and has written `refusal` alone.
+/// its slot to `slot`, and the slots of those that it waits for to `waits`, a bit for each. It returns 0 then; else it
+/// returns the number of the refusal, and has written only `refusal`.
 #[unsafe(no_mangle)]
 pub extern "C" fn dsa_track_list(
     alloc: Global,
@@ -186,7 +186,7 @@ fn take_groups(
 
 /// Takes each entry of a portal as a submission of its own, in their order: its pieces, and what it names of the
 /// staging area, which counts as written. Writes the slot of each entry to the front of `slots`, whose rest stays. It
-/// answers 0 then, and else the number of the refusal, and has written `refusal` alone.
+/// returns 0 then; else it returns the number of the refusal, and has written only `refusal`.
 #[unsafe(no_mangle)]
 pub extern "C" fn dsa_track_groups(
     alloc: Global,

@@ -7,13 +7,13 @@ use Rattle.dsa_descriptor.specs.Fields.{Fields}
 use Rattle.dsa_descriptor.specs.Descriptors.{fields}
 use Rattle.dsa_calls.specs.Judge.{FitTransfer, FitBefore, IsFirstOver}
 
--- what stands at a place
+-- the descriptor at a place
 there : (ds : List Descriptor) (i : ℕ) (d : Descriptor) → i < length ds → d ≡ get_or ds i d → slice_get (map fields ds) i ≡ Some (fields d)
 there [] i d within is = absurd (omega arith)
 there (x ∷ ds) zero d within is = ap (λ (e : Descriptor). Some (fields e)) (sym is)
 there (x ∷ ds) (suc i) d within is = there ds i d (omega arith) is
 
--- what stands past the end
+-- there is no descriptor past the end
 past : (ds : List Descriptor) (i : ℕ) (f : Fields) → slice_get (map fields ds) i ≡ Some f → i < length ds
 past [] i f e = cc
 past (x ∷ ds) zero f e = omega arith

@@ -17,30 +17,30 @@ use Rattle.dsa_checker.specs.Checked.{IsFirstCheckFault}
 use Rattle.dsa_calls.specs.declared.fault.PlanFault.{PlanFault}
 use Rattle.dsa_calls.specs.declared.fault.PlanFault.TheVariants.{Emission, Check}
 
--- the certificate shows that the plan of n pieces, of which `C` says which conflict, is legal, and that none costs less
+-- the certificate proves that the plan of n pieces is legal, and that none costs less; `C` says which pieces conflict
 pub record IsShownLeastBy (C : ℕ → ℕ → Type 0) (s : Limits) (n : ℕ) (plan : Plan) (c : Contents) (cost : ℕ) : Type 0 where
   pub legal : IsLegal C s.greatest_batch n plan
   pub version : c.version ≡ version_of s
   pub good : IsGood C s.greatest_batch (tariff_of s) n c.prices c.pairs cost
   pub is_cost : cost ≡ plan_cost (tariff_of s) plan
 
--- the same of pieces without barriers
+-- the same for pieces without barriers
 abbrev pub IsShownLeast : Limits → List Fields → Plan → Contents → ℕ → Type 0
 IsShownLeast s pieces plan c cost = IsShownLeastBy (ConflictAt pieces) s (length pieces) plan c cost
 
--- the outcome of checking a plan: its cost where the certificate shows it, and else the first fault
+-- the outcome of checking a plan: its cost if the certificate proves it, else the first fault
 abbrev pub ChecksPlanBy : (ℕ → ℕ → Type 0) → Limits → ℕ → Plan → Contents → Result ℕ PlanFault → Type 0
 ChecksPlanBy C s n plan c (Ok cost) = IsShownLeastBy C s n plan c cost
 ChecksPlanBy C s n plan c (Err cause) =
     (fault : CheckFault) × (cause ≡ Check fault)
     × IsFirstCheckFault C s.greatest_batch (tariff_of s) (version_of s) n plan c fault
 
--- the same of pieces without barriers
+-- the same for pieces without barriers
 abbrev pub ChecksPlan : Limits → List Fields → Plan → Contents → Result ℕ PlanFault → Type 0
 ChecksPlan s pieces plan c outcome = ChecksPlanBy (ConflictAt pieces) s (length pieces) plan c outcome
 
--- the outcome of checking these bytes: their first fault as an emission, or that of checking the plan that they are the
--- emission of
+-- the outcome of checking these bytes: their first fault as an emission, or the outcome of checking the plan whose emission
+-- they are
 abbrev pub Checks : List ℕ → List ℕ → Limits → Contents → Result ℕ PlanFault → Type 0
 Checks portal staging s c outcome =
     ((fault : EmissionFault) × (fault ≢ EmissionMemory) × IsFirstEmissionFault s portal staging fault × (outcome ≡ Err (Emission fault)))

@@ -19,7 +19,7 @@ use Rattle.dsa_calls.specs.declared.fault.InnerFault.TheVariants.{Entry as InEnt
 use Rattle.dsa_calls.specs.declared.fault.PlanFault.{PlanFault}
 use Rattle.dsa_calls.specs.declared.fault.PlanFault.TheVariants.{List as InList, Split, Emission, Core, Room, Legal, Check, OutOfImage, ImageSize, OverTransfer, Shape, Memory, Json, Member, Do, Settings, Hex, Engines, JobTooLong}
 
--- ---- the causes of the crates below, as refusals; out of memory is one, wherever it comes from
+-- ---- the causes of the crates below, as refusals; out of memory is a single cause, wherever it comes from
 
 -- a fault of a list as a refusal
 abbrev pub list_cause : ListFault → PlanFault
@@ -126,7 +126,7 @@ abbrev pub inner_indices : InnerFault → Indices
 inner_indices (InEntry fault) = Empty
 inner_indices (InLegal fault) = legal_indices fault
 
--- of an emission the fault of the piece that is refused, of a certificate that of its plan
+-- for an emission the fault of the refused piece, for a certificate that of its plan
 abbrev pub fault_inner : PlanFault → Option InnerFault
 fault_inner (Emission fault) = option_map InEntry (emission_entry fault)
 fault_inner (Check fault) = option_map InLegal (check_plan_fault fault)
@@ -162,7 +162,7 @@ indices_text indices = flat_map place_text (index_list indices)
 abbrev pub named_text : ℕ → List ℕ → List ℕ
 named_text n name = place_text n ++ codes " " ++ name
 
--- what the refusal reports of the cause within, of a piece or a plan that is refused in its turn
+-- what the refusal reports of the cause within, if a piece or a plan within is refused
 abbrev pub inner_text : Option InnerFault → List ℕ
 inner_text None = []
 inner_text (Some cause) = named_text (inner_number cause) (inner_name cause) ++ indices_text (inner_indices cause)

@@ -18,8 +18,8 @@ use Rattle.dsa_calls.specs.Lists.{IsListOf, OverList}
 use Rattle.dsa_calls.specs.Judge.{JudgesPiecesBy}
 use Rattle.dsa_calls.specs.Planned.{Submission, IsSubmissionOfPiecesBy, Plans, PlansOperations}
 
--- whether each entry of 64 bytes has the flag 0x0001, fence (specification 341204); in a list it is a barrier before the
--- operation (this project's choice)
+-- whether each entry of 64 bytes has the flag 0x0001, fence (specification 341204); in a list the flag is a barrier before
+-- the operation (this project's choice)
 abbrev pub fences_of : List ℕ → List Bool
 fences_of bytes = map is_fenced (entries bytes)
 
@@ -31,7 +31,7 @@ unfenced_list bytes = flat_map unfenced (entries bytes) ++ drop (64 * (length by
 abbrev pub PiecesConflict : Limits → List Fields → List Bool → List Fields → ℕ → ℕ → Type 0
 PiecesConflict s operations barriers pieces a b = WithBarriers (ConflictAt pieces) (piece_barriers s.greatest_transfer operations barriers) a b
 
--- these are the pieces that the operations are split into which the bytes without their fences spell, and their barriers
+-- these are the pieces of the operations that the bytes without their fences spell, and the pieces' barriers
 pub record AreFencedPieces (bytes : List ℕ) (s : Limits) (pieces : List Descriptor) (barriers : List Bool) : Type 0 where
   pub operations : List Descriptor
   pub listed : IsListOf (unfenced_list bytes) operations
@@ -51,12 +51,12 @@ abbrev pub PlansWith : List Bool → Limits → List Fields → Result Submissio
 PlansWith barriers s operations (Ok p) = IsSubmissionWith barriers s operations p
 PlansWith barriers s operations (Err fault) = PlansOperations s operations (Err fault)
 
--- the outcome of planning these bytes: the first fault as a list of the bytes without their fences, or that of planning the
--- operations that those spell, with the fences as barriers
+-- the outcome of planning these bytes: the first fault of the bytes without their fences as a list, or the outcome of
+-- planning the operations that those spell, with the fences as barriers
 abbrev pub PlansFenced : List ℕ → Limits → Result Submission PlanFault → Type 0
 PlansFenced bytes s outcome = OverList (λ operations o. PlansWith (fences_of bytes) s operations o) (unfenced_list bytes) outcome
 
--- the plan is legal with the barriers of the list, no such plan of the pieces costs less, and the certificate is good
+-- the plan is legal with the barriers of the list, no such plan of the pieces costs less, and the certificate checks
 pub record IsFencedLeast (bytes : List ℕ) (s : Limits) (p : Submission) : Type 0 where
   pub operations : List Descriptor
   pub listed : IsListOf (unfenced_list bytes) operations
@@ -67,13 +67,13 @@ pub record IsFencedLeast (bytes : List ℕ) (s : Limits) (p : Submission) : Type
       IsGood (PiecesConflict s (map fields operations) (fences_of bytes) (map fields p.pieces))
       s.greatest_batch (tariff_of s) (length p.pieces) p.certificate.prices p.certificate.pairs p.cost
 
--- the outcome of judging a plan for these bytes: the first fault as a list of the bytes without their fences, or what
--- judging the pieces that those spell says, with the fences as barriers
+-- the outcome of judging a plan for these bytes: the first fault of the bytes without their fences as a list, or the
+-- outcome of judging the pieces that those spell, with the fences as barriers
 abbrev pub JudgesFenced : List ℕ → Plan → Limits → Result ℕ PlanFault → Type 0
 JudgesFenced bytes plan s outcome =
     OverList (λ pieces o. JudgesPiecesBy (WithBarriers (ConflictAt pieces) (fences_of bytes)) pieces plan s o) (unfenced_list bytes) outcome
 
--- bytes and settings have one outcome at most of planning with fences
+-- planning with fences has at most one outcome for bytes and settings
 abbrev pub OneFencedPlan : Type 0
 OneFencedPlan = (bytes : List ℕ) (s : Limits) (outcome other : Result Submission PlanFault) →
     PlansFenced bytes s outcome → PlansFenced bytes s other → outcome ≡ other
@@ -86,12 +86,12 @@ FencedPlanIsLeast = (bytes : List ℕ) (s : Limits) (p : Submission) → PlansFe
 abbrev pub HasNoBarriers : List ℕ → Type 0
 HasNoBarriers bytes = (k : ℕ) → 0 < k → ¬ IsBarrier (fences_of bytes) k
 
--- then planning with fences says what planning says of the bytes without them
+-- then planning with fences says what planning says of the bytes without fences
 abbrev pub NoBarriersPlanAlike : Type 0
 NoBarriersPlanAlike = (bytes : List ℕ) (s : Limits) (outcome : Result Submission PlanFault) →
     HasNoBarriers bytes → (PlansFenced bytes s outcome ↔ Plans (unfenced_list bytes) s outcome)
 
--- of bytes with no flag it says what planning says of them
+-- for bytes without the flag it says what planning says of them
 abbrev pub NoFencesPlanAlike : Type 0
 NoFencesPlanAlike = (bytes : List ℕ) (s : Limits) (outcome : Result Submission PlanFault) →
     ((k : ℕ) → ¬ IsBarrier (fences_of bytes) k) → (PlansFenced bytes s outcome ↔ Plans bytes s outcome)

@@ -21,7 +21,7 @@ use Rattle.dsa_calls.specs.Fenced.{fences_of, unfenced_list, PiecesConflict, Pla
 use Rattle.dsa_calls.specs.Lists.{IsListOf}
 use Rattle.dsa_calls.specs.Planned.{Submission}
 
--- the lists agree before index i, and there they don't: the descriptors differ, or one list alone has one
+-- the lists agree before index i, and there they don't: the descriptors differ, or only one list has a descriptor there
 pub record IsFirstOther (submitted listed : List Fields) (i : ℕ) : Type 0 where
   pub before : (j : ℕ) → j < i → slice_get submitted j ≡ slice_get listed j
   pub other : slice_get submitted i ≢ slice_get listed i
@@ -31,9 +31,9 @@ abbrev pub in_call : Result ℕ PlanFault → Result ℕ FencedFault
 in_call (Ok cost) = Ok cost
 in_call (Err fault) = Err (Call fault)
 
--- The outcome of checking these bytes as an emission of these pieces, of which `C` says which conflict: their first fault as
--- an emission; the first piece that they submit and that is another; or that of checking the plan that they are the
--- emission of.
+-- The outcome of checking these bytes as an emission of these pieces: their first fault as an emission; the first piece
+-- that they submit and that differs; or the outcome of checking the plan whose emission they are. `C` says which pieces
+-- conflict.
 abbrev pub ChecksPieces : (ℕ → ℕ → Type 0) → Limits → List Fields → List ℕ → List ℕ → Contents → Result ℕ FencedFault → Type 0
 ChecksPieces C s pieces portal staging c outcome =
     ((fault : EmissionFault) × (fault ≢ EmissionMemory) × IsFirstEmissionFault s portal staging fault × (outcome ≡ Err (Call (Emission fault))))
@@ -41,8 +41,8 @@ ChecksPieces C s pieces portal staging c outcome =
     ⊎ ((o : Result ℕ PlanFault) × (plan : Plan) × (ds : List Descriptor) × IsEmission s portal staging plan ds × (map fields ds ≡ pieces) × ChecksPlanBy C s (length pieces) plan c o
     × (outcome ≡ in_call o))
 
--- The outcome of checking these bytes as an emission for a list: what planning the list with its fences as barriers refuses;
--- or that of checking them as an emission of the list's pieces, with its barriers.
+-- The outcome of checking these bytes as an emission for a list: what planning the list with its fences as barriers
+-- refuses; or the outcome of checking them as an emission of the list's pieces, with its barriers.
 abbrev pub ChecksFenced : List ℕ → List ℕ → List ℕ → Limits → Contents → Result ℕ FencedFault → Type 0
 ChecksFenced bytes portal staging s c outcome =
     ((fault : PlanFault) × PlansFenced bytes s (Err fault) × (outcome ≡ Err (Call fault)))
@@ -64,7 +64,7 @@ pub record IsLeastEmission (bytes portal staging : List ℕ) (s : Limits) (cost 
       s.greatest_batch (tariff_of s) (length pieces) plan
   pub is_cost : cost ≡ plan_cost (tariff_of s) plan
 
--- bytes, settings and a certificate have one outcome at most of checking for a list
+-- checking for a list has at most one outcome for bytes, settings and a certificate
 abbrev pub OneFencedCheck : Type 0
 OneFencedCheck = (bytes portal staging : List ℕ) (s : Limits) (c : Contents) (outcome other : Result ℕ FencedFault) →
     ChecksFenced bytes portal staging s c outcome → ChecksFenced bytes portal staging s c other → outcome ≡ other

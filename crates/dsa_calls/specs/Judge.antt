@@ -28,9 +28,8 @@ pub record IsFirstOver (greatest : ℕ) (pieces : List Fields) (i : ℕ) : Type 
   pub over : greatest < long.size
   pub before : FitBefore greatest pieces i
 
--- the outcome of judging these pieces under the plan, where `C` says which conflict: its cost where it is legal for them,
--- and else the first cause, in the order of the number of pieces, their sizes and the faults of the plan (this project's
--- choice)
+-- the outcome of judging the plan for these pieces: its cost if it is legal for them, else the first cause, in the order of
+-- the number of pieces, their sizes and the faults of the plan (this project's choice); `C` says which pieces conflict
 abbrev pub JudgesPiecesBy : (ℕ → ℕ → Type 0) → List Fields → Plan → Limits → Result ℕ PlanFault → Type 0
 JudgesPiecesBy C pieces plan settings (Ok cost) =
     (length pieces ≤ most_pieces) × FitTransfer settings.greatest_transfer pieces
@@ -42,12 +41,12 @@ JudgesPiecesBy C pieces plan settings (Err cause) =
     ⊎ ((fault : LegalFault) × (cause ≡ Legal fault) × (length pieces ≤ most_pieces) × FitTransfer settings.greatest_transfer pieces
     × IsFirstLegalFault C settings.greatest_batch (length pieces) plan fault)
 
--- the same of pieces without barriers
+-- the same for pieces without barriers
 abbrev pub JudgesPieces : List Fields → Plan → Limits → Result ℕ PlanFault → Type 0
 JudgesPieces pieces plan settings outcome = JudgesPiecesBy (ConflictAt pieces) pieces plan settings outcome
 
--- the outcome of judging these bytes: the first fault of the bytes as a list, or what judging the descriptors that they
--- spell says
+-- the outcome of judging these bytes: the first fault of the bytes as a list, or the outcome of judging the descriptors
+-- that they spell
 abbrev pub Judges : List ℕ → Plan → Limits → Result ℕ PlanFault → Type 0
 Judges bytes plan settings outcome = OverList (λ fs o. JudgesPieces fs plan settings o) bytes outcome
 

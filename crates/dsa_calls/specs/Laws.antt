@@ -21,20 +21,20 @@ use Rattle.dsa_calls.specs.Planned.{Submission, Plans}
 use Rattle.dsa_calls.specs.Checked.{Checks}
 use Rattle.dsa_calls.specs.Runs.{Left, CanBegin, IsFirstBeginFault, OperationsSucceed, BreaksOff, ReplaysPieces, RunsPieces, Replays, Runs}
 
--- bytes, a plan and settings have one outcome at most of judging
+-- judging has at most one outcome for bytes, a plan and settings
 abbrev pub OneJudged : Type 0
 OneJudged = (bytes : List ℕ) (plan : Plan) (s : Limits) (outcome other : Result ℕ PlanFault) → Judges bytes plan s outcome → Judges bytes plan s other → outcome ≡ other
 
--- bytes and settings have one outcome at most of planning
+-- planning has at most one outcome for bytes and settings
 abbrev pub OnePlanned : Type 0
 OnePlanned = (bytes : List ℕ) (s : Limits) (outcome other : Result Submission PlanFault) → Plans bytes s outcome → Plans bytes s other → outcome ≡ other
 
--- bytes, settings and a certificate have one outcome at most of checking
+-- checking has at most one outcome for bytes, settings and a certificate
 abbrev pub OneChecked : Type 0
 OneChecked = (portal staging : List ℕ) (s : Limits) (c : Contents) (outcome other : Result ℕ PlanFault) →
     Checks portal staging s c outcome → Checks portal staging s c other → outcome ≡ other
 
--- The plan is legal for its pieces, so it keeps their order and the device's limits and separates each two that conflict
+-- The plan is legal for its pieces, so it keeps their order and the device's limits and separates any two that conflict
 -- in one group, and no legal plan of them costs less; and checking the bytes that submit it, with its certificate,
 -- answers its cost.
 pub record IsLeastAndShown (s : Limits) (p : Submission) : Type 0 where
@@ -44,11 +44,11 @@ pub record IsLeastAndShown (s : Limits) (p : Submission) : Type 0 where
       p.certificate.prices p.certificate.pairs p.cost
   pub shown : Checks p.portal p.staging s p.certificate (Ok p.cost)
 
--- where planning answers, that is so
+-- if planning answers, this holds
 abbrev pub PlannedIsLeastAndShown : Type 0
 PlannedIsLeastAndShown = (bytes : List ℕ) (s : Limits) (p : Submission) → Plans bytes s (Ok p) → IsLeastAndShown s p
 
--- bytes, settings, a memory, engines and a trace have one outcome at most of replaying
+-- replaying has at most one outcome for bytes, settings, a memory, engines and a trace
 abbrev pub OneReplayed : Type 0
 OneReplayed = (bytes : List ℕ) (s : Limits) (m : Memory) (engines : ℕ) (trace : List Event) (outcome other : Result Left PlanFault) →
     Replays bytes s m engines trace outcome → Replays bytes s m engines trace other → outcome ≡ other
@@ -61,20 +61,21 @@ HasBrokenOff outcome = (fault : PlanFault) × (outcome ≡ Err fault) × BreaksO
 abbrev pub HasBegun : Result Left PlanFault → Type 0
 HasBegun outcome = ((left : Left) × (outcome ≡ Ok left)) ⊎ HasBrokenOff outcome
 
--- Bytes, settings, a memory and engines have one outcome at most of running, whoever did what, but that a run which is not
--- refused may also break off.
+-- Running has at most one outcome for bytes, settings, a memory and engines, whoever did what, except that a run which is
+-- not refused may also break off.
 abbrev pub OneRun : Type 0
 OneRun = (bytes : List ℕ) (s : Limits) (m : Memory) (engines : ℕ) (outcome other : Result Left PlanFault) →
     Runs bytes s m engines outcome → Runs bytes s m engines other →
     (outcome ≡ other) ⊎ (HasBegun outcome × HasBegun other × (HasBrokenOff outcome ⊎ HasBrokenOff other))
 
--- what a call says of this submission: the first cause why no run of its pieces can begin, or where one can, what it says
+-- the outcome of a call for this submission: the first cause why no run of its pieces can begin, or, if a run can, what the
+-- call says
 abbrev pub IsOfPlan : {X : Type 0} → (Submission → Result X PlanFault → Type 0) → Memory → ℕ → Submission → Result X PlanFault → Type 0
 IsOfPlan Says m engines p outcome =
     ((fault : PlanFault) × IsFirstBeginFault m engines (map fields p.pieces) fault × (outcome ≡ Err fault))
     ⊎ (CanBegin m engines (map fields p.pieces) × Says p outcome)
 
--- where planning answers, replaying is of that submission
+-- if planning answers, replaying is for that submission
 abbrev pub ReplaysFollowPlans : Type 0
 ReplaysFollowPlans = (bytes : List ℕ) (s : Limits) (m : Memory) (engines : ℕ) (trace : List Event) (p : Submission) (outcome : Result Left PlanFault) →
     Plans bytes s (Ok p) → Replays bytes s m engines trace outcome → IsOfPlan (λ q o. ReplaysPieces m engines trace q.plan (map fields q.pieces) o) m engines p outcome
@@ -84,8 +85,8 @@ abbrev pub RunsFollowPlans : Type 0
 RunsFollowPlans = (bytes : List ℕ) (s : Limits) (m : Memory) (engines : ℕ) (p : Submission) (outcome : Result Left PlanFault) →
     Plans bytes s (Ok p) → Runs bytes s m engines outcome → IsOfPlan (λ q o. RunsPieces m engines q.plan (map fields q.pieces) o) m engines p outcome
 
--- where planning answers, every complete run of the plan leaves what executing the list in order leaves, if each operation
--- succeeds there
+-- if planning answers, every complete run of the plan leaves what executing the list in order leaves, provided that each
+-- operation succeeds there
 abbrev pub PlannedRunsLeaveWhole : Type 0
 PlannedRunsLeaveWhole = (bytes : List ℕ) (s : Limits) (p : Submission) (m : Memory) (engines : ℕ) (history : List Event) (state : State Partial) →
     AreInLimits s → Plans bytes s (Ok p) → All (HoldsRanges m) (map fields p.pieces) →

@@ -1,4 +1,4 @@
--- What a call over the bytes of a list comes to.
+-- The outcome of a call over the bytes of a list.
 use Rattle.std.specs.Prelude.{◌≡◌, ◌≢◌, ◌⊎◌, ℕ, List, map, Result, Ok, Err}
 use Rattle.dsa_descriptor.specs.declared.descriptor.Descriptor.{Descriptor}
 use Rattle.dsa_descriptor.specs.declared.fault.ListFault.{ListFault}
@@ -21,7 +21,7 @@ OverList Says bytes outcome =
     ((fault : ListFault) × (fault ≢ ListMemory) × IsFirstListFault bytes fault × (outcome ≡ Err (InList fault)))
     ⊎ ((ds : List Descriptor) × IsListOf bytes ds × Says (map fields ds) outcome)
 
--- what a call that may want memory answers, seen by shown
+-- what a call answers that may also fail to allocate, seen by `shown`
 abbrev pub OrMemory : {X Y : Type 0} → (X → Y) → (Result Y PlanFault → Type 0) → Result X PlanFault → Type 0
 OrMemory shown Outcome (Ok x) = Outcome (Ok (shown x))
 OrMemory shown Outcome (Err fault) = (fault ≡ Memory) ⊎ Outcome (Err fault)

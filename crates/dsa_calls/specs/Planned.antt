@@ -52,12 +52,12 @@ PlansOperations s fs (Ok p) = IsSubmissionOf s fs p
 PlansOperations s fs (Err fault) =
     (cause : SplitFault) × (cause ≢ SplitMemory) × IsFirstSplitFault s.greatest_transfer s.staging fs cause × (fault ≡ Split cause)
 
--- the outcome of planning these bytes: the first fault of the bytes as a list, or that of planning the operations that
--- they spell
+-- the outcome of planning these bytes: the first fault of the bytes as a list, or the outcome of planning the operations
+-- that they spell
 abbrev pub Plans : List ℕ → Limits → Result Submission PlanFault → Type 0
 Plans bytes settings outcome = OverList (λ fs o. PlansOperations settings fs o) bytes outcome
 
--- these are the pieces that the operations are split into which the bytes spell
+-- these are the pieces of the operations that the bytes spell
 pub record ArePiecesOf (s : Limits) (bytes : List ℕ) (pieces : List Descriptor) : Type 0 where
   pub operations : List Descriptor
   pub listed : IsListOf bytes operations
@@ -90,7 +90,7 @@ abbrev pub SplitsList : Limits → List ℕ → Result (List Descriptor) PlanFau
 SplitsList s bytes (Ok pieces) = ArePiecesOf s bytes pieces
 SplitsList s bytes (Err fault) = Plans bytes s (Err fault)
 
--- the submission of these pieces, of which `C` says which conflict
+-- the submission of these pieces; `C` says which pieces conflict
 pub record IsSubmissionOfPiecesBy (C : ℕ → ℕ → Type 0) (s : Limits) (p : Submission) : Type 0 where
   pub chosen :
       IsChosen C s.greatest_batch (tariff_of s) (length p.pieces)
@@ -100,7 +100,7 @@ pub record IsSubmissionOfPiecesBy (C : ℕ → ℕ → Type 0) (s : Limits) (p :
   pub portal_is : p.portal ≡ portal_bytes s p.plan (map fields p.pieces)
   pub staging_is : p.staging ≡ staging_bytes p.plan (map fields p.pieces)
 
--- the same of pieces without barriers
+-- the same for pieces without barriers
 abbrev pub IsSubmissionOfPieces : Limits → Submission → Type 0
 IsSubmissionOfPieces s p = IsSubmissionOfPiecesBy (ConflictAt (map fields p.pieces)) s p
 

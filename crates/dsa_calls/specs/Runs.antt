@@ -48,32 +48,32 @@ IsFirstBeginFault m engines pieces fault =
     ⊎ ((i : ℕ) × (fault ≡ OutOfImage i) × AreEngines engines × IsFirstOutside m pieces i)
     ⊎ ((fault ≡ Core TooLong) × AreEngines engines × All (HoldsRanges m) pieces × (most_events < event_count pieces))
 
--- the outcome of replaying these events on pieces under a plan, where a run of these can begin: what they leave where they
--- are a complete run; else the first that is no step, or that the run isn't complete
+-- the outcome of replaying these events on pieces under a plan, if a run of these pieces can begin: what the events leave
+-- if they are a complete run; else the first event that is no step, or that the run isn't complete
 abbrev pub ReplaysPieces : Memory → ℕ → List Event → Plan → List Fields → Result Left PlanFault → Type 0
 ReplaysPieces m engines trace plan pieces (Ok left) = IsOutcome (room_with m plan pieces engines trace) left.image left.finished left.batch_records
 ReplaysPieces m engines trace plan pieces (Err fault) =
     ((k : ℕ) × (fault ≡ Core (NotAStep k)) × IsFirstRefused (room_with m plan pieces engines) trace k)
     ⊎ ((fault ≡ Core Incomplete) × IsUnfinished (room_with m plan pieces engines trace))
 
--- a run breaks off where work comes back out of date, or where the room that is left is not over
+-- a run breaks off if work comes back out of date, or if the room that is left is not over
 abbrev pub BreaksOff : PlanFault → Type 0
 BreaksOff fault = (fault ≡ Room Stale) ⊎ (fault ≡ Room Mixed)
 
--- the outcome of running pieces under a plan, where a run of them can begin: what some complete run leaves; or that the run
+-- the outcome of running pieces under a plan, if a run of them can begin: what some complete run leaves; or that the run
 -- broke off
 abbrev pub RunsPieces : Memory → ℕ → Plan → List Fields → Result Left PlanFault → Type 0
 RunsPieces m engines plan pieces (Ok left) =
     (history : List Event) × IsOutcome (room_with m plan pieces engines history) left.image left.finished left.batch_records
 RunsPieces m engines plan pieces (Err fault) = BreaksOff fault
 
--- the first cause why no run of the list that the bytes spell can begin: the refusal of planning it; or, where it is split
+-- the first cause why no run of the list that the bytes spell can begin: the refusal of planning it; or, if it is split
 -- into pieces, the first cause why a run of these can't
 abbrev pub RefusesRun : List ℕ → Limits → Memory → ℕ → PlanFault → Type 0
 RefusesRun bytes s m engines fault =
     Plans bytes s (Err fault) ⊎ ((pieces : List Descriptor) × ArePiecesOf s bytes pieces × IsFirstBeginFault m engines (map fields pieces) fault)
 
--- the outcome of a call over the planned list: the first cause why no run can begin; or, where one of the planned pieces
+-- the outcome of a call over the planned list: the first cause why no run can begin; or, if a run of the planned pieces
 -- can, what the call says of their submission
 abbrev pub OverPlanned : {X : Type 0} → (Submission → Result X PlanFault → Type 0) → List ℕ → Limits → Memory → ℕ → Result X PlanFault → Type 0
 OverPlanned Says bytes s m engines outcome =
@@ -88,11 +88,11 @@ Replays bytes s m engines trace outcome = OverPlanned (λ p o. ReplaysPieces m e
 abbrev pub Runs : List ℕ → Limits → Memory → ℕ → Result Left PlanFault → Type 0
 Runs bytes s m engines outcome = OverPlanned (λ p o. RunsPieces m engines p.plan (map fields p.pieces) o) bytes s m engines outcome
 
--- each operation, where the list is executed in order from this memory, writes status 1 in each of its records
+-- if the list is executed in order from this memory, each operation writes status 1 in each of its records
 abbrev pub OperationsSucceed : Limits → List Fields → Memory → Type 0
 OperationsSucceed s fs m = All (λ status. status ≡ 1) (whole_statuses fs s.greatest_transfer m)
 
--- Where each operation of the list that the bytes spell succeeds, executed in order, what is left is the memory of
+-- If each operation of the list that the bytes spell succeeds when executed in order, what is left is the memory of
 -- executing the list, completion records included, and all pieces are finished.
 abbrev pub LeavesWhole : List ℕ → Limits → Memory → Left → Type 0
 LeavesWhole bytes s m left =
@@ -101,11 +101,11 @@ LeavesWhole bytes s m left =
 
 -- ---- for private clauses
 
--- what a run comes to, or that its gate refused, where it may
+-- the outcome of a run, or, if its gate may refuse, that it did
 abbrev pub OrShut : Bool → (Result Left PlanFault → Type 0) → Result Left PlanFault → Type 0
 OrShut may_refuse Says outcome = Says outcome ⊎ ((may_refuse ≡ true) × (outcome ≡ Err (Room GateShut)))
 
--- the number of engines, where a run of these pieces can begin; else the first cause why it can't
+-- the number of engines, if a run of these pieces can begin; else the first cause why it can't
 abbrev pub BeginsWith : Memory → ℕ → List Fields → Result ℕ PlanFault → Type 0
 BeginsWith m engines pieces (Ok number) = (number ≡ engines) × CanBegin m engines pieces
 BeginsWith m engines pieces (Err fault) = IsFirstBeginFault m engines pieces fault

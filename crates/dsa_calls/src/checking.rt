@@ -21,12 +21,12 @@ use dsa_descriptor::Descriptor;
 use dsa_plan::{Certificate, Plan, Settings, read_emission};
 use std::alloc::Global;
 
-/// The cost of the plan that the bytes of a portal and a staging area submit, where it is legal and the certificate
-/// shows that no legal plan of its pieces costs less.
+/// The cost of the plan that the bytes of a portal and a staging area submit, if it is legal and the certificate proves
+/// that no legal plan of its pieces costs less.
 ///
 /// # Errors
-/// The first fault of the bytes as an emission, as [`read_emission`] reports it; else the first fault of the plan or the
-/// certificate, as [`check_with`] reports it; [`PlanFault::Memory`] where an allocation fails.
+/// The first fault of the bytes as an emission, as [`read_emission`] reports it; else the first fault of the plan or
+/// the certificate, as [`check_with`] reports it; [`PlanFault::Memory`] if an allocation fails.
 pub fn check_bytes(
     alloc: Global,
     portal: &[u8],
@@ -40,7 +40,7 @@ pub fn check_bytes(
     ensures only { (outcome : Result ℕ PlanFault) →
         Checks portal.now staging.now settings.now (contents certificate.now) outcome →
         IsOrMemory (λ cost. cost) outcome result }
-    // Where it answers, no legal plan of these pieces costs less, whoever wrote the certificate.
+    // If it answers, no legal plan of these pieces costs less, whoever wrote the certificate.
     ensures least { (plan : Plan) (ds : List Descriptor) →
         IsEmission settings.now portal.now staging.now plan ds → IsOk result →
         IsLeast (ConflictAt (map fields ds))
@@ -50,9 +50,9 @@ pub fn check_bytes(
     check_plan(&pieces, settings, &plan, certificate)
 }
 
-/// The cost of the plan of these pieces, where it is legal and the certificate shows that none costs less, as
-/// [`check_bytes`] checks the plan that bytes submit: for who has read them already. Reading them tests what is not looked at here:
-/// that the pieces have one owner, fit the greatest transfer, and keep clear of the staging area.
+/// The cost of the plan of these pieces, if it is legal and the certificate proves that none costs less, as
+/// [`check_bytes`] checks the plan that bytes submit: for callers that have read them already. Reading them tests what
+/// is not tested here: that the pieces have one owner, fit the greatest transfer, and do not meet the staging area.
 ///
 /// # Errors
 /// The first fault of the plan or the certificate, as [`check_with`] reports it.
@@ -69,8 +69,8 @@ pub fn check_plan(
     check_plan_with(pieces, &[], settings, plan, certificate)
 }
 
-/// The cost of the plan of these pieces and their barriers, where it is legal and keeps the barriers, and the
-/// certificate shows that no such plan costs less. The mark of a piece says whether it begins after a barrier.
+/// The cost of the plan of these pieces and their barriers, if it is legal and keeps the barriers, and the certificate
+/// proves that no such plan costs less. The mark of a piece says whether it begins after a barrier.
 ///
 /// # Errors
 /// The first fault of the plan or the certificate, as [`check_with`] reports it.

@@ -16,9 +16,9 @@ use std::alloc::AllocError;
 /// type, which has its number, its name and its indices. Descriptors, pieces, groups, batches and
 /// events are numbered from 0.
 ///
-/// Out of memory is one cause: `From` makes each crate's own `Memory` a [`PlanFault::Memory`], and no
-/// call answers another. (`PlanFault::List(ListFault::Memory)` and its like, which only a caller can
-/// write, have the same number, name and line.)
+/// Out of memory is a single cause: `From` makes each crate's own `Memory` a [`PlanFault::Memory`],
+/// and no call returns another. (`PlanFault::List(ListFault::Memory)` and the like, which only a
+/// caller can write, have the same number, name and line.)
 #[derive(Clone, Copy, Debug, PartialEq, Eq)]
 pub enum PlanFault {
     /// The bytes are no list of descriptors.
@@ -33,7 +33,7 @@ pub enum PlanFault {
     Room(RoomFault),
     /// The plan is not legal.
     Legal(LegalFault),
-    /// The certificate does not show that the plan is legal and least.
+    /// The certificate does not prove that the plan is legal and least.
     Check(CheckFault),
     /// The image lacks an address that the piece of this index reads or writes.
     OutOfImage(usize),
@@ -49,7 +49,7 @@ pub enum PlanFault {
     Json,
     /// The text is no object, or its members aren't those of the job, each of its kind.
     Member,
-    /// No job goes by what stands under `do`.
+    /// The value of `do` is not the name of a job.
     Do,
     /// A setting is outside its limits.
     Settings,
@@ -61,7 +61,7 @@ pub enum PlanFault {
     JobTooLong,
 }
 
-/// The cause within a refusal, where a piece or a plan is refused in its turn.
+/// The cause within a refusal, if a piece or a plan within is refused.
 #[derive(Clone, Copy, Debug, PartialEq, Eq)]
 pub enum InnerFault {
     /// The piece of an emission is refused.
@@ -71,7 +71,7 @@ pub enum InnerFault {
 }
 
 impl InnerFault {
-    /// The number that stands for the cause.
+    /// The number of the cause.
     pub fn number(self) -> u8
         ensures { result ≡ inner_number self }
     {
@@ -196,7 +196,7 @@ impl From<AllocError> for PlanFault {
 }
 
 impl PlanFault {
-    /// The number that stands for the cause.
+    /// The number of the cause.
     pub fn number(self) -> u64
         ensures { result ≡ fault_number self }
     {
@@ -278,7 +278,7 @@ impl PlanFault {
             | PlanFault::JobTooLong => Indices::Empty,
         }
     }
-    /// The cause within, where the refusal has one.
+    /// The cause within, if the refusal has one.
     pub fn inner(self) -> Option<InnerFault>
         ensures { result ≡ fault_inner self }
     {

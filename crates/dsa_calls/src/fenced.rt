@@ -26,7 +26,7 @@ use std::alloc::Global;
 pub struct FencedList {
     /// The operations, without their fences.
     pub operations: Vec<Descriptor>,
-    /// Whether each was fenced.
+    /// Whether each operation was fenced.
     pub fences: Vec<bool>,
 }
 
@@ -92,8 +92,8 @@ pub(crate) fn fenced_pieces(
 }
 
 /// Plans the operations that the bytes spell, as [`plan_list`](crate::plan_list) does. An operation with the flag
-/// 0x0001, fence, begins after a barrier; of one that is split the first piece does. The plan is of least cost among
-/// those that keep each barrier, and has the fences that it needs. A fence on the first operation says nothing.
+/// 0x0001, fence, begins after a barrier; if it is split, its first piece does. The plan is of least cost among those
+/// that keep each barrier, and has the fences that it needs. A fence on the first operation says nothing.
 ///
 /// # Errors
 /// The first fault of the bytes without their fences as a list, as [`read_list`](dsa_descriptor::read_list) reports it;
@@ -108,7 +108,7 @@ pub fn plan_fenced_list(
     // What it answers is the one outcome, but for an allocation failure.
     ensures only { (outcome : Result Submission PlanFault) →
         PlansFenced list.now settings.now outcome → IsOrMemory submission_of outcome result }
-    // The plan keeps the barriers, no legal plan that does costs less, and its certificate is good.
+    // The plan keeps the barriers, no legal plan that does costs less, and its certificate checks.
     ensures least { IfOk result (λ p. IsFencedLeast list.now settings.now (submission_of p)) }
 {
     let MarkedPieces { pieces, barriers } = fenced_pieces(alloc, list, settings)?;
@@ -122,7 +122,7 @@ pub fn plan_fenced_list(
 ///
 /// # Errors
 /// The first fault of the bytes without their fences as a list; else the first cause to refuse the plan for the pieces
-/// and their barriers, as [`judge_pieces_with`] reports it; [`PlanFault::Memory`] where an allocation fails.
+/// and their barriers, as [`judge_pieces_with`] reports it; [`PlanFault::Memory`] if an allocation fails.
 pub fn judge_fenced_list(
     alloc: Global,
     list: &[u8],

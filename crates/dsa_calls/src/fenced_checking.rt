@@ -77,13 +77,13 @@ fn check_pieces(
 
 /// The cost of the plan that the bytes of a portal and a staging area submit for a list, as
 /// [`plan_fenced_list`](crate::plan_fenced_list) reads it: the plan is legal for the pieces of the list and keeps its
-/// barriers, and the certificate shows that no such plan costs less. The list says where barriers are: not each fence
-/// that is submitted is one.
+/// barriers, and the certificate proves that no such plan costs less. The list says where barriers are: a submitted
+/// fence need not be one.
 ///
 /// # Errors
 /// What planning the list refuses, as [`plan_fenced_list`](crate::plan_fenced_list) reports it; else the first fault of
 /// the bytes as an emission, as [`read_emission`] does; else [`FencedFault::OtherPiece`] with the least index; else the
-/// first fault of the plan or the certificate, as [`check_plan_with`] does; [`PlanFault::Memory`] where an allocation
+/// first fault of the plan or the certificate, as [`check_plan_with`] does; [`PlanFault::Memory`] if an allocation
 /// fails.
 pub fn check_fenced_list(
     alloc: Global,

@@ -15,8 +15,8 @@ use dsa_splitter::SplitFault;
 use std::alloc::Global;
 
 /// The cost of the plan for the pieces that the bytes spell, or the first cause to refuse it: that of the list, then
-/// more than 65,536 pieces, then the first piece longer than the greatest transfer, then that of the plan. Memory is
-/// taken once, for the pieces.
+/// more than 65,536 pieces, then the first piece longer than the greatest transfer, then that of the plan. There is a
+/// single allocation, for the pieces.
 pub fn judge_bytes(
     alloc: Global,
     list: &[u8],
@@ -32,8 +32,8 @@ pub fn judge_bytes(
     judge_pieces(&pieces, plan, settings)
 }
 
-/// The cost of the plan for the pieces, or the first cause to refuse it, as [`judge_bytes`] judges those that bytes spell:
-/// for who has read a list already, and knows that its pieces have one owner.
+/// The cost of the plan for the pieces, or the first cause to refuse it, as [`judge_bytes`] judges those that bytes
+/// spell: for callers that have read a list already, and know that its pieces have one owner.
 pub fn judge_pieces(
     pieces: &[Descriptor],
     plan: &Plan,

@@ -8,11 +8,11 @@ use arrayvec::ArrayString;
 use dsa_descriptor::Indices;
 use itoa::Buffer;
 
-/// The bytes that the longest line of a refusal takes.
+/// The length of the longest line of a refusal, in bytes.
 pub const LONGEST_LINE: usize = 192;
 
-/// The line of a refusal: `refused`, the number, the name and the indices, and of a plan or a piece
-/// that is refused in its turn the same of its cause. It takes no memory.
+/// The line of a refusal: `refused`, the number, the name and the indices, and, if a plan or a piece
+/// within is refused, the same of that cause. Nothing is allocated.
 pub fn refusal_line(fault: PlanFault) -> ArrayString<LONGEST_LINE>
     ensures { result.bytes ≡ line_of_refusal fault }
 {
@@ -53,7 +53,7 @@ fn push_indices(line: &mut ArrayString<LONGEST_LINE>, indices: Indices)
     }
 }
 
-/// The cause within, of a piece or a plan that is refused in its turn, at the end.
+/// Writes the cause within at the end, if a piece or a plan within is refused.
 fn push_inner(line: &mut ArrayString<LONGEST_LINE>, cause: Option<InnerFault>)
     requires { length line.old.bytes + 80 ≤ LONGEST_LINE }
     ensures value { line.new.bytes ≡ line.old.bytes ++ inner_text cause }

@@ -30,7 +30,7 @@ pub struct Planned {
     pub pieces: Vec<Descriptor>,
     /// The plan of these pieces. No legal plan costs less.
     pub plan: Plan,
-    /// What shows that none does, for a checker.
+    /// The certificate that none does, for a checker.
     pub certificate: Certificate,
     /// What the plan costs, in the unit of the settings' prices.
     pub cost: u64,
@@ -87,11 +87,12 @@ pub(crate) fn plan_pieces(
     })
 }
 
-/// Plans operations of one owner, as [`plan_list`] plans those that bytes spell: for who has read a list already.
+/// Plans operations of one owner, as [`plan_list`] plans those that bytes spell: for callers that have read a list
+/// already.
 ///
 /// # Errors
-/// The first fault of splitting the operations, as [`pieces`](dsa_splitter::pieces()) reports it; [`PlanFault::Memory`] at
-/// the first allocation that fails.
+/// The first fault of splitting the operations, as [`pieces`](dsa_splitter::pieces()) reports it; [`PlanFault::Memory`]
+/// at the first allocation that fails.
 pub fn plan_operations(
     alloc: Global,
     operations: &[Descriptor],
@@ -106,11 +107,11 @@ pub fn plan_operations(
     Ok(submission)
 }
 
-/// Plans operations of one owner and their barriers: there is one before each operation whose mark is set; of an
-/// operation that is split it is before the first piece. The plan is of least cost among those that keep the barriers.
+/// Plans operations of one owner and their barriers: there is one before each operation whose mark is set; if the
+/// operation is split, it is before the first piece. The plan is of least cost among those that keep the barriers.
 ///
 /// # Errors
-/// The same as of [`plan_operations`].
+/// Those of [`plan_operations`].
 pub fn plan_operations_with(
     alloc: Global,
     operations: &[Descriptor],
@@ -128,12 +129,13 @@ pub fn plan_operations_with(
 }
 
 /// Plans the operations that the bytes spell: splits them into pieces, finds the plan of least cost and its
-/// certificate, and writes the bytes that submit it. Of several least plans it is the one whose last group begins as
-/// late as it can, and so back to the first.
+/// certificate, and writes the bytes that submit it. If several plans are least, it is the one whose last group begins
+/// as late as it can, and so back to the first.
 ///
 /// # Errors
-/// The first fault of the bytes as a list, as [`read_list`] reports it; else the first fault of splitting the operations,
-/// as [`pieces`](dsa_splitter::pieces()) reports it; [`PlanFault::Memory`] at the first allocation that fails.
+/// The first fault of the bytes as a list, as [`read_list`] reports it; else the first fault of splitting the
+/// operations, as [`pieces`](dsa_splitter::pieces()) reports it; [`PlanFault::Memory`] at the first allocation that
+/// fails.
 pub fn plan_list(alloc: Global, list: &[u8], settings: &Settings) -> Result<Planned, PlanFault>
     ensures answer { OrMemory submission_of (Plans list.now settings.now) result }
     // What it answers is the one outcome, but for an allocation failure.

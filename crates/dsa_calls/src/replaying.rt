@@ -23,7 +23,7 @@ use dsa_plan::{Plan, Settings};
 use dsa_search::{Found, search};
 use std::alloc::{AllocError, Global};
 
-/// What a run of a list takes.
+/// What a run of a list needs.
 #[derive(Drop)]
 pub(crate) struct Ready {
     pub(crate) pieces: Vec<Descriptor>,
@@ -31,7 +31,7 @@ pub(crate) struct Ready {
     pub(crate) engines: u8,
 }
 
-/// The number of engines, where there are 1 to 64, the image holds the pieces, and a run of them isn't too long.
+/// The number of engines, if there are 1 to 64, the image holds the pieces, and a run of them isn't too long.
 fn begin(image: &Image, pieces: &[Descriptor], engines: u64) -> Result<u8, PlanFault>
     ensures { BeginsWith image.now engines (map fields pieces.now) result }
 {
@@ -51,7 +51,7 @@ fn begin(image: &Image, pieces: &[Descriptor], engines: u64) -> Result<u8, PlanF
     }
 }
 
-/// The chosen plan of the pieces. Its prices and pairs are let go of: a run doesn't need them.
+/// The chosen plan of the pieces. Its prices and pairs are dropped: a run doesn't need them.
 fn chosen_plan(
     alloc: Global,
     pieces: &[Descriptor],
@@ -72,7 +72,7 @@ fn chosen_plan(
     Ok(plan)
 }
 
-/// Splits the list, and plans its pieces where a run of them can begin. Each refusal but that of memory comes before the
+/// Splits the list, and plans its pieces if a run of them can begin. Each refusal but that of memory comes before the
 /// search for a plan.
 pub(crate) fn prepare(
     alloc: Global,
@@ -99,7 +99,7 @@ pub(crate) fn prepare(
     })
 }
 
-/// What the events leave that are a complete run of the plan.
+/// What the events leave, if they are a complete run of the plan.
 fn replay_pieces(
     alloc: Global,
     plan: &Plan,
@@ -118,14 +118,14 @@ fn replay_pieces(
     Ok(outcome)
 }
 
-/// Plans the list, and replays these events on its pieces: what they leave, where they are a complete run of the plan.
+/// Plans the list, and replays these events on its pieces: what they leave, if they are a complete run of the plan.
 ///
 /// # Errors
 /// As [`plan_list`](crate::plan_list()); else [`PlanFault::Engines`]; else [`PlanFault::OutOfImage`]
 /// with the first piece that the image doesn't hold; else [`PlanFault::Core`] with `TooLong`; all
 /// these before the search for a plan. Else [`PlanFault::Core`] with `NotAStep`, which names the first
-/// event at which the run can't go on, or with `Incomplete` of a run that ends too early.
-/// [`PlanFault::Memory`] where an allocation fails.
+/// event at which the run can't go on, or with `Incomplete` for a run that ends too early.
+/// [`PlanFault::Memory`] if an allocation fails.
 pub fn replay_bytes(
     alloc: Global,
     list: &[u8],
@@ -142,7 +142,7 @@ pub fn replay_bytes(
         IsOrMemory left_of outcome result }
     // The trace is the history.
     ensures history { IfOk result (λ o. o.history.items ≡ trace.now) }
-    // Where each listed operation succeeds, what is left is the memory of executing the list in order.
+    // If each listed operation succeeds, what is left is the memory of executing the list in order.
     ensures as_in_order { IfOk result
         (λ o. LeavesWhole list.now settings.now image.now (left_of o)) }
 {

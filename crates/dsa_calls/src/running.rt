@@ -19,7 +19,7 @@ use std::alloc::Global;
 use std::sync::Wait;
 use std::thread::Threads;
 
-/// What the engines leave, each of which is a thread.
+/// What the engines leave; each engine is a thread.
 fn run_pieces<G: Gate + Sync, R: Threads + Wait + Sync>(
     rt: &R,
     alloc: Global,
@@ -43,7 +43,7 @@ fn run_pieces<G: Gate + Sync, R: Threads + Wait + Sync>(
 /// As [`run_bytes`], with a gate that the engines ask before and after each event: a test holds them there.
 ///
 /// # Errors
-/// As [`run_bytes`]; [`PlanFault::Room`] with `GateShut` where a gate that may refuse did so.
+/// As [`run_bytes`]; [`PlanFault::Room`] with `GateShut` if a gate that may refuse did so.
 pub fn run_gated<G: Gate + Sync, R: Threads + Wait + Sync>(
     rt: &R,
     alloc: Global,
@@ -80,7 +80,7 @@ pub fn run_gated<G: Gate + Sync, R: Threads + Wait + Sync>(
 /// # Errors
 /// As [`plan_list`](crate::plan_list()); else [`PlanFault::Engines`]; else [`PlanFault::OutOfImage`]
 /// with the first piece that the image doesn't hold; else [`PlanFault::Core`] with `TooLong`; all
-/// these before the search for a plan. [`PlanFault::Memory`] where an allocation or the start of a
+/// these before the search for a plan. [`PlanFault::Memory`] if an allocation or the start of a
 /// thread fails. [`PlanFault::Room`] with `Stale` or `Mixed` says that the run broke off.
 pub fn run_bytes<R: Threads + Wait + Sync>(
     rt: &R,
@@ -94,7 +94,7 @@ pub fn run_bytes<R: Threads + Wait + Sync>(
     // The history is a complete run of the planned pieces, and the rest is what it leaves.
     ensures history { IfOk result (λ o. (p : Submission) → Plans list.now settings.now (Ok p) →
         IsOutcomeOf (room_with image.now p.plan (map fields p.pieces) engines o.history.items) o) }
-    // Where each listed operation succeeds, what is left is the memory of executing the list in order.
+    // If each listed operation succeeds, what is left is the memory of executing the list in order.
     ensures as_in_order { IfOk result
         (λ o. LeavesWhole list.now settings.now image.now (left_of o)) }
 {

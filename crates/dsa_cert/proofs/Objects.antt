@@ -18,7 +18,7 @@ abbrev pub are_apart : List (List ℕ) → Bool
 are_apart [] = true
 are_apart (name ∷ names) = list_all (λ other. not (bytes_eq other name)) names && are_apart names
 
--- a member stands at its name
+-- a member is at its name
 at_name : (q k : List ℕ) (d : Data) (ms : Members) → k ≡ q → get_member q (member k d ms) ≡ Some d
 at_name q k d ms same =
     let here : get_member q (member q d ms) ≡ Some d = rw (tied_itself nat_list_cmp_total q) in
@@ -42,7 +42,7 @@ opposite : (b : Bool) → not b ≡ true → b ≡ false
 opposite true e = cc
 opposite false e = refl
 
--- what stands behind the first member stands where it stood
+-- the members after the first one are at their names as before
 behind : (q k : List ℕ) (d : Data) (ms : Members) (fields : List Field) → k ≡ q → list_all (λ other. not (bytes_eq other q)) (map (λ f. f.0) fields) ≡ true
     → AllByRecursion (λ f. get_member f.0 (member k d ms) ≡ Some f.1) fields → AllByRecursion (λ f. get_member f.0 ms ≡ Some f.1) fields
 behind q k d ms [] same apart found = tt

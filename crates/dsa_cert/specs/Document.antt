@@ -35,12 +35,12 @@ document c = object_of (document_fields c)
 abbrev pub Documents : Data → Contents → Type 0
 Documents value c = (value ≡ document c) × All PairFits c.pairs
 
--- A reader of prices answers the prices that the value spells, and none where it spells no prices.
+-- A reader of prices answers the prices that the value spells, and none if it spells no prices.
 abbrev pub ReadsPrices : Data → Option (List ℕ) → Type 0
 ReadsPrices d None = (prices : List ℕ) → d ≢ prices_value prices
 ReadsPrices d (Some prices) = d ≡ prices_value prices
 
--- The same for a pair, and for pairs.
+-- The same for a pair.
 abbrev pub ReadsPair : Data → Option (Option (ℕ × ℕ)) → Type 0
 ReadsPair d None = (pair : Option (ℕ × ℕ)) → PairFits pair → d ≢ pair_value pair
 ReadsPair d (Some pair) = (d ≡ pair_value pair) × PairFits pair

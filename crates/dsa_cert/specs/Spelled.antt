@@ -17,7 +17,7 @@ abbrev pub members_of : List (List ℕ × Data) → Members
 members_of [] = no_members
 members_of (field ∷ fields) = member field.0 field.1 (members_of fields)
 
--- the object with these members, which stand in the order of their names
+-- the object with these members, which are in the order of their names
 abbrev pub object_of : List (List ℕ × Data) → Data
 object_of fields = object (members_of fields)
 
@@ -26,13 +26,13 @@ abbrev pub member_names : Members → List (List ℕ)
 member_names no_members = []
 member_names (member name d ms) = name ∷ member_names ms
 
--- A reader of values answers what the value spells, or none where it spells nothing.
+-- A reader of values answers what the value spells, or none if it spells nothing.
 -- `shown` is what a contract sees of the answer.
 abbrev pub Reads : {X Y : Type 0} → (Y → Data) → (X → Y) → Data → Option X → Type 0
 Reads {X} {Y} spelling shown d None = (y : Y) → d ≢ spelling y
 Reads spelling shown d (Some x) = d ≡ spelling (shown x)
 
--- the same of what stands at a name of the value
+-- the same for what the value has at a name
 abbrev pub ReadsAt : {X Y : Type 0} → List ℕ → (Y → Data) → (X → Y) → Data → Option X → Type 0
 ReadsAt {X} {Y} name spelling shown d None = (y : Y) → get name d ≢ Some (spelling y)
 ReadsAt name spelling shown d (Some x) = get name d ≡ Some (spelling (shown x))

@@ -53,11 +53,11 @@ fn pair_json(alloc: Global, pair: Option<(u32, u32)>) -> Result<Value, AllocErro
     }
 }
 
-/// The certificate that the value is the document of.
+/// The certificate whose document the value is.
 ///
 /// # Errors
-/// [`CertFault::Shape`] where it is no such document. One has the members `pairs`, `prices` and `version` and no others: an
-/// array with null or two numbers below 2^32 for each piece, an array of whole numbers, and a whole number.
+/// [`CertFault::Shape`] if it is no such document. A document has the members `pairs`, `prices` and `version` and no
+/// others: an array with null or two numbers below 2^32 for each piece, an array of whole numbers, and a whole number.
 pub fn read_json(alloc: Global, value: &Value) -> Result<Certificate, CertFault>
     ensures found { IfOk result (λ c. Documents (view value.now) (contents c)) }
     ensures only { (c : Contents) → Documents (view value.now) c →
@@ -85,7 +85,7 @@ pub fn read_json(alloc: Global, value: &Value) -> Result<Certificate, CertFault>
     })
 }
 
-/// The prices that a value spells, an array of whole numbers; none where it spells none.
+/// The prices that a value spells, an array of whole numbers; none if it spells none.
 pub fn prices_of(alloc: Global, value: &Value) -> Result<Option<Vec<u64>>, AllocError>
     ensures { IfOk result
         (λ prices. ReadsPrices (view value.now) (option_map (λ v. v.items) prices)) }

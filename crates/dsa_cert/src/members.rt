@@ -35,7 +35,7 @@ fn are_named(members: &Map<String, Value>, names: &[&str]) -> bool
     keys.next().is_none()
 }
 
-/// The whole number that stands at a name.
+/// The whole number at a name.
 pub fn number_at(value: &Value, name: &str) -> Option<u64>
     ensures { ReadsAt name.now whole (λ n. n) (view value.now) result }
 {
@@ -45,7 +45,7 @@ pub fn number_at(value: &Value, name: &str) -> Option<u64>
     }
 }
 
-/// The text that stands at a name.
+/// The text at a name.
 pub fn text_at<'v>(value: &'v Value, name: &str) -> Option<&'v str>
     ensures { ReadsAt name.now string (λ text. text.now) (view value.now) result }
 {

@@ -25,7 +25,7 @@ less_one_more price fence count =
 
 module _ (pairs : Pairs) (fence first past x : ℕ) (rows lasts counts : List ℕ) (h : HasRows pairs fence first past (x + 1) rows lasts counts)
     (begun : first ≤ x) (inside : x < past) (size : past ≤ first + 64) where
-  -- the row of a piece is made from one further on, which has the prices up to the piece as they are, and those behind it
+  -- the row of a piece is made from one further on, which has the prices up to the piece as they are, and those after it
   -- less the fences of the piece's own chain
   pub rows_more : (row : ℕ) → x - first < row → row ≤ 64
       → ((end : ℕ) → first < end → end ≤ x → slice_index rows (place first row end) ≡ slice_index rows (place first 64 end))

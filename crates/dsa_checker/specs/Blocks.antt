@@ -1,14 +1,14 @@
--- What is known of a block of at most 64 pieces, from piece `first` to before piece `past`, and of the ends behind each of
+-- What is known of a block of at most 64 pieces, from piece `first` to before piece `past`, and of the ends after each of
 -- them, for private clauses.
 use Rattle.std.specs.Prelude.{ℕ, ◌≡◌, ◌+◌, ◌-◌, ◌*◌, ◌%◌, ◌<◌, ◌≤◌, List, slice_index}
 use Rattle.dsa_plan.specs.Chain.{Pairs, IsLastBelow, HasCountBelow}
 
--- where the price at an end stands in a row; there are 64 rows for the pieces, and one of the prices as they are
+-- the place of the price at an end in a row; there are 64 rows for the pieces, and one of the prices as they are
 abbrev pub place : ℕ → ℕ → ℕ → ℕ
 place first row end = 64 * row + (end - first - 1)
 
--- each piece from `least` on has a row: the prices up to the piece as they are, and those behind it less so many fences as
--- a chain has there that comes to the piece; and the last piece of the block on its chain, with the number of pairs
+-- each piece from `least` on has a row: the prices up to the piece as they are, and those after it less the fences that a
+-- chain which comes to the piece has there; and the last piece of the block on its chain, with the number of pairs
 pub record HasRows (pairs : Pairs) (fence first past least : ℕ) (rows lasts counts : List ℕ) : Type 0 where
   pub before :
       (x end : ℕ) → least ≤ x → x < past → first < end → end ≤ x →
@@ -27,7 +27,7 @@ pub record IsFilled (pairs : Pairs) (prices : List ℕ) (fence first past : ℕ)
   pub unfenced : (end : ℕ) → first < end → end ≤ past → slice_index rows (place first 64 end) ≡ slice_index prices end
 
 -- at each end from `from` on the row has the price less the fences of the pairs that the chain of `start` has there beyond
--- the first so many
+-- its first `count` pairs
 abbrev pub IsRowOf : Pairs → ℕ → ℕ → ℕ → ℕ → ℕ → ℕ → List ℕ → ℕ → Type 0
 IsRowOf pairs fence first past start from count rows row =
     (end : ℕ) → first < end → from ≤ end → end ≤ past →

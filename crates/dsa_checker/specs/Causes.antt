@@ -7,7 +7,7 @@ use Rattle.dsa_settings.specs.declared.legal.LegalFault.{LegalFault}
 use Rattle.dsa_checker.specs.declared.fault.CheckFault.{CheckFault}
 use Rattle.dsa_checker.specs.declared.fault.CheckFault.TheVariants.{Plan, Version, Lengths, Pair, Price, Total}
 
--- the number, the name and the indices, and the fault of the plan within
+-- the number of a certificate's fault
 abbrev pub check_number : CheckFault → ℕ
 check_number (Plan fault) = 60
 check_number Lengths = 61
@@ -34,7 +34,7 @@ check_indices (Price i j) = Two i j
 check_indices Total = Empty
 check_indices Version = Empty
 
--- the fault of the plan, if it is one of the plan
+-- the fault of the plan, if the plan is at fault
 abbrev pub check_plan_fault : CheckFault → Option LegalFault
 check_plan_fault (Plan fault) = Some fault
 check_plan_fault Lengths = None

@@ -11,12 +11,12 @@ ghost use Rattle.dsa_checker.specs.Sized.{IsSheet};
 /// How many pieces a block has.
 pub(crate) const BLOCK: usize = 64;
 
-/// The prices and pairs of a certificate, and what groups cost where a batch has a price by its size.
+/// The prices and pairs of a certificate, and what groups cost if a batch has a price by its size.
 #[derive(Clone, Copy)]
 pub(crate) struct PriceSheet<'a> {
     /// The price of the first 0, 1, .. pieces.
     pub prices: &'a [u64],
-    /// For each piece perhaps two pieces that conflict.
+    /// For each piece a pair of pieces that conflict, or none.
     pub pairs: &'a [Option<(u32, u32)>],
     /// The price of a lone descriptor.
     pub lone: u64,
@@ -26,11 +26,11 @@ pub(crate) struct PriceSheet<'a> {
     pub table: &'a [u64],
 }
 
-/// A block: `BLOCK` pieces one behind the other, and the ends of groups that lie behind each of them.
+/// A block: `BLOCK` pieces one after the other, and the ends of groups that come after each of them.
 #[derive(Drop)]
 pub(crate) struct Block {
-    /// A row of prices for each piece: at each end behind the block's first piece the price, less the fences that a
-    /// chain has there that comes to the piece. Then a row of the prices as they are.
+    /// A row of prices for each piece: at each end after the block's first piece the price, less the fences that a
+    /// chain which comes to the piece has there. Then a row of the prices as they are.
     rows: [u64; 4160],
     /// For each piece the last piece of the block on its chain.
     lasts: [u32; 64],
@@ -39,7 +39,7 @@ pub(crate) struct Block {
 }
 
 impl Block {
-    /// A block that has nothing yet.
+    /// An empty block.
     pub(crate) fn new() -> Block {
         Block {
             rows: [0; 4160],
@@ -191,9 +191,9 @@ fn are_within(rows: &[u64], at: usize, table: &[u64], size: usize, count: usize,
     within
 }
 
-/// Tests the steps from `start` to the ends behind a block's first piece, up to behind its last. The chain is that of
-/// `start` up to the block. If every step holds, returns the chain up to the block's end. A sum over `limit` counts as a
-/// step that doesn't hold.
+/// Tests the steps from `start` to the ends after a block's first piece, up to the one after its last. The chain is
+/// that of `start` up to the block. If every step holds, returns the chain up to the block's end. A sum over `limit`
+/// counts as a step that doesn't hold.
 pub(crate) fn look(
     sheet: &PriceSheet,
     limit: u64,

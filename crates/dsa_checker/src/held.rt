@@ -1,4 +1,4 @@
-//! The starts whose steps all hold, where a batch has a price by its size: block by block of ends.
+//! The starts whose steps all hold, if a batch has a price by its size: block by block of ends.
 
 ghost use Rattle.std.specs.Prelude.{◌≡◌, ℕ, ◌+◌, ◌-◌, ◌%◌, ◌^◌, ◌<◌, ◌≤◌, length, slice_index, IsTrue};
 ghost use Rattle.dsa_descriptor.specs.Pieces.{most_pieces};
@@ -10,7 +10,7 @@ ghost use Rattle.dsa_checker.specs.Sized.{IsSheet};
 
 use crate::block::{BLOCK, Block, PriceSheet, fill, look};
 
-/// How many chains have a place: more than there are starts of which a batch reaches into one block.
+/// How many chains have a place: more than there are starts from which a batch reaches into one block.
 const PLACES: usize = 2048;
 
 /// The chains of the starts that reach into a block, each at its start's number modulo `PLACES`.
@@ -38,8 +38,8 @@ fn chain_of(chains: &Chains, first: usize, start: usize) -> (usize, u64)
     (start, 0)
 }
 
-/// Whether the steps of all starts hold to the ends of a block. The chains are those up to the block, and then those up
-/// to behind it.
+/// Whether the steps of all starts hold to the ends of a block. The chains are those up to the block before the call,
+/// and those up to its end afterwards.
 fn block_holds(
     sheet: &PriceSheet,
     limit: u64,
@@ -88,8 +88,8 @@ fn greatest(table: &[u64]) -> u64
     greatest
 }
 
-/// So many starts, of which all steps hold: all of them, or some that come before each step that doesn't hold. This only
-/// saves to look at these starts one by one, and never decides the answer.
+/// How many starts, from the first on, are known to have only steps that hold: all of them, or some that come before
+/// each step that doesn't hold. This only saves looking at these starts one by one, and never decides the answer.
 #[inline(never)]
 pub(crate) fn held_starts(sheet: &PriceSheet) -> usize
     requires sheet { let s = sheet.now in IsSheet s.prices.now s.pairs.now s.table.now }

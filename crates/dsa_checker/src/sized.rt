@@ -1,4 +1,4 @@
-//! The steps of a certificate's prices where a batch has a price by its size.
+//! The steps of a certificate's prices if a batch has a price by its size.
 
 ghost use Rattle.std.specs.Prelude.{◌≡◌, ℕ, ◌+◌, ◌<◌, ◌≤◌, length, MatchOption};
 ghost use Rattle.dsa_descriptor.specs.Pieces.{most_pieces};
@@ -11,11 +11,11 @@ use crate::block::PriceSheet;
 use crate::held::held_starts;
 use dsa_plan::{chain_step, last_of_run};
 
-/// Below so many pieces, or sizes of batches, a walk is as fast as rows of blocks are made.
+/// With fewer pieces, or sizes of batches, a walk is as fast as making the rows of blocks.
 const FEW: usize = 96;
 
-/// The first end from `from` to before `to` with a price above `most` and that of a batch of the pieces from `start` on. A
-/// sum that is cut off serves as well as the true one, since no price is above it.
+/// The first end from `from` to before `to` with a price above `most` plus that of a batch of the pieces from `start`
+/// on. A saturated sum serves as well as the true one, since no price is above it.
 fn first_above(
     prices: &[u64],
     table: &[u64],
@@ -39,7 +39,8 @@ fn first_above(
     None
 }
 
-/// The first end of a group from `start` whose price is too high: run by run, since between two fences all ends have as many.
+/// The first end of a group from `start` whose price is too high: run by run, since all ends between two fences have
+/// the same number of fences.
 fn first_bad_end(sheet: &PriceSheet, start: usize) -> Option<usize>
     requires sheet { let s = sheet.now in IsSheet s.prices.now s.pairs.now s.table.now }
     requires inside { start < length sheet.now.pairs.now }
@@ -67,7 +68,8 @@ fn first_bad_end(sheet: &PriceSheet, start: usize) -> Option<usize>
     None
 }
 
-/// So many starts, of which all steps hold. This only saves to look at them one by one, and never decides the answer.
+/// How many starts, from the first on, are known to have only steps that hold. This only saves looking at them one by
+/// one, and never decides the answer.
 fn starts_passed(sheet: &PriceSheet) -> usize
     requires sheet { let s = sheet.now in IsSheet s.prices.now s.pairs.now s.table.now }
     ensures { let s = sheet.now in (i : ℕ) → i < result → StepsHoldFrom
@@ -80,7 +82,7 @@ fn starts_passed(sheet: &PriceSheet) -> usize
     held_starts(sheet)
 }
 
-/// The first start and end whose step is too high, where one piece costs `lone` and a batch of `size` pieces
+/// The first start and end whose step is too high, if one piece costs `lone` and a batch of `size` pieces
 /// `table[size - 2]` without its fences.
 pub(crate) fn first_bad_sized_step(sheet: &PriceSheet) -> Option<(usize, usize)>
     requires sheet { let s = sheet.now in IsSheet s.prices.now s.pairs.now s.table.now }

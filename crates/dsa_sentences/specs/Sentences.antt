@@ -1,4 +1,4 @@
--- What each cause of a refusal means (this project's choice): `#` stands for the first number that it names, `$` for the
+-- What each cause of a refusal means (this project's choice): `#` is for the first number that it names, `$` for the
 -- second. A number that no cause has means nothing.
 use Rattle.std.specs.Prelude.{ℕ, List, [], codes, ◌==◌, nat_lt, if◌then◌else◌}
 
@@ -117,7 +117,7 @@ of_trackers n =
     if n == 128 then codes "the plan has # groups, more than slots are free or have a place in the array" else
     []
 
--- of settings, by the number of the one that is outside its limits; by another number what is right of each
+-- of settings, by the number of the setting that is outside its limits; for any other number, the limits of all
 unfoldable pub of_settings : ℕ → List ℕ
 of_settings n =
     if n == 1 then codes "the version of the settings is neither 1 nor 2" else
@@ -141,6 +141,6 @@ sentence n =
     if nat_lt n 120 then of_buffers n else
     of_trackers n
 
--- of any number, where 83 names the setting by its first number
+-- of any number; 83 names the setting by its first number
 abbrev pub said : ℕ → ℕ → List ℕ
 said number first = if number == 83 then of_settings first else sentence number

@@ -1,4 +1,5 @@
-//! What each cause of a refusal means, in a sentence: for programs that print it, and for callers in C. It takes no memory.
+//! What each cause of a refusal means, in a sentence: for programs that print it, and for callers in C. Nothing is
+//! allocated.
 #![tactic(auto)]
 
 mod sentences;

@@ -1,4 +1,4 @@
-//! What each cause of a refusal means, by its number: `#` stands for the first number that the refusal names, `$` for the
+//! What each cause of a refusal means, by its number: `#` is for the first number that the refusal names, `$` for the
 //! second. docs/FORMATS.md has the same sentences.
 
 ghost use Rattle.std.specs.Prelude.{◌≡◌, ◌≤◌};
@@ -175,7 +175,7 @@ fn of_trackers(number: u64) -> &'static str
     }
 }
 
-/// Which setting is outside its limits, by its number; by another number what is right of each.
+/// Which setting is outside its limits, by its number; for any other number, the limits of all.
 #[tactic(auto, unfolding(crate::specs::Sentences::of_settings))]
 fn of_settings(number: u64) -> &'static str
     ensures value { result.now ≡ of_settings number }
@@ -196,7 +196,7 @@ fn of_settings(number: u64) -> &'static str
     }
 }
 
-/// What the cause of this number means; nothing where no cause has the number.
+/// What the cause of this number means; empty if no cause has the number.
 pub fn sentence_of(number: u64) -> &'static str
     ensures value { result.now ≡ sentence number }
     ensures short { longest result.now ≤ 200 }
@@ -222,7 +222,7 @@ pub fn sentence_of(number: u64) -> &'static str
     of_trackers(number)
 }
 
-/// What the cause of this number means. Of 83 the first number that the refusal names is that of the setting.
+/// What the cause of this number means. For 83, the first number that the refusal names is that of the setting.
 pub(crate) fn said_of(number: u64, first: u64) -> &'static str
     ensures value { result.now ≡ said number first }
     ensures short { longest result.now ≤ 200 }

@@ -22,7 +22,7 @@ fn push_number(text: &mut ArrayVec<u8, LONGEST_TEXT>, number: u64)
     }
 }
 
-/// Writes a byte of a sentence at the end, or the number that it stands for.
+/// Writes a byte of a sentence at the end, or the number in its place.
 fn push_filled_byte(text: &mut ArrayVec<u8, LONGEST_TEXT>, byte: u8, first: u64, second: u64)
     requires { length text.old.items + longest_byte byte ≤ LONGEST_TEXT }
     ensures value { text.new.items ≡ text.old.items ++ filled_byte byte first second }
@@ -52,8 +52,9 @@ fn push_filled(text: &mut ArrayVec<u8, LONGEST_TEXT>, sentence: &[u8], first: u6
     }
 }
 
-/// The text of a refusal of this number: the sentence of its cause, and where it has a cause within, a colon and that one's,
-/// with the numbers that it names. Of 83 the first number is that of the setting. It is empty if no cause has the number.
+/// The text of a refusal of this number: the sentence of its cause, and, if it has a cause within, a colon and the
+/// sentence of that, with the numbers that it names. For 83, the first number is that of the setting. The text is empty
+/// if no cause has the number.
 pub fn refusal_text(number: u32, inner: u32, first: u64, second: u64) -> ArrayVec<u8, LONGEST_TEXT>
     ensures { result.items ≡ text_of_refusal number inner first second }
 {

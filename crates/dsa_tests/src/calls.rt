@@ -25,7 +25,7 @@ fn two_moves(alloc: Global) -> Result<Vec<u8>, AllocError> {
     Ok(list)
 }
 
-/// The batch entry of two descriptors at 0x10000 and a record at 0x10080, and what stands at 0x10000.
+/// The batch entry of two descriptors at 0x10000 and a record at 0x10080, and the bytes at 0x10000.
 fn two_moves_emitted(alloc: Global) -> Result<(Vec<u8>, Vec<u8>), AllocError> {
     let mut portal = Vec::new(alloc);
     portal.extend_from_slice(&[0, 0, 0, 0, 0x0c, 0, 0, 0x01, 0x80, 0, 0x01, 0, 0, 0, 0, 0])?;

@@ -6,7 +6,7 @@ use std::test::Fail;
 /// The code of a move.
 const MOVE: u8 = 3;
 
-/// Three moves, of which the third writes what both others read: the later of the two is its last conflict.
+/// Three moves, the third of which writes what both others read: the later of the two is its last conflict.
 fn two_readers() -> Result<[Descriptor; 3], Fail> {
     Ok([
         Descriptor::read(&descriptor_bytes(MOVE, 0x8000, 0x1000, 0x2000, 0, 64))?,

@@ -51,7 +51,8 @@ fn explained(
     ))
 }
 
-/// What an explanation has of a fence: its piece, the first conflict that it alone separates, and how many more.
+/// What an explanation says of a fence: its piece, the first conflict that only this fence separates, and how many
+/// more.
 #[derive(Clone, Copy, Debug, PartialEq, Eq)]
 struct Fence {
     piece: usize,
@@ -239,7 +240,7 @@ fn copies(alloc: Global, count: usize) -> Result<Vec<Descriptor>, Fail> {
     Ok(pieces)
 }
 
-/// The empty plan is of too few pieces, which counts once there are not too many.
+/// The empty plan has too few pieces, which is reported only if there are not too many.
 #[test]
 fn at_most_65536_pieces(rt: HostRuntime) -> Result<(), Fail> {
     let (alloc, settings) = (rt.alloc(), settings()?);

@@ -3,7 +3,7 @@
 use dsa_descriptor::{Descriptor, FieldFault};
 use std::alloc::{AllocError, Global};
 
-/// The bytes of an operation: its code, its record's address, what stands at 16, 24 and 40, and its size.
+/// The bytes of an operation: its code, its record's address, the numbers at bytes 16, 24 and 40, and its size.
 pub(crate) fn descriptor_bytes(
     code: u8,
     record_at: u64,
@@ -28,7 +28,7 @@ pub(crate) fn operation(code: u8, first: u64, second: u64, size: u32, record_at:
     descriptor_bytes(code, record_at, first, second, 0, size)
 }
 
-/// A descriptor of this code and these flags. `data` stands at the bytes 16, 24 and 40.
+/// A descriptor of this code and these flags. `data` goes to bytes 16, 24 and 40.
 pub(crate) fn descriptor(
     code: u8,
     flags: u8,
@@ -52,7 +52,7 @@ pub(crate) fn moves(alloc: Global, moves: &[(u64, u64)]) -> Result<Vec<u8>, Allo
     Ok(list)
 }
 
-/// The bytes of two descriptors, one behind the other.
+/// The bytes of two descriptors, one after the other.
 pub(crate) fn two(first: &[u8; 64], second: &[u8; 64]) -> [u8; 128] {
     let mut list = [0; 128];
     list[..64].copy_from_slice(first);

@@ -31,7 +31,7 @@ fn delta(entries: u64) -> Result<Descriptor, FieldFault> {
     )
 }
 
-/// The record of a status alone.
+/// The record of a status and nothing else.
 fn plain(status: u8) -> Record {
     Record {
         status,

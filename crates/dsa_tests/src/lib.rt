@@ -1,4 +1,4 @@
-//! Tests of calls that no job of the program reaches, and of engines as threads, a module for each matter. They stand here
+//! Tests of calls that no job of the program reaches, and of engines as threads, a module for each topic. They are here
 //! and not beside the code, since a crate with tests is proved twice.
 #![tactic(auto)]
 

@@ -238,7 +238,7 @@ fn operations(rt: HostRuntime) {
     );
 }
 
-/// Options may stand in any order; what is written has the order of the grammar.
+/// Options may come in any order; what is written has the order of the grammar.
 #[test]
 fn options(rt: HostRuntime) -> Result<(), Fail> {
     spells_one();

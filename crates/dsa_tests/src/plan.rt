@@ -3,7 +3,7 @@ use dsa_descriptor::read_list;
 use dsa_plan::{Settings, read_emission};
 use std::test::Fail;
 
-/// The version, greatest batch and transfer, the staging address, and the prices of a descriptor alone and of a fence.
+/// The version, greatest batch and transfer, the staging address, and the prices of a lone descriptor and of a fence.
 fn values_of(settings: &Settings) -> [u64; 6] {
     [
         settings.version(),

@@ -6,10 +6,10 @@ use dsa_prepared::{FillFault, PrepareFault, Prepared, prepare};
 use std::alloc::{AllocError, Global};
 use std::test::Fail;
 
-/// Where the buffers of a list stand: three of data, and one of completion records.
+/// The addresses of the buffers of a list: three of data, and one of completion records.
 type Bases = [u32; 4];
 
-/// Where they stand when the list is prepared, and where they are put.
+/// The addresses when the list is prepared, and those where it is filled.
 const OLD: Bases = [0x1_0000, 0x2_0000, 0x3_0000, 0x4_0000];
 
 const NEW: Bases = [0x90_0008, 0x70_0123, 0x60_0123, 0x50_0020];
@@ -18,8 +18,9 @@ const STAGING: u64 = 0x100_0000;
 
 const NEW_STAGING: u64 = 0x200_0000;
 
-/// What submits the list at `NEW`, from `emission` of tests/model.py: the first six words of each entry of the portal, and
-/// of each in the staging area, where 64 bytes for the records of two batches follow. The other words are 0.
+/// What submits the list at `NEW`, from `emission` of tests/model.py: the first six words of each entry of the portal,
+/// and of each entry of the staging area, after which 64 bytes for the records of two batches follow. The other words
+/// are 0.
 const PORTAL: [[u64; 6]; 3] = [
     [0x100_000c_0000_0000, 0x200_0200, 0x200_0000, 0, 4, 0],
     [0x100_000c_0000_0000, 0x200_0220, 0x200_0100, 0, 4, 0],
@@ -119,7 +120,8 @@ fn regions() -> [Span; 4] {
     ]
 }
 
-/// An operation: its code, what stands at 16 and 24, its size, the offset of its record, and what stands at 40.
+/// An operation: its code, the numbers at bytes 16 and 24, its size, the offset of its record, and the number at byte
+/// 40.
 type Row = (u8, u64, u64, u32, u32, u64);
 
 /// The bytes of the operation.

@@ -19,7 +19,7 @@ fn reads_a_job(rt: HostRuntime) {
     assert!(rt; matches!(read_job(alloc, b"\"judge\""), Err(PlanFault::Member)));
 }
 
-/// Gives so many blanks, one a turn. It fails where more than 65,536 are asked for.
+/// Gives so many blanks, one a turn. It fails if more than 65,536 are asked for.
 #[derive(Drop)]
 struct Blanks {
     left: usize,
@@ -49,7 +49,7 @@ fn counts_turns(rt: HostRuntime) {
     }
 }
 
-/// Takes one byte a turn, and fails where there is no room, but not again.
+/// Takes one byte a turn, and fails if there is no room, but not again.
 #[derive(Drop)]
 struct Narrow {
     taken: Vec<u8>,

@@ -224,8 +224,8 @@ fn steps_of(room: &mut Room, events: &[Event]) -> usize {
     count
 }
 
-/// Of the room halted after so many events: whether it answers both engines as it has to, which have these pieces, how many
-/// events it takes yet, whether it is over, and whether it has an outcome.
+/// For the room halted after so many events: whether it answers both engines, which have these pieces, as it has to,
+/// how many more events it takes, whether it is over, and whether it has an outcome.
 fn ends<R: Abort>(
     rt: &R,
     alloc: Global,
@@ -314,7 +314,7 @@ fn lone_pieces(alloc: Global, count: usize) -> Result<Plan, Fail> {
     Ok(Plan::new(groups))
 }
 
-/// So many fills of 2,048 lines, with records one behind the other.
+/// So many fills of 2,048 lines, with records one after the other.
 fn long_fills(alloc: Global, count: u16) -> Result<Vec<Descriptor>, Fail> {
     let mut fills = Vec::new(alloc);
     for place in 0..count {

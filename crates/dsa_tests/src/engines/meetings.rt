@@ -95,7 +95,7 @@ fn a_finish_wakes_all_engines(rt: HostRuntime) -> Result<(), Fail> {
     meet(&rt, rt.alloc(), &[false, true, false, false, false], 1, 4)
 }
 
-/// Two of three engines find nothing to take behind each of 200 fences, and take a piece behind the last one.
+/// Two of three engines find nothing to take after each of 200 fences, and take a piece after the last one.
 #[test]
 fn engines_are_woken_in_vain(rt: HostRuntime) -> Result<(), Fail> {
     let alloc = rt.alloc();
@@ -106,8 +106,8 @@ fn engines_are_woken_in_vain(rt: HostRuntime) -> Result<(), Fail> {
     meet(&rt, alloc, &fences, 200, 3)
 }
 
-/// Refuses the finish of the first piece once the second was finished, whose engine asks for its next piece just then, after
-/// so many pauses. Notes whether the third piece, which is fenced, is taken all the same.
+/// Refuses the finish of the first piece once the second was finished, whose engine asks for its next piece just then,
+/// after so many pauses. Notes whether the third piece, which is fenced, is taken all the same.
 #[derive(Drop)]
 struct RefusesFinish {
     pauses: u32,
@@ -151,9 +151,8 @@ impl Gate for RefusesFinish {
     }
 }
 
-/// Where a finish that was refused were done all the same, an engine could take what stands behind the fence before the
-/// room is halted. That is a matter of less than a microsecond, so it is tried often, with the other engine a little
-/// later each time.
+/// If a refused finish were done all the same, an engine could take what comes after the fence before the room is
+/// halted. That takes less than a microsecond, so it is tried often, with the other engine a little later each time.
 #[test]
 fn a_refused_finish_is_not_done(rt: HostRuntime) -> Result<(), Fail> {
     let alloc = rt.alloc();

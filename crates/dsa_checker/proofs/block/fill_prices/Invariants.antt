@@ -2,7 +2,7 @@ use Rattle.std.proofs.Common.{◌≡◌, ℕ, ◌<◌, length, slice_index}
 use Rattle.dsa_checker.specs.Blocks.{place}
 use Rattle.dsa_checker.proofs.block.fill_prices.Given as goal
 
--- the prices so far stand in the row
+-- the prices so far are in the row
 abbrev pub invariant-loop-end : goal.invariant-loop-end
 invariant-loop-end l = record {
   count : length l.rows ≡ length l.fn.rows;

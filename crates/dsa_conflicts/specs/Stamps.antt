@@ -1,4 +1,4 @@
--- Stamps at places as functions: 0 where there is none.
+-- Stamps at places as functions: 0 if a place has none.
 use Rattle.std.specs.Prelude.{◌≡◌, ℕ, ◌*◌, ◌/◌, ◌<◌, ◌≤◌, ◌⊎◌, length, max, slice_index}
 use Rattle.dsa_conflicts.specs.declared.stamps.Levels.{Levels}
 use Rattle.dsa_conflicts.specs.declared.stamps.Stamps.{Stamps}

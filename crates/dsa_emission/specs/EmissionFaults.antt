@@ -120,7 +120,7 @@ pub record IsSoundPiece (demands : Demands) (bytes : ℕ → List ℕ) (k : ℕ)
   pub spelt : Spells (bytes k) piece
   pub fit : IsFit demands (fields piece)
 
--- piece k is the first that is not sound, with its fault, which is not that it is a first piece with a fence
+-- piece k is the first that is not sound, with its fault; a fence on the first piece is another fault
 pub record IsFirstPieceFault (demands : Demands) (bytes : ℕ → List ℕ) (k : ℕ) (fault : EntryFault) : Type 0 where
   pub before : (j : ℕ) → j < k → IsSoundPiece demands bytes j
   pub first_unfenced : k ≡ 0 → is_fenced (bytes k) ≡ false

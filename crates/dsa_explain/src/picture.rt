@@ -122,7 +122,7 @@ fn split_of(origin: Option<Origin>) -> Option<usize> {
     }
 }
 
-/// So many bytes, in the largest unit of which they are a multiple.
+/// So many bytes, in the largest unit that divides them.
 fn bytes_text(alloc: Global, bytes: u64) -> Result<String, AllocError> {
     for (one, unit) in UNITS {
         if bytes >= one && bytes % one == 0 {
@@ -133,7 +133,7 @@ fn bytes_text(alloc: Global, bytes: u64) -> Result<String, AllocError> {
     format!(in alloc; "{bytes} bytes")
 }
 
-/// The name of an operation of several pieces, of which this is the first: its comment, or what it does with how much.
+/// The name of an operation of several pieces, from its first piece: its comment, or what it does with how many bytes.
 fn split_name(
     alloc: Global,
     d: &Descriptor,

@@ -59,7 +59,7 @@ Gathers shown lines (Ok bytes) =
     (fs : List Fields) × (all_fields lines ≡ Some fs) × (shown bytes ≡ list_spelling fs)
 Gathers shown lines (Err fault) = Stops lines fault
 
--- why the line of this number has no bytes, where `read` is what it spells
+-- why the line of this number has no bytes; `read` is what it spells
 abbrev pub StopsAt : ℕ → Option (List Fields) → TextFault → Type 0
 StopsAt number read (Grammar line column what) = (line ≡ number) × (read ≡ None)
 StopsAt number read (Listed line fault) = ⊥

@@ -138,7 +138,7 @@ abbrev pub AreRecorded : List ℕ → Option BatchLine → List Recorded → Typ
 AreRecorded bytes pending said =
     (rs : List Recorded) → bytes ++ (owned_bytes pending (first_owner rs) ++ recording_bytes rs) ≡ recording_bytes (said ++ rs)
 
--- why a line of this number, of which this is read, is not recorded
+-- why the line of this number is not recorded; `read` is what it says
 abbrev pub StopsRecording : ℕ → Option (List Recorded) → TextFault → Type 0
 StopsRecording number read (Grammar line column what) = (line ≡ number) × (read ≡ None)
 StopsRecording number read (Listed line fault) = ⊥

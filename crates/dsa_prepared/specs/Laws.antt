@@ -1,4 +1,4 @@
--- What filling writes, and what it asks for.
+-- What filling writes, and what it requires.
 use Rattle.std.specs.Prelude.{◌≡◌, ℕ, List, length, map, Ok}
 use Rattle.std.specs.List.{AllByRecursion}
 use Rattle.dsa_descriptor.specs.declared.descriptor.Descriptor.{Descriptor}

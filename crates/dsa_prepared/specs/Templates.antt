@@ -25,7 +25,7 @@ pub record Template : Type 0 where
   pub staging : List Entry
   -- how many records of batches come after them
   pub batches : ℕ
-  -- how many pieces there are, for each of which the staging area has 96 bytes
+  -- how many pieces there are; the staging area has 96 bytes for each
   pub pieces : ℕ
 
 -- the template of these
@@ -92,7 +92,7 @@ abbrev pub units_from : List Span → List ℕ → List Fields → List ℕ
 units_from rs units [] = units
 units_from rs units (f ∷ fs) = units_from rs (asked rs units f) fs
 
--- the units that operations ask for, from 1 for each region
+-- the units that operations require, from 1 for each region
 abbrev pub units_of : List Span → List Fields → List ℕ
 units_of rs fs = units_from rs (replicate (length rs) 1) fs
 

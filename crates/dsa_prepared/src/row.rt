@@ -1,4 +1,4 @@
-//! Rows of ten words, of which a prepared submission is an array.
+//! Rows of ten words: a prepared submission is an array of them.
 
 ghost use Rattle.std.specs.Prelude.{◌≡◌, ◌+◌, ◌≤◌, ◌↔◌, ◌++◌, drop, length, take, IsTrue};
 ghost use Rattle.dsa_prepared.specs.Entries.{filled_entry, word_value};

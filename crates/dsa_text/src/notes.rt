@@ -5,7 +5,7 @@ use std::alloc::{AllocError, Global};
 /// The most lines that are written.
 const MOST_WRITTEN: usize = 20;
 
-/// Lines about operations, of which the first are written and the others counted.
+/// Lines about operations: the first ones are written, the others are counted.
 #[derive(Debug, Drop)]
 pub(crate) struct Notes {
     text: String,

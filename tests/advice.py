@@ -6,7 +6,7 @@ import json
 import subprocess
 
 import common
-from audit import batch, entry
+from audit_entries import batch, entry
 from common import named, program, run_test
 from model import COMPARE, FILL, MOVE
 

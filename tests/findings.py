@@ -11,14 +11,14 @@ import tempfile
 from collections import Counter
 from pathlib import Path
 
-import audit
 import common
 import schema
-from audit import (
-    CHECK, COMPARE, COPY_CRC, CRC, CREATE, DELTA, DRAIN, DUALCAST, FETCH, FILL, FLUSH, INSERT, MOVE, PATTERN, STRIP,
-    UPDATE, Maker, data_of, further_data,
+from audit_entries import (
+    CHECK, COPY_CRC, CRC, CREATE, DRAIN, FETCH, FLUSH, INSERT, NAMED, STRIP, UPDATE, WHY, data_of, further_data, xxd,
 )
+from audit_model import Maker
 from common import named, program, run_test
+from model import COMPARE, DELTA, DUALCAST, FILL, MOVE, PATTERN
 
 COUNT = 200
 NAMES = {
@@ -30,7 +30,6 @@ NAMES = {
 KINDS = {"guarding": "guarding fence", "signalling": "signalling fence", "needless": "needless fence"}
 KINDS |= {"guarding and signalling": "guarding and signalling fence", "overwrites batch": "overwrites its batch"}
 KINDS |= {"data over record": "data over its own completion record"}
-WHY = audit.WHY
 
 
 def run(recording, *words):
@@ -41,7 +40,7 @@ def run(recording, *words):
 
 
 def code_words(code):
-    return f"operation {code:#x}" + (f" ({NAMES[code]})" if code in audit.NAMED else "")
+    return f"operation {code:#x}" + (f" ({NAMES[code]})" if code in NAMED else "")
 
 
 def operation(it):
@@ -222,7 +221,7 @@ def random_files(seed, folder):
     for number in range(2 + maker.random.randrange(3)):
         recording, kind = maker.recording(), maker.random.randrange(6)
         path = str(Path(folder, f"{number}.bin"))
-        contents = [recording, audit.xxd(recording).encode(), recording + b"abc"]
+        contents = [recording, xxd(recording).encode(), recording + b"abc"]
         found["-" if kind == 0 and "-" not in found else path] = contents[kind % 3]
         if kind == 5:
             found[path] = None

@@ -20,7 +20,7 @@ from itertools import product
 from pathlib import Path
 
 import bench
-from audit import moves_apart
+from audit_entries import moves_apart
 from common import ROOT, compiler, program, stop
 
 FOLDER = ROOT / "docs/figures"

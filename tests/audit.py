@@ -1,7 +1,7 @@
 """Runs `dsa_text audit` on recordings. Random ones are judged by the brute force of audit_model.py; audit_drawn.py has
 the pictures, audit_lists.py what the planner submits and recordings as lists to plan. Here are also every operation
-code, recordings that end early, that are read in parts and that come in another form, and how much memory and time large
-ones take. The words are names of parts; a number is how many random recordings are judged, 400 without one."""
+code, recordings that end early, that are read in parts and that come in another form, and how much memory and time
+large ones take. The words are names of parts; a number is how many random recordings are judged, 400 without one."""
 
 import itertools
 import json
@@ -24,7 +24,7 @@ from audit_model import GREATEST_BATCH, KINDS, Maker, audited, audited_with_dump
 from common import move, named, program, run_test
 from model import COMPARE, DELTA, DUALCAST, FILL, MOVE, PATTERN
 
-# Less than a large recording has.
+# Less than the recording of `small_memory` has.
 MOST_MEMORY = 48 << 20
 # What can be assumed of software: what it looks at, and whether all memory is resident.
 ASSUMED = list(itertools.product(("writes", "signals", "batches"), (False, True)))
@@ -63,14 +63,15 @@ def brute_force():
 
 
 def found_in_batch(members):
-    """What is found of a batch of these members but its size, and records within its descriptors, which move with them."""
+    """What is found of a batch of these members, but for its size and records within its descriptors, which move with
+    them."""
     findings = audited(batch(*members))[0]["findings"]
     return [it for it in findings if it["what"]["kind"] not in ("small batch", "overwrites batch")]
 
 
 def padded():
-    """A batch has the same findings with 70 more members that touch nothing else, behind it or before it: above 64 members
-    the last conflicts come from a sweep, else each two are compared."""
+    """A batch has the same findings with 70 more members, which touch nothing that it touches, after or before its own:
+    above 64 members the last conflicts come from a sweep, else each two are compared."""
     found = 0
     # they read, wait for absent pages, and have no record: none of them can fail or show
     idle = [entry(COMPARE, 0x02, 0, 0x10000000 + 64 * k, 0x20000000 + 64 * k, 64) for k in range(70)]
@@ -82,7 +83,7 @@ def padded():
             wanted = found_in_batch(it.entries)
             found += len(wanted)
             got = found_in_batch([*it.entries, *idle])
-            common.expect(got == wanted, f"seed {seed}, {it.number}: {got} with members behind, and not {wanted}")
+            common.expect(got == wanted, f"seed {seed}, {it.number}: {got} with members after it, and not {wanted}")
             if 0 in it.fences:
                 continue
             for finding in wanted:
@@ -93,7 +94,7 @@ def padded():
                 if "records" in finding["what"]:
                     finding["what"]["records"] = [k + 70 for k in finding["what"]["records"]]
             got = found_in_batch([*idle, *it.entries])
-            common.expect(got == wanted, f"seed {seed}, {it.number}: {got} with members before, and not {wanted}")
+            common.expect(got == wanted, f"seed {seed}, {it.number}: {got} with members before it, and not {wanted}")
     common.expect(found > audit_model.COUNT // 10, f"only {found} findings")
 
 
@@ -158,9 +159,9 @@ def faulty_ones(recording, large):
 
 
 def in_parts():
-    """Recordings of bytes are read in parts of 1 MiB, texts as a whole: each has one answer, in each
-    form. Batches that go over the end of a part, one that has more members than a part, entries that
-    cannot be members, and recordings that end early, all after the first part."""
+    """Recordings of bytes are read in parts of 1 MiB, texts as a whole: both have one answer, in each form. There are
+    batches that go over the end of a part, one that has more members than a part, entries that cannot be members, and
+    recordings that end early, all after the first part."""
     small, large = [Maker(seed).recording() for seed in range(200)], moves_apart(40_000, lambda k: k % 9 == 0)
     for seed in range(6):
         chosen, pieces = random.Random(seed), []
@@ -179,7 +180,7 @@ def in_parts():
 
 
 def small_memory():
-    """64 MiB take no more memory than their largest batch and what is written: less than they have."""
+    """An audit of 64 MiB needs memory for the largest batch and for what it writes: less than the recording has."""
     batches = moves_apart(31)
     with tempfile.NamedTemporaryFile() as file:
         for _ in range(64):
@@ -209,7 +210,7 @@ def forms():
 
 
 def speed():
-    """65,472 members in batches of 1,023, and in one batch. What it takes is printed; more than ten seconds is a fault."""
+    """65,472 members in batches of 1,023, and in one batch. The time is printed; more than ten seconds are a fault."""
     for name, places in [
         ("apart", lambda k: (0x1000000 + 64 * k, 0x9000000 + 64 * k)),
         ("fenced all", lambda k: (0x1000000 + 64 * k, 0x9000000 + 64 * k)),

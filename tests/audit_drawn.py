@@ -40,7 +40,7 @@ def listed(spans):
 
 
 def column_of(number, at, it, why):
-    """The column of a member, which is entry `at`; why it is not looked at, if it is not."""
+    """The column of a member, which is entry `at`; `why` says why it is not looked at, if it is not."""
     name = NAMES.get(it[7]) or f"0x{it[7]:02x}"
     title = f"{number}: {findings.operation(it)}, entry {at}"
     size = struct.unpack_from("<I", it, 32)[0]
@@ -62,8 +62,8 @@ def hazard_of(earlier, later):
 
 
 def separated_by(k, members, kept, columns):
-    """The pairs of members that are known to conflict, and that of all fences that stay the one before k alone
-    separates."""
+    """The pairs of members that are known to conflict and that, of all fences that stay, the one before k separates
+    alone."""
     start = max([members.start, *(it for it in kept if it < k)])
     end = min([members.stop, *(it for it in kept if it > k)])
     pairs = itertools.product(range(start, k), range(k, end))
@@ -71,8 +71,9 @@ def separated_by(k, members, kept, columns):
 
 
 def needed_bar(k, members, kept, columns, lines):
-    """The bar of a fence that a conflict needs: of the known conflicts that it alone separates, of all that stay, one
-    that is drawn, or if its submission is not shown the first; or it is needed for an unknown member."""
+    """The bar of a fence that is needed. It has a known conflict that, of all fences that stay, this one separates
+    alone: one that is drawn or, if the submission is not shown, the first. If there is none, an unknown member needs
+    it."""
     pairs = separated_by(k, members, kept, columns)
     if not pairs:
         return pictured.Bar(k, "fence", "unknown")
@@ -146,7 +147,7 @@ def drawn_totals(totals):
 
 
 def draw(recording, words=""):
-    """The picture of a recording, the status, and what stands on standard error."""
+    """The picture of a recording, the status, and what is written to standard error."""
     ran = subprocess.run([program("dsa_text"), "audit", "--svg", *words.split()], input=recording, capture_output=True)
     return ran.stdout.decode(), ran.returncode, ran.stderr.decode()
 
@@ -163,12 +164,13 @@ def compare(recording, name, words=""):
     common.expect(not fault, f"{name}: {fault}")
     titles = [it for it in others["groups"] if not it.startswith("groups ")]
     common.expect(set(titles) <= set(heads), f"{name}: the groups are {titles}, and not {heads}")
-    common.expect(others["notes"][:2] == drawn_totals(totals), f"{name}: at the end stand {others['notes']}")
+    common.expect(others["notes"][:2] == drawn_totals(totals), f"{name}: at the end are {others['notes']}")
     return {kind: svg.count(f'class="{kind}"') for kind in PARTS}
 
 
 def pictures():
-    """Random recordings, drawn: each picture as the report of the same recording says. Each second one denies something."""
+    """Random recordings, drawn: each picture is as the report on the same recording says. Each second one denies
+    something."""
     sums = {}
     for seed in range(audit_model.COUNT):
         words = ["", "--deny needless", "", "--deny needless,unseen"][seed % 4]

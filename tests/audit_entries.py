@@ -63,7 +63,8 @@ def batches_of(recording):
 
 
 def submissions_of(recording):
-    """Of each submission of a recording whether it is a batch, its descriptor, and the number of its first member."""
+    """Of each submission of a recording whether it is a batch, its descriptor, the number of its first member, and its
+    members."""
     entries, at = [recording[k : k + 64] for k in range(0, len(recording), 64)], 0
     while at < len(entries):
         is_batch = entries[at][7] == 1
@@ -163,7 +164,8 @@ def accesses(it, owner):
 
 
 def parts_of(it):
-    """The bytes of data that an entry reads, those that it writes, and those of its record, whatever else is wrong with it."""
+    """The bytes of data that an entry reads, those that it writes, and those of its record, whatever else is wrong
+    with it."""
     held = set(span(struct.unpack_from("<Q", it, 8)[0], 32)) if it[4] & 0x04 else set()
     reads, writes = data_of(it) or ([], [])
     return set().union(*reads), set().union(*writes), held

@@ -56,7 +56,8 @@ def planned():
 
 
 def planned_jobs():
-    """The jobs to plan of the tests and the examples that are answered: the file, the portal, the staging area, its address."""
+    """Of each job to plan of the tests and the examples that is answered the file, the portal, the staging area and its
+    address."""
     for path in sorted(Path("tests/jobs").glob("plan-*.job")) + sorted(Path("examples").glob("**/p*.job")):
         answer = subprocess.run([program("dsa")], input=path.read_bytes(), capture_output=True).stdout
         if answer.startswith(b"refused"):
@@ -66,8 +67,8 @@ def planned_jobs():
 
 
 def staged():
-    """A portal and its staging area have the report of their recording, whole or in parts that overlap, as bytes or as text,
-    and the entries of the portal as lines; and a batch of which no dump has all members is refused."""
+    """A portal and its staging area have the report of their recording, as one dump or as two that overlap, and as
+    bytes or as text. A batch of which no dump has all members is refused."""
     batches = 0
     with tempfile.TemporaryDirectory() as folder:
         first, second = Path(folder, "first"), Path(folder, "second")
@@ -130,8 +131,8 @@ def disassembled(words, emitted):
 
 
 def lines():
-    """What the planner submits has the same report in lines: those of the portal, and behind that of each batch its members'.
-    So it has without one of its fences, which is a word less in one of the lines."""
+    """What the planner submits has the same report in lines: those of the portal, and after that of each batch those of
+    its members. So it has without one of its fences, which is a word less in one of the lines."""
     fences = 0
     for path, portal, staging, address in planned_jobs():
         if not portal:
@@ -193,7 +194,7 @@ def listed_line(it, owner, number, count):
 
 
 def kept_fences(recording):
-    """Of each entry whose fence guards or signals, by the report in JSON, which; other parts judge that report."""
+    """The entries whose fences guard or signal, each with which it does, by the report in JSON, which others judge."""
     kinds = ("guarding", "signalling", "guarding and signalling")
     found = [(it["entry"], it["what"]["kind"]) for it in audited(recording)[0]["findings"]]
     return {number: kind for number, kind in found if kind in kinds}
@@ -235,8 +236,8 @@ def as_list(recording):
 
 
 def lists():
-    """Random recordings as lists, and entries around the records that a list adds. What the planner submits has a line for
-    each piece. The least plan of a list costs at most what the recording costs with the missing fences, if no
+    """Random recordings as lists, and entries around the records that a list adds. What the planner submits has a line
+    for each piece. The least plan of a list costs at most what the recording costs with the missing fences, if no
     operation is repeated."""
     explained = 0
     for seed in range(audit_model.COUNT):

@@ -30,7 +30,7 @@ FLAWS = ("shared record", "overwrites batch", "data over record", "misaligned re
 
 
 def audited(recording, words=""):
-    """The report on a recording as JSON, and the status. What it says of entries, and keys, are judged by findings.py."""
+    """The report on a recording as JSON, and the status. findings.py judges its keys, and what it says of entries."""
     ran = subprocess.run([program("dsa_text"), "audit", "--json", *words.split()], input=recording, capture_output=True)
     common.expect(ran.returncode in (0, 1) and not ran.stderr, f"audit ends with {ran.returncode}: {ran.stderr[:300]}")
     report = json.loads(ran.stdout or "{}")
@@ -55,7 +55,7 @@ def audited_with_dumps(recording, words=""):
 
 
 def separated(fences, pair):
-    """A fence stands behind the earlier member, and at the later one at the latest."""
+    """A fence is after the earlier member, and at the later one at the latest."""
     return any(pair[0] < fence <= pair[1] for fence in fences)
 
 
@@ -117,15 +117,15 @@ class Batch:
         self.visible = [k for k, (it, known) in enumerate(both) if shows(it, known, self.head, awaited, resident)]
 
     def kept_pairs(self):
-        """Which pairs of members have to stay separated: those that may conflict, a member that can fail and each later one,
-        one that shows and each earlier one."""
+        """Which pairs of members have to stay separated: first those that may conflict, then a member that can fail and
+        each later one, and one that shows and each earlier one."""
         count = len(self.entries)
         held = [pair for pair in self.possible if separated(self.corrected, pair)]
         pairs = [(m, b) for m in self.fallible for b in range(m + 1, count)] + [(a, b) for b in self.visible for a in range(b)]
         return held, [pair for pair in pairs if separated(self.corrected, pair)]
 
     def needless_with(self, assumed):
-        """How many fences are needless, most, under other assumptions."""
+        """How many fences are needless, at most, under other assumptions."""
         self.assume(*assumed)
         held, others = self.kept_pairs()
         return len(self.corrected) - fewest(set(), sorted(self.corrected), held + others)
@@ -233,7 +233,8 @@ class Batch:
             yield "what is needless once fences are set is not so"
 
     def spare_faults(self, held):
-        """A fence that stays guards or signals where no conflict needs it beside those that stay before it and all after it."""
+        """A fence that stays guards or signals if no conflict needs it beside the fences that stay before it and all
+        those after it."""
         spare = set()
         for k in self.reduced:
             others = {it for it in self.reduced if it < k} | {it for it in self.corrected if it > k}
@@ -263,13 +264,13 @@ def submissions(recording, report, assumed=("writes", False)):
         for it in mine:
             of_head = is_batch and it["member"] is None
             right = it["entry"] == (at if of_head else first + (it["member"] or 0)) and (of_head or (it["member"] is None) != is_batch)
-            common.expect(right, f"submission {number}: {it} stands at no entry of it")
+            common.expect(right, f"submission {number}: {it} is at no entry of it")
         yield Batch(number, entries[at], entries[first : first + size], mine, assumed, is_batch), is_batch
         at, number = first + size, number + 1
 
 
 def freed(recording, report, assumed):
-    """How many more fences would be needless with each set of further assumptions, where some fence guards or signals."""
+    """How many more fences would be needless with each set of further assumptions, if some fence guards or signals."""
     if not report["totals"]["guarding"] + report["totals"]["signalling"]:
         return []
     awaited, resident = assumed

@@ -77,7 +77,7 @@ def hostile():
 
 
 def copies(size, rounds, room):
-    """Moves from anywhere to anywhere in `room` bytes; their records stand behind."""
+    """Moves from anywhere to anywhere in `room` bytes; their records come after these bytes."""
     chance = random.Random(3)
     out = []
     for k in range(rounds):
@@ -126,7 +126,7 @@ def filled(job, place, entry):
 
 
 def fills(size, rounds):
-    """Fills of the same bytes, over and over; their records stand behind."""
+    """Fills of the same bytes, over and over; their records come after these bytes."""
     return [descriptor(FILL, k, 0, size, k).replace(
         (RECORDS + 32 * k).to_bytes(8, 'little'), (size + 32 * k).to_bytes(8, 'little'))
         for k in range(rounds)]
@@ -204,7 +204,7 @@ def same(first, second):
 
 
 def make(name, program, path):
-    """Writes the job of this name, the longest ones with blanks behind them."""
+    """Writes the job of this name, the longest ones filled up with blanks."""
     with open(path, 'w', encoding='ascii') as file:
         if name in LONGEST_JOBS:
             file.write(LONGEST_JOBS[name](program).ljust(LONGEST))

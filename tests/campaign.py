@@ -101,7 +101,7 @@ class Case:
         return op
 
     def delta(self, op):
-        """A delta, most of whose records stand in the memory as entries that are good."""
+        """A delta; its record is written into the memory, and most of its entries are good."""
         entries = self.random.randrange(4)
         if self.large and self.random.random() < 0.5:
             entries = 300  # more than one line examines

@@ -1,5 +1,5 @@
-"""What the tests share: programs and where they stand, counting cases, jobs made from parts, copies of crates, and
-an end that leaves nothing behind. A test is a module with `main(words)`, the words being names of its cases."""
+"""What the tests share: programs and where they are, counting cases, jobs made from parts, copies of crates, and an
+end that leaves nothing running. A test is a module with `main(words)`, the words being names of its cases."""
 
 import json
 import os
@@ -154,7 +154,7 @@ def refuse_so():
 
 
 def raw(value):
-    """A member as it stands in a text: a string is text already, any other value is written as JSON."""
+    """A member as a text has it: a string is text already, any other value is written as JSON."""
     return value if isinstance(value, str) else json.dumps(value, separators=(",", ":"))
 
 
@@ -175,7 +175,7 @@ def move(src, dst, size=64, record_at=0x8000):
 
 
 def digits(pieces):
-    """The bytes of a list, in hexadecimal; a text is taken as it stands."""
+    """The bytes of a list, in hexadecimal; a text is taken as it is."""
     return pieces if isinstance(pieces, str) else b"".join(piece.bytes() for piece in pieces).hex()
 
 
@@ -195,14 +195,14 @@ def judge(pieces, groups, rules=SETTINGS, **more):
 
 
 def block_after(page, words, language=""):
-    """The first block of this language, or the first indented block, behind these words of a page."""
+    """The first block of this language, or the first indented block, after these words of a page."""
     text = Path(page).read_text()
     if words not in text:
         stop(f"{page} does not say {words!r}")
     rest = text[text.index(words) :]
     if language:
         found = re.search(rf"```{language}\n(.*?)```", rest, re.S)
-        return found[1] if found else stop(f"{page} has no {language} block behind {words!r}")
+        return found[1] if found else stop(f"{page} has no {language} block after {words!r}")
     lines = rest.split("\n")
     begin = next(k for k, line in enumerate(lines) if line.startswith("    "))
     end = next(k for k in range(begin, len(lines)) if not lines[k].startswith("    "))
@@ -210,7 +210,7 @@ def block_after(page, words, language=""):
 
 
 def crates():
-    """Each crate of crates.txt, with its line there and the libraries that it stands on."""
+    """Each crate of crates.txt, with its line there and the libraries that it uses."""
     found = {}
     for line in Path("crates.txt").read_text().splitlines():
         if line.strip() and not line.startswith("#"):
@@ -231,7 +231,7 @@ def crates_up_to(name):
 
 
 def copy_crates(name, tree, also=()):
-    """Copies the crate and all below it to an empty folder, without what is built. The copy stands on `also` too."""
+    """Copies the crate and all below it to an empty folder, without what is built. The copy uses `also` too."""
     chosen = {below for top in (name, *also) for below in crates_up_to(top)}
     for crate in chosen:
         shutil.copytree(f"crates/{crate}", f"{tree}/crates/{crate}", ignore=shutil.ignore_patterns("out"))

@@ -13,15 +13,15 @@ SWEEPS = 24
 
 @cache
 def below():
-    """For each crate those of the repository that it stands on, without those that another one of these stands on."""
+    """For each crate those of the repository that it uses, without those that another one of these uses."""
     known = crates()
-    stands_on = {name: {it for it in libraries if it in known} for name, (_, libraries) in known.items()}
+    uses = {name: {it for it in libraries if it in known} for name, (_, libraries) in known.items()}
 
     @cache
     def reached(name):
-        return frozenset().union(stands_on[name], *map(reached, stands_on[name]))
+        return frozenset().union(uses[name], *map(reached, uses[name]))
 
-    return {name: sorted(on - frozenset().union(*map(reached, on))) for name, on in stands_on.items()}
+    return {name: sorted(on - frozenset().union(*map(reached, on))) for name, on in uses.items()}
 
 
 @cache
@@ -31,7 +31,7 @@ def least_level(name):
 
 @cache
 def level(name):
-    """The level of a crate: right below those that stand on it, if these are no fewer than those that it stands on."""
+    """The level of a crate: right below those that use it, if these are no fewer than those that it uses."""
     above = [upper for upper, on in below().items() if name in on]
     return min(map(level, above)) - 1 if above and len(above) >= len(below()[name]) else least_level(name)
 

@@ -147,7 +147,7 @@ def rest_on(places):
 
 
 def crate_order():
-    """The names of the crates, each after those that it stands on."""
+    """The names of the crates, each after those that it uses."""
     lines = (ROOT / "crates.txt").read_text().splitlines()
     return [re.split(r"[ :]", line)[0] for line in lines if line and not line.startswith("#")]
 

@@ -20,7 +20,7 @@ def printed(command):
 
 
 def session(block):
-    """A block of commands behind `$ `, each followed by what it prints."""
+    """A block of commands, each with `$ ` before it and what it prints after it."""
     parts = re.split(r"^\$ ", block, flags=re.M)[1:]
     for part in parts:
         command, _, wanted = part.partition("\n")
@@ -29,14 +29,14 @@ def session(block):
 
 
 def noted(block):
-    """A block of commands whose output stands in a comment behind them, or in the comment line before."""
+    """A block of commands, each with what it prints in a comment after it or in the line before."""
     before = None
     for line in block.strip().split("\n"):
         if line.startswith("# "):
             before = line.split(": ", 1)[1]
             continue
-        command, _, behind = line.partition("     # ")
-        wanted = behind.strip() or before
+        command, _, after = line.partition("     # ")
+        wanted = after.strip() or before
         got = printed(command).strip()
         expect(got == wanted, f"{command}: printed {got!r}, and not {wanted!r}")
 

@@ -13,7 +13,7 @@ from pathlib import Path
 from common import copy_crates, crates, expect, having, patched, run_test
 
 TESTS = "crates/dsa_tests/src"
-# The crate of the tests, and what they stand on beside the wrong engines.
+# The crate of the tests, and what they use beside the wrong engines.
 TRIED = "wrong_engines"
 BELOW = ["dsa_core", "dsa_descriptor", "dsa_image", "dsa_plan"]
 

@@ -8,10 +8,10 @@
     ! a line on standard error
     = 0
 
-`<x` is digits of the input: the blanks between them go, `*56` is 56 zero bytes, and no newline stands behind. `<b 0d0a`
-is bytes of the input, in hexadecimal. A line that ends in a backslash has no newline behind it either. `$` has the
+`<x` is digits of the input: the blanks between them go, `*56` is 56 zero bytes, and no newline follows. `<b 0d0a`
+is bytes of the input, in hexadecimal. A line that ends in a backslash has no newline after it either. `$` has the
 arguments as a shell would read them, and within quotes `\\xff` is a byte; `</`, `<&-`, `>&-`, `>/dev/full`, `2>&-` and
-`2>/dev/full` at its end make input or output faulty. Each command reads the input above it; an input behind a command
+`2>/dev/full` at its end make input or output faulty. Each command reads the input above it; an input after a command
 begins anew."""
 
 import re
@@ -36,7 +36,7 @@ class Case:
 
 
 def said(line):
-    """The bytes that a line of a golden file spells, behind its sign."""
+    """The bytes that a line of a golden file spells, after its sign."""
     if line.startswith("x "):
         words = [re.sub(r"^\*(\d+)$", lambda found: "00" * int(found[1]), word) for word in line.split()[1:]]
         return "".join(words).encode()

@@ -1,5 +1,5 @@
 """Tries wrong programs that other tests are there to refuse, and sees each refused: one that leaves a thread
-(tests/memory.py), one that tries again after an error and one that reads on behind its line (tests/streams.py). The words
+(tests/memory.py), one that tries again after an error and one that reads on past its line (tests/streams.py). The words
 are names of parts."""
 
 import subprocess

@@ -46,12 +46,12 @@ def changed(text, *changes):
 FIRST, AFTER = move(0x1000, 0x2000), move(0x2000, 0x4000, record_at=0x8020)
 APART = move(0x3000, 0x5000, record_at=0x8020)
 PAIR = [FIRST, AFTER]
-# What submits the two as one batch: a descriptor of two at 0x10000 with its record behind them, and these.
+# What submits the two as one batch: a descriptor of two at 0x10000 with its record after them, and these.
 PORTAL = "000000000c0000018000010000000000" + "00000100000000000000000000000000" + "02".ljust(64, "0")
 STAGING = FIRST.bytes().hex() + AFTER.bytes(fenced=True).hex() + "00" * 32
 # Moves of 8 bytes, apart.
 LEFT, RIGHT = move(0x00, 0x20, 8, 0x80), move(0x40, 0x60, 8, 0xA0)
-# Where these moves' batches stand.
+# The settings, with the address of these moves' batches.
 AREA = model.Settings(4, 4096, 10, 14, 3, 0x10000)
 MEMORY = image("0102030405060708".ljust(128, "0") + "1112131415161718".ljust(256, "0"))
 
@@ -279,7 +279,7 @@ def in_two_areas(count, size, lower, upper, records):
 
 def rising_lists():
     """Plans of the model for lists whose data rises in one area or in two, with a gap, side by side, and with one byte that
-    two pieces share: where the lower area ends, where the upper one begins, and behind the piece before."""
+    two pieces share: where the lower area ends, where the upper one begins, and after the piece before."""
     area = model.Settings(4, 4096, 10, 14, 3, 0x100_0000_0000)
     for count in (2, 5, 8, 9, 33, 64, 65, 70):
         last, size = count - 1, 64
@@ -467,15 +467,15 @@ def traces():
     """Traces of two moves that are none, by events, engines and members."""
     two, finish = [LEFT, RIGHT], [0, "finish", 0]
     begun = [[0, "take", 0], [1, "take", 1], [1, "line", 1], [1, "finish", 1]]
-    behind = [LEFT, move(0x20, 0x60, 8, 0xA0)]
+    fenced = [LEFT, move(0x20, 0x60, 8, 0xA0)]
     for pieces, trace, cause in [
         (two, [[2, "take", 0]], "76 NotAStep 0"),
         (two, [[0, "take", 0], [255, "take", 1]], "76 NotAStep 1"),
         (two, [[0, "take", 0], [1, "take", 2**32 - 1]], "76 NotAStep 1"),
         (two, [*begun, finish, finish], "76 NotAStep 4"),
         (two, [*begun, [0, "line", 0]], "77 Incomplete"),
-        # a fence stands before the second
-        (behind, [[0, "take", 0], [1, "take", 1]], "76 NotAStep 1"),
+        # a fence is before the second
+        (fenced, [[0, "take", 0], [1, "take", 1]], "76 NotAStep 1"),
     ]:
         expect(replay(pieces, MEMORY, 2, trace), f"refused {cause}")
     for engines in (0, 65, LAST):

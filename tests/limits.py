@@ -33,7 +33,7 @@ def least_costs(count):
 
 
 def apart(count, size):
-    """Moves from one area to another, no two of which conflict, with their records behind."""
+    """Moves from one area to another, no two of which conflict, with their records after both."""
     return [move(size * k, size * (count + k), size, 2 * size * count + 32 * k) for k in range(count)]
 
 

@@ -11,7 +11,7 @@ LINE, ENTRIES = 4096, 256
 
 @dataclass(frozen=True)
 class Op:
-    """A descriptor. `first` stands at byte 16, `second` at byte 24, `own` at byte 40."""
+    """A descriptor. `first` is at byte 16, `second` at byte 24, `own` at byte 40."""
 
     code: int
     size: int

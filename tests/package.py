@@ -87,7 +87,7 @@ def version():
         "bindings/c/dsa_planner.h": [f"find_package(dsa_planner {numbers[0]}.0)"],
     }
     missing = [(page, word) for page, words in pages.items() for word in words if word not in Path(page).read_text()]
-    expect(not missing, f"other versions than {whole} stand in pages: {missing}")
+    expect(not missing, f"other versions than {whole} are in pages: {missing}")
     expect(f"\n## {whole}\n" in Path("CHANGELOG.md").read_text(), f"CHANGELOG.md has no part {whole}")
     end = subprocess.run([program("dsa_text"), "--version"], capture_output=True, text=True, stdin=subprocess.DEVNULL)
     printed = (end.returncode, end.stdout)
@@ -254,7 +254,7 @@ def pages():
 
 
 def completion():
-    """What bash offers behind the beginning of a line."""
+    """How bash completes the beginning of a line."""
     script = f"{PREFIX}/share/bash-completion/completions/dsa_text"
     lines = {
         "dsa_text ex": "explain",

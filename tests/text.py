@@ -1,4 +1,4 @@
-"""Runs dsa_text on the examples of examples/text and compares what it writes with what stands there; brings the list
+"""Runs dsa_text on the examples of examples/text and compares what it writes with what is there; brings the list
 of each job of tests/jobs to text and back; and asks about lines, texts, options and plans typed by hand from
 docs/FORMATS.md: each operation and option as a line and back, where a line leaves the grammar, which fault of a list
 is told, and the reason for each fence of a plan. The bytes of descriptors are those of the model. What people should
@@ -33,8 +33,8 @@ def expect(command, text, wanted):
 
 
 def refused(command, text, begin, name):
-    """The program writes no answer but one line on standard error, which begins and ends so, and ends with status 1; behind
-    that of a missing fence stand the fences that are missing."""
+    """The program writes no answer but one line on standard error, which begins and ends so, and ends with status 1; after
+    that of a missing fence come the fences that are missing."""
     ran = subprocess.run([TEXT, *command.split()], input=text.encode(), capture_output=True)
     said = ran.stderr.decode()
     line, rest = said.split("\n", 1) if "\n" in said else (said, "")
@@ -49,7 +49,7 @@ def written(command, text=""):
 
 
 def same(what, wrote, path):
-    """What was written is what stands in the file."""
+    """What was written is what the file has."""
     wanted = path.read_text()
     common.expect(wrote == wanted, f"{what} is not {path}: {wrote!r}")
 
@@ -182,7 +182,7 @@ def lines():
 
 
 def grammar():
-    """Where each line leaves the grammar, and what may stand there."""
+    """Where each line leaves the grammar, and what may come there."""
     operation, number, size = "move, fill, compare, delta or dualcast", "a number below 2^64", "a number below 2^32"
     option = "an option that does not stand before: pasid, privileged, check, flags or handle"
     more = "a comma, or the end of the line"
@@ -343,7 +343,7 @@ def fences():
 
 
 def lacking(moves, plan, rules=common.SETTINGS):
-    """The lines of a refusal of the plan behind its first: which fences the plan lacks."""
+    """The lines after the first of a refusal of the plan: which fences the plan lacks."""
     text = common.judge(pieces_of(moves), plan, rules)
     ran = subprocess.run([TEXT, "explain"], input=text.encode(), capture_output=True)
     common.expect((ran.returncode, ran.stdout) == (1, b""), f"explain of {text[:400]} ends with {ran.returncode}")
@@ -511,7 +511,7 @@ def reasons_drawn():
         common.expect(row_at and bar in drawn, f"{later}: {drawn}")
         line = rf'<line x1="\d+" y1="{int(row_at[1]) - 4}" x2="\d+" y2="\d+" class="conflict"'
         common.expect(re.search(line, drawn), f"{later}: {drawn}")
-    # 500 pieces, and behind a fence 500 that read what those write
+    # 500 pieces, and after a fence 500 that read what those write
     moves = [(0x10_0000 + 64 * k, 0x100_0000 + 64 * k) for k in range(500)]
     moves += [(0x100_0000 + 64 * k, 0x200_0000 + 64 * k) for k in range(500)]
     rules = common.settings(greatest_batch=1024, staging=0x4000_0000)
@@ -635,7 +635,7 @@ def named_files():
 
 
 def forms_of_bytes():
-    """`disassemble` reads what xxd, xxd -p and hexdump write, and bytes as they stand."""
+    """`disassemble` reads what xxd, xxd -p and hexdump write, and bytes as they are."""
     job = json.loads(Path("examples/plan.job").read_text())
     answer = json.loads(Path("examples/plan.line").read_text())
     for command, digits in [

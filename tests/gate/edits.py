@@ -69,7 +69,7 @@ def head_line(lines, at):
 
 
 def body_line(lines, at, indent):
-    """Returns the index of the line that opens the body of the function that begins at a line, behind its contract."""
+    """Returns the index of the line that opens the body of the function that begins at a line, after its contract."""
     opens = (it for it in range(at, len(lines)) if lines[it].startswith(indent) and not lines[it].startswith(indent + " "))
     return next((it for it in opens if lines[it].endswith(("{", "}"))), at)
 
@@ -116,7 +116,7 @@ def targets_of(crate, pairs):
 
 
 def applied(crate, edits):
-    """Returns the texts of the files with all these edits, or None where one's old text then isn't there once."""
+    """Returns the texts of the files with all these edits, or None if the old text of one is not there just once."""
     texts = {}
     for edit in edits:
         for path, old, new in edit.pairs:
@@ -251,7 +251,7 @@ def sum_of(crate, edits):
 
 
 def take_kept(crate, to):
-    """Links what the crate's proof kept, where the kit's checks replace such a file and change none, and else copies it. Where
+    """Links what the crate's proof kept if the kit's checks replace such files and change none, and else copies it. Where
     a file could not be taken, it says why and tries once more."""
     take = getattr(rt, "linked", shutil.copytree)
     try:

@@ -6,7 +6,7 @@
     gate.py --kept --proofs NAME .. only the proofs of these crates and of those below them
 
 Tasks run side by side, one a processor. Each is a process of its own, so its processor time is known; what it printed
-stands in the log folder. The last lines have the table of parts, each failure with its reason, and `N passed, N failed`."""
+is in the log folder. The last lines have the table of parts, each failure with its reason, and `N passed, N failed`."""
 import argparse
 import importlib.machinery
 import importlib.util
@@ -51,7 +51,7 @@ class Task:
     def __init__(self, kind, name, command, weight, waits=(), folder=ROOT):
         self.kind, self.name, self.command, self.weight = kind, name, command, weight
         self.waits, self.folder = [*waits], folder
-        # what is behind it, its own work too
+        # the work that waits for it, its own too
         self.behind, self.jobs, self.can_wait = weight, 1, False
         self.passed, self.failed, self.processor, self.clock, self.said = 0, 0, 0.0, 0.0, ""
 
@@ -111,7 +111,7 @@ def stop_all(number, _frame):
 
 
 def add_up_what_waits(tasks):
-    """Notes for each task how much work is behind it, on the longest way to the end."""
+    """Notes for each task how much work waits for it, on the longest way to the end."""
     for task in reversed(tasks):
         for below in task.waits:
             below.behind = max(below.behind, below.weight + task.behind)
@@ -140,7 +140,7 @@ def most_jobs(task, is_alone):
 
 
 def start_ready(left, running, done, lanes, is_alone, start):
-    """Starts tasks while a processor is idle, first those with the most behind them."""
+    """Starts tasks while a processor is idle, first those for which the most work waits."""
     ready = [it for it in left if all(below in done for below in it.waits)]
     for at, task in enumerate(ready):
         idle = lanes - len(running)

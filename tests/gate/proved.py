@@ -1,8 +1,8 @@
 #!/usr/bin/env python3
 """Says what the gate recorded as proved of programs and archives: proved.py NAME ..
 
-It writes a line for each crate that is named: its name, the kit, and the SHA-256 sum of the built file. Where the gate has
-no record of a crate, or of another file, other sources or another kit than there are now, it ends with the reason."""
+It writes a line for each crate that is named: its name, the kit, and the SHA-256 sum of the built file. If the gate has no
+record of a crate, or one of another file, other sources or another kit than there are now, it ends with the reason."""
 import os
 import sys
 

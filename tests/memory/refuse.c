@@ -6,8 +6,8 @@
  *   HOSTILE_THREAD                  the start of a thread that is refused
  *   HOSTILE_HOLD                    if it is not 0, threads that are started before that one begin a while after the refusal
  *   HOSTILE_REPORT                  the file that gets a line at the end: how many allocations were asked for, how many
- *                                   starts of threads, how many late reads (those of standard input behind its end,
- *                                   behind a read that failed, or once anything was written), how many threads were
+ *                                   starts of threads, how many late reads (those of standard input past its end,
+ *                                   after a read that failed, or once anything was written), how many threads were
  *                                   started and have not ended, and how many microseconds of a processor all took together
  *   HOSTILE_READ_MOST               the most bytes that a read gives
  *   HOSTILE_READ_FAULT              the read that fails; the next would go on

@@ -13,7 +13,7 @@ import tarfile
 import tempfile
 from pathlib import Path
 
-from common import ROOT, block_after, compiler, expect, named, program, run_test, stop
+from common import ROOT, block_after, compiler, expect, named, program, run_test
 
 sys.path.insert(0, str(ROOT / "bindings/package"))
 import make

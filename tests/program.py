@@ -2,7 +2,6 @@
 and its status in each case: 0 for an answer, 1 for a refusal, 2 if reading or writing fails. It looks at no arguments,
 and writes nothing to standard error. A word takes the jobs that have it in their names."""
 
-import re
 import subprocess
 from glob import glob
 from pathlib import Path

@@ -301,8 +301,8 @@ def judge(recording, report, status, name, assumed=("writes", False)):
         totals["fences"] += len(it.fences)
         for kind, some in it.found.items():
             totals[kind] += len(some)
-        for name, number in it.costs(is_batch).items():
-            costs[name] += number
+        for kind, number in it.costs(is_batch).items():
+            costs[kind] += number
     common.expect(report["costs"] == costs, f"{name}: costs {report['costs']}, and not {costs}")
     common.expect(report["totals"] == totals, f"{name}: totals {report['totals']}, and not {totals}")
     common.expect(status == int(totals["missing"] + totals["flaws"] > 0), f"{name}: status {status}")

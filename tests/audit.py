@@ -197,6 +197,9 @@ def small_memory():
 def forms():
     """A recording has the same report in each form, and each form is what its program writes, where that is there."""
     writers = {"xxd": (xxd, ["xxd"]), "xxd -p": (plain, ["xxd", "-p"]), "hexdump": (hexdump, ["hexdump", "-v", "-C"])}
+    for name in ("xxd", "hexdump"):
+        if not shutil.which(name):
+            common.skip(f"what {name} itself writes: it is not there")
     for seed in range(40):
         recording = Maker(seed).recording()
         report = audited(recording)

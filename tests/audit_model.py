@@ -32,7 +32,8 @@ FLAWS = ("shared record", "overwrites batch", "data over record", "misaligned re
 def audited(recording, words=""):
     """The report on a recording as JSON, and the status. findings.py judges its keys, and what it says of entries."""
     ran = subprocess.run([program("dsa_text"), "audit", "--json", *words.split()], input=recording, capture_output=True)
-    common.expect(ran.returncode in (0, 1) and not ran.stderr, f"audit ends with {ran.returncode}: {ran.stderr[:300]}")
+    is_told = ran.returncode in (0, 1) and ran.stdout and not ran.stderr
+    common.expect(is_told, f"audit ends with {ran.returncode}, {len(ran.stdout)} bytes and {ran.stderr[:300]}")
     report = json.loads(ran.stdout or "{}")
     for finding in report.get("findings", []):
         del finding["entries"], finding["key"]

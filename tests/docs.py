@@ -22,6 +22,7 @@ def printed(command):
 def session(block):
     """A block of commands, each with `$ ` before it and what it prints after it."""
     parts = re.split(r"^\$ ", block, flags=re.M)[1:]
+    expect(parts, f"no command begins with `$ `: {block!r}")
     for part in parts:
         command, _, wanted = part.partition("\n")
         got = printed(command)

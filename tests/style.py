@@ -111,7 +111,7 @@ def found():
     for path, text in files().items():
         broken = [*lines(path, text), *words(path, text)]
         if path.suffix in CODE:
-            broken.append(("800", int(text.count("\n") > MOST_LINES)))
+            broken.append(("800", int(text.count("\n") >= MOST_LINES)))
         for rule, number in broken:
             counts[place_of(path), rule] += number
     for (crate, _), file in definitions.files().items():

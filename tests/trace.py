@@ -624,8 +624,7 @@ def decoder():
 
 
 def cost():
-    """What a submission takes, by stubs and by signals: printed, and judged loosely, since other work may run beside
-    it."""
+    """What a submission takes, by stubs and by signals: printed, and judged loosely, since other work may run."""
     told("the build of cost", ran("gcc", *STRICT, "-O2", "-o", client("cost"), "tests/trace/cost.c"), 0)
     for words in (["--order", "fifo"], [], ["--out", f"{WORK}/costs"]):
         took = []

@@ -74,6 +74,16 @@ def conflict(one, other):
     return meet(one[1], other[0] + other[1]) or meet(other[1], one[0])
 
 
+def overlap(earlier, later, hazard, address):
+    """How many bytes from the address on are in both sides of the hazard: of each the first span that has the address
+    counts; none if one has it not."""
+    sides = {
+        "read after write": (earlier[1], later[0]), "write after read": (earlier[0], later[1]),
+        "write after write": (earlier[1], later[1]),
+    }[hazard]
+    return min(next((at + n - address for at, n in side if at <= address < at + n), 0) for side in sides)
+
+
 class Made:
     """A submission with the numbers of its entries."""
 
@@ -124,15 +134,16 @@ def random_submission(draw):
 
 
 def random_course(draw):
-    """A recording, its events, and for each entry the last one for which a wait is missing."""
-    recording, lines, made, flying, waits = b"", [], [], {}, {}
+    """A recording, its events, for each entry the last one that it should wait for, and what entries read and write."""
+    recording, lines, made, flying, waits, uses = b"", [], [], {}, {}, []
     open_events = []
     for number in range(draw.randrange(1, 12)):
         new = Made(number, len(recording) // 64, random_submission(draw), f"wq0.{draw.randrange(2)}")
         recording += b"".join(new.entries)
         lines.append(new.line())
         for k in range(len(new.entries)):
-            against = [e for e, (s, i) in flying.items() if conflict(s.spans(i), new.spans(k))]
+            uses.append(new.spans(k))
+            against = [e for e in flying if conflict(uses[e], uses[-1])]
             if against:
                 waits[new.first + k] = max(against)
         made.append(new)
@@ -145,7 +156,7 @@ def random_course(draw):
         for _ in range(draw.randrange(0, 5)):
             if open_events:
                 happen(draw, open_events, lines, made, flying)
-    return recording, "".join(line + "\n" for line in lines), waits
+    return recording, "".join(line + "\n" for line in lines), waits, uses
 
 
 def happen(draw, open_events, lines, made, flying):
@@ -240,29 +251,31 @@ def judge_keys(recording, events, keys, name):
 
 
 def judged(seed):
-    """One random recording."""
-    recording, events, waits = random_course(random.Random(seed))
+    """One random recording; answers whether a wait is missing."""
+    recording, events, waits, uses = random_course(random.Random(seed))
     status, out, err = audited(recording, events)
     found, told = {}, {}
     for shown in LINE.finditer(out):
         later, earlier = int(shown[1]), int(shown[5])
         found[later], told[later] = earlier, (shown[3], shown[8], int(shown[9]))
         named = [int(shown[k]) for k in range(10, 14)]
-        right = KINDS.get((shown[4], shown[7])) == shown[3] and shown[9] != "0"
+        count = overlap(uses[earlier], uses[later], shown[3], int(shown[8], 16))
+        right = KINDS.get((shown[4], shown[7])) == shown[3] and 0 < int(shown[9]) == count
         if not right or named != [later, 64 * later, earlier, 64 * earlier]:
-            common.expect(False, f"seed {seed}: {shown[0]}")
+            common.expect(False, f"seed {seed}: {count} bytes conflict: {shown[0]}")
     wanted = f"\n{len(waits)} missing wait{'s' * (len(waits) != 1)}, "
     right = found == waits and wanted in out and (status == 1 or not waits) and status < 2
     common.expect(right, f"seed {seed}: wanted {waits}, found {found}, status {status} {err}")
     if right:
         keys = judge_report(recording, events, waits, told, f"seed {seed}")
         judge_keys(recording, events, keys, f"seed {seed}")
+    return len(waits) > 0
 
 
 def brute_force():
-    """Random recordings."""
-    for seed in range(COUNT):
-        judged(seed)
+    """Random recordings, of which many lack a wait."""
+    lacking = sum(judged(seed) for seed in range(COUNT))
+    common.expect(lacking > COUNT // 4, f"only {lacking} of {COUNT} recordings lack a wait")
 
 
 def by_hand():

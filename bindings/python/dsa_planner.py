@@ -655,8 +655,7 @@ def prepare(settings: Settings, operations: Bytes, regions: Sequence[Tuple[int, 
 
 
 def prepare_fenced(settings: Settings, operations: Bytes, regions: Sequence[Tuple[int, int]]) -> Prepared:
-    """The same, but an operation may have the flag `BARRIER`, as for `plan_fenced_list`: each filled submission keeps
-    its barrier."""
+    """The same, but operations may have the flag `BARRIER`, as for `plan_fenced_list`; what is filled keeps them."""
     return _prepared(_library.dsa_prepare_fenced, settings, operations, regions)
 
 
@@ -773,8 +772,7 @@ class Tracker:
         return list(slots)[:count]
 
     def ask(self, reads: Spans, writes: Spans) -> FrozenSet[int]:
-        """The outstanding submissions in conflict with accesses to these spans: with none, the host may do them at
-        once."""
+        """The outstanding submissions that conflict with accesses to these spans: with none, do them at once."""
         waits, refusal = ctypes.c_uint64(), _Refusal()
         given = *_spans("reads", reads), *_spans("writes", writes)
         _answered(_library.dsa_track_ask(*self._words, *given, waits, refusal), refusal)

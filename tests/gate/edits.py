@@ -1,11 +1,12 @@
 #!/usr/bin/env python3
-"""Tries the must-fail edits of a proved crate, many at a time: edits.py [--kept] NAME [EDIT ..]. With --kept a crate is
-passed over that has been tried since its last change, and whose libraries and edits have not changed either.
+"""Tries the must-fail edits of a proved crate, many at a time: edits.py [--kept] [--alone] NAME [EDIT ..]. With --kept
+a crate is passed over if neither it, its libraries nor its edits have changed since they were tried so.
 
 The proof of a function reads its own body and the contracts of what it calls. So one check of a copy with an edit in
 each of many functions refuses or proves each of them by itself, and its output says which. In such a round an edit counts
 as refused only where the check names a goal of the edited function; that a function calls a refused one counts for
-nothing. Every other edit is tried alone, by the rules of `rt must-fail`, and has to be refused by a goal as well.
+nothing. Every other edit is tried alone, by the rules of `rt must-fail`, and has to be refused by a goal as well; with
+--alone each is.
 
 Controls, tests/gate/controls/NAME/*.edit, change no meaning: they go into the same rounds, and have to be found not refused."""
 import argparse
@@ -208,13 +209,13 @@ def tried_alone(crate, edit, kept):
     return True, f"refused, as it must be: {goal}"
 
 
-def tried(crate, edits, kept):
+def tried(crate, edits, kept, is_alone):
     """Yields each edit with whether it is as it should be, and what to say."""
-    alone = [it for it in edits if not it.targets and not it.fault]
+    alone = [it for it in edits if not it.fault and (is_alone or not it.targets)]
     for edit in edits:
         if edit.fault:
             yield edit, False, f"BAD EDIT: {edit.fault}"
-    for its in rounds_of(crate, [it for it in edits if it.targets]):
+    for its in rounds_of(crate, [it for it in edits if it.targets and not is_alone]):
         lines = checked_round(crate, its, kept)
         for edit in its:
             goal = own_goal(crate, edit, lines)
@@ -263,14 +264,14 @@ def take_kept(crate, to):
         take(f"{crate.folder}/{toolchain.KEPT}", to)
 
 
-def failures_of(crate, edits):
+def failures_of(crate, edits, is_alone):
     """Tries the edits, prints what came of each, and returns how many are not as they should be."""
     failed = 0
     # In the crate's own out/, where links can be made.
     with tempfile.TemporaryDirectory(prefix="edits-", dir=f"{crate.folder}/out") as room:
         kept = f"{room}/kept"
         take_kept(crate, kept)
-        for edit, is_well, said in tried(crate, edits, kept):
+        for edit, is_well, said in tried(crate, edits, kept, is_alone):
             failed += not is_well
             print(f"must-fail {crate.name}/{edit.name}: {said[:160] if is_well else 'FAILED: ' + said[:400]}", flush=True)
     return failed
@@ -280,6 +281,7 @@ def words():
     """Reads the command line."""
     parser = argparse.ArgumentParser(description="Tries the must-fail edits of a proved crate.")
     parser.add_argument("--kept", action="store_true", help="pass over a crate that has been tried since its last change")
+    parser.add_argument("--alone", action="store_true", help="try each edit in a check of its own")
     parser.add_argument("name", metavar="NAME", help="the crate")
     parser.add_argument("edits", metavar="EDIT", nargs="*", help="the names of edits (all)")
     return parser.parse_args()
@@ -290,13 +292,13 @@ def main():
     crate = toolchain.crates()[given.name]
     rtlib.guarded()
     edits, bad = edits_of(crate, given.edits)
-    stamp, total = f"{crate.folder}/out/edits.stamp", sum_of(crate, edits)
+    stamp, total = f"{crate.folder}/out/{'alone' if given.alone else 'edits'}.stamp", sum_of(crate, edits)
     if given.kept and not bad and rtlib.text_of(stamp) == total:
         print(f"tried since the last change\n{len(edits)} passed, 0 failed")
         return 0
     for file in bad:
         print(f"{given.name}: BAD EDIT: {file} is no .edit file right in must-fail/")
-    failed = len(bad) + failures_of(crate, edits)
+    failed = len(bad) + failures_of(crate, edits, given.alone)
     if not failed and not given.edits:
         with open(stamp, "w", encoding="utf-8") as file:
             file.write(total)

@@ -4,6 +4,7 @@
     gate.py                         all of it
     gate.py --kept [NAME ..]        the same over what earlier checks proved: of these crates and scripts alone
     gate.py --kept --proofs NAME .. only the proofs of these crates and of those below them
+    gate.py --kept --alone [NAME ..] the proofs, and each edit (of these crates) in a check of its own
 
 Tasks run side by side, one a processor. Each is a process of its own, so its processor time is known; what it printed
 is in the log folder. The last lines have the table of parts, each failure with its reason, and `N passed, N failed`."""
@@ -35,6 +36,8 @@ NEAR_LONGEST = 0.9
 LIMIT = 7200
 # The seconds that it takes to read all libraries, compile and link a program or an archive.
 LINKING = 100
+# The seconds that an edit takes: with others in one check, and in a check of its own.
+EDIT, EDIT_ALONE = 6, 35
 # Proofs that take several times what their lines tell, by measurement: their bodies call much of clap and of JSON's crates.
 TIMES_LONGER = {"dsa_text": 2.4, "dsa_report": 1.6}
 COUNTS = re.compile(r"^(?:[\w./-]+: )?(\d+) passed[,;] (\d+) failed", re.M)
@@ -224,17 +227,23 @@ def needs_of_scripts():
     return {name: module.needs(name) for name in module.NAMES}
 
 
-def tasks_of_crates(crates, proofs, kept):
-    """Returns the tasks beyond its proof that each crate has: its edits and its tests."""
+def tasks_of_edits(crates, proofs, given):
+    """Returns the tasks that try the edits of crates."""
     found = []
     for name, crate in crates.items():
         edits = sum(len(it) for it in toolchain.rt.edits_of(crate))
         if edits:
-            found.append(Task("edits", name, python("edits.py", *["--kept"] * kept, name), 30 + 6 * edits, [proofs[name]]))
-        if crate.has_tests():
-            command = [shutil.which("rt") or "rt", "try", "--test"]
-            found.append(Task("tests", name, command, 90, [proofs[it.name] for it in crate.below()], crate.folder))
+            command = python("edits.py", *["--kept"] * given.kept, *["--alone"] * given.alone, name)
+            weight = 30 + edits * (EDIT_ALONE if given.alone else EDIT)
+            found.append(Task("edits", name, command, weight, [proofs[name]]))
     return found
+
+
+def tasks_of_tests(crates, proofs):
+    command = [shutil.which("rt") or "rt", "try", "--test"]
+    tested = {name: crate for name, crate in crates.items() if crate.has_tests()}
+    waits = {name: [proofs[it.name] for it in crate.below()] for name, crate in tested.items()}
+    return [Task("tests", name, command, 90, waits[name], crate.folder) for name, crate in tested.items()]
 
 
 def tasks_of_scripts(scripts, proofs):
@@ -262,7 +271,10 @@ def tasks_of(crates, given):
             task.weight = task.behind = 1
     if given.proofs:
         return [*proofs.values()]
-    return [*proofs.values(), *tasks_of_crates(wanted, proofs, given.kept), *tasks_of_scripts(scripts, proofs)]
+    edits = tasks_of_edits(wanted, proofs, given)
+    if given.alone:
+        return [*proofs.values(), *edits]
+    return [*proofs.values(), *edits, *tasks_of_tests(wanted, proofs), *tasks_of_scripts(scripts, proofs)]
 
 
 def note_of_room():
@@ -335,11 +347,12 @@ def words():
     parser = argparse.ArgumentParser(description="Runs the merge gate, or a part of it.")
     parser.add_argument("--kept", action="store_true", help="take over what earlier checks proved")
     parser.add_argument("--proofs", action="store_true", help="prove and build alone")
+    parser.add_argument("--alone", action="store_true", help="prove, and try each edit in a check of its own")
     parser.add_argument("--logs", help="the folder of logs (a temporary one)")
     parser.add_argument("names", metavar="NAME", nargs="*", help="a crate or a script (all)")
     given = parser.parse_args()
-    if given.names and not given.kept:
-        parser.error("names go with --kept: the gate from nothing runs all")
+    if (given.names or given.proofs or given.alone) and not given.kept:
+        parser.error("names, --proofs and --alone go with --kept: the gate from nothing runs all")
     return given
 
 

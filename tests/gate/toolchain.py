@@ -25,7 +25,7 @@ def load_rt():
     loader.exec_module(module)
     found = kit_of(module)
     if not found.startswith(KIT_IDS):
-        sys.exit(f"the gate knows {' and '.join(KIT_IDS)}, and this is {found}: run tests/full, which asks rt alone")
+        sys.exit(f"the gate knows {' and '.join(KIT_IDS)}, and this is {found}: run rt ci")
     return module
 
 
@@ -45,7 +45,7 @@ rtlib.VERDICT = re.compile(
 )
 
 
-# The search for contracts that no call can meet costs a twentieth of a proof: tests/full makes it.
+# The search for contracts that no call can meet costs a twentieth of a proof: `tests/full proofs` makes it.
 HELP = rtlib.help_of
 rtlib.help_of = lambda verb: HELP(verb).replace("--empty-contracts", "")
 

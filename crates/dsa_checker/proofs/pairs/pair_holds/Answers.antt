@@ -1,4 +1,5 @@
-use Rattle.std.proofs.Common.{◌≡◌, ◌<◌, ◌≤◌, ◌⊎◌, inl, inr, map, length, None, Some, ap, ◌∙◌, slice_get}
+use Rattle.std.proofs.Common.{◌≡◌, ◌<◌, ◌≤◌, ◌⊎◌, inl, inr, map, length, None, Some, ap, ◌∙◌, slice_get, arith}
+use Rattle.std.proofs.lemmas.Grind.{elements}
 use Rattle.std.proofs.lemmas.Option.{slice_get-get_or}
 use Rattle.dsa_descriptor.specs.Descriptors.{fields}
 use Rattle.dsa_ranges.specs.Ranges.{ConflictAt}
@@ -27,3 +28,6 @@ returns c =
           c.if-first-i.false c.if-second-first.false c.if-pieces-second.false (c.conflict_or_barrier.ensures.0 yes),
       λ h. c.conflict_or_barrier.ensures.1 (conflict_if (WithBarriers (ConflictAt (map fields c.args.pieces.now)) c.args.barriers.now) (length c.args.pieces.now) c.args.pairs.now c.args.i c.in-Some.first c.in-Some.second is h),
     )
+
+pub returns-in_default : goal.returns-in_default
+returns-in_default c = grind (arith, elements)

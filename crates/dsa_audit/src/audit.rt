@@ -12,7 +12,7 @@ use crate::repeats::{Action, OrderedConflicts, ordered_lasts, repeats_of};
 use std::alloc::{AllocError, Global};
 
 /// Which fences of a batch are missing, and which are needless.
-#[derive(Debug, Drop)]
+#[derive(Drop)]
 pub struct Audit {
     /// For each member the last one before it that it is known to conflict with, if it does what that one does and
     /// neither reads what the other writes: their order does not matter, and no fence between them is missing.

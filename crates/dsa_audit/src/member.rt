@@ -6,7 +6,7 @@ ghost use Rattle.dsa_audit.specs.Members.{AreKnownToConflict, CanConflict};
 use dsa_ranges::{Touched, in_conflict};
 
 /// Why a member of a recorded batch is not looked at.
-#[derive(Clone, Copy, Debug, PartialEq, Eq)]
+#[derive(Clone, Copy, PartialEq, Eq)]
 pub enum Unseen {
     /// Its 64 bytes are all zero, as in memory that nobody wrote.
     Blank,
@@ -23,7 +23,7 @@ pub enum Unseen {
 }
 
 /// A member of a recorded batch.
-#[derive(Debug, Drop)]
+#[derive(Drop)]
 pub enum Member {
     /// What it reads and writes.
     Known(Touched),

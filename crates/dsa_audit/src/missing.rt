@@ -8,7 +8,7 @@ use crate::relation::{Relation, last_conflict};
 use std::alloc::{AllocError, Global};
 
 /// What is before a member of a batch, and what has to.
-#[derive(Clone, Copy, Debug, PartialEq, Eq)]
+#[derive(Clone, Copy)]
 pub enum FencePlace {
     /// No fence, and none is missing.
     NoFence,
@@ -38,7 +38,7 @@ impl FencePlace {
 }
 
 /// The fences that a batch has and those that it lacks.
-#[derive(Debug, Drop)]
+#[derive(Drop)]
 pub struct Corrected {
     /// What is before each member, and what has to be.
     pub places: Vec<FencePlace>,

@@ -8,7 +8,7 @@ use crate::relation::{Relation, last_conflict};
 use std::alloc::{AllocError, Global};
 
 /// What a fence is for.
-#[derive(Clone, Copy, Debug, PartialEq, Eq)]
+#[derive(Clone, Copy)]
 pub enum FenceUse {
     /// There is no fence.
     NoFence,
@@ -27,7 +27,7 @@ pub enum FenceUse {
 }
 
 /// What members can do beside reading and writing memory.
-#[derive(Clone, Copy, Debug)]
+#[derive(Clone, Copy)]
 pub struct Effects<'a> {
     /// Whether each member can fail, so that the next fence stops the rest of its batch.
     pub fallible: &'a [bool],
@@ -72,7 +72,7 @@ impl FenceUse {
 }
 
 /// The fences of a batch that are needed.
-#[derive(Debug, Drop)]
+#[derive(Drop)]
 pub struct Reduced {
     /// What the fence before each member is for.
     pub uses: Vec<FenceUse>,

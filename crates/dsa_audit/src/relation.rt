@@ -22,14 +22,14 @@ pub trait Relation {
 }
 
 /// Members conflict where what is known of both shows it.
-#[derive(Clone, Copy, Debug)]
+#[derive(Clone, Copy)]
 pub struct KnownConflicts<'a> {
     /// The members.
     pub members: &'a [Member],
 }
 
 /// Members conflict where what is known of both does not rule it out.
-#[derive(Clone, Copy, Debug)]
+#[derive(Clone, Copy)]
 pub struct PossibleConflicts<'a> {
     /// The members.
     pub members: &'a [Member],

@@ -14,7 +14,7 @@ use dsa_ranges::meets_some;
 use std::alloc::{AllocError, Global};
 
 /// What a member does.
-#[derive(Clone, Copy, Debug, PartialEq, Eq)]
+#[derive(Clone, Copy, PartialEq, Eq)]
 pub struct Action {
     /// Its operation with all operands, if it is one of a plan's: no other is reported as a repeat.
     pub op: Option<Op>,
@@ -168,7 +168,7 @@ pub(crate) fn ordered_lasts(
 }
 
 /// Members whose order matters: they conflict by what is known of both, and neither repeats the other.
-#[derive(Clone, Copy, Debug)]
+#[derive(Clone, Copy)]
 pub struct OrderedConflicts<'a> {
     /// What each does.
     pub actions: &'a [Action],

@@ -9,7 +9,7 @@ use std::io;
 use std::time::Instant;
 
 /// How the moves of a list lie to each other. Each moves a page.
-#[derive(Clone, Copy, Debug)]
+#[derive(Clone, Copy)]
 enum Kind {
     /// From each page to the next one.
     Apart,

@@ -17,7 +17,7 @@ const ROUNDS: u32 = 50;
 const PAGE: u64 = 4096;
 
 /// Which pages the moves of all lists take.
-#[derive(Clone, Copy, Debug)]
+#[derive(Clone, Copy)]
 enum Pages {
     /// From each page to the next one.
     Rising,

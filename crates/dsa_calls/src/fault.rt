@@ -11,6 +11,7 @@ use dsa_engines::RoomFault;
 use dsa_plan::{EmissionFault, EntryFault, LegalFault, SettingsFault};
 use dsa_splitter::SplitFault;
 use std::alloc::AllocError;
+use std::fmt;
 
 /// Why a call or a job is refused. Each cause that a crate below finds is a value of that crate's
 /// type, which has its number, its name and its indices. Descriptors, pieces, groups, batches and
@@ -19,7 +20,7 @@ use std::alloc::AllocError;
 /// Out of memory is a single cause: `From` makes each crate's own `Memory` a [`PlanFault::Memory`],
 /// and no call returns another. (`PlanFault::List(ListFault::Memory)` and the like, which only a
 /// caller can write, have the same number, name and line.)
-#[derive(Clone, Copy, Debug, PartialEq, Eq)]
+#[derive(Clone, Copy, PartialEq, Eq)]
 pub enum PlanFault {
     /// The bytes are no list of descriptors.
     List(ListFault),
@@ -62,7 +63,7 @@ pub enum PlanFault {
 }
 
 /// The cause within a refusal, if a piece or a plan within is refused.
-#[derive(Clone, Copy, Debug, PartialEq, Eq)]
+#[derive(Clone, Copy)]
 pub enum InnerFault {
     /// The piece of an emission is refused.
     Entry(EntryFault),
@@ -303,5 +304,12 @@ impl PlanFault {
             | PlanFault::Engines
             | PlanFault::JobTooLong => None,
         }
+    }
+}
+
+/// Its name, without what it has.
+impl fmt::Debug for PlanFault {
+    fn fmt<W: fmt::Write>(&self, f: &mut fmt::Formatter<W>) -> fmt::Result {
+        f.write_str(self.name())
     }
 }

@@ -22,7 +22,7 @@ use dsa_splitter::{MarkedPieces, into_marked_pieces};
 use std::alloc::Global;
 
 /// What the bytes of a list with fences spell.
-#[derive(Debug, Drop)]
+#[derive(Drop)]
 pub struct FencedList {
     /// The operations, without their fences.
     pub operations: Vec<Descriptor>,

@@ -20,7 +20,7 @@ use dsa_plan::{Certificate, Settings, read_emission};
 use std::alloc::Global;
 
 /// Why bytes are refused as an emission of least cost for a list in which a fence is a barrier.
-#[derive(Clone, Copy, Debug, PartialEq, Eq)]
+#[derive(Clone, Copy)]
 pub enum FencedFault {
     /// What planning the list, reading the emission, or checking its plan refuses.
     Call(PlanFault),

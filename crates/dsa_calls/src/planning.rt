@@ -24,7 +24,7 @@ use dsa_splitter::{into_pieces, piece_barriers, pieces};
 use std::alloc::{AllocError, Global};
 
 /// A planned list.
-#[derive(Debug, Drop)]
+#[derive(Drop)]
 pub struct Planned {
     /// The pieces of the listed operations, in the order in which they are submitted.
     pub pieces: Vec<Descriptor>,

@@ -10,14 +10,14 @@ use std::alloc::{AllocError, Global};
 const BLOCK: usize = 64;
 
 /// Places from `from` to before `to`.
-#[derive(Clone, Copy, Debug, Default)]
+#[derive(Clone, Copy, Default)]
 pub(crate) struct Range {
     pub(crate) from: usize,
     pub(crate) to: usize,
 }
 
 /// Stamps for each place, for each block of places, and for each block of blocks.
-#[derive(Debug, Drop)]
+#[derive(Drop)]
 struct Levels {
     places: Vec<u32>,
     blocks: Vec<u32>,
@@ -25,7 +25,7 @@ struct Levels {
 }
 
 /// Stamps of ranges: the greatest one that begins at each place, and the greatest one that covers it.
-#[derive(Debug, Drop)]
+#[derive(Drop)]
 pub(crate) struct Stamps {
     /// A block has the greatest stamp of its places.
     points: Levels,

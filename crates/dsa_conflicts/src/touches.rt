@@ -14,7 +14,7 @@ use dsa_descriptor::{Descriptor, Span, record_span};
 use std::alloc::{AllocError, Global};
 
 /// A span that a piece reads or writes.
-#[derive(Clone, Copy, Debug)]
+#[derive(Clone, Copy)]
 pub(crate) struct Touch {
     pub(crate) span: Span,
     /// The index of the piece.
@@ -23,7 +23,7 @@ pub(crate) struct Touch {
 }
 
 /// What a span is to its piece. The spans of one kind often rise from piece to piece.
-#[derive(Clone, Copy, Debug)]
+#[derive(Clone, Copy)]
 enum Kind {
     Source,
     Record,

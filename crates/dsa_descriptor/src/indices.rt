@@ -1,7 +1,7 @@
 //! The indices that a refusal names.
 
 /// The indices that a refusal names, in their order.
-#[derive(Clone, Copy, Debug, PartialEq, Eq)]
+#[derive(Clone, Copy)]
 pub enum Indices {
     /// None.
     Empty,

@@ -9,7 +9,7 @@ use std::alloc::{AllocError, Global};
 pub(crate) const MOST_ROWS_SHOWN: usize = 48;
 
 /// A range of addresses, or several that are folded.
-#[derive(Clone, Copy, Debug)]
+#[derive(Clone, Copy)]
 pub(crate) struct Row {
     pub(crate) first: u64,
     pub(crate) end: u128,
@@ -22,7 +22,7 @@ pub(crate) struct Row {
 }
 
 /// What an operation does in a row.
-#[derive(Clone, Copy, Debug)]
+#[derive(Clone, Copy)]
 pub(crate) struct Mark {
     pub(crate) row: usize,
     pub(crate) column: usize,
@@ -31,7 +31,7 @@ pub(crate) struct Mark {
 }
 
 /// The rows and what is in them.
-#[derive(Debug, Drop)]
+#[derive(Drop)]
 pub(crate) struct Grid {
     pub(crate) rows: Vec<Row>,
     pub(crate) marks: Vec<Mark>,
@@ -40,7 +40,7 @@ pub(crate) struct Grid {
 }
 
 /// What has a place among the addresses, with the number of its column, fence or name.
-#[derive(Clone, Copy, Debug, PartialEq, Eq)]
+#[derive(Clone, Copy)]
 enum What {
     Reads(usize),
     Writes(usize),
@@ -49,7 +49,7 @@ enum What {
 }
 
 /// It, and its addresses.
-#[derive(Clone, Copy, Debug)]
+#[derive(Clone, Copy)]
 struct Item {
     span: Span,
     what: What,

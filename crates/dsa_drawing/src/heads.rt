@@ -8,7 +8,7 @@ use crate::texts::{SIZE, cut, letters_in, wrapped};
 use std::alloc::{AllocError, Global};
 
 /// The words above a group.
-#[derive(Debug, Drop)]
+#[derive(Drop)]
 struct Head {
     title: String,
     name: String,

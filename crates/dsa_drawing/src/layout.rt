@@ -3,7 +3,7 @@
 use dsa_ranges::Touched;
 
 /// What is submitted at once: a batch, or an operation alone.
-#[derive(Debug, Drop)]
+#[derive(Drop)]
 pub struct Group {
     /// What a browser shows of it under the pointer.
     pub title: String,
@@ -22,7 +22,7 @@ pub struct Group {
 }
 
 /// An operation, which has a column.
-#[derive(Debug, Drop)]
+#[derive(Drop)]
 pub struct Column {
     /// Its number, as it is named elsewhere.
     pub number: usize,
@@ -39,7 +39,7 @@ pub struct Column {
 }
 
 /// What is to be said of a fence.
-#[derive(Clone, Copy, Debug, PartialEq, Eq)]
+#[derive(Clone, Copy)]
 pub enum BarKind {
     /// A conflict or a barrier needs it.
     Needed,
@@ -57,7 +57,7 @@ pub enum BarKind {
 }
 
 /// Two operations that a fence separates, and an address at which they conflict.
-#[derive(Clone, Copy, Debug, PartialEq, Eq)]
+#[derive(Clone, Copy)]
 pub struct Separated {
     /// The column of the earlier.
     pub earlier: usize,
@@ -68,7 +68,7 @@ pub struct Separated {
 }
 
 /// A fence, or the place of one that is missing.
-#[derive(Debug, Drop)]
+#[derive(Drop)]
 pub struct Bar {
     /// The column that it is before.
     pub column: usize,
@@ -83,7 +83,7 @@ pub struct Bar {
 }
 
 /// An operation that is split into pieces, each of which has a column.
-#[derive(Debug, Drop)]
+#[derive(Drop)]
 pub struct Split {
     /// Its number.
     pub operation: usize,
@@ -92,7 +92,7 @@ pub struct Split {
 }
 
 /// The name of the buffer that has an address.
-#[derive(Debug, Drop)]
+#[derive(Drop)]
 pub struct Buffer {
     /// The address.
     pub address: u64,
@@ -101,7 +101,7 @@ pub struct Buffer {
 }
 
 /// What a picture shows.
-#[derive(Debug, Drop)]
+#[derive(Drop)]
 pub struct Layout<'a> {
     /// The title of the picture.
     pub title: String,

@@ -30,7 +30,7 @@ const WIDEST: usize = 80;
 const COLUMNS: usize = 740;
 
 /// Where everything is.
-#[derive(Debug, Drop)]
+#[derive(Drop)]
 pub(crate) struct Places {
     /// How wide a column is.
     pub(crate) width: usize,

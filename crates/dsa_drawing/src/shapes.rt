@@ -4,7 +4,7 @@ use crate::texts::{SIZE, cut, letter_size, letters_in, push_escaped};
 use std::alloc::{AllocError, Global};
 
 /// Where something begins: how far from the left, and from the top.
-#[derive(Clone, Copy, Debug, PartialEq, Eq)]
+#[derive(Clone, Copy)]
 pub(crate) struct Spot {
     pub(crate) x: usize,
     pub(crate) y: usize,
@@ -16,7 +16,7 @@ pub(crate) fn place(x: usize, y: usize) -> Spot {
 }
 
 /// How wide and how high something is.
-#[derive(Clone, Copy, Debug, PartialEq, Eq)]
+#[derive(Clone, Copy)]
 pub(crate) struct Extent {
     pub(crate) width: usize,
     pub(crate) height: usize,

@@ -7,7 +7,7 @@ use std::alloc::{AllocError, Global};
 pub(crate) const MOST_COLUMNS: usize = 24;
 
 /// What operations in one column have in common.
-#[derive(Clone, Copy, Debug, PartialEq, Eq)]
+#[derive(Clone, Copy, PartialEq, Eq)]
 pub(crate) enum Fold {
     /// No fence is about them.
     Plain,
@@ -20,7 +20,7 @@ pub(crate) enum Fold {
 }
 
 /// A column of a picture: of one operation, or of several that are folded; of an empty batch it has none.
-#[derive(Clone, Copy, Debug)]
+#[derive(Clone, Copy)]
 pub(crate) struct Slot {
     /// The first operation.
     pub(crate) first: usize,
@@ -68,7 +68,7 @@ impl Slot {
 }
 
 /// How operations are folded.
-#[derive(Clone, Copy, Debug)]
+#[derive(Clone, Copy)]
 struct Rule {
     /// Whether groups are folded.
     folds_groups: bool,

@@ -17,7 +17,7 @@ use std::alloc::{AllocError, Global};
 const BATCH: u32 = 0x0100_000c;
 
 /// The bytes that submit a plan.
-#[derive(Debug, Drop)]
+#[derive(Drop)]
 pub struct Emission {
     /// What is written to the portal, in this order: for each group 64 bytes.
     pub portal: Vec<u8>,

@@ -7,9 +7,10 @@ ghost use Rattle.dsa_emission.specs.Causes.{entry_number, entry_name, emission_i
 
 use dsa_descriptor::{FieldFault, Indices};
 use std::alloc::{AllocError, AllocFailed};
+use std::fmt;
 
 /// Why the bytes of one piece are refused.
-#[derive(Clone, Copy, Debug, PartialEq, Eq)]
+#[derive(Clone, Copy, PartialEq, Eq)]
 pub enum EntryFault {
     /// The bytes without the fence are no listed descriptor.
     Field(FieldFault),
@@ -57,7 +58,7 @@ impl From<FieldFault> for EntryFault {
 }
 
 /// Why bytes are no emission. Groups, pieces and batches are numbered from 0.
-#[derive(Clone, Copy, Debug, PartialEq, Eq)]
+#[derive(Clone, Copy, PartialEq, Eq)]
 pub enum EmissionFault {
     /// The portal isn't made of entries of 64 bytes.
     PortalLength,
@@ -150,6 +151,13 @@ impl EmissionFault {
             | EmissionFault::RecordBytes(_)
             | EmissionFault::Memory => None,
         }
+    }
+}
+
+/// Its name, without what it has.
+impl fmt::Debug for EmissionFault {
+    fn fmt<W: fmt::Write>(&self, f: &mut fmt::Formatter<W>) -> fmt::Result {
+        f.write_str(self.name())
     }
 }
 

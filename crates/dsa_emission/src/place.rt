@@ -7,7 +7,7 @@ ghost use Rattle.dsa_settings.specs.Plan.{piece_count};
 use dsa_settings::Group;
 
 /// What comes before a group of a plan.
-#[derive(Clone, Copy, Debug, Default, PartialEq, Eq)]
+#[derive(Clone, Copy, Default)]
 pub struct Place {
     /// The number of the first piece of the group.
     pub start: usize,

@@ -7,7 +7,7 @@ use dsa_plan::{Group, Plan};
 use std::alloc::{AllocError, Global};
 
 /// A piece in a picture: a box, and before it a bar if the piece is fenced.
-#[derive(Clone, Copy, Debug, PartialEq, Eq)]
+#[derive(Clone, Copy, PartialEq, Eq)]
 pub struct Cell {
     /// The number of its group, which is its row.
     pub row: usize,

@@ -9,9 +9,10 @@ use crate::fences::{Detail, Fence, fences_of};
 use dsa_descriptor::{Descriptor, MOST_PIECES};
 use dsa_plan::{Costs, LegalFault, Plan, Settings, is_legal_with, plan_costs};
 use std::alloc::{AllocError, Global};
+use std::fmt;
 
 /// What a plan costs, why it has its fences, and the places of its pieces in a picture.
-#[derive(Debug, Drop)]
+#[derive(Drop)]
 pub struct Explanation {
     /// What its groups cost, and what its pieces cost one by one.
     pub costs: Costs,
@@ -24,7 +25,7 @@ pub struct Explanation {
 }
 
 /// Why a plan is not explained.
-#[derive(Clone, Copy, Debug, PartialEq, Eq)]
+#[derive(Clone, Copy, PartialEq, Eq)]
 pub enum ExplainFault {
     /// There are more than [`MOST_PIECES`] pieces.
     TooManyPieces,
@@ -32,6 +33,17 @@ pub enum ExplainFault {
     Legal(LegalFault),
     /// An allocation failed.
     Memory,
+}
+
+/// Its name, without what it has.
+impl fmt::Debug for ExplainFault {
+    fn fmt<W: fmt::Write>(&self, f: &mut fmt::Formatter<W>) -> fmt::Result {
+        f.write_str(match self {
+            ExplainFault::TooManyPieces => "TooManyPieces",
+            ExplainFault::Legal(_) => "Legal",
+            ExplainFault::Memory => "Memory",
+        })
+    }
 }
 
 impl From<AllocError> for ExplainFault {

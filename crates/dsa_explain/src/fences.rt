@@ -14,7 +14,7 @@ use dsa_plan::{Group, Plan, is_barrier};
 use std::alloc::{AllocError, Global};
 
 /// Which of the conflicts that a fence separates an explanation names.
-#[derive(Clone, Copy, Debug, PartialEq, Eq)]
+#[derive(Clone, Copy)]
 pub enum Detail {
     /// The first one.
     First,
@@ -23,7 +23,7 @@ pub enum Detail {
 }
 
 /// A fence.
-#[derive(Debug, Drop)]
+#[derive(Drop)]
 pub struct Fence {
     /// The piece that it is before.
     pub piece: usize,

@@ -1,7 +1,7 @@
 //! Where pieces come from: which piece of which operation each is, and what the operations are called.
 
 /// The operation that a piece is of, and which of its pieces.
-#[derive(Clone, Copy, Debug, PartialEq, Eq)]
+#[derive(Clone, Copy)]
 pub struct Origin {
     /// The index of the operation.
     pub operation: usize,
@@ -12,7 +12,7 @@ pub struct Origin {
 }
 
 /// The operation that each piece is of, and the names of the operations.
-#[derive(Clone, Copy, Debug)]
+#[derive(Clone, Copy)]
 pub struct Labels<'a> {
     /// The origin of each piece; empty if no operations are known.
     pub origins: &'a [Origin],

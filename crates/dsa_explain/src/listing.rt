@@ -215,7 +215,7 @@ fn last_row(first: &Cell, cells: &[Cell], more: usize) -> usize
 }
 
 /// Pieces that share a line.
-#[derive(Clone, Copy, Debug)]
+#[derive(Clone, Copy)]
 struct Run<'a> {
     /// The index of the first one.
     index: usize,

@@ -11,7 +11,7 @@ use dsa_ranges::{Hazard, find_hazard, touched};
 use std::alloc::{AllocError, Global};
 
 /// A conflict that a fence separates. Pieces are numbered from 0.
-#[derive(Clone, Copy, Debug, PartialEq, Eq)]
+#[derive(Clone, Copy, PartialEq, Eq)]
 pub struct Reason {
     /// The piece before the fence.
     pub earlier: usize,

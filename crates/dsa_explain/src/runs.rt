@@ -11,7 +11,7 @@ use dsa_plan::{GroupCost, Settings};
 
 /// What is listed: the pieces of a plan, the operation that each is of, what the groups cost under settings, and the
 /// detail.
-#[derive(Clone, Copy, Debug)]
+#[derive(Clone, Copy)]
 pub(crate) struct Listing<'a> {
     pub(crate) settings: &'a Settings,
     pub(crate) detail: Detail,

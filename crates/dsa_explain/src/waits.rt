@@ -19,7 +19,7 @@ const MOST_GROUPS: u32 = 64;
 const MOST_SPANS: u32 = 3074;
 
 /// What groups wait for, if a tracker takes one after another.
-#[derive(Debug, Drop)]
+#[derive(Drop)]
 pub struct Waits {
     /// The slot of each group.
     pub slots: Vec<u32>,
@@ -28,7 +28,7 @@ pub struct Waits {
 }
 
 /// Why waits cannot be reported.
-#[derive(Clone, Copy, Debug, PartialEq, Eq)]
+#[derive(Clone, Copy)]
 pub enum WaitsFault {
     /// A tracker refuses the groups.
     Track(TrackFault),

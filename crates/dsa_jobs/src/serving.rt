@@ -17,7 +17,7 @@ use std::thread::Threads;
 const CHUNK: usize = 65_536;
 
 /// How the lines of a reader ended.
-#[derive(Clone, Copy, Debug, PartialEq, Eq)]
+#[derive(Clone, Copy)]
 pub enum Ending {
     /// All were read, and the lines of all jobs were written.
     AllServed,

@@ -11,7 +11,7 @@ use crate::words::next_word;
 use std::alloc::{AllocError, Global};
 
 /// What a line of a list has.
-#[derive(Clone, Copy, Debug, PartialEq, Eq)]
+#[derive(Clone, Copy)]
 pub(crate) enum LineKind {
     /// Neither an operation nor a barrier.
     Other,

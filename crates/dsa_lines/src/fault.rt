@@ -7,9 +7,10 @@ use crate::words::skip_blanks;
 use dsa_descriptor::{FieldFault, ListFault};
 use dsa_emission::EmissionFault;
 use std::alloc::AllocError;
+use std::fmt;
 
 /// What the grammar has at a place of a line.
-#[derive(Clone, Copy, Debug, PartialEq, Eq)]
+#[derive(Clone, Copy, PartialEq, Eq)]
 pub enum Expected {
     /// The name of an operation.
     Operation,
@@ -86,7 +87,7 @@ impl Expected {
 }
 
 /// Why a line spells no descriptor.
-#[derive(Clone, Copy, Debug, PartialEq, Eq)]
+#[derive(Clone, Copy, PartialEq, Eq)]
 pub enum LineFault {
     /// The line leaves the grammar at this column, from 1 on, where this was expected.
     Grammar(usize, Expected),
@@ -94,8 +95,18 @@ pub enum LineFault {
     Field(FieldFault),
 }
 
+/// Its name, without what it has.
+impl fmt::Debug for LineFault {
+    fn fmt<W: fmt::Write>(&self, f: &mut fmt::Formatter<W>) -> fmt::Result {
+        f.write_str(match self {
+            LineFault::Grammar(_, _) => "Grammar",
+            LineFault::Field(_) => "Field",
+        })
+    }
+}
+
 /// Why a text spells no list. Lines and columns are counted from 1.
-#[derive(Clone, Copy, Debug, PartialEq, Eq)]
+#[derive(Clone, Copy, PartialEq, Eq)]
 pub enum TextFault {
     /// The line leaves the grammar at the column, where this was expected.
     Grammar(usize, usize, Expected),
@@ -105,6 +116,17 @@ pub enum TextFault {
     Memory,
 }
 
+/// Its name, without what it has.
+impl fmt::Debug for TextFault {
+    fn fmt<W: fmt::Write>(&self, f: &mut fmt::Formatter<W>) -> fmt::Result {
+        f.write_str(match self {
+            TextFault::Grammar(_, _, _) => "Grammar",
+            TextFault::List(_, _) => "List",
+            TextFault::Memory => "Memory",
+        })
+    }
+}
+
 impl From<AllocError> for TextFault {
     fn from(_: AllocError) -> TextFault {
         TextFault::Memory
@@ -112,7 +134,7 @@ impl From<AllocError> for TextFault {
 }
 
 /// Why bytes are no portal, or no staging area.
-#[derive(Clone, Copy, Debug, PartialEq, Eq)]
+#[derive(Clone, Copy)]
 pub enum EmittedFault {
     /// The length of a portal or a staging area.
     Emission(EmissionFault),
@@ -129,7 +151,7 @@ impl From<AllocError> for EmittedFault {
 }
 
 /// Where reading stopped: so many bytes before the end of the line, where this was expected.
-#[derive(Clone, Copy, Debug)]
+#[derive(Clone, Copy)]
 pub(crate) struct Stop {
     pub(crate) left: usize,
     pub(crate) expected: Expected,

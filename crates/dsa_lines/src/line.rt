@@ -8,7 +8,7 @@ ghost use Rattle.dsa_lines.specs.Recordings.{fenced};
 use dsa_descriptor::Op;
 
 /// The fields that a line spells, which need not be those of a listed descriptor.
-#[derive(Clone, Copy, Debug)]
+#[derive(Clone, Copy)]
 pub(crate) struct Line {
     pub(crate) pasid: u32,
     pub(crate) privileged: bool,

@@ -22,7 +22,7 @@ const CHECK_RESULT: u16 = 0x0080;
 const MOST_OPTIONS: usize = 5;
 
 /// The options of a line.
-#[derive(Clone, Copy, Debug)]
+#[derive(Clone, Copy)]
 pub(crate) struct Options {
     pub(crate) pasid: Option<u32>,
     pub(crate) privileged: bool,

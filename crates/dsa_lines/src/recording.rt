@@ -20,7 +20,7 @@ use std::alloc::Global;
 const BATCH: u32 = 0x0100_000c;
 
 /// The line of a batch.
-#[derive(Clone, Copy, Debug)]
+#[derive(Clone, Copy)]
 pub(crate) struct BatchLine {
     pub(crate) count: u32,
     pub(crate) list_at: u64,
@@ -28,7 +28,7 @@ pub(crate) struct BatchLine {
 }
 
 /// What a line of a recording says.
-#[derive(Clone, Copy, Debug)]
+#[derive(Clone, Copy)]
 pub(crate) enum Recorded {
     /// That a batch was submitted.
     Batch(BatchLine),

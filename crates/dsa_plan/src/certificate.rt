@@ -1,7 +1,7 @@
 //! Certificates.
 
 /// What is offered to prove that no legal plan costs less than the last of its prices. A checker says whether it does.
-#[derive(Debug, Drop, PartialEq, Eq)]
+#[derive(Drop, PartialEq, Eq)]
 pub struct Certificate {
     /// The version of the settings that it was made for.
     pub version: u64,

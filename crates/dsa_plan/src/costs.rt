@@ -13,7 +13,7 @@ use dsa_settings::{Group, Plan, Settings};
 use std::alloc::{AllocError, Global};
 
 /// A group, and what it costs.
-#[derive(Clone, Copy, Debug, PartialEq, Eq)]
+#[derive(Clone, Copy, PartialEq, Eq)]
 pub struct GroupCost {
     /// The number of its pieces.
     pub size: usize,
@@ -24,7 +24,7 @@ pub struct GroupCost {
 }
 
 /// What the groups of a plan cost, and what its pieces cost one by one.
-#[derive(Debug, Drop)]
+#[derive(Drop)]
 pub struct Costs {
     /// Those of each group, in order.
     pub groups: Vec<GroupCost>,

@@ -5,9 +5,10 @@ ghost use Rattle.dsa_prepared.specs.Causes.{prepare_number, prepare_name, prepar
 
 use dsa_calls::PlanFault;
 use dsa_descriptor::Indices;
+use std::fmt;
 
 /// Why a list is not prepared. Regions and operations are numbered from 0.
-#[derive(Clone, Copy, Debug, PartialEq, Eq)]
+#[derive(Clone, Copy, PartialEq, Eq)]
 pub enum PrepareFault {
     /// Planning refuses the list, or an allocation failed.
     Plan(PlanFault),
@@ -58,8 +59,15 @@ impl PrepareFault {
     }
 }
 
+/// Its name, without what it has.
+impl fmt::Debug for PrepareFault {
+    fn fmt<W: fmt::Write>(&self, f: &mut fmt::Formatter<W>) -> fmt::Result {
+        f.write_str(self.name())
+    }
+}
+
 /// Why a prepared submission is not filled. Regions are numbered from 0.
-#[derive(Clone, Copy, Debug, PartialEq, Eq)]
+#[derive(Clone, Copy, PartialEq, Eq)]
 pub enum FillFault {
     /// There are not as many bases as regions.
     Bases,
@@ -126,5 +134,12 @@ impl FillFault {
             }
             FillFault::Bases | FillFault::Room | FillFault::Staging => Indices::Empty,
         }
+    }
+}
+
+/// Its name, without what it has.
+impl fmt::Debug for FillFault {
+    fn fmt<W: fmt::Write>(&self, f: &mut fmt::Formatter<W>) -> fmt::Result {
+        f.write_str(self.name())
     }
 }

@@ -9,7 +9,7 @@ use crate::span::{Touched, meets};
 use dsa_descriptor::Span;
 
 /// Why the later of two descriptors has to wait for the earlier.
-#[derive(Clone, Copy, Debug, PartialEq, Eq)]
+#[derive(Clone, Copy, PartialEq, Eq)]
 pub enum HazardKind {
     /// The later reads what the earlier writes.
     ReadAfterWrite,
@@ -20,7 +20,7 @@ pub enum HazardKind {
 }
 
 /// An address at which two descriptors conflict, and why.
-#[derive(Clone, Copy, Debug, PartialEq, Eq)]
+#[derive(Clone, Copy, PartialEq, Eq)]
 pub struct Hazard {
     /// The address.
     pub address: u64,

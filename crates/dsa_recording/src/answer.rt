@@ -30,7 +30,7 @@ use dsa_settings::Settings;
 use std::alloc::{AllocError, Global};
 
 /// How a report is written.
-#[derive(Clone, Copy, Debug, PartialEq, Eq)]
+#[derive(Clone, Copy)]
 pub enum AuditFormat {
     /// A line for each finding, and the numbers.
     Text,
@@ -60,7 +60,7 @@ pub struct AuditOptions<'a> {
 }
 
 /// What an audit answers.
-#[derive(Debug, Drop)]
+#[derive(Drop)]
 pub struct AuditAnswer {
     /// The report, or why there is none.
     pub text: String,

@@ -3,7 +3,7 @@
 use serde::Serialize;
 
 /// What software looks at to learn that a member of a batch has ended.
-#[derive(Clone, Copy, Debug, PartialEq, Eq, Serialize)]
+#[derive(Clone, Copy, PartialEq, Eq, Serialize)]
 #[serde(rename_all = "lowercase")]
 pub enum Await {
     /// Anything that a member writes: also data, as a ready flag that another thread polls.
@@ -15,7 +15,7 @@ pub enum Await {
 }
 
 /// What is assumed of the software. The less it is, the more fences an audit keeps.
-#[derive(Clone, Copy, Debug, PartialEq, Eq, Serialize)]
+#[derive(Clone, Copy, PartialEq, Eq, Serialize)]
 pub struct Assumptions {
     /// What it looks at.
     #[serde(rename = "await")]

@@ -14,7 +14,7 @@ use serde::Serialize;
 use std::alloc::{AllocError, Global};
 
 /// One of the sets of fences that an audit leads through.
-#[derive(Clone, Copy, Debug, PartialEq, Eq)]
+#[derive(Clone, Copy)]
 enum FenceSet {
     /// As they were recorded.
     Recorded,
@@ -25,7 +25,7 @@ enum FenceSet {
 }
 
 /// What submissions cost, in the unit of the settings' prices.
-#[derive(Clone, Copy, Debug, PartialEq, Eq, Serialize)]
+#[derive(Clone, Copy, Serialize)]
 pub struct Costs {
     /// As they were recorded.
     pub recorded: u64,

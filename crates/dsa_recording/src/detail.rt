@@ -21,7 +21,7 @@ use dsa_descriptor::{FlagWord, Span};
 use dsa_ranges::Hazard;
 
 /// What is found of an entry.
-#[derive(Clone, Copy, Debug, PartialEq, Eq)]
+#[derive(Clone, Copy, PartialEq, Eq)]
 pub enum Cause {
     /// It is not looked at, for this reason.
     NotSeen(Unseen),
@@ -42,7 +42,7 @@ pub enum Cause {
 }
 
 /// Whose completion record has the address of a conflict.
-#[derive(Clone, Copy, Debug, PartialEq, Eq)]
+#[derive(Clone, Copy)]
 pub struct Records {
     /// That of the earlier member.
     pub earlier: bool,
@@ -51,7 +51,7 @@ pub struct Records {
 }
 
 /// A finding, and the entry that it is of.
-#[derive(Clone, Copy, Debug, PartialEq, Eq)]
+#[derive(Clone, Copy)]
 pub struct Detail {
     /// The number of the entry in the recording.
     pub entry: usize,

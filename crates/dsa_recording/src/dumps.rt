@@ -12,7 +12,7 @@ use std::alloc::{AllocError, Global};
 pub const LONGEST_STREAM: usize = 67_108_864;
 
 /// A dump of memory.
-#[derive(Debug, Drop)]
+#[derive(Drop)]
 pub struct Dump {
     /// The address of its first byte.
     pub address: u64,
@@ -21,7 +21,7 @@ pub struct Dump {
 }
 
 /// Why a portal and dumps make no recording.
-#[derive(Clone, Copy, Debug, PartialEq, Eq)]
+#[derive(Clone, Copy)]
 pub enum StagingFault {
     /// The length of the portal is no multiple of 64.
     Length,

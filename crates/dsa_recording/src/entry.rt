@@ -9,7 +9,7 @@ use dsa_descriptor::{FlagWord, u32_at, u64_at};
 pub const RECORD_REQUESTED: FlagWord = FlagWord(0x0c);
 
 /// The fields that each descriptor has at the same place (`linux/idxd.h`, `struct dsa_hw_desc`).
-#[derive(Clone, Copy, Debug, PartialEq, Eq)]
+#[derive(Clone, Copy)]
 pub struct Header {
     /// The PASID in bits 0 to 19, the privilege in bit 31.
     pub owner: u32,

@@ -8,7 +8,7 @@ use dsa_audit::{FencePlace, FenceUse, Member, Unseen};
 use std::alloc::{AllocError, Global};
 
 /// What is wrong beside fences.
-#[derive(Clone, Copy, Debug, PartialEq, Eq)]
+#[derive(Clone, Copy, PartialEq, Eq)]
 pub enum Flaw {
     /// The completion record of the member, or its data, meets the record of this earlier one; or its record meets
     /// data of that.
@@ -26,7 +26,7 @@ pub enum Flaw {
 }
 
 /// What is found.
-#[derive(Clone, Copy, Debug, PartialEq, Eq)]
+#[derive(Clone, Copy)]
 pub enum FindingKind {
     /// The member is not looked at, for this reason.
     NotSeen(Unseen),
@@ -47,7 +47,7 @@ pub enum FindingKind {
 }
 
 /// What a finding is of.
-#[derive(Clone, Copy, Debug, PartialEq, Eq)]
+#[derive(Clone, Copy)]
 pub enum Place {
     /// The descriptor of a batch.
     Head,
@@ -56,7 +56,7 @@ pub enum Place {
 }
 
 /// Something found in a recording.
-#[derive(Clone, Copy, Debug, PartialEq, Eq)]
+#[derive(Clone, Copy)]
 pub struct Finding {
     /// The number of the submission.
     pub submission: usize,

@@ -14,7 +14,7 @@ use dsa_ranges::{Touched, in_conflict};
 use std::alloc::{AllocError, Global};
 
 /// What is wrong with an entry beside fences.
-#[derive(Clone, Copy, Debug, PartialEq, Eq)]
+#[derive(Clone, Copy)]
 pub struct Flaws {
     /// It writes the descriptors of its batch, or the batch's completion record; or its own record is there, but not within
     /// its own descriptor.

@@ -16,7 +16,7 @@ pub(crate) const STAGING_HINT: &str =
     "if members are not recorded, give a dump of them with --staging";
 
 /// Such an entry, and the descriptor of the batch.
-#[derive(Clone, Copy, Debug, PartialEq, Eq)]
+#[derive(Clone, Copy)]
 pub(crate) struct Foreign {
     /// The number of the batch's descriptor.
     pub head: usize,

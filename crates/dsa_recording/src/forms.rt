@@ -9,7 +9,7 @@ use hex::FromHexError;
 use std::alloc::{AllocError, Global};
 
 /// A form of text.
-#[derive(Clone, Copy, Debug, PartialEq, Eq)]
+#[derive(Clone, Copy)]
 pub enum Form {
     /// Digits alone, as `xxd -p` writes them; blanks and newlines may be between.
     Plain,
@@ -20,7 +20,7 @@ pub enum Form {
 }
 
 /// A part of a line.
-#[derive(Clone, Copy, Debug, PartialEq, Eq)]
+#[derive(Clone, Copy)]
 pub enum Part {
     /// The offset of the line.
     Offset,

@@ -43,7 +43,7 @@ const MORE: [Assumptions; 5] = [
 ];
 
 /// Assumptions, and how many more fences are needless under them.
-#[derive(Clone, Copy, Debug, PartialEq, Eq, Serialize)]
+#[derive(Clone, Copy, Serialize)]
 pub struct Freed {
     /// What is assumed.
     pub assumptions: Assumptions,

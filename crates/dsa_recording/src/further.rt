@@ -9,7 +9,7 @@ use bitflags::Flags;
 use dsa_descriptor::{FlagWord, Span, u32_at, u64_at};
 
 /// An operation that no plan has, with all that it reads and writes beside its completion record.
-#[derive(Clone, Copy, Debug, PartialEq, Eq)]
+#[derive(Clone, Copy)]
 pub enum Further {
     /// Waits for earlier descriptors; in a batch the device refuses it.
     Drain,

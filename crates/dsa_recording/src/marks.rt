@@ -14,7 +14,7 @@ use dsa_ranges::{Hazard, Touched};
 use std::alloc::{AllocError, Global};
 
 /// A submission that is drawn.
-#[derive(Clone, Copy, Debug)]
+#[derive(Clone, Copy)]
 pub(crate) struct Drawn<'a> {
     /// Its audit.
     pub audited: &'a Audited,
@@ -29,7 +29,7 @@ pub(crate) struct Drawn<'a> {
 }
 
 /// Two members that conflict.
-#[derive(Clone, Copy, Debug, PartialEq, Eq)]
+#[derive(Clone, Copy)]
 struct Pair {
     earlier: usize,
     later: usize,

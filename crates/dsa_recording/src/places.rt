@@ -9,7 +9,7 @@ use hex::FromHexError;
 use std::alloc::Global;
 
 /// Why a text spells no bytes.
-#[derive(Clone, Copy, Debug, PartialEq, Eq)]
+#[derive(Clone, Copy)]
 pub enum DigitFault {
     /// A byte that is neither a digit nor anything else of the text's form.
     Stray,
@@ -31,7 +31,7 @@ impl DigitFault {
 }
 
 /// Why there are no bytes.
-#[derive(Clone, Copy, Debug, PartialEq, Eq)]
+#[derive(Clone, Copy)]
 pub enum BytesFault {
     /// The text spells none.
     Digit {

@@ -23,7 +23,7 @@ const LONGEST: usize = 67_108_864;
 const CHUNK: usize = 65_536;
 
 /// Why there is no answer to what was read.
-#[derive(Clone, Copy, Debug, PartialEq, Eq)]
+#[derive(Clone, Copy)]
 pub enum ReadFault {
     /// The reader failed, or did not end.
     Failed,

@@ -14,7 +14,7 @@ use crate::submission::{Audited, audit_submissions};
 use std::alloc::Global;
 
 /// What was submitted, and what is found.
-#[derive(Debug, Drop)]
+#[derive(Drop)]
 pub struct Report {
     /// The submissions, in order.
     pub submissions: Vec<Submission>,

@@ -10,7 +10,7 @@ use crate::entry::Header;
 use std::alloc::{AllocError, AllocFailed, Global};
 
 /// A submission of a recording: a batch or a lone descriptor.
-#[derive(Clone, Copy, Debug, PartialEq, Eq)]
+#[derive(Clone, Copy)]
 pub struct Submission {
     /// The entry of its first member, or of the lone descriptor.
     pub first: usize,
@@ -21,7 +21,7 @@ pub struct Submission {
 }
 
 /// Why bytes are no recording.
-#[derive(Clone, Copy, Debug, PartialEq, Eq)]
+#[derive(Clone, Copy)]
 pub enum StreamFault {
     /// The length is no multiple of 64.
     Length,

@@ -18,7 +18,7 @@ use dsa_descriptor::FlagWord;
 use std::alloc::{AllocError, Global};
 
 /// A submission whose fences are audited.
-#[derive(Debug, Drop)]
+#[derive(Drop)]
 pub struct Audited {
     /// Whether it is a batch.
     pub is_batch: bool,

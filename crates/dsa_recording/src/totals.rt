@@ -12,7 +12,7 @@ use serde::Serialize;
 use std::alloc::{AllocError, Global};
 
 /// What was submitted, and what is found, in numbers.
-#[derive(Clone, Copy, Debug, PartialEq, Eq, Serialize)]
+#[derive(Clone, Copy, Serialize)]
 pub struct Totals {
     /// How many batches there are.
     pub batches: usize,

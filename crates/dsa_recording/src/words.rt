@@ -16,7 +16,7 @@ use dsa_ranges::{Hazard, HazardKind};
 use std::alloc::{AllocError, Global};
 
 /// How severe a finding is.
-#[derive(Clone, Copy, Debug, PartialEq, Eq)]
+#[derive(Clone, Copy)]
 pub enum Severity {
     /// The program ends with status 1.
     Error,
@@ -29,7 +29,7 @@ pub enum Severity {
 }
 
 /// The notes and warnings that count as errors too.
-#[derive(Clone, Copy, Debug, PartialEq, Eq)]
+#[derive(Clone, Copy)]
 pub struct Denied {
     /// Needless fences.
     pub needless: bool,

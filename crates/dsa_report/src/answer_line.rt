@@ -13,7 +13,7 @@ use std::alloc::{AllocError, Global};
 use std::io::Write;
 
 /// The line of an answer: text, the digits of bytes, text, the digits of bytes, and text.
-#[derive(Debug, Drop)]
+#[derive(Drop)]
 pub(crate) struct AnswerLine {
     /// The text before the first digits.
     pub(crate) front: Vec<u8>,

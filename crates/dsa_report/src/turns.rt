@@ -12,7 +12,7 @@ pub const TURN_BYTES: usize = 65_536;
 pub const TURNS: u32 = 1_048_576;
 
 /// What came of a turn of reading.
-#[derive(Clone, Copy, Debug, PartialEq, Eq)]
+#[derive(Clone, Copy)]
 pub(crate) enum Turn {
     /// So many bytes, from the start of the buffer.
     Bytes(usize),

@@ -7,7 +7,7 @@ use dsa_calls::PlanFault;
 use dsa_descriptor::Indices;
 
 /// Why a list is not resumed.
-#[derive(Clone, Copy, Debug, PartialEq, Eq)]
+#[derive(Clone, Copy)]
 pub enum ResumeFault {
     /// Planning refuses the list, or an allocation failed.
     Plan(PlanFault),

@@ -8,7 +8,7 @@ use dsa_descriptor::Descriptor;
 use std::alloc::{AllocError, Global};
 
 /// In which order what is left is submitted.
-#[derive(Clone, Copy, Debug, PartialEq, Eq)]
+#[derive(Clone, Copy)]
 pub enum LeftOrder {
     /// As it was listed.
     AsListed,
@@ -17,7 +17,7 @@ pub enum LeftOrder {
 }
 
 /// A part of the pieces.
-#[derive(Clone, Copy, Debug, PartialEq, Eq)]
+#[derive(Clone, Copy)]
 enum Part {
     /// Those that have not finished.
     Unfinished,

@@ -4,7 +4,7 @@ ghost use Rattle.std.specs.Prelude.{◌≡◌};
 ghost use Rattle.dsa_resume.specs.Ended.{ended_of};
 
 /// How a piece has ended.
-#[derive(Clone, Copy, Debug, PartialEq, Eq)]
+#[derive(Clone, Copy)]
 pub enum Ended {
     /// It has not: its record has the status 0, as the caller has set it.
     Waiting,

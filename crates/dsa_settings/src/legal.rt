@@ -24,7 +24,7 @@ use dsa_ranges::{in_conflict, touched};
 const FEW_PIECES: usize = 16;
 
 /// Why a plan is not legal. Groups and pieces are numbered from 0.
-#[derive(Clone, Copy, Debug, PartialEq, Eq)]
+#[derive(Clone, Copy, PartialEq, Eq)]
 pub enum LegalFault {
     /// The groups together have more or fewer pieces than there are.
     Count,

@@ -5,6 +5,7 @@ ghost use Rattle.dsa_settings.specs.Settings.{AreInLimits, ArePrices, batch_pric
 ghost use Rattle.dsa_settings.specs.Settings.BatchPrices.{BySize, SamePrice};
 
 use arrayvec::ArrayVec;
+use std::fmt;
 use std::marker::Model;
 
 /// The greatest price, in the unit of all prices.
@@ -14,17 +15,24 @@ const GREATEST_PRICE: u64 = 1_000_000_000;
 const GREATEST_BATCH: u64 = 1024;
 
 /// Why numbers are not valid settings.
-#[derive(Clone, Copy, Debug, PartialEq, Eq)]
+#[derive(Clone, Copy)]
 pub enum SettingsFault {
     /// A number is outside its limits.
     Settings,
+}
+
+/// Its name, without what it has.
+impl fmt::Debug for SettingsFault {
+    fn fmt<W: fmt::Write>(&self, f: &mut fmt::Formatter<W>) -> fmt::Result {
+        f.write_str("Settings")
+    }
 }
 
 /// The settings of a planner: sizes, prices and an address, each within its limits. Contracts see them as a record
 /// `Limits`.
 ///
 /// There are two versions: in the first all batches cost the same, in the second each has a price by its size.
-#[derive(Debug, Drop)]
+#[derive(Drop)]
 pub struct Settings {
     greatest_batch: u64,
     greatest_transfer: u64,

@@ -24,7 +24,7 @@ const MOST_SPANS: usize = 6;
 pub(crate) const ROOM: usize = 6144;
 
 /// A span that a piece reads or writes.
-#[derive(Clone, Copy, Debug, Default)]
+#[derive(Clone, Copy, Default)]
 pub(crate) struct Access {
     /// Its addresses.
     pub(crate) span: Span,

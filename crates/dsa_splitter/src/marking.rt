@@ -57,7 +57,7 @@ pub fn piece_barriers(
 }
 
 /// The pieces of operations, and their barriers.
-#[derive(Debug, Drop)]
+#[derive(Drop)]
 pub struct MarkedPieces {
     /// The pieces, in the order in which they are submitted.
     pub pieces: Vec<Descriptor>,

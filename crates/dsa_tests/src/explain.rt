@@ -53,7 +53,7 @@ fn explained(
 
 /// What an explanation says of a fence: its piece, the first conflict that only this fence separates, and how many
 /// more.
-#[derive(Clone, Copy, Debug, PartialEq, Eq)]
+#[derive(Clone, Copy, PartialEq, Eq)]
 struct Fence {
     piece: usize,
     reason: Option<Reason>,

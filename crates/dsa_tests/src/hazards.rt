@@ -38,7 +38,7 @@ fn each_kind_of_hazard(rt: HostRuntime) -> Result<(), Fail> {
     for (bytes, expected) in &rows {
         let later = touched(&Descriptor::read(bytes)?);
         let found = find_hazard(&earlier, &later).map(|hazard| (hazard.address, hazard.kind));
-        assert_eq!(rt; found, *expected);
+        assert!(rt; found == *expected);
     }
     Ok(())
 }

@@ -104,7 +104,7 @@ fn delta_that_fills_its_destination(rt: HostRuntime) -> Result<(), Fail> {
     let d = delta(256)?;
     assert_eq!(rt; lines(&d), 2);
     assert!(rt; image.copy(rt.alloc())? == image);
-    assert_eq!(rt; run(&mut image, &d), Some(plain(1)));
+    assert!(rt; run(&mut image, &d) == Some(plain(1)));
     let mut after = before;
     put(&mut after, 0x2000, &[0x77; 2048]);
     put(&mut after, 0x3000, &[1]);
@@ -163,7 +163,7 @@ fn lines_by_their_inputs(rt: HostRuntime) -> Result<(), Fail> {
             assert!(rt; run_by_inputs(&mut other, &image, d, k, &mut partial2));
             assert!(rt; run_line(&mut image, d, k, &mut partial));
             assert!(rt; image == other);
-            assert_eq!(rt; partial, partial2);
+            assert!(rt; partial == partial2);
         }
     }
     Ok(())

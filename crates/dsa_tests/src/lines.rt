@@ -24,9 +24,8 @@ fn samples(rt: HostRuntime) {
         b"move 0x2000 -> 0x4000, 64 bytes, record 0x8020      # reads what the first writes";
     match parse_line(commented.as_slice()) {
         Ok(d) => {
-            assert_eq!(rt;
-                d.op,
-                Op::Move {
+            assert!(rt;
+                d.op == Op::Move {
                     src: 0x2000,
                     dst: 0x4000
                 }
@@ -224,7 +223,7 @@ fn operations(rt: HostRuntime) {
     ];
     for (line, op) in &lines {
         match parse_line(line) {
-            Ok(d) => assert_eq!(rt; d.op, *op),
+            Ok(d) => assert!(rt; d.op == *op),
             Err(fault) => assert!(rt; false, "{fault:?}"),
         }
     }
@@ -284,11 +283,8 @@ fn written(rt: HostRuntime) -> Result<(), Fail> {
             Err(fault) => assert!(rt; false, "{fault:?}"),
         }
     }
-    assert_eq!(rt; line_bytes(b" # nothing\r".as_slice()), Ok(None));
-    assert_eq!(rt;
-        line_bytes(b"\r\n".as_slice()),
-        Err((2, Expected::Operation))
-    );
-    assert_eq!(rt; line_bytes(b"move".as_slice()), Err((5, Expected::Number)));
+    assert!(rt; line_bytes(b" # nothing\r".as_slice()) == Ok(None));
+    assert!(rt; line_bytes(b"\r\n".as_slice()) == Err((2, Expected::Operation)));
+    assert!(rt; line_bytes(b"move".as_slice()) == Err((5, Expected::Number)));
     Ok(())
 }

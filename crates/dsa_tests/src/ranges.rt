@@ -38,7 +38,7 @@ fn ranges_of_each_operation(rt: HostRuntime) {
                 let touched = touched(&d);
                 assert_eq!(rt; touched.reads.len(), *reads);
                 assert_eq!(rt; touched.writes.len(), *targets + 1);
-                assert_eq!(rt; touched.writes.first().copied(), Some(span(0x8000, 32)));
+                assert!(rt; touched.writes.first().copied() == Some(span(0x8000, 32)));
             }
             Err(fault) => assert!(rt; false, "{fault:?}"),
         }

@@ -12,7 +12,7 @@ use dsa_splitter::SplitFault;
 use std::alloc::{AllocError, Global};
 
 /// What a command answers.
-#[derive(Debug, Drop)]
+#[derive(Drop)]
 pub struct Answer {
     /// What is written: the answer to standard output, or why there is none to standard error.
     pub text: String,

@@ -17,7 +17,7 @@ use std::alloc::{AllocError, Global};
 const LONGEST_NAME: usize = 256;
 
 /// What the comments of a text name.
-#[derive(Debug, Drop)]
+#[derive(Drop)]
 pub(crate) struct Comments {
     /// The name of each operation, empty if it has none.
     pub(crate) names: Vec<String>,

@@ -8,7 +8,7 @@ use std::alloc::{AllocError, Global};
 const PATTERN_DIGITS: usize = 16;
 
 /// An address in decimal digits, and where it is.
-#[derive(Clone, Copy, Debug)]
+#[derive(Clone, Copy)]
 struct Decimal<'a> {
     digits: &'a [u8],
     line: usize,
@@ -16,7 +16,7 @@ struct Decimal<'a> {
 }
 
 /// The addresses of a text by how they are written.
-#[derive(Clone, Copy, Debug)]
+#[derive(Clone, Copy)]
 struct Addresses<'a> {
     /// Whether one is in hexadecimal digits.
     has_hexadecimal: bool,

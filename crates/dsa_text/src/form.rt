@@ -6,7 +6,7 @@ ghost use Rattle.dsa_text.specs.Shown.{detail_of, form_of};
 use dsa_explain::Detail;
 
 /// How a plan is shown.
-#[derive(Clone, Copy, Debug, PartialEq, Eq)]
+#[derive(Clone, Copy)]
 pub enum Form {
     /// In words, with so many of the conflicts of each fence.
     Words(Detail),

@@ -17,14 +17,14 @@ const BARRIERS: &str =
     "note: a list with barriers is not resumed: resume what is between two barriers by itself\n";
 
 /// A piece that has begun, though an earlier one of another epoch has not succeeded.
-#[derive(Clone, Copy, Debug)]
+#[derive(Clone, Copy)]
 struct Early {
     begun: usize,
     unfinished: usize,
 }
 
 /// The first pieces that have not succeeded, in the epochs so far.
-#[derive(Clone, Copy, Debug)]
+#[derive(Clone, Copy)]
 struct Unfinished {
     /// In earlier epochs.
     before: Option<usize>,

@@ -13,7 +13,7 @@ use std::alloc::{AllocError, Global};
 const MOST_NAMED: usize = 19;
 
 /// What is wrong with a line.
-#[derive(Clone, Copy, Debug)]
+#[derive(Clone, Copy)]
 enum Mistake {
     /// It leaves the grammar at this column.
     Grammar(usize, Expected),
@@ -22,7 +22,7 @@ enum Mistake {
 }
 
 /// What is known of the operations of the lines so far.
-#[derive(Clone, Copy, Debug)]
+#[derive(Clone, Copy)]
 struct Sofar {
     /// How many there are.
     operations: usize,
@@ -60,7 +60,7 @@ impl Sofar {
 }
 
 /// The lines that are wrong beside one.
-#[derive(Debug, Drop)]
+#[derive(Drop)]
 struct Others {
     /// The messages of those before it.
     before: String,

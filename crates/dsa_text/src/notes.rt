@@ -6,7 +6,7 @@ use std::alloc::{AllocError, Global};
 const MOST_WRITTEN: usize = 20;
 
 /// Lines about operations: the first ones are written, the others are counted.
-#[derive(Debug, Drop)]
+#[derive(Drop)]
 pub(crate) struct Notes {
     text: String,
     count: usize,

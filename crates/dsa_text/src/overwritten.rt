@@ -8,7 +8,7 @@ use dsa_plan::Settings;
 use std::alloc::{AllocError, Global};
 
 /// Data of an operation, and the records of another that it meets.
-#[derive(Clone, Copy, Debug)]
+#[derive(Clone, Copy)]
 struct Meeting {
     data: Span,
     is_written: bool,

@@ -9,7 +9,7 @@ use std::alloc::{AllocError, Global};
 const MOST_NAMED: usize = 20;
 
 /// The records of an operation, one for each of its pieces.
-#[derive(Clone, Copy, Debug)]
+#[derive(Clone, Copy)]
 pub(crate) struct Row {
     first: u64,
     records: u64,
@@ -17,7 +17,7 @@ pub(crate) struct Row {
 }
 
 /// An operation whose first record is in the row of another.
-#[derive(Clone, Copy, Debug)]
+#[derive(Clone, Copy)]
 struct Shared {
     own: Row,
     holder: Row,

@@ -10,7 +10,7 @@ use dsa_plan::Settings;
 use std::alloc::{AllocError, Global};
 
 /// The settings as arguments spell them.
-#[derive(Clone, Copy, Debug)]
+#[derive(Clone, Copy)]
 pub struct SettingsWords<'a> {
     /// The greatest number of pieces of a batch.
     pub greatest_batch: &'a str,
@@ -29,7 +29,7 @@ pub struct SettingsWords<'a> {
 }
 
 /// One of the settings that are a number.
-#[derive(Clone, Copy, Debug)]
+#[derive(Clone, Copy)]
 pub(crate) enum Setting {
     GreatestBatch,
     GreatestTransfer,
@@ -161,7 +161,7 @@ pub(crate) fn settings_fault(
 }
 
 /// The numbers that the words of settings spell, but for the prices of batches.
-#[derive(Clone, Copy, Debug)]
+#[derive(Clone, Copy)]
 struct SettingsNumbers {
     greatest_batch: u64,
     greatest_transfer: u64,

@@ -20,7 +20,7 @@ use std::alloc::{AllocError, Global};
 
 /// What is shown: a plan of pieces and their barriers, the operation that each piece is of, the names of
 /// operations and buffers, and what a least plan costs, if that is known.
-#[derive(Clone, Copy, Debug)]
+#[derive(Clone, Copy)]
 pub(crate) struct Subject<'a> {
     pub(crate) plan: &'a Plan,
     pub(crate) pieces: &'a [Descriptor],

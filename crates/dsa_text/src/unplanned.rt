@@ -15,7 +15,7 @@ use dsa_splitter::SplitFault;
 use std::alloc::{AllocError, Global};
 
 /// Where operations come from.
-#[derive(Clone, Copy, Debug)]
+#[derive(Clone, Copy)]
 pub(crate) enum Source<'a> {
     /// Lines of a text, with options.
     Text(&'a [u8]),
@@ -24,7 +24,7 @@ pub(crate) enum Source<'a> {
 }
 
 /// The operations that were to be planned, and their settings.
-#[derive(Clone, Copy, Debug)]
+#[derive(Clone, Copy)]
 struct Given<'a> {
     operations: &'a [Descriptor],
     settings: &'a Settings,
@@ -32,7 +32,7 @@ struct Given<'a> {
 }
 
 /// An address of an operation that another range has too.
-#[derive(Clone, Copy, Debug)]
+#[derive(Clone, Copy)]
 struct Meeting {
     /// What part of the operation it is.
     what: &'static str,

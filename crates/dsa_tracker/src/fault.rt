@@ -6,7 +6,7 @@ ghost use Rattle.dsa_tracker.specs.Causes.{track_indices, track_name, track_numb
 use dsa_descriptor::Indices;
 
 /// A refusal of a tracker. After one nothing has changed.
-#[derive(Clone, Copy, Debug, PartialEq, Eq)]
+#[derive(Clone, Copy)]
 pub enum TrackFault {
     /// All slots are outstanding: complete one first.
     NoSlot,
@@ -27,7 +27,7 @@ pub enum TrackFault {
 }
 
 /// A refusal of a call over an array of words. After one nothing has changed.
-#[derive(Clone, Copy, Debug, PartialEq, Eq)]
+#[derive(Clone, Copy)]
 pub enum WordsFault {
     /// The words have not the form of a tracker, or one of these measures does not fit into them.
     NotATracker,

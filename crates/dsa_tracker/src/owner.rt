@@ -7,7 +7,7 @@ ghost use Rattle.dsa_tracker.specs.Calls.{HaveOwner, IsFirstOther, owner_of, own
 use dsa_descriptor::Descriptor;
 
 /// Whose addresses a submission names.
-#[derive(Clone, Copy, Debug, PartialEq, Eq)]
+#[derive(Clone, Copy, PartialEq, Eq)]
 pub struct Owner {
     /// The process address space.
     pub pasid: u32,

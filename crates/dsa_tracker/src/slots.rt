@@ -6,7 +6,7 @@ ghost use Rattle.dsa_tracker.specs.Sets.{Has, IsEmpty};
 ghost use Rattle.dsa_tracker.specs.Table.{IsWithout};
 
 /// A set of slots, which are numbered from 0 to 63: bit `s` of the word is for slot `s`.
-#[derive(Clone, Copy, Debug, Default, PartialEq, Eq)]
+#[derive(Clone, Copy, Default)]
 pub struct Slots(pub u64);
 
 /// Whether bit `place` of the word is set.

@@ -27,7 +27,7 @@ use std::marker::Model;
 const LOG2_ROWS: u32 = 14;
 
 /// A submission that the tracker has taken.
-#[derive(Clone, Copy, Debug, PartialEq, Eq)]
+#[derive(Clone, Copy)]
 pub struct Submitted {
     /// Its slot.
     pub slot: u32,
@@ -36,7 +36,7 @@ pub struct Submitted {
 }
 
 /// What follows from taking a submission off.
-#[derive(Clone, Copy, Debug, PartialEq, Eq)]
+#[derive(Clone, Copy)]
 pub struct Retired {
     /// The slots of those that waited for it.
     pub waited: Slots,

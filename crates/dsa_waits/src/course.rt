@@ -7,7 +7,7 @@ use crate::event::{Event, Queue};
 use dsa_audit::Member;
 
 /// What is known of an entry of a recording.
-#[derive(Clone, Copy, Debug, Default, PartialEq, Eq)]
+#[derive(Clone, Copy, Default, PartialEq, Eq)]
 pub struct Entry {
     /// The number of its submission.
     pub submission: usize,
@@ -18,7 +18,7 @@ pub struct Entry {
 }
 
 /// What is known of a submission.
-#[derive(Clone, Copy, Debug, Default, PartialEq, Eq)]
+#[derive(Clone, Copy, Default)]
 pub struct Made {
     /// The entry of its descriptor.
     pub first: usize,
@@ -33,7 +33,7 @@ pub struct Made {
 }
 
 /// Recorded submissions, and what happened to them.
-#[derive(Debug, Drop)]
+#[derive(Drop)]
 pub struct Course {
     /// The entries.
     pub entries: Vec<Entry>,
@@ -46,7 +46,7 @@ pub struct Course {
 }
 
 /// The entries of which an event tells the program that they have ended.
-#[derive(Clone, Copy, Debug, PartialEq, Eq)]
+#[derive(Clone, Copy)]
 pub(crate) enum Told {
     /// None.
     Nothing,

@@ -1,7 +1,7 @@
 //! What happened to submissions.
 
 /// A queue, by the names of Linux: `wq0.1` is queue 1 of device 0.
-#[derive(Clone, Copy, Debug, Default, PartialEq, Eq)]
+#[derive(Clone, Copy, Default)]
 pub struct Queue {
     /// The number of its device.
     pub device: u64,
@@ -10,7 +10,7 @@ pub struct Queue {
 }
 
 /// An event in the life of submissions, which are numbered from 0 in the order in which they were made.
-#[derive(Clone, Copy, Debug, PartialEq, Eq)]
+#[derive(Clone, Copy, PartialEq, Eq)]
 pub enum Event {
     /// The next submission is made.
     Submitted,

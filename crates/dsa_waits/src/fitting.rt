@@ -16,7 +16,7 @@ use dsa_recording::{Header, Submission};
 use std::alloc::{AllocError, AllocFailed, Global};
 
 /// Why the line of an event does not fit a recording.
-#[derive(Clone, Copy, Debug, PartialEq, Eq)]
+#[derive(Clone, Copy)]
 pub enum Misfit {
     /// It is of a submission that is not the next one, or not made yet.
     Number,
@@ -27,7 +27,7 @@ pub enum Misfit {
 }
 
 /// Why there is no answer.
-#[derive(Clone, Copy, Debug, PartialEq, Eq)]
+#[derive(Clone, Copy)]
 pub enum WaitsFault {
     /// The line of this index, from 0, is none of an event, or does not end.
     Line(usize),
@@ -40,7 +40,7 @@ pub enum WaitsFault {
 }
 
 /// What is found of a recording with events.
-#[derive(Debug, Drop)]
+#[derive(Drop)]
 pub struct Found {
     /// The course of the recording.
     pub course: Course,

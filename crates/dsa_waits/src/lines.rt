@@ -10,7 +10,7 @@ use crate::event::{Event, Queue};
 use std::alloc::{AllocFailed, Global};
 
 /// What the line of a submission says of it.
-#[derive(Clone, Copy, Debug, PartialEq, Eq)]
+#[derive(Clone, Copy)]
 pub struct Submitting {
     /// Its number.
     pub number: u64,
@@ -23,7 +23,7 @@ pub struct Submitting {
 }
 
 /// A line of events.
-#[derive(Clone, Copy, Debug, PartialEq, Eq)]
+#[derive(Clone, Copy)]
 pub enum Line {
     /// A submission is made.
     Submitted(Submitting),
@@ -32,7 +32,7 @@ pub enum Line {
 }
 
 /// Why a text is none of events.
-#[derive(Clone, Copy, Debug, PartialEq, Eq)]
+#[derive(Clone, Copy)]
 pub enum LinesFault {
     /// The line of this index, from 0, is none of an event, or does not end.
     Line(usize),

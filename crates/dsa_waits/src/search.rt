@@ -14,7 +14,7 @@ use dsa_audit::{KnownConflicts, Member, Relation, all_lasts};
 use std::alloc::{AllocError, Global};
 
 /// What is in flight after some events.
-#[derive(Debug, Drop)]
+#[derive(Drop)]
 struct Flying {
     /// How many submissions are made.
     number: usize,

@@ -1,6 +1,6 @@
 #!/usr/bin/env python3
-"""Tries the must-fail edits of a proved crate, many at a time: edits.py [--kept] [--alone] NAME [EDIT ..]. With --kept
-a crate is passed over if neither it, its libraries nor its edits have changed since they were tried so.
+"""Tries the must-fail edits of a proved crate, many at a time: edits.py [--alone] [--kept] NAME [EDIT ..]. With --alone and
+--kept a crate is passed over if nothing has changed since its edits were tried so.
 
 The proof of a function reads its own body and the contracts of what it calls. So one check of a copy with an edit in
 each of many functions refuses or proves each of them by itself, and its output says which. In such a round an edit counts
@@ -10,17 +10,16 @@ nothing. Every other edit is tried alone, by the rules of `rt must-fail`, and ha
 
 Controls, tests/gate/controls/NAME/*.edit, change no meaning: they go into the same rounds, and have to be found not refused."""
 import argparse
-import hashlib
 import os
 import re
 import shutil
 import sys
 import tempfile
 
+import record
 import toolchain
 from toolchain import rt, rtlib
 
-CONTROLS = f"{toolchain.ROOT}/tests/gate/controls"
 # What an error of a proof file says where it lacks a name, or the proof of another function: nothing of its own goals.
 LACKS = re.compile(r"has no field|is not in scope|has no `|was not admitted")
 HEAD = re.compile(r'(\s*)(?:pub(?:\([^)]*\))?\s+)?(?:const\s+|unsafe\s+|extern\s+"C"\s+)*fn\s+(\w+)')
@@ -230,25 +229,14 @@ def tried(crate, edits, kept, is_alone):
 
 
 def edits_of(crate, names):
-    """Returns the crate's edits and controls, and the files of must-fail that are no edits."""
-    good, bad = rt.edits_of(crate)
-    folder = f"{CONTROLS}/{crate.name}"
-    controls = sorted(f"{folder}/{it}" for it in os.listdir(folder)) if os.path.isdir(folder) else []
+    """Returns the crate's edits and controls, of these names if there are some, and the files that are no edits."""
+    good, controls, bad = record.files_of_edits(crate)
     edits = [Edit(it, crate, False) for it in good] + [Edit(it, crate, True) for it in controls]
     by_name = {os.path.basename(it.file).removesuffix(".edit"): it for it in edits}
     unknown = [it for it in names if it not in by_name]
     if unknown:
         sys.exit(f"{crate.name} has no edit {unknown[0]}")
     return [it for name, it in by_name.items() if not names or name in names], bad
-
-
-def sum_of(crate, edits):
-    """Returns a sum of all that the verdicts follow from: the crate and those below it, the edits, and this script."""
-    total = hashlib.sha256(crate.stamp().encode())
-    for file in [os.path.realpath(__file__), *(it.file for it in edits)]:
-        with open(file, "rb") as content:
-            total.update(content.read())
-    return total.hexdigest()
 
 
 def take_kept(crate, to):
@@ -280,11 +268,14 @@ def failures_of(crate, edits, is_alone):
 def words():
     """Reads the command line."""
     parser = argparse.ArgumentParser(description="Tries the must-fail edits of a proved crate.")
-    parser.add_argument("--kept", action="store_true", help="pass over a crate that has been tried since its last change")
     parser.add_argument("--alone", action="store_true", help="try each edit in a check of its own")
+    parser.add_argument("--kept", action="store_true", help="with --alone: pass over a crate that was tried so as it is")
     parser.add_argument("name", metavar="NAME", help="the crate")
     parser.add_argument("edits", metavar="EDIT", nargs="*", help="the names of edits (all)")
-    return parser.parse_args()
+    given = parser.parse_args()
+    if given.kept and not given.alone:
+        parser.error("--kept goes with --alone: of other edits tests/gate/tried says what was tried")
+    return given
 
 
 def main():
@@ -292,16 +283,16 @@ def main():
     crate = toolchain.crates()[given.name]
     rtlib.guarded()
     edits, bad = edits_of(crate, given.edits)
-    stamp, total = f"{crate.folder}/out/{'alone' if given.alone else 'edits'}.stamp", sum_of(crate, edits)
-    if given.kept and not bad and rtlib.text_of(stamp) == total:
+    stamp, digest = f"{crate.folder}/out/alone.stamp", record.digest_of(crate)
+    if given.kept and not bad and rtlib.text_of(stamp) == digest:
         print(f"tried since the last change\n{len(edits)} passed, 0 failed")
         return 0
     for file in bad:
         print(f"{given.name}: BAD EDIT: {file} is no .edit file right in must-fail/")
     failed = len(bad) + failures_of(crate, edits, given.alone)
-    if not failed and not given.edits:
+    if given.alone and not failed and not given.edits:
         with open(stamp, "w", encoding="utf-8") as file:
-            file.write(total)
+            file.write(digest)
     print(f"{len(edits) + len(bad) - failed} passed, {failed} failed")
     return 1 if failed else 0
 

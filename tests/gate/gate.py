@@ -1,10 +1,13 @@
 #!/usr/bin/env python3
 """The merge gate, from nothing: each crate proved, each must-fail edit refused, each test and script run. See docs/TESTING.md.
 
-    gate.py                         all of it
+    gate.py [--seed N]              all of it
     gate.py --kept [NAME ..]        the same over what earlier checks proved: of these crates and scripts alone
     gate.py --kept --proofs NAME .. only the proofs of these crates and of those below them
     gate.py --kept --alone [NAME ..] the proofs, and each edit (of these crates) in a check of its own
+
+The edits of a crate are tried if tests/gate/tried does not have the crate as it is now (record.py). Of those of all
+other crates a tenth is tried, drawn with the seed, and with --kept none; with --alone all are.
 
 Tasks run side by side, one a processor. Each is a process of its own, so its processor time is known; what it printed
 is in the log folder. The last lines have the table of parts, each failure with its reason, and `N passed, N failed`."""
@@ -12,6 +15,7 @@ import argparse
 import importlib.machinery
 import importlib.util
 import os
+import random
 import re
 import shutil
 import signal
@@ -22,14 +26,14 @@ import threading
 import time
 from concurrent.futures import FIRST_COMPLETED, ThreadPoolExecutor, wait
 
+import record
 import toolchain
 
 HERE = os.path.dirname(os.path.realpath(__file__))
 ROOT = toolchain.ROOT
-# The most jobs of one proof: four where little else fills the processors, as in a first run and for the last proof of a gate,
-# and two elsewhere. In a whole gate one took four minutes more by the clock; four took a tenth more of the processors.
-MOST_JOBS_WHERE_IDLE = 4
-MOST_JOBS = 2
+# The most jobs of one proof. Each job reads the libraries below anew: two take a quarter to a third more of the
+# processors than one, and four up to four fifths. So a proof gets several only where processors are idle.
+MOST_JOBS = 4
 # A task whose way to the end is at least this part of the longest one counts as on it.
 NEAR_LONGEST = 0.9
 # The seconds after which a task is ended.
@@ -42,6 +46,10 @@ EDIT, EDIT_ALONE = 6, 35
 TIMES_LONGER = {"dsa_text": 2.4, "dsa_report": 1.6}
 COUNTS = re.compile(r"^(?:[\w./-]+: )?(\d+) passed[,;] (\d+) failed", re.M)
 KINDS = ("proofs", "edits", "tests", "scripts")
+# Of so many edits of crates that are as they were tried, one is tried again.
+ONE_IN = 10
+# What a proof over kept work takes, as a part of one from nothing.
+OVER_KEPT = 1 / 3
 # Of how many crates edits that change nothing are tried beside the others, at the least.
 FEWEST_CONTROLS = 5
 # The GB of disk that a gate from nothing needs: it leaves 14, and its edits take some meanwhile.
@@ -57,6 +65,8 @@ class Task:
         # the work that waits for it, its own too
         self.behind, self.jobs, self.can_wait = weight, 1, False
         self.passed, self.failed, self.processor, self.clock, self.said = 0, 0, 0.0, 0.0, ""
+        # of a task that tries all edits of a crate: what to note if none fails
+        self.digest = None
 
     def label(self):
         return f"{self.kind[:-1]} of {self.name}" if self.kind in ("proofs", "edits") else f"{self.kind[:-1]} {self.name}"
@@ -120,12 +130,9 @@ def add_up_what_waits(tasks):
             below.behind = max(below.behind, below.weight + task.behind)
 
 
-def jobs_of(task, others, idle, is_longest, most):
-    """Returns how many jobs a task gets: the most on the longest way, where they are worth a crowded machine, and elsewhere
-    the processors that no other task waits for."""
-    if task.kind != "proofs":
-        return 1
-    return most if is_longest else max(1, min(most, idle - others))
+def jobs_of(task, others, idle):
+    """Returns how many jobs a task gets: of a proof the processors that no other proof and no edits wait for."""
+    return max(1, min(MOST_JOBS, idle - others)) if task.kind == "proofs" else 1
 
 
 def skip(left, done):
@@ -137,12 +144,7 @@ def skip(left, done):
         task.failed, task.said = 1, f"not run, since the {broken.label()} failed"
 
 
-def most_jobs(task, is_alone):
-    """Returns the most jobs of a proof on the longest way: more where proofs are all there is, or no proof waits for it."""
-    return MOST_JOBS_WHERE_IDLE if is_alone or task.behind < 2 * task.weight else MOST_JOBS
-
-
-def start_ready(left, running, done, lanes, is_alone, start):
+def start_ready(left, running, done, lanes, start):
     """Starts tasks while a processor is idle, first those for which the most work waits."""
     ready = [it for it in left if all(below in done for below in it.waits)]
     for at, task in enumerate(ready):
@@ -151,8 +153,8 @@ def start_ready(left, running, done, lanes, is_alone, start):
             break
         most_behind = max(it.behind for it in [*left, *running.values()])
         is_longest = task.behind >= NEAR_LONGEST * most_behind
-        most = most_jobs(task, is_alone)
-        task.jobs, task.can_wait = jobs_of(task, len(ready) - at - 1, idle, is_longest, most), not is_longest
+        others = sum(it.kind in ("proofs", "edits") for it in ready[at + 1 :])
+        task.jobs, task.can_wait = jobs_of(task, others, idle), not is_longest
         left.remove(task)
         running[start(task)] = task
 
@@ -177,16 +179,17 @@ class Forecast:
         return round(rest * pace / 60)
 
 
-def in_lanes(tasks, logs, lanes):
-    """Runs the tasks, each when those that it waits for have passed."""
+def in_lanes(tasks, logs, lanes, note):
+    """Runs the tasks, each when those that it waits for have passed, and notes each that passed."""
     add_up_what_waits(tasks)
     left, running, done, printing = sorted(tasks, key=lambda it: -it.behind), {}, set(), threading.Lock()
-    is_alone = all(it.kind == "proofs" for it in tasks)
     forecast = Forecast(tasks, lanes)
+    print(f"about {forecast.minutes(set())} minutes", flush=True)
 
     def work(task):
         task.run(f"{logs}/{task.kind}-{task.name}.log")
         with printing:
+            note(task)
             how = "ok" if not task.failed else "FAILED"
             took = f"{task.clock:.0f} s, processors {task.processor:.0f} s, jobs {task.jobs}"
             rest = f"{forecast.minutes({*done, task})} minutes left"
@@ -195,7 +198,7 @@ def in_lanes(tasks, logs, lanes):
     with ThreadPoolExecutor(lanes) as pool:
         while left or running:
             skip(left, done)
-            start_ready(left, running, done, lanes, is_alone, lambda task: pool.submit(work, task))
+            start_ready(left, running, done, lanes, lambda task: pool.submit(work, task))
             if running:
                 for future in wait(running, return_when=FIRST_COMPLETED).done:
                     done.add(running.pop(future))
@@ -227,15 +230,58 @@ def needs_of_scripts():
     return {name: module.needs(name) for name in module.NAMES}
 
 
-def tasks_of_edits(crates, proofs, given):
+class Edits:
+    """Which edits are tried: all of a crate that is not as the record has it, and of the others a part."""
+
+    def __init__(self, crates, given):
+        self.names = {crate: names_of_edits(crate) for crate in crates if names_of_edits(crate)}
+        self.digests = {crate: record.digest_of(crate) for crate in self.names}
+        noted, kit = record.lines(), record.kit()
+        is_tried = {crate: noted.get((crate.name, kit)) == digest for crate, digest in self.digests.items()}
+        self.whole = [crate for crate in self.names if given.alone or not is_tried[crate]]
+        rest = [crate for crate in self.names if crate not in self.whole]
+        self.seed = random.SystemRandom().randrange(10**6) if given.seed is None else given.seed
+        self.drawn = {} if given.kept and given.seed is None else drawn(self.names, rest, self.seed)
+
+    def words(self, crate):
+        """Returns the names of the edits of a crate that are tried, none for all, or None if it has none to try."""
+        return [] if crate in self.whole else self.drawn.get(crate)
+
+    def said(self):
+        """Returns the line that says how many edits are tried."""
+        tried = sum(len(self.names[it]) for it in self.whole) + sum(map(len, self.drawn.values()))
+        resting = sum(map(len, self.names.values())) - tried
+        seed = f", --seed {self.seed} draws the same" if self.drawn else ""
+        return f"edits: {tried} tried, {resting} rest on tests/gate/tried{seed}"
+
+
+def names_of_edits(crate):
+    good, controls, bad = record.files_of_edits(crate)
+    return [os.path.basename(it).removesuffix(".edit") for it in [*good, *controls, *bad]]
+
+
+def drawn(names, crates, seed):
+    """Returns by crate the names of a part of the edits of these crates, drawn with the seed."""
+    every = [(at, name) for at, crate in enumerate(crates) for name in names[crate]]
+    found = {}
+    for at, name in sorted(random.Random(seed).sample(every, -(-len(every) // ONE_IN))):
+        found.setdefault(crates[at], []).append(name)
+    return found
+
+
+def tasks_of_edits(edits, proofs, given):
     """Returns the tasks that try the edits of crates."""
     found = []
-    for name, crate in crates.items():
-        edits = sum(len(it) for it in toolchain.rt.edits_of(crate))
-        if edits:
-            command = python("edits.py", *["--kept"] * given.kept, *["--alone"] * given.alone, name)
-            weight = 30 + edits * (EDIT_ALONE if given.alone else EDIT)
-            found.append(Task("edits", name, command, weight, [proofs[name]]))
+    for crate, names in edits.names.items():
+        words = edits.words(crate)
+        if words is None:
+            continue
+        command = python("edits.py", *["--alone", "--kept"] * given.alone, crate.name, *words)
+        count = len(words) or len(names)
+        weight = 30 + count * (EDIT_ALONE if given.alone else EDIT)
+        task = Task("edits", crate.name, command, weight, [proofs[crate.name]])
+        task.digest = None if words else edits.digests[crate]
+        found.append(task)
     return found
 
 
@@ -255,7 +301,8 @@ def tasks_of_scripts(scripts, proofs):
 
 
 def tasks_of(crates, given):
-    """Returns all tasks, lowest crates first; those of the named crates and scripts alone, where some are named."""
+    """Returns all tasks, lowest crates first, and which edits they try; those of the named crates and scripts alone, if
+    some are named."""
     names = given.names
     scripts = needs_of_scripts()
     unknown = [it for it in names if it not in crates and it not in scripts]
@@ -269,12 +316,15 @@ def tasks_of(crates, given):
     for name, task in proofs.items():
         if given.kept and crates[name].is_made():
             task.weight = task.behind = 1
+        elif given.kept and os.path.isdir(f"{crates[name].folder}/{toolchain.KEPT}"):
+            task.weight *= OVER_KEPT
     if given.proofs:
-        return [*proofs.values()]
-    edits = tasks_of_edits(wanted, proofs, given)
+        return [*proofs.values()], None
+    edits = Edits([*wanted.values()], given)
+    tried = tasks_of_edits(edits, proofs, given)
     if given.alone:
-        return [*proofs.values(), *edits]
-    return [*proofs.values(), *edits, *tasks_of_tests(wanted, proofs), *tasks_of_scripts(scripts, proofs)]
+        return [*proofs.values(), *tried], edits
+    return [*proofs.values(), *tried, *tasks_of_tests(wanted, proofs), *tasks_of_scripts(scripts, proofs)], edits
 
 
 def note_of_room():
@@ -311,15 +361,17 @@ def reasons(task):
     return (named or goals or lines)[-6:]
 
 
-def report(tasks, clock, note):
+def report(tasks, clock, note_of_disk, tried):
     table(tasks, clock)
     for task in tasks:
         if task.failed:
             print(f"\nFAILED {task.label()}:")
             print("\n".join(f"    {it[:300]}" for it in reasons(task)))
     failed = sum(it.failed for it in tasks)
-    if failed and note:
-        print(note)
+    if failed and note_of_disk:
+        print(note_of_disk)
+    if tried:
+        print(tried)
     print(f"{sum(it.passed for it in tasks)} passed, {failed} failed")
     return 1 if failed else 0
 
@@ -348,6 +400,7 @@ def words():
     parser.add_argument("--kept", action="store_true", help="take over what earlier checks proved")
     parser.add_argument("--proofs", action="store_true", help="prove and build alone")
     parser.add_argument("--alone", action="store_true", help="prove, and try each edit in a check of its own")
+    parser.add_argument("--seed", metavar="N", type=int, help="draw the edits of unchanged crates with this number")
     parser.add_argument("--logs", help="the folder of logs (a temporary one)")
     parser.add_argument("names", metavar="NAME", nargs="*", help="a crate or a script (all)")
     given = parser.parse_args()
@@ -368,10 +421,16 @@ def main():
     if not given.kept:
         clear(crates)
         note = note_of_room()
-    tasks = tasks_of(crates, given)
-    print(f"logs: {logs}\n{note}".rstrip(), flush=True)
-    in_lanes(tasks, logs, toolchain.rt.processors())
-    return report(tasks, time.monotonic() - start, note)
+    tasks, edits = tasks_of(crates, given)
+    said = edits.said() if edits else ""
+    print("\n".join(filter(None, (f"logs: {logs}", note, said))), flush=True)
+
+    def note_tried(task):
+        if task.digest and not task.failed:
+            record.note(crates[task.name], task.digest)
+
+    in_lanes(tasks, logs, toolchain.rt.processors(), note_tried)
+    return report(tasks, time.monotonic() - start, note, said)
 
 
 if __name__ == "__main__":

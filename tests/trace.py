@@ -12,48 +12,20 @@ import shutil
 import signal
 import struct
 import subprocess
-import sys
 import tempfile
 import time
 from pathlib import Path
 
-import common
 from common import ROOT, expect, named, run_test, side_by_side, skip
 from trace_cases import REFUSED, SYSFS, launched, made_anew, rewriting
 from trace_forms import OTHERS, PLACE, instructions, wrong_forms
 from trace_model import MOVE, Recorded
+from trace_runs import STRICT, WORK, built_all, client, ran, told, traced
 
 SEEDS = int(os.environ.get("SEEDS", "100"))
-STRICT = ["-std=c11", "-D_GNU_SOURCE", "-Wall", "-Wextra", "-Werror"]
 CLIENTS = ("ordered", "threads", "odd", "operations", "ends", "registers", "rewritten")
 QUEUES = (("wq0.0", "dedicated"), ("wq0.1", "shared"))
 BY = ([], ["--signals"])  # rewritten sites after the first submissions, and signals alone
-
-
-def ran(*command, **how):
-    """How a command ended, and what it printed."""
-    how = {"capture_output": True, "text": True, "stdin": subprocess.DEVNULL, "timeout": 120, "errors": "replace"} | how
-    try:
-        return subprocess.run([str(word) for word in command], **how)
-    except subprocess.TimeoutExpired:
-        return subprocess.CompletedProcess(command, -1, "", f"it runs for more than {how['timeout']} seconds")
-
-
-def traced(*words, **how):
-    """How dsa_trace ended."""
-    return ran(f"{WORK}/gcc/dsa_trace", *words, **how)
-
-
-def client(name):
-    return f"{WORK}/{name}"
-
-
-def told(what, end, status, *words):
-    """A case: the run has this status, and says these words."""
-    said = end.stdout + end.stderr
-    missing = [word for word in words if word not in said]
-    fault = f"{what}: status {end.returncode}, not {status}, or not {missing}:\n{said[-1500:]}"
-    expect(end.returncode == status and not missing, fault)
 
 
 def built():
@@ -781,18 +753,9 @@ PARTS += [options, files, killed, prices, submit, in_flight, sanitized, undefine
 
 
 def main(words):
-    global WORK
     parts = named(PARTS, words)
-    if not shutil.which("gcc") or not shutil.which("make"):
-        print("skipped, there is no gcc or no make")
-        sys.exit(0)
-    with tempfile.TemporaryDirectory() as WORK:
-        told("the build", ran("make", "-C", ROOT / "trace", "CC=gcc", f"OUT={WORK}/gcc"), 0)
-        for name in CLIENTS:
-            words = ["-O1", "-o", client(name), f"tests/trace/{name}.c", "-lpthread", "-ldl"]
-            told(f"the build of {name}", ran("gcc", *STRICT, *words), 0)
-        for part in parts if common.failed == 0 else []:
-            part()
+    for part in parts if built_all(CLIENTS) else []:
+        part()
 
 
 if __name__ == "__main__":

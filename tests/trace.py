@@ -7,6 +7,7 @@ parts."""
 import itertools
 import json
 import os
+import random
 import re
 import shutil
 import signal
@@ -17,10 +18,10 @@ import time
 from pathlib import Path
 
 from common import ROOT, expect, named, run_test, side_by_side, skip
-from trace_cases import REFUSED, SYSFS, launched, made_anew, rewriting
+from trace_cases import REFUSED, SYSFS, TOUCHED, launched, made_anew, rewriting
 from trace_forms import OTHERS, PLACE, instructions, wrong_forms
-from trace_model import MOVE, Recorded
 from trace_runs import STRICT, WORK, built_all, client, ran, told, traced
+from waits import places, random_course
 
 SEEDS = int(os.environ.get("SEEDS", "100"))
 CLIENTS = ("ordered", "threads", "odd", "operations", "ends", "registers", "rewritten")
@@ -366,20 +367,26 @@ def named_waits(name, entries, events):
 
 
 def waits_of_any():
-    """Missing waits of random recordings beside brute force; and, in time, of submissions whose end is not told."""
-    sources = [f"trace/{name}.c" for name in ("waits", "spans", "random", "fail")]
+    """Missing waits of random recordings beside the brute force that judges those of dsa_text; what operations touch,
+    beyond that; and, in time, of submissions whose end is not told."""
+    sources = [f"trace/{name}.c" for name in ("waits", "touched", "spans", "random", "fail")]
     words = ["-O2", "-I", "trace", "-o", client("waits"), "tests/trace/waits.c"]
     told("the build of waits", ran("gcc", *STRICT, *words, *sources), 0)
     lacking = 0
-    for seed in range(300):
-        it = Recorded(seed, 12)
-        named, count = named_waits("random", it.entries, it.events)
-        lacking += len(it.lacking)
-        is_right = named == it.lacking[:20] and count == len(it.lacking)
-        expect(is_right, f"seed {seed}: {named} of {count}, not {it.lacking}")
-    expect(lacking > 300, f"only {lacking} waits are missing in random recordings")
+    for seed in range(600):
+        recording, events, missing, _ = random_course(random.Random(seed))
+        numbers = places(recording)
+        right = sorted({numbers[entry][0] for entry in missing})
+        named, count = named_waits("random", recording, events.splitlines())
+        lacking += len(right)
+        expect(named == right[:20] and count == len(right), f"seed {seed}: {named} of {count}, not {right}")
+    expect(lacking > 600, f"only {lacking} waits are missing in random recordings")
+    for name, (first, second, number) in TOUCHED.items():
+        codes = enumerate((first[7], second[7]))
+        events = [f"S {k} wq0.0 op {code} members 0 tid 1 part 1 entry {k}" for k, code in codes]
+        expect(named_waits("touched", first + second, events)[1] == number, f"{name}: not {number} missing waits")
     many = range(200000)
-    entries = b"".join(struct.pack("<IIQQQI28x", 0, MOVE << 24, 0, 128 * k, 128 * k + 64, 64) for k in many)
+    entries = b"".join(struct.pack("<IIQQQI28x", 0, 3 << 24, 0, 128 * k, 128 * k + 64, 64) for k in many)
     events = [line for k in many for line in (f"S {k} wq0.0 op 3 members 0 tid 1 part 1 entry {k}", f"C {k} 1")]
     start = time.monotonic()
     expect(named_waits("many", entries, events) == ([], 0), "apart moves lack waits")

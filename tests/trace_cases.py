@@ -1,4 +1,6 @@
-"""What clients of tests/trace.py print."""
+"""What clients of tests/trace.py print, and recordings of two entries."""
+
+import struct
 
 # What a shell does to the driver's files.
 SYSFS = """
@@ -68,3 +70,29 @@ def launched(work):
         "a program that is named as a part": (f"cp {work}/ordered {work}/a.part && DSA_TEXT=/bin/true {trace} --audit "
                                               f"-- {work}/a.part wait", 1, "missing wait"),
     }
+
+
+def two(code, flags, first, second, size, other):
+    """An entry with a record, and a later one that reads: a move, or what is given."""
+    entry = struct.pack("<IIQQQI28x", 0, code << 24 | flags, 0x8000, first, second, size)
+    later = other if isinstance(other, tuple) else (3, 0x0C, 0x8020, other, 0x6000, 8)
+    return entry, struct.pack("<IIQQQI28x", 0, later[0] << 24 | later[1], *later[2:])
+
+
+# Recordings of two entries and how many waits they lack, by docs/FORMATS.md, "Recordings and audits": 0x20 is a flush of
+# caches, 0x0a a translation fetch, 0x13 inserts a field of 8 bytes after each block of 512.
+TOUCHED = {
+    "a flush of what a move writes": (*two(3, 0x0C, 0x1000, 0x2000, 64, (0x20, 0x0C, 0x8020, 0, 0x2000, 64)), 1),
+    "a flush of what it reads": (*two(3, 0x0C, 0x1000, 0x2000, 64, (0x20, 0x0C, 0x8020, 0, 0x1000, 64)), 0),
+    "a record that only errors write": (*two(3, 0x04, 0x1000, 0x2000, 64, 0x8000), 1),
+    "no record": (*two(3, 0, 0x1000, 0x2000, 64, 0x8000), 0),
+    "the record of a checksum": (*two(0x10, 0x0C, 0x1000, 0, 64, 0x8000), 1),
+    "a fetch of translations": (*two(3, 0x0C, 0x1000, 0x2000, 64, (0x0A, 0x0C, 0x8020, 0x2000, 0, 64)), 0),
+    "data past the last address": (*two(3, 0x0C, 2**64 - 16, 0x2000, 64, 0x2000), 0),
+    "no bytes": (*two(3, 0x0C, 0x1000, 0x2000, 0, 0x8000), 0),
+    "an operation that is not known": (*two(0x50, 0x0C, 0x1000, 0x2000, 64, 0x8000), 0),
+    "a drain that reads back": (*two(2, 0x01000C, 0, 0, 0, 0x8000), 0),
+    "fields after a block": (*two(0x13, 0x0C, 0x1000, 0x2000, 512, 0x2000 + 512), 1),
+    "what comes after them": (*two(0x13, 0x0C, 0x1000, 0x2000, 512, 0x2000 + 520), 0),
+    "fields after no whole block": (*two(0x13, 0x0C, 0x1000, 0x2000, 513, 0x2000), 0),
+}

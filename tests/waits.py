@@ -91,7 +91,7 @@ class Made:
         self.number, self.first, self.entries, self.queue = number, first, entries, queue
         self.is_batch = entries[0][7] == BATCH
         self.members = len(entries) - 1 if self.is_batch else 0
-        self.watched = False
+        self.watched = self.ended = self.failed = False
 
     def line(self):
         """Its event, as `dsa_trace` writes it."""
@@ -151,6 +151,8 @@ def random_course(draw):
         if draw.random() < 0.3:
             new.watched = True
             lines.append(f"W {number}")
+        if draw.random() < 0.1:
+            open_events.append(("K", new, None))
         open_events += [("c", new, m) for m in range(new.members)] + [("C", new, None)]
         draw.shuffle(open_events)
         for _ in range(draw.randrange(0, 5)):
@@ -162,17 +164,20 @@ def random_course(draw):
 def happen(draw, open_events, lines, made, flying):
     """An event comes."""
     kind, of, member = open_events.pop()
-    status = draw.randrange(1, 30)
+    status = draw.choice([1, 1, draw.randrange(1, 30)])
     if kind == "c":
         lines.append(f"c {of.number} {member} {status}")
         for e in of.known_by(member):
             flying.pop(e, None)
         return
     lines.append(f"{kind} {of.number} {status}" if kind == "C" else f"K {of.number}")
-    if kind == "C" and of.watched:
-        open_events.insert(0, ("K", of, None))
-    if kind == "K" or (tells(of.entries[0]) and not of.watched):
-        is_drain = of.entries[0][7] == DRAIN
+    if kind == "C":
+        of.ended, of.failed = True, status != 1
+        if of.watched:
+            open_events.insert(0, ("K", of, None))
+    # a look before the end is none, and a drain that failed has waited for nothing
+    if of.ended if kind == "K" else tells(of.entries[0]) and not of.watched:
+        is_drain = of.entries[0][7] == DRAIN and not of.failed
         gone = [s for s in made if s is of or (is_drain and s.number < of.number and s.queue == of.queue)]
         for s in gone:
             for k in range(len(s.entries)):
@@ -294,6 +299,23 @@ def by_hand():
     common.expect(status == 0 and "\n0 missing waits, 2 submissions\n" in out, f"a wait: status {status}, {out}")
     status, out, _ = audited(first + second, made[0] + "W 0\nC 0 1\n" + made[1] + "K 0\n")
     common.expect(status == 1 and wait in out and "(W, K)" not in out, f"a lucky wait: status {status}, {out}")
+    for looks, wanted in (("K 0\n", 1), ("W 0\nK 0\n", 1), ("W 0\nC 0 1\nK 0\n", 0), ("W 0\nK 0\nC 0 1\n", 1)):
+        status, out, _ = audited(first + second, made[0] + looks + made[1] + "C 1 1\n")
+        common.expect(status == wanted and (wait in out) == (status == 1), f"looks {looks!r}: status {status}, {out}")
+
+
+def drains():
+    """A move, a drain, and a move that reads what the first writes: a drain that failed shows no end but its own."""
+    first = entry(MOVE, record=0x8000, first=0x1000, second=0x2000, size=64)
+    drain, made = entry(DRAIN, record=0x8020), [f"S {k} wq0.0 op {op} members 0\n" for k, op in enumerate((3, 2, 3))]
+    for status, looks, source, wanted in (
+        (1, "", 0x2000, 0), (17, "", 0x2000, 1), (2, "", 0x2000, 1), (17, "K 1\n", 0x2000, 1), (1, "K 1\n", 0x2000, 0),
+        (17, "", 0x8020, 0), (17, "", 0x8000, 1),
+    ):
+        last = entry(MOVE, record=0x8040, first=source, second=0x3000, size=8)
+        watched = "W 1\n" if looks else ""
+        got, out, _ = audited(first + drain + last, made[0] + made[1] + watched + f"C 1 {status}\n{looks}" + made[2])
+        common.expect(got == wanted, f"status {status}, {looks!r}, reading {source:#x}: status {got}, {out}")
 
 
 def refusals():
@@ -325,7 +347,7 @@ def main(words):
     TEXT = [program("dsa_text")]
     numbers = [int(word) for word in words if word.isdigit()]
     COUNT = numbers[-1] if numbers else COUNT
-    for part in named([by_hand, refusals, brute_force], [it for it in words if not it.isdigit()]):
+    for part in named([by_hand, drains, refusals, brute_force], [it for it in words if not it.isdigit()]):
         part()
 
 

@@ -26,4 +26,12 @@ void spans_remove(struct spans *s, struct span *it);
 /* A span that overlaps this one, of which one writes at least; NULL if there is none. */
 const struct span *spans_conflict(const struct spans *s, const struct span *with);
 
+/* ---- touched.c: what one descriptor reads and writes ---- */
+enum { MOST_TOUCHED = 5 };
+struct dsa_hw_desc;
+/* Fills the spans, and answers how many there are; of a batch those of its own descriptor. */
+unsigned touched_by(const struct dsa_hw_desc *d, bool is_batch, struct span spans[MOST_TOUCHED]);
+/* Whether a record tells of its end. */
+bool touched_is_told(const struct dsa_hw_desc *d);
+
 #endif

@@ -11,7 +11,7 @@
 #include "launcher.h"
 #include "spans.h"
 
-enum { MOST_SHOWN = 20, ENTRY = sizeof(struct dsa_hw_desc), SEED_IS_READ = 0x10000, MOST_MEMBERS = 1024 };
+enum { MOST_SHOWN = 20, ENTRY = sizeof(struct dsa_hw_desc), MOST_MEMBERS = 1024 };
 
 typedef struct dsa_hw_desc descriptor;
 
@@ -23,7 +23,7 @@ enum { NOT_TOLD = -1, KNOWN = INT_MAX };
 struct flying {
     uint64_t number;
     int queue, members, unknown, ended, *epoch;
-    bool is_drain, is_watched, tells;
+    bool is_drain, is_watched, tells, has_ended;
     unsigned count, *first;
     struct span *spans;
     struct flying *before, *after;
@@ -49,55 +49,16 @@ static void *grown(void *at, size_t size)
     return more;
 }
 
-static void add(struct flying *f, uint64_t low, uint64_t size, int member, bool writes)
-{
-    if (size)
-        f->spans[f->count++] =
-            (struct span){.low = low, .high = low + size, .of = f, .member = member, .writes = writes};
-}
-
-/// The bytes that a data integrity field operation writes.
-static uint64_t dif_written(const descriptor *d)
-{
-    static const unsigned blocks[4] = {512, 520, 4096, 4104};
-    const uint64_t block = blocks[d->dif_upd_flags & 3], from = d->opcode == DSA_OPCODE_DIF_INS ? block : block + 8;
-    return d->xfer_size / from * (d->opcode == DSA_OPCODE_DIF_STRP ? block : block + 8);
-}
-
-/// What one descriptor reads and writes: at most four spans.
+/// The spans of one descriptor, after those that the submission has.
 static void add_descriptor(struct flying *f, const descriptor *d, int member)
 {
-    const uint64_t size = d->xfer_size;
-    const unsigned op = d->opcode, asks = IDXD_OP_FLAG_CRAV | IDXD_OP_FLAG_RCR;
-    const unsigned start = f->count;
-    const bool is_dif = op >= DSA_OPCODE_DIF_CHECK && op <= DSA_OPCODE_DIF_UPDT;
-    const bool reads = op == DSA_OPCODE_MEMMOVE || (op >= DSA_OPCODE_COMPARE && op <= DSA_OPCODE_CR_DELTA) ||
-                       op == DSA_OPCODE_DUALCAST || op == DSA_OPCODE_CRCGEN || op == DSA_OPCODE_COPY_CRC || is_dif;
-    if (op == DSA_OPCODE_BATCH && member < 0) /* of a member it is refused */
-        add(f, d->desc_list_addr, (uint64_t)ENTRY * d->desc_count, member, false);
-    if (reads)
-        add(f, d->src_addr, size, member, false);
-    if (op == DSA_OPCODE_AP_DELTA)
-        add(f, d->src_addr, d->delta_rec_size, member, false);
-    if ((op == DSA_OPCODE_CRCGEN || op == DSA_OPCODE_COPY_CRC) && d->flags & SEED_IS_READ)
-        add(f, d->seed_addr, sizeof d->crc_seed, member, false);
-    if (op == DSA_OPCODE_COMPARE || op == DSA_OPCODE_CR_DELTA)
-        add(f, d->src2_addr, size, member, false);
-    if (op == DSA_OPCODE_MEMMOVE || op == DSA_OPCODE_MEMFILL || op == DSA_OPCODE_AP_DELTA ||
-        op == DSA_OPCODE_DUALCAST || op == DSA_OPCODE_COPY_CRC)
-        add(f, d->dst_addr, size, member, true);
-    if (op == DSA_OPCODE_DUALCAST)
-        add(f, d->dest2, size, member, true);
-    if (op == DSA_OPCODE_CR_DELTA)
-        add(f, d->delta_addr, d->max_delta_size, member, true);
-    if (is_dif && op != DSA_OPCODE_DIF_CHECK)
-        add(f, d->dst_addr, dif_written(d), member, true);
-    if ((d->flags & asks) == asks) {
-        add(f, d->completion_addr, sizeof(struct dsa_completion_record), member, true);
-        f->spans[f->count - 1].is_record = true;
+    struct span *of = f->spans + f->count;
+    const unsigned count = touched_by(d, d->opcode == DSA_OPCODE_BATCH && member < 0, of);
+    for (unsigned i = 0; i < count; i++) {
+        of[i].of = f;
+        of[i].member = member;
     }
-    for (unsigned i = start; i < f->count; i++)
-        f->spans[i].operation = d->opcode;
+    f->count += count;
 }
 
 static struct flying *find(const struct recorded *r, uint64_t number)
@@ -123,7 +84,7 @@ static void land(struct recorded *r, struct flying *f)
     free(f);
 }
 
-/// One who knows of a submission's end knows, if it is a drain, of all before it in its queue.
+/// One who knows of a submission's end knows, if it is a drain that did not fail, of all before it in its queue.
 static void end_of(struct recorded *r, struct flying *f)
 {
     while (f->is_drain && f->before)
@@ -150,7 +111,7 @@ static void end_of_member(struct recorded *r, struct flying *f, int member)
     end_of_spans(r, f, member);
     for (; f->ended < before; f->ended++)
         end_of_spans(r, f, f->ended);
-    if (f->unknown == 0) /* it has read its list too */
+    if (f->unknown == 0 && f->first[1] == 0) /* its descriptor touches nothing either */
         land(r, f);
 }
 
@@ -216,13 +177,6 @@ static bool seek(struct recorded *r, unsigned part, unsigned long entry)
     return r->entries && fseek(r->entries, (long)entry * ENTRY, SEEK_SET) == 0;
 }
 
-/// Whether the end of a descriptor is told by a record. No interrupt comes.
-static bool tells(const descriptor *d)
-{
-    const unsigned asks = IDXD_OP_FLAG_CRAV | IDXD_OP_FLAG_RCR;
-    return (d->flags & asks) == asks;
-}
-
 /// The descriptor of a submission and its members.
 static bool read_descriptors(struct recorded *r, struct flying *f)
 {
@@ -234,10 +188,10 @@ static bool read_descriptors(struct recorded *r, struct flying *f)
         f->first[i + 1] = f->count;
         add_descriptor(f, &d, i);
         if (i < 0)
-            f->tells = tells(&d);
+            f->tells = touched_is_told(&d);
         else {
             epoch = d.flags & IDXD_OP_FLAG_FENCE ? i : epoch;
-            f->epoch[i] = tells(&d) ? epoch : NOT_TOLD;
+            f->epoch[i] = touched_is_told(&d) ? epoch : NOT_TOLD;
         }
     }
     return true;
@@ -283,7 +237,7 @@ static bool submitted(struct recorded *r, const char *line)
     struct flying *f = grown(NULL, sizeof *f);
     *f = (struct flying){.number = number, .queue = queue_of(r, queue), .is_drain = op == DSA_OPCODE_DRAIN};
     f->members = f->unknown = (int)members;
-    f->spans = grown(NULL, sizeof *f->spans * 4 * (members + 1ul));
+    f->spans = grown(NULL, sizeof *f->spans * MOST_TOUCHED * (members + 1ul));
     f->first = grown(NULL, sizeof *f->first * (members + 2ul));
     f->epoch = grown(NULL, sizeof *f->epoch * (members + 1ul));
     const bool is_read = read_descriptors(r, f);
@@ -310,7 +264,13 @@ static bool event(struct recorded *r, const char *line)
         end_of_member(r, f, member);
     else if (*line == 'W')
         f->is_watched = true;
-    else if (*line == 'K' || (*line == 'C' && f->tells && !f->is_watched))
+    else if (*line == 'C') {
+        unsigned status;
+        f->has_ended = true;
+        f->is_drain &= sscanf(line, "C %*u %u", &status) == 1 && status == DSA_COMP_SUCCESS;
+        if (f->tells && !f->is_watched)
+            end_of(r, f);
+    } else if (*line == 'K' && f->has_ended)
         end_of(r, f);
     return true;
 }

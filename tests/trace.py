@@ -678,7 +678,7 @@ def in_flight():
         told(f"requests in flight to {queue}", end, 0, ": 0 differ")
         done, failed, left_out = map(int, re.findall(r"(\d+) (?:done|failed|left out)", end.stdout) or (0, 0, 0))
         expect(done + failed + left_out == 200 and 1 <= failed <= 3, f"seed {seed}: {end.stdout[-200:]}")
-        end = traced("--audit", "--seed", seed, "--", client("without_waits"), *words, env=known)
+        end = traced("--audit", "--seed", seed, "--delay", 100, "--", client("without_waits"), *words, env=known)
         wrong += ": 0 differ" not in end.stdout
         expect("missing wait" in end.stdout, f"seed {seed}: no missing wait is found: {end.stdout[-500:]}")
     expect(wrong > 10, f"without waits {wrong} of 40 runs leave something else")

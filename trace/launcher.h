@@ -18,6 +18,7 @@ struct options {
     const char *queues[MOST_QUEUES];
     int queue_count;
     bool has_namespace, audits;
+    bool has_delay;     /* one is given, so no seed chooses a pace */
     char **program;     /* its name and arguments */
     char **words;       /* all words of the command line */
 };

@@ -70,6 +70,17 @@ static void preload(void)
     free(all);
 }
 
+/// The pace of a seed, unless --delay is given: of four in a row one does each submission at once, as a fast device
+/// does, and one takes its time. So the order of a seed stays as repeatable as it is.
+static void choose_pace(struct settings *s)
+{
+    enum { FAST = 0, SLOW = 3, SLOWER = 4 };
+    if (s->seed % 4 == FAST && s->order > ORDER_MEMBERS)
+        s->order = ORDER_MEMBERS;
+    if (s->seed % 4 == SLOW)
+        s->delay *= SLOWER;
+}
+
 /// In the process of the program: puts the files in place and starts it.
 static void become(const struct options *o, uint64_t seed, const char *folder, const char *records)
 {
@@ -77,6 +88,8 @@ static void become(const struct options *o, uint64_t seed, const char *folder, c
     char tree[PATH_MAX];
     bool is_inside = o->has_namespace;
     s.seed = seed;
+    if (!o->has_delay)
+        choose_pace(&s);
     make_folders(joined(tree, folder, "tree"));
     if (is_inside && !namespace_enter()) {
         fprintf(stderr, "dsa_trace: no namespace of mounts (%s), so file names are turned in the library\n",

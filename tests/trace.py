@@ -309,7 +309,7 @@ def full_disk():
     end = ran("unshare", "-m", "sh", "-c", command)
     told("a full disk", end, 0, "No space left on device", "not recorded")
     expect(end.stdout.count("batch: status 0x1") == 20, f"on a full disk the program prints {end.stdout}")
-    expect(end.stderr.count("No space") == 1, f"on a full disk it is said again: {end.stderr}")
+    expect(end.stderr.count("not recorded") == 1, f"on a full disk it is said again: {end.stderr}")
 
 
 def waits():
@@ -335,7 +335,6 @@ def waits():
         end = traced("--audit", "--watch", held, "--", client("ordered"), "sleep", env=known)
         told(f"a sleep is no wait, held for {held} ms", end, 1, "missing wait")
     audited_runs(known)
-    told("nothing submitted", traced("--audit", "--", "/bin/true", env=known), 0, "nothing was submitted")
     told("an audit that fails", traced("--audit", "--", client("ordered"), "waited", env={"DSA_TEXT": "/bin/false"}), 1)
     for dies in ("exit 2", "kill -9 $$"):
         Path(WORK, "dies").write_text(f"#!/bin/sh\n{dies}\n")
@@ -488,7 +487,7 @@ def options():
         told(f"the options {words}", traced(*words, *(["--", "true"] if words else [])), 125, why)
     told("a value after =", traced("--seed=7", "--order=all", "true"), 0)
     names = re.findall(r"^ +(?:-h, )?(--[a-z-]+)", end.stdout, re.M)
-    expect(len(names) == 15, f"--help names {names}")
+    expect(len(names) == 16, f"--help names {names}")
     page = Path("bindings/package/dsa_trace.1").read_text().replace("\\-", "-")
     completion = Path("bindings/package/dsa_trace.bash").read_text()
     missing = [name for name in names if name not in page or name not in completion]

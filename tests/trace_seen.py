@@ -1,10 +1,148 @@
-"""The paces that seeds of dsa_trace choose, by tests/trace/unseen.c. The words are names of parts."""
+"""What an audit of dsa_trace may not pass over: recordings that break off or go, processes in the background, lists and
+records that change in flight, waits that threads lack, programs that submit nothing; and the paces that seeds choose.
+The programs are tests/trace/unseen.c and tests/trace/stages.c; in place of dsa_text comes /bin/true. It uses the rights
+of root and watchpoints where they are, and says so where they aren't. The words are names of parts."""
 
-from common import expect, named, run_test
-from trace_runs import built_all, client, traced
+import os
+import re
+import signal
+import subprocess
+import tempfile
+import time
+from pathlib import Path
+
+from common import expect, named, run_test, skip
+from trace_runs import WORK, built_all, client, ran, told, traced
+
+KNOWN = os.environ | {"DSA_TEXT": "/bin/true"}
+PART = "the audit has seen a part of the run"
+EMPTY = "nothing was submitted, so nothing was audited"
+
+
+def audited(*words, **how):
+    """How an audit ended."""
+    return traced("--audit", *words, **({"env": KNOWN} | how))
+
 
 def unseen(*words):
     return "--", client("unseen"), *words
+
+
+# ---- recordings that break off
+
+
+def lost():
+    """A recording that breaks off ends the audit with status 125, says so also where the program's standard error is
+    sent away, and has a mark."""
+    ways = {"files": "Too many open files"}
+    if os.getuid() == 0:
+        ways |= {"chroot": "No such file or directory", "user": "Permission denied"}
+    else:
+        skip("chroot and setuid, which need root")
+    for how, why in ways.items():
+        said = ("breaks off: the ", f" can't grow: {why}\n", PART)
+        told(f"a recording that {how} ends", audited(*unseen(how)), 125, *said, "is not recorded")
+        end = audited("--", "sh", "-c", f"exec {client('unseen')} {how} 2> /dev/null")
+        told(f"the same ({how}) without standard error", end, 125, *said)
+        expect("is not recorded" not in end.stderr, f"the program says it on our standard error: {end.stderr}")
+    with tempfile.TemporaryDirectory(dir=WORK) as folder:
+        end = traced("--out", folder, *unseen("files"))
+        told("the same without an audit", end, 0, " breaks off: ", " can't grow: Too many open files\n")
+        [errors] = Path(folder, "seed-1").glob("*.errors")
+        wanted = r"B the (recording|events) can't grow: Too many open files\n"
+        expect(re.fullmatch(wanted, errors.read_text()), f"the mark is {errors.read_text()!r}")
+        [size] = [path.stat().st_size for path in Path(folder, "seed-1").glob("*.dsa")]
+        expect(size % 64 == 1 and size > 64 * 1000, f"the recording that breaks off has {size} bytes")
+
+
+def full_folder():
+    """A folder for temporary files that is full."""
+    if os.getuid() != 0 or ran("unshare", "-m", "true").returncode:
+        skip("a full folder, which needs the right to mount one")
+        return
+    Path(WORK, "full").mkdir()
+    command = f"mount -t tmpfs -o size=600k none {WORK}/full && TMPDIR={WORK}/full exec {WORK}/gcc/dsa_trace"
+    command += f" --audit {' '.join(unseen('disk'))}"
+    told("a full folder", ran("unshare", "-m", "sh", "-c", command, env=KNOWN), 125, "No space left on device", PART)
+
+
+def counted():
+    """All that is submitted is recorded, or the audit says so: where recordings are removed, and where a process can't
+    tell the launcher. A thread that submits while its process ends is recorded."""
+    end = audited("--", "sh", "-c", f'{client("unseen")} right; rm "$DSA_TRACE_OUT"/*')
+    told("recordings that the program removes", end, 125, "of 2 submissions 0 are recorded", PART)
+    end = audited("--", "env", "DSA_TRACE_BOARD=/nowhere", client("unseen"), "right")
+    told("a process that can't tell the launcher", end, 4, "/nowhere can't be opened", "it gets no portal",
+         "/dev/dsa/wq0.0: Permission denied")
+    told("a process that is killed", audited("--", client("odd"), "killed", 500), 128 + signal.SIGKILL)
+    with tempfile.TemporaryDirectory(dir=WORK) as folder:
+        end = audited("--out", folder, *unseen("late"))
+        told("a thread that submits while the process ends", end, 0)
+        before, after = map(int, re.findall(r"\d+", end.stdout))
+        [size] = [path.stat().st_size // 64 for path in Path(folder, "seed-1").glob("*.dsa")]
+        expect(before < after <= size, f"of {after} submissions, {before} before the end, {size} are recorded")
+
+
+# ---- processes in the background
+
+
+def staying():
+    """One that stays, and does not keep the outputs of the test."""
+    return "--", "sh", "-c", f"exec {client('unseen')} stays > /dev/null 2>&1"
+
+
+def ended(number):
+    """Ends a process that a test has left in the background."""
+    os.kill(number, signal.SIGKILL)
+    for _ in range(200):
+        if not Path(f"/proc/{number}").exists():
+            return
+        time.sleep(0.02)
+
+
+def background():
+    """A process that the program leaves is waited for, and its recording is audited. With --no-wait those that still
+    run are named, and a recording of theirs is not audited."""
+    for how in ([], ["--no-namespace"], ["--seeds", 2]):
+        told(f"a process in the background {how}", audited(*how, *unseen("background")), 1, "missing wait")
+    end = audited("--no-wait", *staying())
+    told("one that is not waited for", end, 1, "the program has ended, but not process ", "(unseen)", EMPTY)
+    ended(int(re.search(r"process (\d+) \(unseen\)", end.stderr)[1]))
+    shell = f"{client('unseen')} stays > /dev/null 2>&1; sleep 1; exec {client('unseen')} right"
+    end = audited("--no-wait", "--", "sh", "-c", shell)
+    told("one that has submitted", end, 125, "is not audited, since its process still runs", PART)
+    ended(int(re.search(r"process (\d+) \(unseen\)", end.stderr)[1]))
+
+
+def waited_for():
+    """After some seconds it is said for whom is waited; after a minute the audit goes on, and has seen a part."""
+    start = time.monotonic()
+    end = audited(*staying(), timeout=100)
+    took = time.monotonic() - start
+    told("a process that never ends", end, 125, "this waits for process ", "but not process ", "still runs", PART)
+    expect(55 < took < 90, f"it is waited for {took:.0f} s")
+    ended(int(re.search(r"process (\d+) \(unseen\)", end.stderr)[1]))
+    with subprocess.Popen([f"{WORK}/gcc/dsa_trace", "--audit", *staying()], env=KNOWN, text=True,
+                          stdout=subprocess.PIPE, stderr=subprocess.PIPE) as child:
+        said = child.stderr.readline()
+        ended(int(re.search(r"process (\d+) \(unseen\)", said)[1]))
+        expect("missing wait" in child.stdout.read() and child.wait() == 1, "after it has ended there is no audit")
+
+
+# ---- programs that submit nothing
+
+
+def empty():
+    """An audit of a program that submits nothing has status 1, or the program's own, and names --cpuid."""
+    end = audited(*unseen("asks"))
+    told("a program that asks CPUID", end, 1, EMPTY, "needs --cpuid")
+    end = audited("--cpuid", *unseen("asks"))
+    is_answered = "can't let CPUID fault" not in end.stderr
+    told("the same with --cpuid", end, int(not is_answered))
+    told("a program that fails before", audited("--", "sh", "-c", "exit 3"), 3, EMPTY)
+    shell = f'[ $DSA_TRACE_SEED = 2 ] || exec {client("unseen")} right'
+    told("one run of three", audited("--seeds", 3, "--", "sh", "-c", shell), 1,
+         "in 1 of 3 runs nothing was submitted", "the audits of 3 runs find no errors")
 
 
 # ---- paces
@@ -23,7 +161,7 @@ def paces():
     expect(took("--seed", 3, "--delay", 100) in usual, "--delay does not fix the pace of a slow device")
 
 
-PARTS = [paces]
+PARTS = [lost, full_folder, counted, background, waited_for, empty, paces]
 
 
 def main(words):

@@ -67,20 +67,25 @@ static int ends_in_dsa(const struct dirent *e)
     return end && strcmp(end, ".dsa") == 0;
 }
 
-/* One run: its recordings, and a folder for temporary files. */
-struct audited { const char *dsa_text, *records, *folder; FILE *report; };
+/* One run: its recordings, how many submissions they have, and a folder for temporary files. */
+struct audited { const char *dsa_text, *records, *folder; FILE *report; uint64_t recorded; };
 
 /// One recording: its fences, and with its first part the waits of all parts.
-static int audit_one(const struct audited *a, const char *name)
+static int audit_one(struct audited *a, const char *name)
 {
     char path[PATH_MAX], copy[PATH_MAX], base[NAME_MAX + 1];
+    snprintf(base, sizeof base, "%.*s", (int)(strlen(name) - strlen(".dsa")), name);
+    char *last = strrchr(base, '.'); /* the number of the process, or of a further part */
+    const bool is_first = !last || strncmp(last, ".part", strlen(".part"));
+    if (!is_first)
+        *last = 0;
+    if (tidy_is_alive(base)) {
+        fprintf(stderr, "dsa_trace: %s is not audited, since its process still runs\n", name);
+        return FAILED;
+    }
     const char *audited = members_audited(joined(path, a->records, name), a->folder, copy, a->report);
     const int fences = audit_file(a->dsa_text, audited, a->report);
-    long waits = 0;
-    snprintf(base, sizeof base, "%.*s", (int)(strlen(name) - strlen(".dsa")), name);
-    const char *last = strrchr(base, '.'); /* the number of the process, or of a further part */
-    if (!last || strncmp(last, ".part", strlen(".part")))
-        waits = waits_missing(a->records, base, a->report);
+    const long waits = is_first ? waits_missing(a->records, base, a->report, &a->recorded) : 0;
     if (fences > 1)
         fprintf(stderr, "dsa_trace: %s does not audit %s\n", a->dsa_text, path);
     if (fences > 1 || waits < 0)
@@ -88,23 +93,37 @@ static int audit_one(const struct audited *a, const char *name)
     return fences == 1 || waits > 0;
 }
 
-/// All recordings of a run, each with its name if there are several; answers how many there are.
-static int audit_all(const struct audited *a, int *status)
+/// All recordings of a run, each with its name if there are several.
+static int audit_all(struct audited *a)
 {
     struct dirent **list;
+    int status = 0;
     const int count = scandir(a->records, &list, ends_in_dsa, versionsort);
-    *status = 0;
     if (count < 0)
         fail(a->records);
     for (int i = 0; i < count; i++) {
         if (count > 1)
             fprintf(a->report, "%s:\n", list[i]->d_name);
         const int of_one = audit_one(a, list[i]->d_name);
-        *status = of_one > *status ? of_one : *status;
+        status = of_one > status ? of_one : status;
         free(list[i]);
     }
     free(list);
-    return count;
+    return status;
+}
+
+/// Whether all that the run submitted is recorded, and so audited.
+static bool is_seen(const struct run *run, uint64_t recorded)
+{
+    const uint64_t submitted = seen_submitted(run);
+    const bool is_whole = seen_whole(run);
+    if (is_whole && recorded < submitted)
+        fprintf(stderr, "dsa_trace: of %llu submissions %llu are recorded\n", (unsigned long long)submitted,
+                (unsigned long long)recorded);
+    if (is_whole && recorded >= submitted && run->is_over)
+        return true;
+    fputs("dsa_trace: the audit has seen a part of the run\n", stderr);
+    return false;
 }
 
 /// A file for a report, which goes when it is closed.
@@ -118,13 +137,16 @@ static FILE *new_report(const char *folder)
 }
 
 /// Audits a run. The report that is kept is that of the last run with errors, or else of the last.
-void audit_run(struct audits *a, const char *records, const char *folder, uint64_t seed)
+void audit_run(struct audits *a, const struct run *run, const char *folder)
 {
-    int status;
     FILE *report = new_report(folder);
-    a->recordings += audit_all(&(struct audited){a->dsa_text, records, folder, report}, &status);
+    struct audited run_of = {a->dsa_text, run->records, folder, report, 0};
+    int status = audit_all(&run_of);
+    if (!is_seen(run, run_of.recorded))
+        status = FAILED;
     a->runs++;
     a->faulty += status != 0;
+    a->empty += seen_submitted(run) == 0;
     if (!status && a->status) {
         fclose(report);
         return;
@@ -132,7 +154,7 @@ void audit_run(struct audits *a, const char *records, const char *folder, uint64
     if (a->report)
         fclose(a->report);
     a->report = report;
-    a->seed = seed;
+    a->seed = run->seed;
     a->status = status > a->status ? status : a->status;
 }
 
@@ -151,28 +173,45 @@ static void say_which(const struct audits *a, const struct options *o, bool has_
         options_repeat(o, a->seed);
 }
 
+/// What a program that fails may lack although its audits find nothing.
+static void say_what_else(const struct options *o)
+{
+    if (o->settings.fault)
+        fputs("dsa_trace: the audits find no errors; some moves may have been stopped by --fault: the program has to "
+              "look at the status of each record\n",
+              stderr);
+    else
+        fputs("dsa_trace: the audits find no errors; if the program does not fail with --order fifo, it uses memory "
+              "itself before a record says that the operation has ended\n",
+              stderr);
+}
+
+/// Of runs in which nothing was submitted.
+static void say_empty(const struct audits *a)
+{
+    if (a->runs > 1)
+        fprintf(stderr, "dsa_trace: in %llu of %llu runs nothing was submitted\n", a->empty, a->runs);
+    fputs("dsa_trace: nothing was submitted, so nothing was audited; a program that asks CPUID for MOVDIR64B, ENQCMD "
+          "or UMWAIT, and else does without, needs --cpuid\n",
+          stderr);
+}
+
 /// Prints the report that is kept, and answers the status of all audits.
 int audit_end(struct audits *a, const struct options *o, bool has_failed)
 {
     char part[4096];
     size_t length;
-    if (!a->recordings)
-        fputs("dsa_trace: nothing was submitted\n", stderr);
-    else if (a->runs > 1)
+    if (a->empty)
+        say_empty(a);
+    if (a->empty < a->runs && a->runs > 1)
         say_which(a, o, has_failed);
     rewind(a->report);
     while ((length = fread(part, 1, sizeof part, a->report)) > 0)
         fwrite(part, 1, length, stdout);
     if (ferror(a->report) || fflush(stdout))
         fail("the report of the audit");
-    if (has_failed && a->recordings && !a->faulty && o->settings.fault)
-        fputs("dsa_trace: the audits find no errors; some moves may have been stopped by --fault: the program has to "
-              "look at the status of each record\n",
-              stderr);
-    else if (has_failed && a->recordings && !a->faulty)
-        fputs("dsa_trace: the audits find no errors; if the program does not fail with --order fifo, it uses memory "
-              "itself before a record says that the operation has ended\n",
-              stderr);
+    if (has_failed && !a->empty && !a->faulty)
+        say_what_else(o);
     fclose(a->report);
-    return a->status;
+    return a->status || !a->empty || has_failed ? a->status : 1;
 }

@@ -18,6 +18,7 @@ __attribute__((constructor)) static void begin(void)
 {
     settings = settings_default();
     settings_import(&settings);
+    board_begin();
     order_begin();
     sites_begin(); /* before CPUID faults */
     pthread_atfork(NULL, NULL, forget);

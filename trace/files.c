@@ -196,6 +196,10 @@ static int submit_blocked(struct queue *q, const uint8_t *from)
 /// Submits what is written to a queue's file, as newer drivers take descriptors.
 static ssize_t write_entries(struct queue *q, const uint8_t *from, size_t size)
 {
+    if (!board_is_there()) {
+        errno = EACCES;
+        return -1;
+    }
     for (size_t at = 0; at + sizeof(descriptor) <= size; at += sizeof(descriptor)) {
         const int error = submit_blocked(q, from + at);
         if (!error)

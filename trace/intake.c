@@ -14,12 +14,14 @@ static struct submission *take_unused(void)
     s = mmap(NULL, sizeof *s, PROT_READ | PROT_WRITE, MAP_PRIVATE | MAP_ANONYMOUS, -1, 0);
     if (s != MAP_FAILED)
         return s;
-    say("no memory for another submission in flight");
+    say("no memory for another submission in flight, so it is lost");
+    record_give_up("a submission in flight");
     return NULL;
 }
 
 static void put_in(struct submission *s)
 {
+    board_submitted();
     for (unsigned i = 0; i < s->count; i++)
         s->turn[i] = i;
     order_find_epoch(s);

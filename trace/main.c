@@ -40,7 +40,7 @@ static void empty(const char *records)
         fail(records);
     for (struct dirent *e; (e = readdir(list));) {
         const char *end = strrchr(e->d_name, '.');
-        const bool is_ours = end && (!strcmp(end, ".dsa") || !strcmp(end, ".events"));
+        const bool is_ours = end && (!strcmp(end, ".dsa") || !strcmp(end, ".events") || !strcmp(end, ".errors"));
         if ((is_ours || strcmp(e->d_name, "processes.txt") == 0) && unlink(joined(path, records, e->d_name)))
             fail(path);
     }
@@ -72,8 +72,9 @@ static int run_all(const struct options *o, const char *folder, struct audits *a
     int status = 0;
     for (uint64_t i = 0; i < o->seeds && status == 0 && a->status != FAILED; i++) {
         const uint64_t seed = o->settings.seed + i;
-        const bool is_recorded = place_records(o, seed, folder, records);
-        status = run_once(o, seed, folder, is_recorded ? records : NULL);
+        struct run run = {.seed = seed, .records = place_records(o, seed, folder, records) ? records : NULL};
+        run_once(o, folder, &run);
+        status = run.status;
         if (status && o->seeds > 1) {
             fprintf(stderr,
                     "dsa_trace: seed %llu, run %llu of %llu: the program ends with status %d; the same again:\n",
@@ -81,7 +82,10 @@ static int run_all(const struct options *o, const char *folder, struct audits *a
             options_repeat(o, seed);
         }
         if (o->audits)
-            audit_run(a, records, folder, seed);
+            audit_run(a, &run, folder);
+        else
+            seen_whole(&run);
+        seen_end(run.board);
     }
     if (status == 0 && o->seeds > 1 && a->status != FAILED)
         fprintf(stderr, "dsa_trace: %llu runs, all with status 0\n", (unsigned long long)o->seeds);
@@ -102,6 +106,7 @@ int main(int argc, char **argv)
     if (access("/proc/self/fd", X_OK))
         fail("/proc, by which the library knows the files of a queue");
     make_own_folder();
+    background_begin();
     const int status = run_all(&o, own.folder, &a);
     const int missing = o.audits ? audit_end(&a, &o, status != 0) : 0;
     return missing ? missing : status;

@@ -29,6 +29,7 @@ static const char help[] =
     "      --cpuid          let CPUID say that MOVDIR64B, ENQCMD and UMWAIT are there\n"
     "      --signals        change no code of the program's: each submission costs a signal, some microseconds\n"
     "      --no-namespace   turn file names in the library, and mount nothing\n"
+    "      --no-wait        do not wait for processes that the program leaves in the background\n"
     "      --verbose        a line of counts at the end of each process\n"
     "  -h, --help           print this\n"
     "\n"
@@ -93,6 +94,8 @@ static bool take_flag(struct options *o, const char *name)
         o->settings.cpuid = 1;
     else if (strcmp(name, "--no-namespace") == 0)
         o->has_namespace = false;
+    else if (strcmp(name, "--no-wait") == 0)
+        o->waits = false;
     else if (strcmp(name, "--signals") == 0)
         o->settings.signals = 1;
     else if (strcmp(name, "--verbose") == 0)
@@ -126,7 +129,8 @@ static void take_value(struct options *o, const char *name, const char *value)
 void options_read(char **words, struct options *o)
 {
     char name[32];
-    *o = (struct options){.settings = settings_default(), .seeds = 1, .has_namespace = true, .words = words};
+    *o = (struct options){.settings = settings_default(), .seeds = 1, .has_namespace = true, .waits = true,
+                          .words = words};
     char **word = words + 1;
     for (; *word && **word == '-' && strcmp(*word, "--"); word++) {
         const char *equals = strchr(*word, '=');

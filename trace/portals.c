@@ -88,6 +88,10 @@ static void *map_portal(void *at, size_t size, int flags, struct queue *queue)
         errno = EINVAL;
         return MAP_FAILED;
     }
+    if (!board_is_there()) {
+        errno = EACCES;
+        return MAP_FAILED;
+    }
     order_start();
     enter(&old);
     while (place < PORTALS && atomic_load(&portals.table[place].at))

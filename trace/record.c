@@ -1,6 +1,8 @@
 /* The recording: entries of 64 bytes for `dsa_text audit`, in files of at most 65,536, and events as lines of text.
  * Both are shared mappings of files, so what is written stays when the process is killed. Files grow by blocks that the
- * disk has reserved, and are cut to their length at the end, by the launcher if the process can't. */
+ * disk has reserved, and are cut to their length at the end, by the launcher if the process can't. A recording that
+ * can't go on is named on the launcher's board. Paths are static, since a thread or a fiber that submits may have
+ * little stack; all is done under the lock of order.c. */
 #include <errno.h>
 #include <fcntl.h>
 #include <stdio.h>
@@ -25,10 +27,22 @@ static struct recording {
     struct grown entries, events;
 } recording;
 
+/// From here on nothing is recorded, for the reason that errno has.
+void record_give_up(const char *what)
+{
+    char why[224];
+    const char *name = strrchr(recording.base, '/');
+    if (!settings.out[0] || recording.is_off)
+        return;
+    snprintf(why, sizeof why, "%.160s: %s", what, strerror(errno));
+    say("%s; from here on this process is not recorded", why);
+    board_lose(name ? name + 1 : "", why);
+    recording.is_off = true;
+}
+
 static bool give_up(const char *what)
 {
-    say("%s: %s; from here on this process is not recorded", what, strerror(errno));
-    recording.is_off = true;
+    record_give_up(what);
     return false;
 }
 
@@ -37,11 +51,17 @@ static int open_plain(const char *path, int flags)
     return syscall(SYS_openat, AT_FDCWD, path, flags | O_CLOEXEC, 0666);
 }
 
-/// Maps the window from `start` on.
-static bool grown_map(struct grown *g, int fd)
+static void grown_unmap(struct grown *g)
 {
     if (g->window)
         syscall(SYS_munmap, g->window, g->window_size);
+    g->window = NULL;
+}
+
+/// Maps the window from `start` on.
+static bool grown_map(struct grown *g, int fd)
+{
+    grown_unmap(g);
     g->window =
         (uint8_t *)syscall(SYS_mmap, NULL, g->window_size, PROT_READ | PROT_WRITE, MAP_SHARED, fd, (off_t)g->start);
     if (g->window != MAP_FAILED)
@@ -62,11 +82,13 @@ static bool grown_open(struct grown *g, const char *path, size_t window_size)
     return is_open;
 }
 
+/// Cuts the file to its length. It can grow again.
 static void grown_close(struct grown *g)
 {
-    syscall(SYS_truncate, g->path, g->used);
-    syscall(SYS_munmap, g->window, g->window_size);
-    g->window = NULL;
+    if (g->window)
+        syscall(SYS_truncate, g->path, g->used);
+    grown_unmap(g);
+    g->reserved = g->used;
 }
 
 /// Makes place for so many bytes more: the disk reserves them, and the window moves on in whole pages if they do not
@@ -81,7 +103,7 @@ static bool grow(struct grown *g, size_t size)
     int fault = g->used + size > g->reserved ? posix_fallocate(fd, g->reserved, more) : 0;
     if (!fault && g->used + size > g->reserved)
         g->reserved += more;
-    if (!fault && g->used + size > g->start + g->window_size) {
+    if (!fault && (!g->window || g->used + size > g->start + g->window_size)) {
         g->start = g->used & -(uint64_t)PAGE;
         fault = grown_map(g, fd) ? 0 : errno;
     }
@@ -93,7 +115,7 @@ static bool grow(struct grown *g, size_t size)
 /// A place for so many bytes more, or NULL.
 static uint8_t *grown_room(struct grown *g, size_t size)
 {
-    const bool fits = g->used + size <= g->reserved && g->used + size <= g->start + g->window_size;
+    const bool fits = g->window && g->used + size <= g->reserved && g->used + size <= g->start + g->window_size;
     return fits || grow(g, size) ? g->window + (g->used - g->start) : NULL;
 }
 
@@ -114,7 +136,7 @@ static void own_name(char name[NAME])
 
 static bool open_part(void)
 {
-    char path[PATH_MAX];
+    static char path[PATH_MAX];
     if (recording.part++ == 0)
         snprintf(path, sizeof path, "%s.dsa", recording.base);
     else
@@ -125,7 +147,8 @@ static bool open_part(void)
 /// A line of the index: the name of the recording, the process, its parent and its program.
 static void add_to_index(const char *name)
 {
-    char path[PATH_MAX], line[PATH_MAX];
+    static char path[PATH_MAX];
+    char line[LONGEST_LINE];
     snprintf(path, sizeof path, "%s/processes.txt", settings.out);
     const int length = snprintf(line, sizeof line, "%s.dsa\t%d\t%d\t%s\n", strrchr(recording.base, '/') + 1,
                                 (int)getpid(), (int)getppid(), name);
@@ -138,7 +161,8 @@ static void add_to_index(const char *name)
 /// Opens the files of this process. A process that has replaced its program gets another number after its own.
 static bool open_files(void)
 {
-    char name[NAME], path[PATH_MAX];
+    static char path[PATH_MAX];
+    char name[NAME];
     own_name(name);
     recording.is_open = true;
     for (unsigned image = 1; image < 1000; image++) {
@@ -237,22 +261,19 @@ void record_submission(const struct submitted *s)
     add_line(line, to - line);
 }
 
-/// Cuts the files to their length.
+/// Cuts the files to their length. Threads that submit after this are recorded, and the launcher cuts the files.
 void record_finish(void)
 {
     if (!recording.is_open || recording.is_off)
         return;
     grown_close(&recording.entries);
     grown_close(&recording.events);
-    recording.is_off = true;
 }
 
 /// After fork: the files are the parent's, which goes on with them.
 void record_forget(void)
 {
-    if (recording.is_open && !recording.is_off) {
-        syscall(SYS_munmap, recording.entries.window, recording.entries.window_size);
-        syscall(SYS_munmap, recording.events.window, recording.events.window_size);
-    }
+    grown_unmap(&recording.entries);
+    grown_unmap(&recording.events);
     memset(&recording, 0, sizeof recording);
 }

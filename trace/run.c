@@ -81,13 +81,22 @@ static void choose_pace(struct settings *s)
         s->delay *= SLOWER;
 }
 
+/// Copies a path to the settings.
+static void set_path(char to[PATH_MAX / 2], const char *path)
+{
+    if (snprintf(to, PATH_MAX / 2, "%s", path) < PATH_MAX / 2)
+        return;
+    errno = ENAMETOOLONG;
+    fail(path);
+}
+
 /// In the process of the program: puts the files in place and starts it.
-static void become(const struct options *o, uint64_t seed, const char *folder, const char *records)
+static void become(const struct options *o, const char *folder, const char *board, const struct run *run)
 {
     struct settings s = o->settings;
     char tree[PATH_MAX];
     bool is_inside = o->has_namespace;
-    s.seed = seed;
+    s.seed = run->seed;
     if (!o->has_delay)
         choose_pace(&s);
     make_folders(joined(tree, folder, "tree"));
@@ -101,10 +110,9 @@ static void become(const struct options *o, uint64_t seed, const char *folder, c
     tree_make(tree, o->queues, o->queue_count);
     if (is_inside)
         namespace_mount(tree);
-    if (snprintf(s.root, sizeof s.root, "%s", is_inside ? "" : tree) >= (int)sizeof s.root)
-        fail(tree);
-    if (records && snprintf(s.out, sizeof s.out, "%s", records) >= (int)sizeof s.out)
-        fail(records);
+    set_path(s.root, is_inside ? "" : tree);
+    set_path(s.out, run->records ? run->records : "");
+    set_path(s.board, board);
     if (!settings_export(&s))
         fail("the environment");
     preload();
@@ -125,8 +133,8 @@ static int wait_for(pid_t child)
         struct sigaction a = {.sa_handler = i < 2 ? pass_on : SIG_IGN};
         sigaction(passed[i], &a, &old[i]);
     }
-    while (waitpid(child, &status, 0) < 0 && errno == EINTR)
-        ;
+    for (pid_t ended = 0; ended != child;) /* others come to us when their parents have ended */
+        ended = waitpid(-1, &status, 0);
     running = 0;
     for (int i = 0; i < 4; i++)
         sigaction(passed[i], &old[i], NULL);
@@ -134,10 +142,11 @@ static int wait_for(pid_t child)
 }
 
 /// Runs the program once.
-int run_once(const struct options *o, uint64_t seed, const char *folder, const char *records)
+void run_once(const struct options *o, const char *folder, struct run *run)
 {
-    char tree[PATH_MAX];
+    char tree[PATH_MAX], board[PATH_MAX];
     const pid_t self = getpid();
+    run->board = seen_begin(folder, board);
     fflush(NULL);
     const pid_t child = fork(); /* we stay outside of the namespace, and remove the folder at the end */
     if (child < 0)
@@ -146,11 +155,11 @@ int run_once(const struct options *o, uint64_t seed, const char *folder, const c
         prctl(PR_SET_PDEATHSIG, SIGKILL); /* if we are killed, so is the program, and its namespace goes with it */
         if (getppid() != self)
             _exit(FAILED);
-        become(o, seed, folder, records);
+        become(o, folder, board, run);
     }
-    const int status = wait_for(child);
+    run->status = wait_for(child);
+    run->is_over = background_end(o->waits);
     run_remove(joined(tree, folder, "tree"));
-    if (records)
-        tidy(records);
-    return status;
+    if (run->records)
+        tidy(run->records);
 }

@@ -36,6 +36,7 @@ bool settings_export(const struct settings *s)
     }
     fault |= setenv("DSA_TRACE_ORDER", order_names[s->order], 1);
     fault |= setenv("DSA_TRACE_OUT", s->out, 1);
+    fault |= setenv("DSA_TRACE_BOARD", s->board, 1);
     fault |= setenv("DSA_TRACE_ROOT", s->root, 1);
     return !fault;
 }
@@ -50,9 +51,11 @@ void settings_import(struct settings *s)
             memcpy((char *)s + numbers[i].at, &value, sizeof value);
     }
     const char *name = getenv("DSA_TRACE_ORDER"), *out = getenv("DSA_TRACE_OUT"), *root = getenv("DSA_TRACE_ROOT");
+    const char *board = getenv("DSA_TRACE_BOARD");
     for (int i = 0; name && i < 4; i++)
         if (strcmp(name, order_names[i]) == 0)
             s->order = (enum order)i;
     snprintf(s->out, sizeof s->out, "%s", out ? out : "");
+    snprintf(s->board, sizeof s->board, "%s", board ? board : "");
     snprintf(s->root, sizeof s->root, "%s", root ? root : "");
 }

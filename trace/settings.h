@@ -22,6 +22,7 @@ struct settings {
     uint64_t signals; /* 1: each submission by a signal, and no code is changed */
     uint64_t verbose; /* 1: a line of counts at the end of each process */
     char out[PATH_MAX / 2];  /* the folder of the recordings; empty: none */
+    char board[PATH_MAX / 2]; /* the file of the launcher's board; empty: none */
     char root[PATH_MAX / 2]; /* the folder of the tree, if names are turned in the library; else empty */
 };
 

@@ -1,5 +1,5 @@
-/* Recordings of processes that could not cut their files to length, since they were killed or left by _exit: the events
- * end at the first zero byte, and their lines say how long the recordings are. */
+/* Recordings of processes that could not cut their files to length, since they were killed or left by _exit: events and
+ * errors end at the first zero byte, and the lines of events say how long the recordings are. */
 #include <dirent.h>
 #include <errno.h>
 #include <fcntl.h>
@@ -15,8 +15,8 @@
 
 enum { ENTRY = 64 };
 
-/// Whether the process of these events still runs: its number is the end of the name.
-static bool is_alive(const char *base)
+/// Whether the process of this recording still runs: its number is the end of the name.
+bool tidy_is_alive(const char *base)
 {
     char name[NAME_MAX + 1];
     snprintf(name, sizeof name, "%s", base);
@@ -59,27 +59,27 @@ static void cut_parts(const char *records, const char *base, const char *events,
     cut_part(records, base, last, length);
 }
 
-static void tidy_one(const char *records, const char *name)
+/// Cuts a file of lines at its first zero byte; of events the recording too.
+static void tidy_one(const char *records, const char *name, bool is_events)
 {
     char path[PATH_MAX], base[NAME_MAX + 1];
     struct stat s;
-    snprintf(base, sizeof base, "%.*s", (int)(strlen(name) - strlen(".events")), name);
+    snprintf(base, sizeof base, "%.*s", (int)(strrchr(name, '.') - name), name);
     const int file = open(joined(path, records, name), O_RDWR | O_CLOEXEC);
-    if (file < 0 || fstat(file, &s) || s.st_size == 0 || is_alive(base)) {
+    if (file < 0 || fstat(file, &s) || s.st_size == 0 || tidy_is_alive(base)) {
         if (file >= 0)
             close(file);
         return;
     }
-    char *events = mmap(NULL, s.st_size, PROT_READ, MAP_PRIVATE, file, 0);
-    const char *end = events == MAP_FAILED ? NULL : memchr(events, 0, s.st_size);
-    if (end) {
-        const off_t length = end - events;
-        cut_parts(records, base, events, end);
-        munmap(events, s.st_size);
-        if (ftruncate(file, length))
-            fprintf(stderr, "dsa_trace: %s: %s\n", path, strerror(errno));
-    } else if (events != MAP_FAILED)
-        munmap(events, s.st_size);
+    char *lines = mmap(NULL, s.st_size, PROT_READ, MAP_PRIVATE, file, 0);
+    const char *end = lines == MAP_FAILED ? NULL : memchr(lines, 0, s.st_size);
+    const off_t length = end ? end - lines : s.st_size;
+    if (end && is_events)
+        cut_parts(records, base, lines, end);
+    if (lines != MAP_FAILED)
+        munmap(lines, s.st_size);
+    if (end && ftruncate(file, length))
+        fprintf(stderr, "dsa_trace: %s: %s\n", path, strerror(errno));
     close(file);
 }
 
@@ -91,8 +91,8 @@ void tidy(const char *records)
         fail(records);
     for (struct dirent *e; (e = readdir(list));) {
         const char *end = strrchr(e->d_name, '.');
-        if (end && strcmp(end, ".events") == 0)
-            tidy_one(records, e->d_name);
+        if (end && (strcmp(end, ".events") == 0 || strcmp(end, ".errors") == 0))
+            tidy_one(records, e->d_name, strcmp(end, ".events") == 0);
     }
     closedir(list);
 }

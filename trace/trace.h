@@ -103,9 +103,17 @@ struct submitted { uint64_t number; const struct queue *queue; const descriptor 
 void record_submission(const struct submitted *s);
 /* Events are lines: a letter, a number and up to two more, -1 for none. */
 void record_event(char letter, uint64_t number, int64_t member, int64_t status);
+/* The recording breaks off here; errno says why. */
+void record_give_up(const char *what);
 void record_finish(void);
 /* After fork: the files are the parent's. */
 void record_forget(void);
+
+/* ---- board.c: what the launcher learns of this process (board.h) ---- */
+void board_begin(void);
+bool board_is_there(void);
+void board_submitted(void);
+void board_lose(const char *recording, const char *why);
 
 /* ---- watch.c: hardware watchpoints on completion records ---- */
 enum { WATCHES = 4 };

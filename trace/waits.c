@@ -275,8 +275,9 @@ static bool event(struct recorded *r, const char *line)
     return true;
 }
 
-/// How many submissions conflict with one in flight; -1, after a sentence, if the recording can't be read.
-long waits_missing(const char *records, const char *base, FILE *report)
+/// How many submissions conflict with one in flight; -1, after a sentence, if the recording can't be read. It adds how
+/// many submissions there are.
+long waits_missing(const char *records, const char *base, FILE *report, uint64_t *count)
 {
     struct recorded r = {.records = records, .base = base, .report = report};
     char path[PATH_MAX], name[NAME_MAX + 32], line[256];
@@ -291,6 +292,7 @@ long waits_missing(const char *records, const char *base, FILE *report)
     }
     if (r.found > MOST_SHOWN)
         fprintf(report, "and %ld more missing waits\n", r.found - MOST_SHOWN);
+    *count += r.count;
     for (size_t i = 0; i < r.count; i++)
         if (r.flying[i])
             land(&r, r.flying[i]);

@@ -22,8 +22,8 @@ _dsa_trace()
         --seed | --seeds | --delay | --retry | --fault | --watch) ;;
         *)
             if [[ $word == -* ]]; then
-                COMPREPLY=($(compgen -W "--audit --cpuid --delay --fault --help --no-namespace --order --out --queue
-                    --retry --seed --seeds --signals --verbose --watch" -- "$word"))
+                COMPREPLY=($(compgen -W "--audit --cpuid --delay --fault --help --no-namespace --no-wait
+                    --order --out --queue --retry --seed --seeds --signals --verbose --watch" -- "$word"))
             else
                 COMPREPLY=($(compgen -c -- "$word"))
             fi

@@ -3,5 +3,6 @@
 
 int main(int argc, char **argv)
 {
-    return argc != 3 || waits_missing(argv[1], argv[2], stdout) < 0;
+    uint64_t count = 0;
+    return argc != 3 || waits_missing(argv[1], argv[2], stdout, &count) < 0;
 }

@@ -1,0 +1,18 @@
+/* What the processes of a run tell the launcher: in memory that it makes before the run, so that they can tell it when
+ * no file can be written any more. */
+#ifndef DSA_TRACE_BOARD_H
+#define DSA_TRACE_BOARD_H
+
+#include <stdatomic.h>
+#include <stdint.h>
+
+enum { MOST_LOSSES = 256 };
+
+/* A recording that breaks off: its name without an end, and why. */
+struct loss { _Atomic uint32_t is_written; int32_t process; char recording[64], why[224]; };
+
+/* `submitted` counts what the queues took. A submission is counted after it is recorded, so a process that is killed
+ * has none that is counted alone. `lost` counts the recordings that break off; the first of them are in `losses`. */
+struct board { _Atomic uint64_t submitted; _Atomic uint32_t lost; struct loss losses[MOST_LOSSES]; };
+
+#endif

@@ -1,0 +1,82 @@
+/* Whether what was recorded of a run is all that was submitted: the board of the run, what it says, and the marks of
+ * recordings that break off. */
+#include <errno.h>
+#include <fcntl.h>
+#include <stdio.h>
+#include <string.h>
+#include <sys/mman.h>
+#include <sys/stat.h>
+#include <unistd.h>
+
+#include "board.h"
+#include "launcher.h"
+
+/// A new board for a run, whose memory the disk has reserved; processes of an earlier run keep theirs.
+const struct board *seen_begin(const char *folder, char path[PATH_MAX])
+{
+    joined(path, folder, "board");
+    unlink(path);
+    const int file = open(path, O_RDWR | O_CREAT | O_EXCL | O_CLOEXEC, 0666);
+    if (file < 0)
+        fail(path);
+    const int fault = fchmod(file, 0666) ? errno : posix_fallocate(file, 0, sizeof(struct board));
+    errno = fault;
+    const void *at = fault ? MAP_FAILED : mmap(NULL, sizeof(struct board), PROT_READ, MAP_SHARED, file, 0);
+    if (at == MAP_FAILED)
+        fail(path);
+    close(file);
+    return at;
+}
+
+/// How many losses of the board have a place.
+static unsigned places(const struct board *b) { return b->lost < MOST_LOSSES ? b->lost : MOST_LOSSES; }
+
+/// Puts a byte after the last entry of a recording, so that no audit takes it as a whole one. Of one that never began
+/// there is nothing to take.
+static bool spoil(const char *records, const char *recording)
+{
+    char name[NAME_MAX + 1], path[PATH_MAX], last[PATH_MAX] = "";
+    struct stat found;
+    off_t length = 0;
+    for (unsigned part = 1;; part++) {
+        snprintf(name, sizeof name, part > 1 ? "%s.part%u.dsa" : "%s.dsa", recording, part);
+        if (stat(joined(path, records, name), &found))
+            break;
+        strcpy(last, path);
+        length = found.st_size;
+    }
+    return !*last || truncate(last, length + 1) == 0;
+}
+
+/// Marks a recording that breaks off, also by a line among its errors.
+static bool mark(const char *records, const struct loss *l)
+{
+    char name[NAME_MAX + 1], path[PATH_MAX];
+    snprintf(name, sizeof name, "%s.errors", l->recording);
+    FILE *errors = fopen(joined(path, records, name), "a");
+    const bool is_written = errors && fprintf(errors, "B %s\n", l->why) > 0;
+    const bool is_kept = errors && fclose(errors) == 0 && is_written;
+    return spoil(records, l->recording) && is_kept;
+}
+
+/// Says which recordings break off, and marks them; true if there are none.
+bool seen_whole(const struct run *run)
+{
+    const struct board *b = run->board;
+    for (unsigned i = 0; i < places(b); i++) {
+        const struct loss *l = &b->losses[i];
+        fprintf(stderr, "dsa_trace: the recording of process %d (%s) breaks off: %s\n", l->process, l->recording,
+                l->is_written ? l->why : "the process ended meanwhile");
+        if (l->is_written && !mark(run->records, l))
+            fprintf(stderr, "dsa_trace: %s/%s can't be marked as one that breaks off\n", run->records, l->recording);
+    }
+    if (b->lost > MOST_LOSSES)
+        fprintf(stderr, "dsa_trace: and those of %u more\n", b->lost - MOST_LOSSES);
+    return b->lost == 0;
+}
+
+/// How many submissions the processes of the run have made.
+uint64_t seen_submitted(const struct run *run) { return run->board->submitted; }
+
+/// Forgets the board.
+void seen_end(const struct board *b) { munmap((void *)b, sizeof *b); }

@@ -28,6 +28,12 @@ def unseen(*words):
     return "--", client("unseen"), *words
 
 
+def none(what, end):
+    """A case: a right program ends well, and no error is said of it."""
+    told(what, end, 0)
+    expect("error" not in end.stdout, f"{what}: {end.stdout}")
+
+
 # ---- recordings that break off
 
 
@@ -129,6 +135,50 @@ def waited_for():
         expect("missing wait" in child.stdout.read() and child.wait() == 1, "after it has ended there is no audit")
 
 
+# ---- lists and records that change in flight
+
+
+def lists():
+    """What a batch does is what its list has when the device comes to it; a list that has changed since its submission
+    is an error, with each pace but that of a device that is done at once."""
+    wanted = "of submission 0: error: descriptor list changed after submission: when the device came to it, another"
+    for how in (["--seed", 1], ["--seed", 3], ["--order", "all"], ["--seed", 4, "--delay", 100]):
+        told(f"a list that is filled anew {how}", audited(*how, *unseen("list")), 1, wanted)
+        told(f"what it does {how}", traced(*how, *unseen("list")), 3)
+    for how in (["--order", "fifo"], ["--seed", 4]):
+        none(f"a list that is filled anew {how}", audited(*how, *unseen("list")))
+    end = audited(*unseen("gone"))
+    told("a list that is unmapped", end, 1, "status 0x6, 0 members, at the list 1, moved 0",
+         "of submission 0: error: descriptor list changed after submission: when the device came to it, nothing could")
+    with tempfile.TemporaryDirectory(dir=WORK) as folder:
+        traced("--out", folder, *unseen("list"))
+        [errors] = Path(folder, "seed-1").glob("*.errors")
+        expect(re.fullmatch(r"L 0 [0-3] \d+\n", errors.read_text()), f"the error of a list is {errors.read_text()!r}")
+        [recording] = Path(folder, "seed-1").glob("*.dsa")
+        members = [recording.read_bytes()[64 * at : 64 * at + 64] for at in range(10)]
+        expect(members[1:5] != members[6:10], "the recording does not have what was submitted")
+    none("a list that is filled anew after its members", audited(*unseen("reuse")))
+
+
+def records():
+    """A record that is not zero when submitted, or is changed in flight, is an error that names it. Two members may
+    share one, with a fence between. With a fast device a record that is cleared late is lost."""
+    late = ("--delay", 2000)  # the program may take its time to clear the record
+    end = audited(*late, *unseen("record"))
+    told("a record that is cleared late", end, 1,
+         "submission 1: error: record not zero: its completion record, at 0x", ", was not zero when it was submitted",
+         "submission 1: error: record changed: its completion record, at 0x")
+    expect("submission 0: error" not in end.stdout, f"the first record was zero: {end.stdout}")
+    end = audited(*unseen("stale"))
+    told("a record that is never cleared", end, 1, "submission 1: error: record not zero")
+    expect("record changed" not in end.stdout, f"nobody has changed the record: {end.stdout}")
+    for word in ("right", "shared", "reuse"):
+        for seed in (1, 2, 3, 4):
+            none(f"{word} under seed {seed}", audited("--seed", seed, *unseen(word)))
+    told("a record that is cleared late, and a fast device", traced("--seed", 4, *unseen("record")), 7)
+    told("and a device that is not", traced(*late, *unseen("record")), 0)
+
+
 # ---- programs that submit nothing
 
 
@@ -161,7 +211,7 @@ def paces():
     expect(took("--seed", 3, "--delay", 100) in usual, "--delay does not fix the pace of a slow device")
 
 
-PARTS = [lost, full_folder, counted, background, waited_for, empty, paces]
+PARTS = [lost, full_folder, counted, background, waited_for, lists, records, empty, paces]
 
 
 def main(words):

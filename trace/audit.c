@@ -70,7 +70,7 @@ static int ends_in_dsa(const struct dirent *e)
 /* One run: its recordings, how many submissions they have, and a folder for temporary files. */
 struct audited { const char *dsa_text, *records, *folder; FILE *report; uint64_t recorded; };
 
-/// One recording: its fences, and with its first part the waits of all parts.
+/// One recording: its fences, and with its first part the waits and the other errors of all parts.
 static int audit_one(struct audited *a, const char *name)
 {
     char path[PATH_MAX], copy[PATH_MAX], base[NAME_MAX + 1];
@@ -86,11 +86,12 @@ static int audit_one(struct audited *a, const char *name)
     const char *audited = members_audited(joined(path, a->records, name), a->folder, copy, a->report);
     const int fences = audit_file(a->dsa_text, audited, a->report);
     const long waits = is_first ? waits_missing(a->records, base, a->report, &a->recorded) : 0;
+    const long others = is_first ? errors_noted(a->records, base, a->report) : 0;
     if (fences > 1)
         fprintf(stderr, "dsa_trace: %s does not audit %s\n", a->dsa_text, path);
-    if (fences > 1 || waits < 0)
+    if (fences > 1 || waits < 0 || others < 0)
         return FAILED;
-    return fences == 1 || waits > 0;
+    return fences == 1 || waits > 0 || others > 0;
 }
 
 /// All recordings of a run, each with its name if there are several.

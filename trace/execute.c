@@ -23,6 +23,28 @@ uint8_t execute_take(struct submission *s, completion *r)
     return DSA_COMP_SUCCESS;
 }
 
+/// Reads a member of a batch once more, as the device does when it comes to it: what is there now is done. False, with
+/// the record of the batch, if it can't be read any more.
+bool execute_fetch(struct submission *s, unsigned index, completion *r)
+{
+    descriptor now, *member = &s->members[index];
+    struct fault fault;
+    const bool is_read = memory_copy(&now, (const descriptor *)s->entry.desc_list_addr + index, sizeof now, &fault);
+    if (is_read && memcmp(&now, member, sizeof now) == 0)
+        return true;
+    if (!s->is_changed)
+        record_error(is_read ? 'L' : 'U', s->number, index, s->entry.desc_list_addr + sizeof now * index);
+    s->is_changed = true;
+    if (is_read) {
+        records_leave(member);
+        *member = now;
+        records_enter(s, index, member);
+        return true;
+    }
+    *r = (completion){.status = DSA_COMP_BATCH_PAGE_FAULT, .fault_addr = fault.address & -4096ull};
+    return false;
+}
+
 /// Says why a descriptor is refused, the first times.
 static void say_refused(const struct submission *s, unsigned index, uint8_t status, uint32_t flags)
 {
@@ -64,15 +86,19 @@ static bool publish(uint64_t address, const completion *r)
     return false;
 }
 
-/// Writes the record of a descriptor, if it has one: one that is not requested is written on failures alone. Answers
-/// whether it was written.
-bool execute_record(const descriptor *d, const completion *r)
+/// Writes the record of a submission or of a member, if it has one: one that is not requested is written on failures
+/// alone. Answers whether it was written.
+bool execute_record(const struct submission *s, int member, const completion *r)
 {
+    const descriptor *d = member < 0 ? &s->entry : &s->members[member];
     const bool is_wanted = d->flags & IDXD_OP_FLAG_RCR || r->status != DSA_COMP_SUCCESS;
     if (!(d->flags & IDXD_OP_FLAG_CRAV) || !is_wanted)
         return false;
-    if (!valid_is_misplaced(d))
+    if (!valid_is_misplaced(d)) {
+        records_check(s, member, d);
+        records_write(d, r);
         return publish(d->completion_addr, r);
+    }
     say("the completion record at %#lx is at no multiple of 32, so the device does nothing and writes none",
         (unsigned long)d->completion_addr);
     return false;

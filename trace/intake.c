@@ -22,6 +22,9 @@ static struct submission *take_unused(void)
 static void put_in(struct submission *s)
 {
     board_submitted();
+    records_enter(s, -1, &s->entry);
+    for (unsigned i = 0; s->is_batch && i < s->count; i++)
+        records_enter(s, i, &s->members[i]);
     for (unsigned i = 0; i < s->count; i++)
         s->turn[i] = i;
     order_find_epoch(s);
@@ -44,6 +47,7 @@ static void refuse_batch(struct submission *s, const completion *r)
     say("batch %lu of %u descriptors at %#lx is refused with status %#x (%s)", s->number, s->entry.desc_count,
         (unsigned long)s->entry.desc_list_addr, r->status, valid_name(r->status));
     record_submission(&(struct submitted){s->number, s->queue, &empty, NULL, 0});
+    s->is_batch = false;
     put_in(s);
     order_complete(s, r);
 }
@@ -59,7 +63,7 @@ static void take_in(struct queue *q, const descriptor *d)
     s->queue = q;
     s->entry = *d;
     s->is_batch = d->opcode == DSA_OPCODE_BATCH;
-    s->has_failed = s->is_done = false;
+    s->has_failed = s->is_done = s->is_changed = false;
     s->watch = -1;
     s->begun = 0;
     s->count = 1;

@@ -69,7 +69,7 @@ bool seen_whole(const struct run *run);
 /* How many submissions the processes of the run have made. */
 uint64_t seen_submitted(const struct run *run);
 
-/* ---- audit.c, members.c and waits.c: what is missing ---- */
+/* ---- audit.c, members.c, waits.c and errors.c: what is missing ---- */
 /* The program dsa_text; NULL, after a sentence, if there is none. */
 const char *audit_find(void);
 /* What the audits of the runs found. `status` is 0, 1 if fences or waits are missing, or 125 if a recording can't be
@@ -91,6 +91,8 @@ const char *members_audited(const char *path, const char *folder, char room[PATH
 /* How many conflicts one recording has between submissions in flight at once; -1 if it can't be read. The number of its
  * submissions is added to *count. */
 long waits_missing(const char *records, const char *name, FILE *report, uint64_t *count);
+/* How many errors the library has noted of one recording; -1 if they can't be read. */
+long errors_noted(const char *records, const char *name, FILE *report);
 
 /* ---- fail.c ---- */
 void fail(const char *what) __attribute__((noreturn)); /* with the reason that errno has */

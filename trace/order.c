@@ -20,6 +20,9 @@ bool order_is_async(void) { return settings.order >= ORDER_DATA; }
 
 static void give_back(struct submission *s)
 {
+    records_leave(&s->entry);
+    for (unsigned i = 0; s->is_batch && i < s->count; i++)
+        records_leave(&s->members[i]);
     s->next = order.unused;
     order.unused = s;
 }
@@ -49,7 +52,7 @@ void order_complete(struct submission *s, const completion *r)
         record_event('C', s->number, -1, s->last.status); /* before the record, so that nobody knows of it earlier */
         if (s->watch >= 0)
             watch_completed(s->watch, s->number);
-        order.records += execute_record(&s->entry, &s->last);
+        order.records += execute_record(s, -1, &s->last);
         take_out(s);
         s = settings.order == ORDER_DATA ? order.head : NULL;
     }
@@ -63,17 +66,29 @@ void order_find_epoch(struct submission *s)
         s->end++;
 }
 
-/// The next member of the batch, or the lone descriptor. Called with the lock, which it leaves while it works if other
-/// threads may submit meanwhile.
-void order_step(struct submission *s)
+/// Draws the next member of a batch, and answers its index; that of a lone descriptor is 0.
+static uint16_t draw_member(struct submission *s)
 {
-    completion r;
     unsigned place = s->begun;
     if (s->is_batch && settings.order != ORDER_FIFO)
         place += random_next(&order.choices) % (s->end - s->begun);
     const uint16_t index = s->turn[place];
     s->turn[place] = s->turn[s->begun]; /* those before `begun` are done */
     s->turn[s->begun] = index;
+    return index;
+}
+
+/// The next member of the batch, or the lone descriptor. Called with the lock, which it leaves while it works if other
+/// threads may submit meanwhile.
+void order_step(struct submission *s)
+{
+    completion r;
+    const uint16_t index = draw_member(s);
+    if (s->is_batch && !execute_fetch(s, index, &r)) {
+        r.bytes_completed = s->begun;
+        order_complete(s, &r);
+        return;
+    }
     if (order_is_async())
         pthread_mutex_unlock(&order.lock);
     execute(s, index, &r);
@@ -86,7 +101,7 @@ void order_step(struct submission *s)
     }
     s->has_failed |= r.status != DSA_COMP_SUCCESS;
     record_event('c', s->number, index, r.status);
-    order.records += execute_record(&s->members[index], &r);
+    order.records += execute_record(s, index, &r);
     if (s->begun < s->end)
         return;
     if (s->begun < s->count && !s->has_failed) {
@@ -214,6 +229,7 @@ static void begin_process(void)
     order.choices = (struct random){settings.seed, 0};
     order.retries = (struct random){~settings.seed, 0};
     watch_forget();
+    records_forget();
     order.submitted = order.batches = order.members = order.retried = order.dropped = order.records = 0;
     record_forget();
     order.pid = getpid();

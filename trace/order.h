@@ -16,16 +16,26 @@ struct submission {
     descriptor entry;
     uint32_t count, begun, end;
     bool is_batch, has_failed, is_done;
+    bool is_changed; /* that its list was changed is said */
     int watch; /* a watchpoint, or -1 */
     completion last;
     uint16_t turn[GREATEST_BATCH];
-    descriptor members[GREATEST_BATCH]; /* as they were when it was submitted; of a lone descriptor the entry */
+    descriptor members[GREATEST_BATCH]; /* as submitted, or else as executed; of a lone descriptor the entry */
 };
 
 /* ---- execute.c: one descriptor ---- */
 uint8_t execute_take(struct submission *s, completion *r);
+bool execute_fetch(struct submission *s, unsigned index, completion *r);
 void execute(const struct submission *s, unsigned index, completion *r);
-bool execute_record(const descriptor *d, const completion *r);
+/* The member, or -1 for the submission's own record. */
+bool execute_record(const struct submission *s, int member, const completion *r);
+
+/* ---- records.c: completion records of what is in flight ---- */
+void records_enter(const struct submission *s, int member, const descriptor *d);
+void records_check(const struct submission *s, int member, const descriptor *d);
+void records_write(const descriptor *d, const completion *r);
+void records_leave(const descriptor *d);
+void records_forget(void);
 
 /* ---- pace.c: when the program has had its time ---- */
 struct pace {

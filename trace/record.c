@@ -1,8 +1,8 @@
-/* The recording: entries of 64 bytes for `dsa_text audit`, in files of at most 65,536, and events as lines of text.
- * Both are shared mappings of files, so what is written stays when the process is killed. Files grow by blocks that the
- * disk has reserved, and are cut to their length at the end, by the launcher if the process can't. A recording that
- * can't go on is named on the launcher's board. Paths are static, since a thread or a fiber that submits may have
- * little stack; all is done under the lock of order.c. */
+/* The recording: entries of 64 bytes for `dsa_text audit`, in files of at most 65,536, events as lines of text, and
+ * errors as lines of another. All are shared mappings of files, so what is written stays when the process is killed.
+ * Files grow by blocks that the disk has reserved, and are cut to their length at the end, by the launcher if the
+ * process can't. A recording that can't go on is named on the launcher's board. Paths are static, since a thread or a
+ * fiber that submits may have little stack; all is done under the lock of order.c. */
 #include <errno.h>
 #include <fcntl.h>
 #include <stdio.h>
@@ -24,7 +24,7 @@ static struct recording {
     bool is_open, is_off;
     char base[PATH_MAX - 64]; /* the names of the files without their ends */
     unsigned part;
-    struct grown entries, events;
+    struct grown entries, events, errors;
 } recording;
 
 /// From here on nothing is recorded, for the reason that errno has.
@@ -206,15 +206,15 @@ static char *put_number(char *to, uint64_t number)
 
 static char *put_pair(char *to, const char *text, uint64_t number) { return put_number(put_text(to, text), number); }
 
-static void add_line(const char *line, size_t length)
+static void add_line(struct grown *g, const char *line, size_t length)
 {
-    uint8_t *to = grown_room(&recording.events, length);
+    uint8_t *to = grown_room(g, length);
     if (!to) {
         give_up("the events can't grow");
         return;
     }
     memcpy(to, line, length);
-    recording.events.used += length;
+    g->used += length;
 }
 
 /// An event: a letter, the submission, and a member and a status where there are some.
@@ -230,7 +230,28 @@ void record_event(char letter, uint64_t number, int64_t member, int64_t status)
     if (status >= 0)
         to = put_pair(to, " ", status);
     *to++ = '\n';
-    add_line(line, to - line);
+    add_line(&recording.events, line, to - line);
+}
+
+/// An error of the program that no later audit could see: a letter, the submission, a member or -1, and an address. The
+/// first makes the file.
+void record_error(char letter, uint64_t number, int64_t member, uint64_t address)
+{
+    static char path[PATH_MAX];
+    char line[LONGEST_LINE], *to = line;
+    if (!is_on())
+        return;
+    snprintf(path, sizeof path, "%s.errors", recording.base);
+    if (!recording.errors.path[0] && !grown_open(&recording.errors, path, 2 * BLOCK)) {
+        give_up(path);
+        return;
+    }
+    *to++ = letter;
+    to = put_pair(to, " ", number);
+    to = member < 0 ? put_text(to, " -") : put_pair(to, " ", member);
+    to = put_pair(to, " ", address);
+    *to++ = '\n';
+    add_line(&recording.errors, line, to - line);
 }
 
 /// The entries of a submission, and its event, which names the part and the entry at which it begins.
@@ -258,7 +279,7 @@ void record_submission(const struct submitted *s)
     to = put_pair(to, " entry ", recording.entries.used / ENTRY);
     *to++ = '\n';
     recording.entries.used += ENTRY * (1ul + s->count);
-    add_line(line, to - line);
+    add_line(&recording.events, line, to - line);
 }
 
 /// Cuts the files to their length. Threads that submit after this are recorded, and the launcher cuts the files.
@@ -268,6 +289,7 @@ void record_finish(void)
         return;
     grown_close(&recording.entries);
     grown_close(&recording.events);
+    grown_close(&recording.errors);
 }
 
 /// After fork: the files are the parent's, which goes on with them.
@@ -275,5 +297,6 @@ void record_forget(void)
 {
     grown_unmap(&recording.entries);
     grown_unmap(&recording.events);
+    grown_unmap(&recording.errors);
     memset(&recording, 0, sizeof recording);
 }

@@ -103,6 +103,8 @@ struct submitted { uint64_t number; const struct queue *queue; const descriptor 
 void record_submission(const struct submitted *s);
 /* Events are lines: a letter, a number and up to two more, -1 for none. */
 void record_event(char letter, uint64_t number, int64_t member, int64_t status);
+/* Errors are lines of a file of their own: a letter, the submission, a member or -1, an address. */
+void record_error(char letter, uint64_t number, int64_t member, uint64_t address);
 /* The recording breaks off here; errno says why. */
 void record_give_up(const char *what);
 void record_finish(void);

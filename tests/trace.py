@@ -330,10 +330,6 @@ def waits():
     told("threads", traced("--audit", "--", client("threads"), env=known), 0)
     told("a sleep after a move without a record", traced("--audit", "--", client("ordered"), "blind", env=known), 1,
          "missing wait")
-    is_watched = watches()
-    for held in (5, 100) if is_watched else ():
-        end = traced("--audit", "--watch", held, "--", client("ordered"), "sleep", env=known)
-        told(f"a sleep is no wait, held for {held} ms", end, 1, "missing wait")
     audited_runs(known)
     told("an audit that fails", traced("--audit", "--", client("ordered"), "waited", env={"DSA_TEXT": "/bin/false"}), 1)
     for dies in ("exit 2", "kill -9 $$"):
@@ -437,16 +433,6 @@ def audited():
     told("an audit of many seeds", end, 1, "the same again", "missing fence")
 
 
-def watches():
-    """Whether the kernel gives watchpoints."""
-    with tempfile.TemporaryDirectory(dir=WORK) as folder:
-        end = traced("--watch", 100, "--out", folder, "--", client("ordered"), "sleep")
-        if "gives no watchpoints" in end.stderr:
-            skip("watchpoints, which the kernel does not give")
-            return False
-        return True
-
-
 # ---- the launcher
 
 
@@ -487,7 +473,7 @@ def options():
         told(f"the options {words}", traced(*words, *(["--", "true"] if words else [])), 125, why)
     told("a value after =", traced("--seed=7", "--order=all", "true"), 0)
     names = re.findall(r"^ +(?:-h, )?(--[a-z-]+)", end.stdout, re.M)
-    expect(len(names) == 16, f"--help names {names}")
+    expect(len(names) == 17, f"--help names {names}")
     page = Path("bindings/package/dsa_trace.1").read_text().replace("\\-", "-")
     completion = Path("bindings/package/dsa_trace.bash").read_text()
     missing = [name for name in names if name not in page or name not in completion]

@@ -179,6 +179,40 @@ def records():
     told("and a device that is not", traced(*late, *unseen("record")), 0)
 
 
+# ---- waits that threads lack
+
+
+def watches():
+    """Whether the kernel gives watchpoints."""
+    if "no watchpoints" in audited(*unseen("right")).stderr:
+        skip("watchpoints, which the kernel does not give")
+        return False
+    return True
+
+
+def threads():
+    """An audit finds a wait that is missing between threads, or long before the next submission, since it sees which
+    records the program looks at; with --no-watch it does not."""
+    with tempfile.TemporaryDirectory(dir=WORK) as folder:
+        shell = f"ulimit -n 5; exec {client('unseen')} right"
+        told("a program with few file numbers", audited("--", "sh", "-c", shell), 0, "no watchpoints (Too many open")
+        traced("--out", folder, *unseen("right"))
+        lines = "".join(path.read_text() for path in Path(folder, "seed-1").glob("*.events"))
+        expect("W" not in lines, f"without an audit records are watched: {lines}")
+    if not watches():
+        return
+    for how in ([], ["--watch", 5], ["--watch", 100]):
+        end = audited(*how, "--", client("ordered"), "sleep")
+        told(f"a sleep is no wait {how}", end, 1, "missing wait")
+    for seed in (1, 2, 3):
+        told(f"a wait that is missing for long, seed {seed}", audited("--seed", seed, *unseen("gap", 10000)), 1,
+             "submission 1: error: missing wait, read after write: reads what submission 0, in flight, writes")
+        end = audited("--seed", seed, "--", client("stages"), "omits")
+        told(f"a stage that does not wait, seed {seed}", end, 1, "missing wait, read after write")
+        none(f"stages that wait, seed {seed}", audited("--seed", seed, "--", client("stages")))
+        none(f"--no-watch, seed {seed}", audited("--no-watch", "--seed", seed, *unseen("gap", 10000)))
+
+
 # ---- programs that submit nothing
 
 
@@ -211,12 +245,12 @@ def paces():
     expect(took("--seed", 3, "--delay", 100) in usual, "--delay does not fix the pace of a slow device")
 
 
-PARTS = [lost, full_folder, counted, background, waited_for, lists, records, empty, paces]
+PARTS = [lost, full_folder, counted, background, waited_for, lists, records, threads, empty, paces]
 
 
 def main(words):
     parts = named(PARTS, words)
-    for part in parts if built_all(["unseen", "odd"]) else []:
+    for part in parts if built_all(["unseen", "stages", "odd", "ordered"]) else []:
         part()
 
 

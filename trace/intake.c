@@ -32,11 +32,8 @@ static void put_in(struct submission *s)
     *order.tail = s;
     order.tail = &s->next;
     s->queue->in_flight++;
-    const unsigned asks = IDXD_OP_FLAG_CRAV | IDXD_OP_FLAG_RCR;
-    if (settings.watch && (s->entry.flags & asks) == asks)
-        s->watch = watch_open(s->entry.completion_addr, order.worker);
-    if (s->watch >= 0)
-        record_event('W', s->number, -1, -1);
+    if (settings.hold)
+        order_watch(s);
 }
 
 /// A batch without members: its list can't be read, or the device refuses it. It is recorded with none.

@@ -17,7 +17,7 @@ struct options {
     const char *out;    /* the folder of the recordings, or NULL */
     const char *queues[MOST_QUEUES];
     int queue_count;
-    bool has_namespace, audits, waits;
+    bool has_namespace, audits, waits, watches;
     bool has_delay;     /* one is given, so no seed chooses a pace */
     char **program;     /* its name and arguments */
     char **words;       /* all words of the command line */

@@ -24,6 +24,7 @@ static const char help[] =
     "      --fault <N>      a move without block-on-fault stops where its source enters a new page, once in N times;\n"
     "                       0: never [default: 0]\n"
     "      --watch <MS>     hold what is in flight until its record is looked at, at most so many milliseconds\n"
+    "      --no-watch       do not look which records the program looks at: each completion counts as seen\n"
     "      --queue <QUEUE>  dedicated,SIZE,NAME or shared,SIZE,NAME; once for each of wq0.0, wq0.1 and so on\n"
     "                       [default: dedicated,16,dpdk_wq0.0 and shared,16,app1]\n"
     "      --cpuid          let CPUID say that MOVDIR64B, ENQCMD and UMWAIT are there\n"
@@ -77,7 +78,7 @@ static uint64_t *number_at(struct options *o, const char *name)
 {
     struct { const char *name; uint64_t *at; } numbers[] = {
         {"--seed", &o->settings.seed},   {"--seeds", &o->seeds},          {"--delay", &o->settings.delay},
-        {"--retry", &o->settings.retry}, {"--fault", &o->settings.fault}, {"--watch", &o->settings.watch},
+        {"--retry", &o->settings.retry}, {"--fault", &o->settings.fault}, {"--watch", &o->settings.hold},
     };
     for (size_t i = 0; i < sizeof numbers / sizeof *numbers; i++)
         if (strcmp(name, numbers[i].name) == 0)
@@ -96,6 +97,8 @@ static bool take_flag(struct options *o, const char *name)
         o->has_namespace = false;
     else if (strcmp(name, "--no-wait") == 0)
         o->waits = false;
+    else if (strcmp(name, "--no-watch") == 0)
+        o->watches = false;
     else if (strcmp(name, "--signals") == 0)
         o->settings.signals = 1;
     else if (strcmp(name, "--verbose") == 0)
@@ -130,7 +133,7 @@ void options_read(char **words, struct options *o)
 {
     char name[32];
     *o = (struct options){.settings = settings_default(), .seeds = 1, .has_namespace = true, .waits = true,
-                          .words = words};
+                          .watches = true, .words = words};
     char **word = words + 1;
     for (; *word && **word == '-' && strcmp(*word, "--"); word++) {
         const char *equals = strchr(*word, '=');
@@ -148,6 +151,7 @@ void options_read(char **words, struct options *o)
     o->program = *word && strcmp(*word, "--") == 0 ? word + 1 : word;
     if (!*o->program)
         refuse("the program to run is missing", words[0]);
+    o->settings.watch = o->watches && (o->audits || o->settings.hold);
     if (o->seeds == 0)
         refuse("at least one run is needed", "--seeds");
 }

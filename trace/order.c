@@ -41,6 +41,18 @@ static void take_out(struct submission *s)
         pthread_cond_broadcast(&order.idle);
 }
 
+/// Watches the record of a submission, if it has one and there is a watchpoint for it. A record that is written by the
+/// thread that submits is not: its own look is not told from ours.
+void order_watch(struct submission *s)
+{
+    const unsigned asks = IDXD_OP_FLAG_CRAV | IDXD_OP_FLAG_RCR;
+    if (!settings.watch || !order_is_async() || (s->entry.flags & asks) != asks)
+        return;
+    s->watch = watch_open(s->entry.completion_addr, order.worker);
+    if (s->watch >= 0)
+        record_event('W', s->number, -1, -1);
+}
+
 /// A submission is done: its completion follows, in DATA after those of all submissions before it.
 void order_complete(struct submission *s, const completion *r)
 {
@@ -49,6 +61,8 @@ void order_complete(struct submission *s, const completion *r)
     if (settings.order == ORDER_DATA)
         s = order.head;
     while (s && s->is_done) {
+        if (s->watch < 0)
+            order_watch(s);
         record_event('C', s->number, -1, s->last.status); /* before the record, so that nobody knows of it earlier */
         if (s->watch >= 0)
             watch_completed(s->watch, s->number);
@@ -127,17 +141,17 @@ static bool may_go(const struct submission *s)
     return !s->is_done && !(s->entry.opcode == DSA_OPCODE_DRAIN && has_older_of_queue(s));
 }
 
-/// For --watch: whether all waits until the program looks at a record that is watched. Until then it does not wait for
-/// it.
+/// For --watch MS: whether all waits until the program looks at a record that is watched. Until then it does not wait
+/// for it.
 static bool is_held(void)
 {
     bool is_watched = false;
     for (const struct submission *s = order.head; s; s = s->next) {
-        if (s->watch >= 0 && watch_count(s->watch))
+        if (s->watch >= 0 && watch_is_touched(s->watch))
             return false;
         is_watched |= s->watch >= 0;
     }
-    return is_watched && pace_since(&order.pace) < (int64_t)settings.watch * 1000000;
+    return is_watched && pace_since(&order.pace) < (int64_t)settings.hold * 1000000;
 }
 
 /// Draws one of the submissions that may go.
@@ -146,7 +160,7 @@ static struct submission *choose(void)
     unsigned count = 0;
     for (const struct submission *s = order.head; s; s = s->next)
         count += may_go(s);
-    if (!count || (settings.watch && is_held()))
+    if (!count || (settings.hold && is_held()))
         return NULL;
     unsigned left = random_next(&order.choices) % count;
     struct submission *s = order.head;

@@ -70,6 +70,7 @@ extern struct order_state order;
 bool order_is_async(void);
 /* The following are called with the lock. */
 void order_find_epoch(struct submission *s);
+void order_watch(struct submission *s);
 void order_complete(struct submission *s, const completion *r);
 void order_step(struct submission *s);
 

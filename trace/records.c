@@ -4,6 +4,9 @@
 #include <errno.h>
 #include <string.h>
 #include <sys/mman.h>
+#include <sys/syscall.h>
+#include <sys/uio.h>
+#include <unistd.h>
 
 #include "order.h"
 
@@ -23,8 +26,12 @@ static bool is_told(const descriptor *d)
     return (d->flags & asks) == asks && !valid_is_misplaced(d);
 }
 
+/// Reads a record. That is no look of the program's, so where it is watched the kernel does it.
 static bool read_record(uint64_t at, completion *bytes)
 {
+    const struct iovec to = {bytes, sizeof *bytes}, from = {(void *)at, sizeof *bytes};
+    if (watch_has(at))
+        return syscall(SYS_process_vm_readv, getpid(), &to, 1l, &from, 1l, 0l) == sizeof *bytes;
     return memory_copy(bytes, (const void *)at, sizeof *bytes, NULL);
 }
 

@@ -17,7 +17,8 @@ struct settings {
     uint64_t delay;   /* microseconds that the program has to run on before anything in flight is done */
     uint64_t retry;   /* ENQCMD says "retry" once in this many times; 0: only when the queue is full */
     uint64_t fault;   /* a move without block-on-fault stops at a page of its source, once in so many; 0: never */
-    uint64_t watch;   /* milliseconds for which a submission waits until its record is looked at; 0: off */
+    uint64_t watch;   /* 1: it is seen which records the program looks at */
+    uint64_t hold;    /* milliseconds for which what is in flight waits until a record is looked at; 0: it does not */
     uint64_t cpuid;   /* 1: CPUID says that the instructions exist */
     uint64_t signals; /* 1: each submission by a signal, and no code is changed */
     uint64_t verbose; /* 1: a line of counts at the end of each process */

@@ -120,7 +120,8 @@ void board_lose(const char *recording, const char *why);
 /* ---- watch.c: hardware watchpoints on completion records ---- */
 enum { WATCHES = 4 };
 int watch_open(uint64_t record, pid_t except); /* a number, or -1 if there is none */
-uint64_t watch_count(int watch);                                /* how often the program touched the record */
+bool watch_is_touched(int watch);
+bool watch_has(uint64_t record);
 void watch_completed(int watch, uint64_t number);
 void watch_note_seen(void);
 void watch_forget(void);

@@ -22,7 +22,7 @@ _dsa_trace()
         --seed | --seeds | --delay | --retry | --fault | --watch) ;;
         *)
             if [[ $word == -* ]]; then
-                COMPREPLY=($(compgen -W "--audit --cpuid --delay --fault --help --no-namespace --no-wait
+                COMPREPLY=($(compgen -W "--audit --cpuid --delay --fault --help --no-namespace --no-wait --no-watch
                     --order --out --queue --retry --seed --seeds --signals --verbose --watch" -- "$word"))
             else
                 COMPREPLY=($(compgen -c -- "$word"))

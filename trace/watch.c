@@ -20,22 +20,33 @@ enum { THREADS = 32, TRIES = 8, LOWEST = 600 };
 static struct watch { bool is_used, is_written; uint64_t record, number, touched; } watches[WATCHES];
 
 /* Of each thread a file for each watch. They stay open. */
-static struct watched { int threads, fd[THREADS][WATCHES]; bool is_missing; } watched;
+static struct watched { int threads, fd[THREADS][WATCHES]; bool is_missing, has_children; } watched;
 
+/// What a file watches. Before Linux 5.13 children of fork inherit it as threads do: `has_children`.
 static struct perf_event_attr attributes(uint64_t record, bool is_off)
 {
     return (struct perf_event_attr){.type = PERF_TYPE_BREAKPOINT, .size = sizeof(struct perf_event_attr),
                                     .bp_type = HW_BREAKPOINT_RW, .bp_addr = record, .bp_len = HW_BREAKPOINT_LEN_1,
-                                    .disabled = is_off, .inherit = 1, .exclude_kernel = 1, .exclude_hv = 1};
+                                    .disabled = is_off, .inherit = 1, .inherit_thread = !watched.has_children,
+                                    .exclude_kernel = 1, .exclude_hv = 1};
+}
+
+static int open_file(pid_t thread)
+{
+    struct perf_event_attr a = attributes((uintptr_t)&watched, true);
+    const int fd = syscall(SYS_perf_event_open, &a, thread, -1, -1, PERF_FLAG_FD_CLOEXEC);
+    if (fd >= 0 || errno != EINVAL || watched.has_children)
+        return fd;
+    watched.has_children = true;
+    return open_file(thread);
 }
 
 /// Opens the files of one thread, out of the way of the program's own; false, with errno, if not all can be opened.
 static bool open_thread(pid_t thread)
 {
-    struct perf_event_attr a = attributes((uintptr_t)&watched, true);
     int *const fd = watched.fd[watched.threads];
     for (int i = 0; i < WATCHES; i++) {
-        fd[i] = syscall(SYS_perf_event_open, &a, thread, -1, -1, PERF_FLAG_FD_CLOEXEC);
+        fd[i] = open_file(thread);
         const int high = fd[i] < 0 ? -1 : fcntl(fd[i], F_DUPFD_CLOEXEC, LOWEST);
         const int fault = errno;
         if (high >= 0) {

@@ -79,8 +79,8 @@ def two(code, flags, first, second, size, other):
     return entry, struct.pack("<IIQQQI28x", 0, later[0] << 24 | later[1], *later[2:])
 
 
-# Recordings of two entries and how many waits they lack, by docs/FORMATS.md, "Recordings and audits": 0x20 is a flush of
-# caches, 0x0a a translation fetch, 0x13 inserts a field of 8 bytes after each block of 512.
+# Recordings of two entries and how many waits they lack, by docs/FORMATS.md, "Recordings and audits": 0x20 is a flush
+# of caches, 0x0a a translation fetch, 0x13 inserts a field of 8 bytes after each block of 512.
 TOUCHED = {
     "a flush of what a move writes": (*two(3, 0x0C, 0x1000, 0x2000, 64, (0x20, 0x0C, 0x8020, 0, 0x2000, 64)), 1),
     "a flush of what it reads": (*two(3, 0x0C, 0x1000, 0x2000, 64, (0x20, 0x0C, 0x8020, 0, 0x1000, 64)), 0),

@@ -194,8 +194,10 @@ def threads():
     """An audit finds a wait that is missing between threads, or long before the next submission, since it sees which
     records the program looks at; with --no-watch it does not."""
     with tempfile.TemporaryDirectory(dir=WORK) as folder:
-        shell = f"ulimit -n 5; exec {client('unseen')} right"
-        told("a program with few file numbers", audited("--", "sh", "-c", shell), 0, "no watchpoints (Too many open")
+        shell = f"exec 2> /dev/null; ulimit -n 5; exec {client('unseen')} right"
+        end = audited("--seeds", 2, "--", "sh", "-c", shell)
+        told("a program with few file numbers", end, 0, "no watchpoints in 1 process (Too many open files)")
+        expect(end.stderr.count("no watchpoints") == 1, f"it is said again: {end.stderr}")
         traced("--out", folder, *unseen("right"))
         lines = "".join(path.read_text() for path in Path(folder, "seed-1").glob("*.events"))
         expect("W" not in lines, f"without an audit records are watched: {lines}")

@@ -42,6 +42,13 @@ bool board_is_there(void)
 /// A submission is taken, and recorded.
 void board_submitted(void) { atomic_fetch_add_explicit(&board->submitted, 1, memory_order_relaxed); }
 
+/// No record of this process is watched any more.
+void board_unwatched(const char *why)
+{
+    if (atomic_fetch_add(&board->unwatched, 1) == 0)
+        snprintf(board->why_unwatched, sizeof board->why_unwatched, "%s", why);
+}
+
 /// The recording of this process breaks off.
 void board_lose(const char *recording, const char *why)
 {

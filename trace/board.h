@@ -12,7 +12,13 @@ enum { MOST_LOSSES = 256 };
 struct loss { _Atomic uint32_t is_written; int32_t process; char recording[64], why[224]; };
 
 /* `submitted` counts what the queues took. A submission is counted after it is recorded, so a process that is killed
- * has none that is counted alone. `lost` counts the recordings that break off; the first of them are in `losses`. */
-struct board { _Atomic uint64_t submitted; _Atomic uint32_t lost; struct loss losses[MOST_LOSSES]; };
+ * has none that is counted alone. `lost` counts the recordings that break off; the first of them are in `losses`.
+ * `unwatched` counts the processes in which no record can be watched, and the first of them says why. */
+struct board {
+    _Atomic uint64_t submitted;
+    _Atomic uint32_t lost, unwatched;
+    char why_unwatched[96];
+    struct loss losses[MOST_LOSSES];
+};
 
 #endif

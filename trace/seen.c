@@ -59,10 +59,21 @@ static bool mark(const char *records, const struct loss *l)
     return spoil(records, l->recording) && is_kept;
 }
 
+/// Says once in which processes no records are watched, since then less is found.
+static void say_unwatched(const struct board *b)
+{
+    static bool is_said;
+    if (b->unwatched && !is_said)
+        fprintf(stderr, "dsa_trace: no watchpoints in %u process%s (%s): completions count as looked at, so waits that "
+                "threads lack may be missed\n", b->unwatched, b->unwatched > 1 ? "es" : "", b->why_unwatched);
+    is_said |= b->unwatched;
+}
+
 /// Says which recordings break off, and marks them; true if there are none.
 bool seen_whole(const struct run *run)
 {
     const struct board *b = run->board;
+    say_unwatched(b);
     for (unsigned i = 0; i < places(b); i++) {
         const struct loss *l = &b->losses[i];
         fprintf(stderr, "dsa_trace: the recording of process %d (%s) breaks off: %s\n", l->process, l->recording,

@@ -116,6 +116,7 @@ void board_begin(void);
 bool board_is_there(void);
 void board_submitted(void);
 void board_lose(const char *recording, const char *why);
+void board_unwatched(const char *why);
 
 /* ---- watch.c: hardware watchpoints on completion records ---- */
 enum { WATCHES = 4 };

@@ -89,10 +89,10 @@ static int list_threads(pid_t except, pid_t found[THREADS + 1])
     return count;
 }
 
-/// Says once that the program can't be watched, and why; from then on nothing is.
+/// From now on nothing is watched.
 static bool give_up(const char *why)
 {
-    say("no watchpoints (%s): each completion counts as looked at, so waits that threads lack may be missed", why);
+    board_unwatched(why);
     watched.is_missing = true;
     return false;
 }

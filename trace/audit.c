@@ -131,7 +131,7 @@ static bool is_seen(const struct run *run, uint64_t recorded)
 static FILE *new_report(const char *folder)
 {
     char path[PATH_MAX];
-    FILE *report = fopen(joined(path, folder, "report"), "a+");
+    FILE *report = fopen(joined(path, folder, "report"), "a+e"); /* not for the program */
     if (!report || unlink(path))
         fail(path);
     return report;

@@ -162,17 +162,21 @@ static bool path_of(int fd, char path[PATH_MAX])
     return length > 0;
 }
 
-/// The queue of an open file, or NULL.
-struct queue *files_queue(int fd)
+/// The queue of an open file, or NULL. A map of a queue's file that is none of a portal would take what is submitted
+/// without a word, so a queue that can't be read is an error.
+struct queue *files_queue(int fd, bool *is_broken)
 {
     char path[PATH_MAX];
     int device, id;
     const int kept = errno;
     const char *name = path_of(fd, path) ? strstr(path, "/dev/dsa/wq") : NULL;
-    struct queue *found = NULL;
-    if (name && sscanf(name, "/dev/dsa/wq%d.%d", &device, &id) == 2)
-        found = portals_queue(device, id, fill);
-    errno = kept;
+    const bool is_queue = name && sscanf(name, "/dev/dsa/wq%d.%d", &device, &id) == 2;
+    struct queue *found = is_queue ? portals_queue(device, id, fill) : NULL;
+    *is_broken = is_queue && !found;
+    if (*is_broken)
+        say("the files of wq%d.%d can't be read (%s), so nothing can be submitted to it", device, id, strerror(errno));
+    else
+        errno = kept;
     return found;
 }
 
@@ -213,9 +217,13 @@ static ssize_t write_entries(struct queue *q, const uint8_t *from, size_t size)
 ssize_t write(int fd, const void *from, size_t size)
 {
     char path[PATH_MAX];
-    struct queue *queue = fd > STDERR_FILENO && size && size % sizeof(descriptor) == 0 ? files_queue(fd) : NULL;
+    const bool may_be = fd > STDERR_FILENO && size && size % sizeof(descriptor) == 0;
+    bool is_broken = false;
+    struct queue *queue = may_be ? files_queue(fd, &is_broken) : NULL;
     if (queue)
         return write_entries(queue, from, size);
+    if (is_broken)
+        return -1;
     const bool is_small = fd > STDERR_FILENO && size && size < 4096;
     const int kept = errno;
     if (!is_small || !path_of(fd, path) || !strstr(path, "/sys/bus/dsa/")) {

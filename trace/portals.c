@@ -123,9 +123,12 @@ void portals_forget(void)
 
 static void *map(void *at, size_t size, int protection, int flags, int fd, off_t offset)
 {
-    struct queue *queue = fd < 0 || flags & MAP_ANONYMOUS ? NULL : files_queue(fd);
+    bool is_broken = false;
+    struct queue *queue = fd < 0 || flags & MAP_ANONYMOUS ? NULL : files_queue(fd, &is_broken);
     if (queue)
         return map_portal(at, size, flags, queue);
+    if (is_broken)
+        return MAP_FAILED;
     if (flags & MAP_FIXED)
         forget((uintptr_t)at, size);
     return (void *)syscall(SYS_mmap, at, size, protection, flags, fd, offset);

@@ -48,8 +48,9 @@ pid_t process_thread(void);
 const char *files_turned(const char *path, char room[PATH_MAX]);
 /* Applies what was written to the bind and unbind files, by a shell's stdio for example. */
 void files_settle(const char *path);
-/* The queue of an open file, or NULL. It keeps errno. */
-struct queue *files_queue(int fd);
+/* The queue of an open file, or NULL. It keeps errno, unless the file is that of a queue that can't be read: then NULL,
+ * *is_broken and why. */
+struct queue *files_queue(int fd, bool *is_broken);
 
 /* ---- portals.c: the pages that programs map ---- */
 /* The queue at whose portal this address is, or NULL. It takes no lock, so it may be asked in a handler of signals. */
@@ -115,8 +116,8 @@ void record_forget(void);
 void board_begin(void);
 bool board_is_there(void);
 void board_submitted(void);
-void board_lose(const char *recording, const char *why);
 void board_unwatched(const char *why);
+void board_lose(const char *recording, const char *why);
 
 /* ---- watch.c: hardware watchpoints on completion records ---- */
 enum { WATCHES = 4 };

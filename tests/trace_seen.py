@@ -80,6 +80,7 @@ def counted():
     end = audited("--", "env", "DSA_TRACE_BOARD=/nowhere", client("unseen"), "right")
     told("a process that can't tell the launcher", end, 4, "/nowhere can't be opened", "it gets no portal",
          "/dev/dsa/wq0.0: Permission denied")
+    told("the same without a recording", traced("--", "env", "DSA_TRACE_BOARD=/nowhere", client("unseen"), "right"), 0)
     shell = f"ulimit -n 4; exec {client('unseen')} right"
     told("a queue that can't be read", audited("--", "sh", "-c", shell), 4,
          "the files of wq0.0 can't be read (Too many open files)", "/dev/dsa/wq0.0: Too many open files")

@@ -27,11 +27,12 @@ void board_begin(void)
         board = at;
 }
 
-/// Whether the launcher learns of what this process submits; a sentence says the first time that it does not.
+/// Whether the launcher learns of what this process submits, if that is to be recorded; a sentence says the first time
+/// that it does not.
 bool board_is_there(void)
 {
     static bool is_said;
-    const bool is_there = board != &nobody || !settings.board[0];
+    const bool is_there = board != &nobody || !settings.board[0] || !settings.out[0];
     if (!is_there && !is_said)
         say("%s can't be opened in this process, so dsa_trace could not know what it submits: it gets no portal",
             settings.board);

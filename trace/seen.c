@@ -11,17 +11,17 @@
 #include "board.h"
 #include "launcher.h"
 
-/// A new board for a run, whose memory the disk has reserved; processes of an earlier run keep theirs.
+/// A new board for a run, whose memory the disk has reserved; processes of an earlier run keep theirs. Nobody else may
+/// write there, since names on it are those of files that are changed.
 const struct board *seen_begin(const char *folder, char path[PATH_MAX])
 {
     joined(path, folder, "board");
     unlink(path);
-    const int file = open(path, O_RDWR | O_CREAT | O_EXCL | O_CLOEXEC, 0666);
+    const int file = open(path, O_RDWR | O_CREAT | O_EXCL | O_CLOEXEC, 0600);
     if (file < 0)
         fail(path);
-    const int fault = fchmod(file, 0666) ? errno : posix_fallocate(file, 0, sizeof(struct board));
-    errno = fault;
-    const void *at = fault ? MAP_FAILED : mmap(NULL, sizeof(struct board), PROT_READ, MAP_SHARED, file, 0);
+    errno = posix_fallocate(file, 0, sizeof(struct board));
+    const void *at = errno ? MAP_FAILED : mmap(NULL, sizeof(struct board), PROT_READ, MAP_SHARED, file, 0);
     if (at == MAP_FAILED)
         fail(path);
     close(file);

@@ -84,6 +84,8 @@ def counted():
     shell = f"ulimit -n 4; exec {client('unseen')} right"
     told("a queue that can't be read", audited("--", "sh", "-c", shell), 4,
          "the files of wq0.0 can't be read (Too many open files)", "/dev/dsa/wq0.0: Too many open files")
+    for order in ("data", "fifo"):
+        told(f"little stack in the order {order}", audited("--order", order, *unseen("small")), 0)
     told("a process that is killed", audited("--", client("odd"), "killed", 500), 128 + signal.SIGKILL)
     with tempfile.TemporaryDirectory(dir=WORK) as folder:
         end = audited("--out", folder, *unseen("late"))

@@ -7,7 +7,7 @@
  *   gap US                a missing wait, with so many microseconds between the submissions
  *   asks                  does without the device if CPUID says so
  * and what is right: right; reuse (a list is filled anew after its members), shared (a record of two members with a
- * fence between), pace (prints how many microseconds a move takes). */
+ * fence between), small (a thread with little stack), pace (prints how many microseconds a move takes). */
 #include "client.h"
 
 #include <cpuid.h>
@@ -259,6 +259,26 @@ static int ask(void)
     return 0;
 }
 
+static void *submit_two(void *at)
+{
+    const descriptor d = move(first, second, SIZE, &records[0]);
+    submit_and_await(at, &d);
+    submit_and_await(at, &d);
+    return NULL;
+}
+
+/* A thread with the least stack that there is submits. */
+static int submit_on_small_stack(void)
+{
+    pthread_t thread;
+    pthread_attr_t small;
+    pthread_attr_init(&small);
+    if (pthread_attr_setstacksize(&small, PTHREAD_STACK_MIN) || pthread_create(&thread, &small, submit_two, portal()))
+        return 1;
+    pthread_join(thread, NULL);
+    return 0;
+}
+
 static int be_right(void)
 {
     void *at = portal();
@@ -272,7 +292,8 @@ int main(int argc, char **argv)
 {
     static const struct { const char *word; int (*run)(void); } plain[] = {
         {"late", end_late}, {"list", refill}, {"gone", unmap_list}, {"reuse", refill_after_members},
-        {"shared", share_record}, {"pace", time_moves}, {"asks", ask}, {"right", be_right},
+        {"shared", share_record}, {"pace", time_moves}, {"small", submit_on_small_stack}, {"asks", ask},
+        {"right", be_right},
     };
     const char *what = argc > 1 ? argv[1] : "right";
     for (size_t i = 0; i < sizeof plain / sizeof *plain; i++)

@@ -1,5 +1,5 @@
 /* What the library has noted while the program ran, since no recording shows it: completion records that were not zero
- * or were changed, and lists of batches that were. Each line of NAME.errors is one (docs/FORMATS.md). */
+ * or were changed, and lists of batches that were. Each line of NAME.errors is one (bindings/package/dsa_trace.1). */
 #include <errno.h>
 #include <inttypes.h>
 #include <stdio.h>

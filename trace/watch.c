@@ -143,12 +143,15 @@ static bool count_all(int watch, uint64_t *sum)
     return watched.threads;
 }
 
+/// A watch that is free, or WATCHES. A watch costs each thread that runs an interrupt whenever it is set or read, so
+/// there are fewer with many threads.
 static int free_watch(void)
 {
-    int at = 0;
-    while (at < WATCHES && watches[at].is_used)
-        at++;
-    return at;
+    const int most = watched.threads <= 2 ? WATCHES : watched.threads <= 4 ? 2 : 1;
+    for (int at = 0; at < most; at++)
+        if (!watches[at].is_used)
+            return at;
+    return WATCHES;
 }
 
 /// Watches a record; answers a number, or -1 if all are in use or there are none.
@@ -162,7 +165,9 @@ int watch_open(uint64_t record, pid_t except)
     if (at == WATCHES || watched.is_missing || (!watched.threads && !open_all(except)) || !set(at, record, false))
         return -1;
     watches[at] = (struct watch){.is_used = true, .record = record};
-    return count_all(at, &watches[at].touched) ? at : -1;
+    if (settings.hold) /* else it is set as the record is written */
+        count_all(at, &watches[at].touched);
+    return at;
 }
 
 /// Whether the program has touched the record since it is watched, or since it is written. It counts as touched if that

@@ -40,12 +40,12 @@ WHOLE = re.compile(rf"{NAME.pattern}(?:(?:::|\.){NAME.pattern}|<{NAME.pattern}>)
 FILE = re.compile(r"[\w-]+\.(?:rt|antt|py|c|h|rs|md|json|svg|txt|job|line|edit|patch|sh)")
 PATH = re.compile(rf"(?<![\w/.])(?:\.\./)*((?:{FOLDERS})/[\w./*-]*[\w*]|dsa_\w+/(?:specs|src|proofs|must-fail)[\w./]*)")
 OF_C = r"/\*.*?\*/|//[^\n]*"
-COMMENTS = {".rt": r"//[^\n]*", ".rs": r"//[^\n]*", ".antt": r"--[^\n]*", ".c": OF_C, ".h": OF_C}
+COMMENTS = {".rt": r"//[^\n]*", ".rs": r"//[^\n]*", ".antt": r"--[^\n]*", ".c": OF_C, ".h": OF_C, ".v": r"\(\*.*?\*\)"}
 
 
 def files():
     """Every file of the tree but those that are built."""
-    for top in ("crates", "tests", "docs", "bindings", "examples", ".ci"):
+    for top in ("crates", "tests", "docs", "bindings", "examples", "coq", ".ci"):
         for path in Path(top).rglob("*"):
             if path.is_file() and not {"out", "target", "__pycache__"} & set(path.parts):
                 yield path

@@ -1,0 +1,97 @@
+(* Reads jobs `check`, one on each line, as docs/FORMATS.md says, and writes for each its cost or `refused`. If a job
+   has a member `list` too, the plan has to be one of that list. This file has to be trusted: that it hands the members
+   of the job to the checker as they are. *)
+open Checker
+
+exception Bad of string
+
+let below_2_64 text = (* decimal digits alone *)
+  if text = "" || String.exists (fun c -> c < '0' || c > '9') text then raise (Bad "number");
+  try Int64.of_string ("0u" ^ text) with Failure _ -> raise (Bad "number")
+
+let whole = function
+  | `Int i -> below_2_64 (string_of_int i)
+  | `Intlit t -> below_2_64 t
+  | _ -> raise (Bad "number")
+
+let number v = Num.number (whole v)
+
+let table = Array.init 256 (fun i -> Num.number (Int64.of_int i))
+
+let digit = function
+  | '0' .. '9' as c -> Char.code c - 48
+  | 'a' .. 'f' as c -> Char.code c - 87
+  | 'A' .. 'F' as c -> Char.code c - 55
+  | _ -> raise (Bad "hex")
+
+let bytes = function
+  | `String t ->
+      if String.length t mod 2 = 1 then raise (Bad "hex");
+      let rec go i acc =
+        if i < 0 then acc else go (i - 2) (table.((16 * digit t.[i]) + digit t.[i + 1]) :: acc) in
+      go (String.length t - 2) []
+  | _ -> raise (Bad "bytes")
+
+(* The members of an object that has exactly these names; of two with one name the last. *)
+let members names = function
+  | `Assoc l ->
+      if List.exists (fun (n, _) -> not (List.mem n names)) l then raise (Bad "member");
+      let l = List.rev l in
+      fun n -> (try List.assoc n l with Not_found -> raise (Bad n))
+  | _ -> raise (Bad "object")
+
+let items = function `List l -> l | _ -> raise (Bad "array")
+
+let settings v =
+  let m = members [ "version"; "greatest_batch"; "greatest_transfer"; "lone"; "batch"; "fence"; "staging" ] v in
+  let n name = number (m name) in
+  let batch =
+    match (whole (m "version"), m "batch") with
+    | 2L, `List l -> BySize (List.map number l)
+    | _, v -> Flat (number v) in
+  { version = n "version"; greatest_batch = n "greatest_batch"; greatest_transfer = n "greatest_transfer";
+    lone = n "lone"; batch; fence = n "fence"; staging = n "staging" }
+
+let piece v =
+  if Int64.unsigned_compare (whole v) 0xffffffffL > 0 then raise (Bad "piece");
+  number v
+
+let certificate v =
+  let m = members [ "pairs"; "prices"; "version" ] v in
+  { cert_version = number (m "version");
+    prices = List.map number (items (m "prices"));
+    pairs =
+      List.map
+        (function `Null -> None | `List [ a; b ] -> Some (piece a, piece b) | _ -> raise (Bad "pair"))
+        (items (m "pairs")) }
+
+let timed = Array.exists (( = ) "--time") Sys.argv
+
+let answer line =
+  let began = Sys.time () in
+  try
+    let job = Yojson.Safe.from_string line in
+    let listed = match job with `Assoc l -> List.mem_assoc "list" l | _ -> false in
+    let names = [ "do"; "settings"; "portal"; "staging"; "certificate" ] in
+    let m = members (if listed then "list" :: names else names) job in
+    if m "do" <> `String "check" then raise (Bad "do");
+    let s = settings (m "settings") in
+    let portal = bytes (m "portal") in
+    let staged = bytes (m "staging") in
+    let c = certificate (m "certificate") in
+    let l = if listed then bytes (m "list") else [] in
+    let read = Sys.time () in
+    let r = if listed then check_list s l portal staged c else check s portal staged c in
+    if timed then Printf.eprintf "reading %.3f s, checking %.3f s\n%!" (read -. began) (Sys.time () -. read);
+    match r with Some cost -> "{\"cost\":" ^ Num.text cost ^ "}" | None -> "refused"
+  with Bad why -> "refused " ^ why | Yojson.Json_error _ -> "refused json"
+
+(* Most values live until the line is answered, so a large young heap saves a third of the time. *)
+let () = Gc.set { (Gc.get ()) with Gc.minor_heap_size = 4 lsl 20 }
+
+let () =
+  try
+    while true do
+      print_endline (answer (input_line stdin))
+    done
+  with End_of_file -> ()

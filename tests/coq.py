@@ -1,0 +1,237 @@
+"""Builds the proofs of coq/ and their judges, and compares them with `dsa` on jobs, good and wrong.
+
+    tests/run coq [PART ..]      JOBS=20000 asks for more jobs, SEED=2 for others
+
+statements: each theorem of coq/theories/Headline.v rests on no axiom. examples, generated: both judges accept what
+`dsa` accepts, with its cost, and refuse what it refuses. lists: beside a list the judge accepts its own plan alone.
+runs: the definitions leave each byte that `dsa` leaves. definitions, checkers: wrong ones are seen. Without Coq nothing
+is tried."""
+
+import json
+import os
+import random
+import shutil
+import subprocess
+import tempfile
+from glob import glob
+from pathlib import Path
+
+import common
+import coq_wrong
+from campaign import Case
+from common import ROOT, expect
+
+COQ = ROOT / "coq"
+NEEDED = ("coqc", "coqdep", "ocamlfind")
+JOBS = int(os.environ.get("JOBS", "500"))
+SEED = os.environ.get("SEED", "1")
+# Of how many jobs one is a run.
+RUN = 10
+
+
+class Tried:
+    """What a test needs: the folder in which coq/ was built, and dsa."""
+
+    def __init__(self, out):
+        self.out, self.dsa = Path(out), common.program("dsa")
+        command = ["make", "-C", COQ, f"-j{os.cpu_count()}", f"OUT={out}"]
+        ran = subprocess.run(command, stdout=subprocess.PIPE, stderr=subprocess.STDOUT, text=True)
+        self.said = ran.stdout
+        if ran.returncode:
+            common.stop("make -C coq fails:\n" + "\n".join(ran.stdout.splitlines()[-8:]))
+
+    def asked(self, jobs):
+        """The lines of dsa to these jobs, one program for each."""
+        ask = lambda job: subprocess.run([self.dsa], input=job, capture_output=True, text=True).stdout.rstrip("\n")
+        return common.side_by_side(ask, jobs)
+
+    def judged(self, jobs, numbers="fast"):
+        return lines_of(self.out / numbers / "judge", jobs)
+
+
+def lines_of(program, jobs):
+    """The lines of a program that answers a job on each line."""
+    ran = subprocess.run([program], input="".join(job + "\n" for job in jobs), capture_output=True, text=True)
+    lines = ran.stdout.splitlines()
+    return lines if len(lines) == len(jobs) else [f"no line: {ran.stderr[:200]}"] * len(jobs)
+
+
+def agree(theirs, ours):
+    """Whether a judge accepts with the cost of dsa, or refuses what dsa refuses."""
+    return theirs == ours if theirs.startswith("{") else ours.startswith("refused")
+
+
+def statements(tried):
+    text = (COQ / "theories/Headline.v").read_text()
+    theorems = [line.split()[1] for line in text.splitlines() if line.startswith("Theorem ")]
+    expect(len(theorems) >= 7, f"Headline.v has {len(theorems)} theorems")
+    asked = [it for it in theorems if f"Print Assumptions {it}." in text]
+    expect(asked == theorems, f"Headline.v prints what {len(asked)} of {len(theorems)} theorems rest on")
+    closed = tried.said.count("Closed under the global context")
+    expect(closed == len(theorems), f"{closed} of {len(theorems)} theorems rest on no axiom")
+    sources = "".join(Path(it).read_text() for it in glob(f"{COQ}/theories/*.v"))
+    expect(not any(word in sources for word in ("Admitted", "Axiom", "Parameter", "admit.")), "a theory has a hole")
+
+
+def examples(tried):
+    """The jobs `check` of the examples and of tests/jobs, with the lines that they must give."""
+    paths = [Path(it) for it in sorted(glob("examples/*.job") + glob("tests/jobs/*.job"))]
+    texts = {path: " ".join(path.read_text(errors="replace").split()) for path in paths}
+    jobs = {path: text for path, text in texts.items() if '"check"' in text}
+    for numbers in ("plain", "fast"):
+        for path, line in zip(jobs, tried.judged([*jobs.values()], numbers)):
+            wanted = path.with_suffix(".line").read_text().strip()
+            expect(agree(wanted, line), f"{path}: {numbers} says {line}, not {wanted}")
+
+
+def planned(tried, count):
+    """Cases with the answers of dsa to `plan`."""
+    cases = [Case(f"coq/{SEED}/{k}") for k in range(count)]
+    answers = tried.asked([json.dumps(it.job("plan", list=it.digits(it.operations))) for it in cases])
+    for case, answer in zip(cases, answers):
+        expect(answer.startswith("{"), f"a list is not planned: {answer}")
+    return [(case, json.loads(answer)) for case, answer in zip(cases, answers) if answer.startswith("{")]
+
+
+def check_of(case, answer, **more):
+    return case.job("check", **emitted(answer), certificate=answer["certificate"], **more)
+
+
+def changed_bytes(draw, text):
+    """Hexadecimal digits with a bit, a byte, a fence or an entry changed."""
+    area = bytearray.fromhex(text)
+    if not area:
+        return text
+    entry = 64 * draw.randrange(-(-len(area) // 64))
+    how = draw.randrange(4)
+    if how == 0:
+        area[draw.randrange(len(area))] ^= 1 << draw.randrange(8)
+    elif how == 1:
+        area[draw.randrange(len(area))] = draw.choice([0, 1, 255])
+    elif how == 2 and entry + 4 < len(area):
+        area[entry + 4] ^= 1
+    else:
+        del area[len(area) - draw.choice([1, 32, 64]) :]
+    return area.hex()
+
+
+def changed_certificate(draw, certificate):
+    prices, pairs = list(certificate["prices"]), list(certificate["pairs"])
+    how = draw.randrange(4)
+    at = draw.randrange(len(prices))
+    if how == 0:
+        prices[at] = max(0, prices[at] + draw.choice([1, -1, 3]))
+    elif how == 1:
+        prices = prices[:at] + [max(0, it + draw.choice([1, -1])) for it in prices[at:]]
+    elif how == 2 and pairs:
+        first = draw.randrange(len(pairs))
+        pairs[first] = draw.choice([None, [first, min(len(pairs), first + draw.randrange(1, 4))]])
+    else:
+        (prices if draw.random() < 0.5 else pairs).append(0 if draw.random() < 0.5 else None)
+    return {**certificate, "prices": prices, "pairs": pairs}
+
+
+def changed(draw, job):
+    """The job with one of its parts changed."""
+    part = draw.choice(["portal", "staging", "staging", "certificate", "certificate", "settings", "version"])
+    if part in ("portal", "staging"):
+        return {**job, part: changed_bytes(draw, job[part])}
+    if part == "certificate":
+        return {**job, part: changed_certificate(draw, job[part])}
+    if part == "version":
+        return {**job, "certificate": {**job["certificate"], "version": draw.choice([0, 1, 2, 3])}}
+    settings = dict(job["settings"])
+    name = draw.choice(["greatest_batch", "greatest_transfer", "lone", "fence", "staging"])
+    settings[name] = max(0, settings[name] + draw.choice([1, -1, 8, -8, 64, 10**9]))
+    return {**job, "settings": settings}
+
+
+def check_jobs(tried, count):
+    """Jobs `check`: answers of dsa, and changes of each."""
+    jobs = []
+    for number, (case, answer) in enumerate(planned(tried, -(-count // 5))):
+        draw, job = random.Random(f"{SEED}/{number}"), check_of(case, answer)
+        jobs += [json.dumps(job)] + [json.dumps(changed(draw, job)) for _ in range(4)]
+    return jobs
+
+
+def generated(tried):
+    jobs = check_jobs(tried, JOBS)
+    theirs = tried.asked(jobs)
+    causes = {it.split()[1] for it in theirs if it.startswith("refused")}
+    expect(any(it.startswith("{") for it in theirs) and len(causes) > 8, f"the jobs have {len(causes)} causes alone")
+    for numbers in ("plain", "fast"):
+        for job, wanted, line in zip(jobs, theirs, tried.judged(jobs, numbers)):
+            expect(agree(wanted, line), f"{numbers} says {line}, dsa {wanted}: {job[:2000]}")
+
+
+def lists(tried):
+    """Beside a list an answer is accepted exactly if that list is answered with the same bytes."""
+    cases = planned(tried, JOBS // 10)
+    for name, lists_of in (("own", cases), ("another", cases[1:] + cases[:1])):
+        texts = [case.digits(case.operations) for case, _ in lists_of]
+        plans = tried.asked([json.dumps(c.job("plan", list=text)) for (c, _), text in zip(cases, texts)])
+        jobs = [json.dumps(check_of(c, a, list=text)) for (c, a), text in zip(cases, texts)]
+        for (_, answer), plan, job, line in zip(cases, plans, jobs, tried.judged(jobs)):
+            is_same = plan.startswith("{") and emitted(json.loads(plan)) == emitted(answer)
+            wanted = f'{{"cost":{answer["cost"]}}}' if is_same else "refused"
+            expect(agree(wanted, line), f"beside {name} list the judge says {line}, not {wanted}: {job[:2000]}")
+    for name, job, begins in coq_wrong.unsplit(tried):
+        line = tried.judged([job])[0]
+        expect(line.startswith(begins), f"{name}: the judge says {line}")
+
+
+def emitted(answer):
+    return {name: answer[name] for name in ("portal", "staging")}
+
+
+def runs(tried):
+    """What a complete run leaves, and if all pieces finish what the list leaves in order."""
+    cases = planned(tried, max(1, JOBS // RUN))
+    image = lambda case: {"base": 0, "bytes": case.memory.hex()}
+    asked = [json.dumps(c.job("run", list=c.digits(c.operations), image=image(c), engines=2)) for c, _ in cases]
+    answers = [json.loads(it) for it in tried.asked(asked)]
+    execute = tried.out / "execute/execute"
+    ours = lines_of(execute, [json.dumps({**emitted(a), **image(c)}) for c, a in cases])
+    for (case, _), answer, line in zip(cases, answers, ours):
+        wanted = f"{answer['finished']} {answer['image']}"
+        expect(line == wanted, f"a run leaves other bytes: {case.digits(case.operations)}")
+    whole = [(c, run) for (c, a), run in zip(cases, answers) if run["finished"] == len(a["certificate"]["pairs"])]
+    jobs = [json.dumps({"list": c.digits(c.operations), "greatest": c.transfer, **image(c)}) for c, _ in whole]
+    for (case, run), line in zip(whole, lines_of(execute, jobs)):
+        expect(line == run["image"], f"the list leaves other bytes: {case.digits(case.operations)}")
+
+
+def definitions(tried):
+    """With each wrong definition some answer differs."""
+    jobs = check_jobs(tried, 300)
+    theirs = tried.asked(jobs)
+    for name, lines in coq_wrong.judged_by_wrong_definitions(jobs):
+        is_seen = any(not agree(*both) for both in zip(theirs, lines))
+        expect(is_seen, f"the definition is wrong, and no answer differs: {name}")
+
+
+def checkers(tried):
+    """The proof refuses each wrong checker."""
+    for name, is_proved in coq_wrong.proofs_of_wrong_checkers(tried.out):
+        expect(not is_proved, f"a wrong checker is proved: {name}")
+
+
+PARTS = [statements, examples, generated, lists, runs, definitions, checkers]
+
+
+def main(words):
+    parts = common.named(PARTS, words)
+    missing = [it for it in NEEDED if not shutil.which(it)]
+    if missing:
+        common.skip(f"{', '.join(missing)} is not installed")
+        expect(True, "")
+        return
+    with tempfile.TemporaryDirectory() as out:
+        tried = Tried(out)
+        for part in parts:
+            part(tried)
+
+
+if __name__ == "__main__":
+    common.run_test(main)

@@ -1,0 +1,142 @@
+"""Wrong definitions and wrong checkers of coq/, and operations that may not be split, for tests/coq.py."""
+
+import json
+import shutil
+import subprocess
+import tempfile
+from pathlib import Path
+
+import common
+from common import ROOT
+from model import CHECKED, COMPARE, DELTA, DUALCAST, MOVE, Op, replace
+
+COQ = ROOT / "coq"
+SOURCE, TARGET = "[(source d, size d)]", "[(target d, size d)]"
+# A name, what Definitions.v has, and what the wrong one has in its place.
+DEFINITIONS = [
+    ("a move reads nothing", f"| 3 => {SOURCE}  ", "| 3 => []  "),
+    ("a compare reads its first range alone", "| 5 => [(source d, size d); (target d, size d)]", f"| 5 => {SOURCE}"),
+    ("a delta does not read its record", "| 8 => [(source d, delta_size d); (target d, size d)]", f"| 8 => {TARGET}"),
+    ("a dualcast reads nothing", f"| 9 => {SOURCE} ", "| 9 => [] "),
+    ("a fill writes nothing", f"| 3 | 4 | 8 => {TARGET}", f"| 3 | 8 => {TARGET}"),
+    ("a dualcast writes once", "| 9 => [(target d, size d); (target2 d, size d)]", f"| 9 => {TARGET}"),
+    ("a record has 64 bytes", "(record d, 32)", "(record d, 64)"),
+    ("a lone piece costs what a batch costs", "match g with [_] => lone s | _ =>", "match g with [] => lone s | _ =>"),
+    ("prices by size begin with one piece", "nth (N.to_nat (n - 2)) t 0", "nth (N.to_nat (n - 1)) t 0"),
+    ("fences cost nothing", "+ fence s * fences g", "+ 0 * fences g"),
+    ("records come before the batches", "staging s + 64 * total + 32 * batches", "staging s + 32 * batches"),
+    ("records are aligned to 64", "record d mod 32", "record d mod 64"),
+    ("a batch has three pieces at the least", "1 <? count g", "2 <? count g"),
+]
+# The same of Checker.v.
+CHECKERS = [
+    ("pairs may come before the piece", "(k <=? a) && (a <? b) &&", "(a <? b) &&"),
+    ("pairs of one piece", "(k <=? a) && (a <? b) &&", "(k <=? a) &&"),
+    ("pairs need no conflict", "Some x, Some y => cb x y | _", "Some x, Some y => true | _"),
+    ("each price may be one too high", "(p <=? budget + c) && along", "(p <=? budget + c + 1) && along"),
+    ("a pair counts two fences", "if hit then budget + fence s else", "if hit then budget + fence s + fence s else"),
+    ("no bound by a lone piece", "(p <=? price + lone s)\n      && along", "along"),
+    ("no bound by a batch", "      && along (k + 1) (option_map snd link) price batch_costs prs' rest'\n", ""),
+    ("any first price", "(price =? 0) && steps", "steps"),
+    ("the last price may be one too low", "[], [] => price =? total", "[], [] => total <=? price + 1"),
+    ("the first of a group may be fenced", "match g with [] => false | m :: _ => negb (fst m) end\n  && ", ""),
+    ("groups of any size", "  && (count g <=? greatest_batch s) && parted [] g", "  && parted [] g"),
+    ("two writes do not conflict", " || any_meet (snd x) (snd y) ||", " ||"),
+    ("the staging area is not compared", " && equal (staging_bytes p) staged", ""),
+    ("the pieces are not looked at", " && submittable s (pieces p)", ""),
+]
+# Those that Checker.v needs to be right about.
+PROOFS = ("Sound", "Unique", "Split")
+JUDGE = """From Coq Require Import Extraction ExtrOcamlBasic ExtrOcamlZBigInt.
+From Dsa Require Import Definitions Checker.
+Extract Constant N.eqb => "Big_int_Z.eq_big_int".
+Extract Constant N.leb => "Big_int_Z.le_big_int".
+Extract Constant N.ltb => "Big_int_Z.lt_big_int".
+Extraction "checker.ml" check.
+"""
+
+
+def compiled(folder, name):
+    command = ["coqc", "-Q", ".", "Dsa", f"{name}.v"]
+    return subprocess.run(command, cwd=folder, capture_output=True).returncode == 0
+
+
+def with_edit(folder, file, old, new):
+    """Copies the theories into a folder, one of them with an edit."""
+    for path in (COQ / "theories").glob("*.v"):
+        shutil.copy(path, folder)
+    path = Path(folder) / file
+    text = path.read_text()
+    if text.count(old) != 1:
+        common.stop(f"{file} does not have once: {old}")
+    path.write_text(text.replace(old, new))
+
+
+def judged_by_wrong_definitions(jobs):
+    """Yields the name of each wrong definition, and what a judge over it says of the jobs."""
+
+    def tried(edit):
+        name, old, new = edit
+        with tempfile.TemporaryDirectory() as folder:
+            with_edit(folder, "Definitions.v", old, new)
+            Path(folder, "Judge.v").write_text(JUDGE)
+            shutil.copy(COQ / "judge/fast.ml", f"{folder}/num.ml")
+            text = (COQ / "judge/main.ml").read_text().replace("check_list s l portal", "check s portal")
+            Path(folder, "main.ml").write_text(text)
+            if not all(compiled(folder, it) for it in ("Definitions", "Checker", "Judge")):
+                common.stop(f"the wrong definition does not compile: {name}")
+            Path(folder, "checker.mli").unlink()
+            words = "ocamlfind ocamlopt -w -a -package zarith,yojson -linkpkg checker.ml num.ml main.ml -o judge"
+            subprocess.run(words.split(), cwd=folder, check=True, capture_output=True)
+            text = "".join(job + "\n" for job in jobs)
+            ran = subprocess.run([f"{folder}/judge"], input=text, capture_output=True, text=True)
+            return name, ran.stdout.splitlines()
+
+    return common.side_by_side(tried, DEFINITIONS)
+
+
+def proofs_of_wrong_checkers(out):
+    """Yields the name of each wrong checker, and whether its proof holds."""
+
+    def tried(edit):
+        name, old, new = edit
+        with tempfile.TemporaryDirectory() as folder:
+            with_edit(folder, "Checker.v", old, new)
+            shutil.copy(f"{out}/Definitions.vo", folder)
+            if not compiled(folder, "Checker"):
+                common.stop(f"the wrong checker does not compile: {name}")
+            return name, all(compiled(folder, it) for it in PROOFS)
+
+    return common.side_by_side(tried, CHECKERS)
+
+
+def unsplit(tried):
+    """Operations of two pieces and more beside bytes that submit these: a name, the job, and how the judge begins its
+    line. All but the first may not be split."""
+    row = 0x1000 - 6 * 32
+    flags = 0x0C
+    cases = [
+        ("a move that may be split", Op(MOVE, 16, 0x4000, 0x1000, 0x8000, 0, flags, 0), "{"),
+        ("its row meets the source", Op(MOVE, 56, row, 0x1000, 0x8000, 0, flags, 0), "refused"),
+        ("a delta of two pieces", Op(DELTA, 16, 0x4000, 0x1000, 0x8000, 10, flags, 0), "refused"),
+        ("a difference is expected", Op(COMPARE, 16, 0x4000, 0x1000, 0x8000, 1, flags | CHECKED, 0), "refused"),
+        ("destinations of a dualcast meet", Op(DUALCAST, 16, 0x4000, 0x10000, 0x10008, 0x21008, flags, 0), "refused"),
+    ]
+    settings = {**common.NUMBERS, "greatest_batch": 32, "greatest_transfer": 8, "staging": 1 << 40}
+    for name, op, begins in cases:
+        pieces = pieces_by_eight(op)
+        plan = json.dumps({"do": "plan", "settings": settings, "list": b"".join(it.bytes() for it in pieces).hex()})
+        answer = json.loads(tried.asked([plan])[0])
+        members = {it: answer[it] for it in ("portal", "staging", "certificate")}
+        yield name, json.dumps({"do": "check", "settings": settings, "list": op.bytes().hex(), **members}), begins
+
+
+def pieces_by_eight(op):
+    """The pieces of eight bytes that the operation would have, were it split as moves are."""
+    found = []
+    for k in range(op.size // 8):
+        by = 0 if op.code == DELTA else 8 * k
+        own = op.own + by if op.code == DUALCAST else op.own
+        at = op.record_at + 32 * k
+        found.append(replace(op, size=8, record_at=at, first=op.first + by, second=op.second + by, own=own))
+    return found

@@ -36,8 +36,9 @@ const char *audit_find(void)
         if (access(found, X_OK) == 0)
             return found;
     }
-    fputs("dsa_trace: --audit needs the program dsa_text: install it, build it (./run dsa_text --help), or name it by "
-          "DSA_TEXT; without --audit wrong results show all the same\n",
+    fputs("dsa_trace: --audit needs the program dsa_text: install it, build it (./run dsa_text --help, which first "
+          "proves it in half an hour or more), or name it by DSA_TEXT; without it wrong results show all the same, and "
+          "--out DIR keeps recordings for ./run --unproved dsa_text audit, which takes a minute\n",
           stderr);
     return NULL;
 }

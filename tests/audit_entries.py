@@ -14,6 +14,8 @@ FURTHER |= {CHECK: "DIF check", INSERT: "DIF insert", STRIP: "DIF strip", UPDATE
 NAMED = FURTHER | {0x17: "DIX generate"}
 # The bytes of a block of data, by the lowest two bits of byte 42 of an operation on data integrity fields.
 BLOCKS = (512, 520, 4096, 4104)
+# Flags (linux/idxd.h).
+FENCE, RECORD_VALID, RECORD, INTERRUPT = 0x01, 0x04, 0x08, 0x10
 # Why an entry is not looked at, beside an operation that is not known.
 WHY = {
     "blank": "64 zero bytes",
@@ -220,10 +222,12 @@ def conflict(one, other):
 
 
 def is_repeat(one, other):
-    """Both have one operation of a plan with the same operands, and neither reads what the other writes."""
-    lengths = {COMPARE: 1, PATTERN: 1, DELTA: 4, DUALCAST: 8}
-    what = [(it[7], it[16:36], it[40 : 40 + lengths.get(it[7], 0)]) for it in (one, other)]
-    return what[0] == what[1] and one[7] not in FURTHER and not parts_of(one)[0] & parts_of(other)[1]
+    """Both have one operation of a plan, and all 64 bytes are equal but where the record is, the fence and what is
+    requested; and neither reads what the other writes."""
+    requests = FENCE | RECORD_VALID | RECORD | INTERRUPT
+    what = [(it[:4], it[4] | requests, it[5:8], it[16:]) for it in (one, other)]
+    is_listed = one[7] in (MOVE, FILL, COMPARE, PATTERN, DELTA, DUALCAST)
+    return what[0] == what[1] and is_listed and not parts_of(one)[0] & parts_of(other)[1]
 
 
 # ---- recordings as texts

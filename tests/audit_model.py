@@ -370,14 +370,22 @@ class Maker:
         size = 0 if code == 0 else size
         return entry(code, flags, record, self.address(), self.address(), size, own)
 
+    def alike(self, it, other):
+        """The other entry with the record, the fence and the requests of this one; sometimes with one more bit changed,
+        of a flag, of an unused byte or of an operand, so that they may do different things."""
+        same = bytearray(other[:4] + bytes([it[4] & 0x1D | other[4] & 0xE2]) + other[5:8] + it[8:16] + other[16:])
+        if self.random.random() < 0.4:
+            same[self.random.choice([4, 5, 6, 36, 38, 47, 48, 63])] ^= 1 << self.random.randrange(8)
+        return bytes(same)
+
     def members(self, number):
-        """The members of a batch, of which some repeat an earlier one with flags and a record of their own."""
+        """The members of a batch, of which some are like an earlier one."""
         found = []
         for k in range(self.random.randint(0, 8)):
             it = self.member(number, k, False)
             if found and self.has_repeats and self.random.random() < 0.1:
                 other = self.random.choice(found)
-                it = it[:7] + other[7:8] + it[8:16] + other[16:]
+                it = self.alike(it, other)
             found.append(it)
         return found
 

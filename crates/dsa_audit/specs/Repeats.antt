@@ -1,7 +1,6 @@
 -- Members that repeat an earlier one, so that it does not matter which of the two comes first (all of this file is this
 -- project's choice).
-use Rattle.std.specs.Prelude.{ℕ, ◌≡◌, ◌<◌, IsTrue, Bool, true, false, List, length, Option, Some, None, slice_get}
-use Rattle.dsa_descriptor.specs.declared.op.Op.{Op}
+use Rattle.std.specs.Prelude.{ℕ, ◌≡◌, ◌<◌, IsTrue, Bool, false, List, length, Option, Some, None, slice_get}
 use Rattle.dsa_descriptor.specs.Spans.{InSome}
 use Rattle.dsa_ranges.specs.declared.span.Touched.{Touched}
 use Rattle.dsa_conflicts.specs.Access.{IsGreatest}
@@ -10,18 +9,13 @@ use Rattle.dsa_audit.specs.declared.member.Member.TheVariants.{Known}
 use Rattle.dsa_audit.specs.declared.repeats.Action.{Action}
 use Rattle.dsa_audit.specs.Members.{KnownConflict}
 
--- it is one of a plan's operations
-abbrev pub is_listed : Option Op → Bool
-is_listed None = false
-is_listed (Some op) = true
-
--- the action says all that its member does, so that two equal ones leave the same: of another operation it does not
+-- there is a member, and its operation is one of a plan's
 abbrev pub is_whole : Option Action → Bool
 is_whole None = false
-is_whole (Some action) = is_listed action.op
+is_whole (Some action) = action.is_listed
 
--- the members at these two places do the same: one operation on the same operands, and neither reads what the other
--- writes. Each leaves what the other leaves
+-- the members at these two places do the same: they say the same of an operation of a plan, and neither reads what the
+-- other writes. Each leaves what the other leaves
 pub record IsRepeated (actions : List Action) (ms : List Member) (i j : ℕ) : Type 0 where
   pub first : Touched
   pub second : Touched

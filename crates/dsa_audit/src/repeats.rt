@@ -9,17 +9,17 @@ ghost use Rattle.dsa_audit.specs.Steps.{AreLasts};
 
 use crate::member::{Member, are_known_to_conflict};
 use crate::relation::Relation;
-use dsa_descriptor::{Op, Span};
+use dsa_descriptor::Span;
 use dsa_ranges::meets_some;
 use std::alloc::{AllocError, Global};
 
-/// What a member does.
+/// What a member says of what it does.
 #[derive(Clone, Copy, PartialEq, Eq)]
 pub struct Action {
-    /// Its operation with all operands, if it is one of a plan's: no other is reported as a repeat.
-    pub op: Option<Op>,
-    /// Its size in bytes.
-    pub size: u32,
+    /// Whether its operation is one of a plan's: no other is reported as a repeat.
+    pub is_listed: bool,
+    /// All that two members which do the same have in common, as numbers of 8 bytes.
+    pub words: [u64; 7],
 }
 
 /// What the member of this number does, if there is one.
@@ -49,12 +49,12 @@ fn act_alike(actions: &[Action], first: usize, second: usize) -> bool
     action_at(actions, first) == action_at(actions, second)
 }
 
-/// Whether the action of this member says all that it does: its operation is one of a plan's.
+/// Whether the operation of this member is one of a plan's.
 fn is_whole_at(actions: &[Action], k: usize) -> bool
     ensures { result ≡ is_whole (slice_get actions.now k) }
 {
     match action_at(actions, k) {
-        Some(action) => action.op.is_some(),
+        Some(action) => action.is_listed,
         None => false,
     }
 }

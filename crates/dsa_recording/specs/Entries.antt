@@ -1,6 +1,6 @@
 -- What an entry of a recording reads and writes, and why it is not looked at. `head` is the descriptor of its batch, or
 -- of a lone descriptor the entry itself.
-use Rattle.std.specs.Prelude.{◌≡◌, ◌≢◌, ℕ, ◌<◌, ◌||◌, Bool, List, [], ◌∷◌, ◌++◌, replicate, Option, Some, None, bit_and, if◌then◌else◌, ◌==◌}
+use Rattle.std.specs.Prelude.{◌≡◌, ◌≢◌, ℕ, ◌<◌, ◌||◌, Bool, List, [], ◌∷◌, ◌++◌, replicate, Option, Some, None, is_some, bit_and, if◌then◌else◌, ◌==◌}
 use Rattle.std.specs.List.{AllByRecursion}
 use Rattle.dsa_descriptor.specs.declared.op.Op.{Op}
 use Rattle.dsa_descriptor.specs.declared.span.Span.{Span}
@@ -72,9 +72,17 @@ entry_results e = entry_targets e ++ value_records e
 abbrev pub entry_writes : List ℕ → List Span
 entry_writes e = records_of e ++ entry_targets e
 
--- what it does: its operation with all operands, and its size
+-- what it says of what it does: all 64 bytes but bytes 8 to 15, where its record is, and in the word of flags (bytes 4 to
+-- 6) the fence 0x01 and the requests of a record, 0x04 and 0x08, and of an interrupt, 0x10. Two entries that differ in any
+-- other bit may do different things, whatever that bit means
 abbrev pub action_of : List ℕ → Action
-action_of e = record { op = op_at e; size = u32_at 32 e }
+action_of e =
+    record {
+      is_listed = is_some (op_at e);
+      words =
+          bit_and (u64_at 0 e) 0xffffffe2ffffffff ∷ u64_at 16 e ∷ u64_at 24 e ∷ u64_at 32 e ∷ u64_at 40 e ∷ u64_at 48 e
+          ∷ u64_at 56 e ∷ [];
+    }
 
 -- ---- why it is not looked at (this project's choice)
 

@@ -13,7 +13,7 @@ use crate::further::further_at;
 use arrayvec::ArrayVec;
 use bitflags::Flags;
 use dsa_audit::{Action, Member, Unseen};
-use dsa_descriptor::{FlagWord, Span, agree_on_owner, are_addressable, op_at, record_span};
+use dsa_descriptor::{FlagWord, Span, agree_on_owner, are_addressable, op_at, record_span, u64_at};
 use dsa_ranges::Touched;
 
 /// All reasons, in the order in which they are looked for.
@@ -119,13 +119,24 @@ pub(crate) fn operands_of(entry: &[u8; 64]) -> Touched
     Touched { reads, writes }
 }
 
-/// What the entry does.
+/// The first 8 bytes without the fence flag and the flags that request a record or an interrupt.
+const UNREQUESTED: u64 = 0xffff_ffe2_ffff_ffff;
+
+/// What the entry says of what it does: all its bytes but where its record is, and these flags.
 pub(crate) fn action_of(entry: &[u8; 64]) -> Action
     ensures { result ≡ action_of entry.now }
 {
     Action {
-        op: op_at(entry),
-        size: Header::of(entry).size,
+        is_listed: op_at(entry).is_some(),
+        words: [
+            u64_at(entry, 0) & UNREQUESTED,
+            u64_at(entry, 16),
+            u64_at(entry, 24),
+            u64_at(entry, 32),
+            u64_at(entry, 40),
+            u64_at(entry, 48),
+            u64_at(entry, 56),
+        ],
     }
 }
 

@@ -14,7 +14,7 @@ use Rattle.dsa_audit.specs.Members.{KnownConflict}
 use Rattle.dsa_waits.specs.declared.course.Course.{Course}
 use Rattle.dsa_waits.specs.Agreeing.{Act, Agrees, DoesAll, EntryWorks, HeedsConflicts, MissesNoFence, MissesNoWait, Moment, NoneFound, Shows, WaitsSuffice, waits_of}
 use Rattle.dsa_waits.specs.Agreeing.Act.{Comes, Works}
-use Rattle.dsa_waits.specs.Waits.{IsCourse, event_at, made_at, made_before, submission_of, tells}
+use Rattle.dsa_waits.specs.Waits.{IsCourse, made_at, made_before, submission_of, tells}
 use Rattle.dsa_waits.proofs.Courses.{made_grows}
 
 true_or_false : (b : Bool) → (b ≡ true) ⊎ (b ≡ false)
@@ -59,14 +59,14 @@ module _ {D P : Type 0} (machine : Machine D P) (c : Course) (subs : List (Setup
   record IsTold (x n : ℕ) : Type 0 where
     event : ℕ
     before : made_before c.events.items event ≤ n
-    told : tells c (event_at c event) x ≡ true
+    told : tells c event x ≡ true
 
   -- none of the first events does
   abbrev NoneTold : ℕ → ℕ → ℕ → Type 0
-  NoneTold x n count = (k : ℕ) → k < count → submission_of c x < made_before c.events.items k → made_before c.events.items k ≤ n → tells c (event_at c k) x ≡ false
+  NoneTold x n count = (k : ℕ) → k < count → submission_of c x < made_before c.events.items k → made_before c.events.items k ≤ n → tells c k x ≡ false
 
   -- nor does one more
-  one_more : (x n count : ℕ) → NoneTold x n count → ((n < made_before c.events.items count) ⊎ (tells c (event_at c count) x ≡ false)) → NoneTold x n (suc count)
+  one_more : (x n count : ℕ) → NoneTold x n count → ((n < made_before c.events.items count) ⊎ (tells c count x ≡ false)) → NoneTold x n (suc count)
   one_more x n count none (inl past) k lt made le =
       elim (cases_eq k count) [
         | inl e ↦ absurd (let here : made_before c.events.items count ≤ n = subst (λ j. made_before c.events.items j ≤ n) e le in omega (arith, past, here))
@@ -74,7 +74,7 @@ module _ {D P : Type 0} (machine : Machine D P) (c : Course) (subs : List (Setup
       ]
   one_more x n count none (inr untold) k lt made le =
       elim (cases_eq k count) [
-        | inl e ↦ subst (λ j. tells c (event_at c j) x ≡ false) (sym e) untold
+        | inl e ↦ subst (λ j. tells c j x ≡ false) (sym e) untold
         | inr ne ↦ none k (omega (arith, lt, ne)) made le
       ]
 
@@ -87,7 +87,7 @@ module _ {D P : Type 0} (machine : Machine D P) (c : Course) (subs : List (Setup
             elim (cases_lt n (made_before c.events.items count)) [
               | inl past ↦ inr (one_more x n count none (inl past))
               | inr within ↦
-                  elim (true_or_false (tells c (event_at c count) x)) [
+                  elim (true_or_false (tells c count x)) [
                     | inl told ↦ inl (record { event = count; before = within; told = told })
                     | inr untold ↦ inr (one_more x n count none (inr untold))
                   ]
@@ -103,7 +103,7 @@ module _ {D P : Type 0} (machine : Machine D P) (c : Course) (subs : List (Setup
 
   -- what the events up to now told is true
   Told : Moment P → Type 0
-  Told s = (k x : ℕ) → k < s.recorded → IsTrue (goes x) → IsTrue (tells c (event_at c k) x) → HasEnded subs s.flight x
+  Told s = (k x : ℕ) → k < s.recorded → IsTrue (goes x) → IsTrue (tells c k x) → HasEnded subs s.flight x
 
   -- so an entry that makes a step heeds what it waits for
   heeds : (s new : Moment P) (y : ℕ) (v : StepEvent) → Told s → EntryWorks machine c subs goes s y v new → (x : ℕ) → IsTrue (waits x y) → HasEnded subs s.flight x
@@ -154,7 +154,7 @@ module _ {D P : Type 0} (machine : Machine D P) (c : Course) (subs : List (Setup
   steps_of (Comes ∷ acts) s t kept told (mid, comes, rest) =
       let next : Moment P = record { recorded = s.recorded + 1; flight = s.flight } in
       let more : Told next = λ k x lt going tell. elim (cases_eq k s.recorded) [
-        | inl e ↦ comes.told x going (subst (λ j. IsTrue (tells c (event_at c j) x)) e tell)
+        | inl e ↦ comes.told x going (subst (λ j. IsTrue (tells c j x)) e tell)
         | inr ne ↦ told k x (omega (arith, lt, ne)) going tell
       ] in
       let later = steps_of acts next t kept more (subst (λ z. DoesAll machine c subs goes z acts t) comes.after rest) in

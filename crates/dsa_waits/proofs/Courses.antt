@@ -1,18 +1,21 @@
 -- Submissions in flight, event by event.
 use Rattle.std.proofs.Common.{◌≡◌, ℕ, zero, suc, ◌+◌, ◌<◌, ◌≤◌, inl, inr, Bool, true, false, List, [], ◌∷◌, length, get_or, Option, refl, sym, ap, subst, ◌∙◌, arith, add-one, filter}
-use Rattle.std.specs.Prelude.{not}
+use Rattle.std.specs.Prelude.{not, ◌||◌, if◌then◌else◌}
 use Rattle.std.specs.List.{Contains}
 use Rattle.std.proofs.lemmas.Bool.{cases_eq, cases_lt}
+use Rattle.std.proofs.lemmas.List.Folds.{list_any_more}
 use Rattle.dsa_audit.specs.Members.{KnownConflict}
 use Rattle.dsa_audit.specs.Steps.{AreLasts}
 use Rattle.dsa_conflicts.specs.Access.{IsGreatest}
 use Rattle.dsa_conflicts.proofs.Greatest.{greatest_same}
 use Rattle.dsa_waits.specs.declared.course.Course.{Course}
+use Rattle.dsa_waits.specs.declared.course.Told.TheVariants as told_of
 use Rattle.dsa_waits.specs.declared.event.Event.{Event}
 use Rattle.dsa_waits.specs.declared.event.Event.TheVariants.{Submitted, Watched, MemberEnded, Ended, Known}
 use Rattle.dsa_waits.specs.declared.search.Flying.{Flying}
-use Rattle.dsa_waits.specs.Waits.{IsCourse, IsMissingWait, IsOutstanding, event_at, is_made, made_at, made_before, submission_of, tells}
-use Rattle.dsa_waits.specs.Steps.{AreBelow, AreOutstanding, HasSubmission, IsFlying, IsNotTold, IsRising, WithRange}
+use Rattle.dsa_waits.specs.Waits.{Fits, IsCourse, IsMissingWait, IsOutstanding, ended_by, event_at, has_ended, is_made, is_number, is_told, made_at, made_before, submission_of, tells, told_by}
+use Rattle.dsa_waits.specs.Steps.{AreBelow, AreOutstanding, HasSubmission, IsFlying, IsNotTold, IsRising, Marks, WithRange}
+use Rattle.dsa_waits.proofs.Marked.{marked_each}
 use Rattle.dsa_waits.proofs.Rising.{filter_only, filter_keeps, rising_filter}
 
 -- ---- how many submissions are made
@@ -40,18 +43,38 @@ not_true false h = refl
 not_true true h = absurd cc
 
 -- an event that makes a submission tells of no end
-made_tells : (c : Course) (v : Event) (e : ℕ) → is_made v ≡ 1 → tells c v e ≡ false
-made_tells c Submitted e is = refl
-made_tells c (Watched n) e is = absurd (omega (arith, is))
-made_tells c (MemberEnded n m) e is = absurd (omega (arith, is))
-made_tells c (Ended n) e is = absurd (omega (arith, is))
-made_tells c (Known n) e is = absurd (omega (arith, is))
+made_tells : (c : Course) (ended : ℕ → Bool) (v : Event) (e : ℕ) → is_made v ≡ 1 → is_told c (told_by c ended v) e ≡ false
+made_tells c ended Submitted e is = refl
+made_tells c ended (Watched n) e is = absurd (omega (arith, is))
+made_tells c ended (MemberEnded n m) e is = absurd (omega (arith, is))
+made_tells c ended (Ended n status) e is = absurd (omega (arith, is))
+made_tells c ended (Known n) e is = absurd (omega (arith, is))
+
+-- and is none
+made_ends : (v : Event) (n : ℕ) → is_made v ≡ 1 → is_number n (ended_by v) ≡ false
+made_ends Submitted n is = refl
+made_ends (Watched m) n is = absurd (omega (arith, is))
+made_ends (MemberEnded m j) n is = absurd (omega (arith, is))
+made_ends (Ended m status) n is = absurd (omega (arith, is))
+made_ends (Known m) n is = absurd (omega (arith, is))
+
+or_none : (a b : Bool) → b ≡ false → (a || b) ≡ a
+or_none true b h = refl
+or_none false b h = h
+
+-- what an event tells rests on the submissions that are there
+pub told_same : (c : Course) (ended other : ℕ → Bool) (v : Event) → Fits c v → ((n : ℕ) → n < length c.made.items → ended n ≡ other n) → told_by c ended v ≡ told_by c other v
+told_same c ended other Submitted fits same = refl
+told_same c ended other (Watched n) fits same = refl
+told_same c ended other (MemberEnded n m) fits same = refl
+told_same c ended other (Ended n status) fits same = refl
+told_same c ended other (Known n) fits same = ap (λ b. if b then told_of.Submission n else told_of.Nothing) (same n fits)
 
 made_none : (v : Event) → (is_made v ≡ 1 → ⊥) → is_made v ≡ 0
 made_none Submitted other = absurd (other refl)
 made_none (Watched n) other = refl
 made_none (MemberEnded n m) other = refl
-made_none (Ended n) other = refl
+made_none (Ended n status) other = refl
 made_none (Known n) other = refl
 
 module _ (c : Course) (k : ℕ) (f : Flying) (course : IsCourse c) (lt : k < length c.events.items) (flies : IsFlying c k f) where
@@ -86,8 +109,12 @@ module _ (c : Course) (k : ℕ) (f : Flying) (course : IsCourse c) (lt : k < len
         | inr le ↦ omega arith
       ]
 
-  submitted_tells : is_made (event_at c k) ≡ 1 → (e : ℕ) → tells c (event_at c k) e ≡ false
-  submitted_tells is e = made_tells c (event_at c k) e is
+  submitted_tells : is_made (event_at c k) ≡ 1 → (e : ℕ) → tells c k e ≡ false
+  submitted_tells is e = made_tells c (has_ended c k) (event_at c k) e is
+
+  -- one more event
+  ended_more : (n : ℕ) → has_ended c (k + 1) n ≡ (has_ended c k n || is_number n (ended_by (event_at c k)))
+  ended_more n = list_any_more (λ v. is_number n (ended_by v)) c.events.items k Submitted lt
 
   pub outstanding_now : is_made (event_at c k) ≡ 1 → AreOutstanding c f.number f.outstanding.items
   outstanding_now is =
@@ -99,7 +126,7 @@ module _ (c : Course) (k : ℕ) (f : Flying) (course : IsCourse c) (lt : k < len
               | inl early ↦ flies.not_told e there q early after
               | inr late ↦
                   elim (cases_eq q k) [
-                    | inl same ↦ subst (λ (z : ℕ). tells c (event_at c z) e ≡ false) (sym same) (submitted_tells is e)
+                    | inl same ↦ subst (λ (z : ℕ). tells c z e ≡ false) (sym same) (submitted_tells is e)
                     | inr unlike ↦
                         absurd (omega (arith, up_to, made_next is, made_grows c.events.items (k + 1) q (omega arith)))
                   ]
@@ -109,18 +136,18 @@ module _ (c : Course) (k : ℕ) (f : Flying) (course : IsCourse c) (lt : k < len
             (λ q early after. flying q (omega arith) after (omega (arith, made_grows c.events.items q k (omega arith), flies.number)));
       }
 
-  not_told_more : (e : ℕ) → IsNotTold c k e → tells c (event_at c k) e ≡ false → IsNotTold c (k + 1) e
+  not_told_more : (e : ℕ) → IsNotTold c k e → tells c k e ≡ false → IsNotTold c (k + 1) e
   not_told_more e before now q early after =
       elim (cases_eq q k) [
-        | inl same ↦ subst (λ (z : ℕ). tells c (event_at c z) e ≡ false) (sym same) now
+        | inl same ↦ subst (λ (z : ℕ). tells c z e ≡ false) (sym same) now
         | inr unlike ↦ before q (omega arith) after
       ]
 
   pub submitted : (g : Flying) → is_made (event_at c k) ≡ 1 → g.number ≡ f.number + 1
       → length g.waits.items ≡ (made_at c.made.items f.number).end → AreLasts (IsMissingWait c) g.waits.items
       → WithRange f.outstanding.items (length f.waits.items) (made_at c.made.items f.number).end g.outstanding.items
-      → IsFlying c (k + 1) g
-  submitted g is number count waits range =
+      → g.ended.items ≡ f.ended.items → IsFlying c (k + 1) g
+  submitted g is number count waits range flags =
       record {
         number = omega (arith, number, made_next is);
         bound = omega (arith, count, ends_within is);
@@ -150,15 +177,20 @@ module _ (c : Course) (k : ℕ) (f : Flying) (course : IsCourse c) (lt : k < len
               | inl old ↦ range.kept e (flies.all e old (λ q early after. not_told q (omega arith) after))
               | inr new ↦ range.more e new (omega (arith, count))
             ];
+        flags = ap length flags ∙ flies.flags;
+        ended = λ n within.
+            ap (λ (xs : List Bool). get_or xs n false) flags ∙ flies.ended n within
+            ∙ sym (ended_more n ∙ or_none (has_ended c k n) (is_number n (ended_by (event_at c k))) (made_ends (event_at c k) n is));
       }
 
   -- ---- another event
 
   pub told : (g : Flying) → (is_made (event_at c k) ≡ 1 → ⊥) → g.number ≡ f.number → g.waits.items ≡ f.waits.items
-      → g.outstanding.items ≡ filter (λ e. not (tells c (event_at c k) e)) f.outstanding.items → IsFlying c (k + 1) g
-  told g is number waits left =
+      → g.outstanding.items ≡ filter (λ e. not (tells c k e)) f.outstanding.items → Marks (ended_by (event_at c k)) f.ended.items g.ended.items
+      → IsFlying c (k + 1) g
+  told g is number waits left marks =
       let same : made_before c.events.items (k + 1) ≡ f.number = omega (arith, made_more c.events.items k Submitted lt, made_none (event_at c k) is, flies.number) in
-      let p : ℕ → Bool = λ e. not (tells c (event_at c k) e) in
+      let p : ℕ → Bool = λ e. not (tells c k e) in
       let old : (e : ℕ) → Contains g.outstanding.items e → Contains f.outstanding.items e × (p e ≡ true) =
       λ e there. filter_only p f.outstanding.items e (subst (λ (xs : List ℕ). Contains xs e) left there) in
       record {
@@ -169,12 +201,15 @@ module _ (c : Course) (k : ℕ) (f : Flying) (course : IsCourse c) (lt : k < len
         waits = subst (AreLasts (IsMissingWait c)) (sym waits) flies.waits;
         rising = subst (λ (xs : List ℕ). IsRising xs) (sym left) (rising_filter p f.outstanding.items flies.rising);
         inside = λ e there. omega (arith, ap length waits, flies.inside e (old e there).0);
-        not_told = λ e there. not_told_more e (flies.not_told e (old e there).0) (not_true (tells c (event_at c k) e) (old e there).1);
+        not_told = λ e there. not_told_more e (flies.not_told e (old e there).0) (not_true (tells c k e) (old e there).1);
         all = λ e low not_told.
             let before : e < length f.waits.items = omega (arith, ap length waits) in
-            let here : tells c (event_at c k) e ≡ false = not_told k (omega arith) (omega (arith, flies.done e before, flies.number)) in
+            let here : tells c k e ≡ false = not_told k (omega arith) (omega (arith, flies.done e before, flies.number)) in
             subst (λ (xs : List ℕ). Contains xs e) (sym left)
             (filter_keeps p f.outstanding.items e (flies.all e before (λ q early after. not_told q (omega arith) after)) (ap not here));
+        flags = marks.count ∙ flies.flags;
+        ended = λ n within.
+            marked_each (ended_by (event_at c k)) f.ended.items g.ended.items n marks (omega (arith, flies.flags)) ∙ ap (λ b. b || is_number n (ended_by (event_at c k))) (flies.ended n within) ∙ sym (ended_more n);
       }
 
 -- ---- all events

@@ -1,8 +1,9 @@
 -- Entries that are added to a course.
 use Rattle.std.proofs.Common.{◌≡◌, ℕ, suc, ◌+◌, ◌<◌, ◌≤◌, ◌⊎◌, inl, inr, Bool, true, false, List, [], ◌∷◌, ◌++◌, length, get_or, refl, sym, ap, subst, ◌∙◌, arith, add-one}
-use Rattle.std.specs.Prelude.{if◌then◌else◌, ◌==◌}
+use Rattle.std.specs.Prelude.{if◌then◌else◌, ◌==◌, ◌&&◌, ◌||◌, not, Option, take}
 use Rattle.std.proofs.lemmas.Bool.{cases_eq, cases_lt}
-use Rattle.std.proofs.lemmas.List.{get_or_append_left, get_or_default, get_or_push, length_push}
+use Rattle.std.proofs.lemmas.List.{get_or_append_left, get_or_push, length_push}
+use Rattle.std.proofs.lemmas.List.Folds.{list_any_more}
 use Rattle.std.proofs.lemmas.Option.{same_Some, slice_get-get_or, slice_get_within}
 use Rattle.dsa_audit.specs.declared.member.Member.{Member}
 use Rattle.dsa_audit.specs.declared.member.Member.TheVariants.{Unknown}
@@ -16,9 +17,11 @@ use Rattle.dsa_waits.specs.declared.course.Entry.{Entry}
 use Rattle.dsa_waits.specs.declared.event.Event.{Event}
 use Rattle.dsa_waits.specs.declared.event.Event.TheVariants.{Submitted, Watched, MemberEnded, Ended, Known}
 use Rattle.dsa_waits.specs.declared.event.Queue.{Queue}
-use Rattle.dsa_waits.specs.Waits.{Fits, IsCourse, event_at, first_of, made_at, made_before, no_entry, submission_of}
+use Rattle.dsa_waits.specs.Steps.{Marks}
+use Rattle.dsa_waits.specs.Waits.{Fits, IsCourse, event_at, failed_by, first_of, has_mark, is_number, made_at, made_before, no_entry, submission_of, watched_by}
 use Rattle.dsa_waits.specs.Recorded.{FitsRecording, IsAccess, IsCourseOf, IsEntry, IsEpoch, bytes_of}
 use Rattle.dsa_waits.specs.RecordedSteps.{AreMade, AreMarked, HasEntries, IsEntryAt, WithEntries, entries_before, no_submission}
+use Rattle.dsa_waits.proofs.Marked.{marked_each}
 use Rattle.dsa_waits.proofs.Placed.{IsPlaced, placed, placed_grows}
 
 -- ---- one more
@@ -130,9 +133,22 @@ entries_next es ss k es1 es2 ms1 ms2 d reads lt so_far more =
 
 -- ---- all
 
-pub of_made : (es : List (List ℕ)) (ss : List Submission) (queues : List Queue) (watched : List Bool) (c : Course) → HasEntries es ss (length es) c.entries.items c.members.items
-    → AreMarked c.events.items (length c.events.items) (length ss) watched → AreMade es ss queues watched (length ss) c.made.items → IsCourseOf es ss queues c.events.items c
-of_made es ss queues watched c has marked made =
+-- one more event marks
+pub marked_more : (mark : Event → Option ℕ) (events : List Event) (k all : ℕ) (v : Event) (old new : List Bool) → k < length events → get_or events k Submitted ≡ v
+    → AreMarked mark (take k events) all old → Marks (mark v) old new → AreMarked mark (take (k + 1) events) all new
+marked_more mark events k all v old new lt at are marks =
+    record {
+      count = marks.count ∙ are.count;
+      each = λ n within.
+          marked_each (mark v) old new n marks (omega (arith, are.count)) ∙ ap (λ b. b || is_number n (mark v)) (are.each n within)
+          ∙ ap (λ (w : Event). has_mark mark (take k events) n || is_number n (mark w)) (sym at)
+          ∙ sym (list_any_more (λ w. is_number n (mark w)) events k Submitted lt);
+    }
+
+pub of_made : (es : List (List ℕ)) (ss : List Submission) (queues : List Queue) (watched failed : List Bool) (c : Course)
+    → HasEntries es ss (length es) c.entries.items c.members.items → AreMarked watched_by c.events.items (length ss) watched
+    → AreMarked failed_by c.events.items (length ss) failed → AreMade es ss queues watched failed (length ss) c.made.items → IsCourseOf es ss queues c.events.items c
+of_made es ss queues watched failed c has are_watched are_failed made =
     record {
       entries = has.count;
       members = has.count_members;
@@ -148,11 +164,9 @@ of_made es ss queues watched c has marked made =
             first = ap (λ m. m.first) at ∙ ap head_at same;
             end = ap (λ m. m.end) at ∙ ap end_of same;
             queue = ap (λ m. m.queue) at;
-            is_drain = ap (λ m. m.is_drain) at ∙ ap (λ (z : Submission). code_at (bytes_of es (head_at z)) == 2) same;
-            watched = λ yes'. marked.marked n lt (sym (ap (λ m. m.is_watched) at) ∙ yes');
-            not_watched = λ no' there.
-                marked.others n lt (sym (ap (λ m. m.is_watched) at) ∙ no') there.0 there.1
-                (get_or_default c.events.items there.0 Submitted (Watched n) there.1 ∙ there.2);
+            is_drain = ap (λ m. m.is_drain) at ∙ ap (λ (z : Submission). code_at (bytes_of es (head_at z)) == 2 && not (get_or failed n false)) same
+                ∙ ap (λ b. code_at (bytes_of es (head_at s)) == 2 && not b) (are_failed.each n lt);
+            is_watched = ap (λ m. m.is_watched) at ∙ are_watched.each n lt;
           };
       events = refl;
     }
@@ -207,7 +221,7 @@ module _ (es : List (List ℕ)) (ss : List Submission) (queues : List Queue) (ha
       let placed' : IsPlaced es (entries_before 0 ss n) s = subst (IsPlaced es (entries_before 0 ss n)) same (at n within) in
       let first : first_of c n ≡ head_at s = first_is n within ∙ ap head_at same in
       (omega (arith, within, of.made), omega (arith, first, placed'.batch batch, placed'.ends, low, of.entries))
-  fits (Ended n) f = omega (arith, f, of.made)
+  fits (Ended n status) f = omega (arith, f, of.made)
   fits (Known n) f = omega (arith, f, of.made)
 
   pub is_course : made_before c.events.items (length c.events.items) ≡ length ss → ((k : ℕ) → k < length c.events.items → FitsRecording ss (event_at c k)) → IsCourse c

@@ -46,7 +46,7 @@ line_fits es ss made (Happened (event.MemberEnded n m)) few h =
     let batch = batch_by (submission_at ss n).is_batch (submission_at ss n).size m (ltb-true m (members_of (submission_at ss n)) all.2) in
     (submission_at ss n, slice_get-get_or ss n no_submission (ltb-true n (length ss) all.1), batch.0, batch.1)
 line_fits es ss made (Happened (event.Watched n)) few h = number_fits ss made n few h
-line_fits es ss made (Happened (event.Ended n)) few h = number_fits ss made n few h
+line_fits es ss made (Happened (event.Ended n status)) few h = number_fits ss made n few h
 line_fits es ss made (Happened (event.Known n)) few h = number_fits ss made n few h
 
 -- ---- all
@@ -76,7 +76,7 @@ one_queue es ss made (Submitted l) h = refl
 one_queue es ss made (Happened event.Submitted) h = let never : Some Number ≡ None = h in absurd cc
 one_queue es ss made (Happened (event.MemberEnded n m)) h = refl
 one_queue es ss made (Happened (event.Watched n)) h = refl
-one_queue es ss made (Happened (event.Ended n)) h = refl
+one_queue es ss made (Happened (event.Ended n status)) h = refl
 one_queue es ss made (Happened (event.Known n)) h = refl
 
 few_next : (es : List (List ℕ)) (ss : List Submission) (made : ℕ) (line : Line) → made ≤ length ss → misfit_of es ss made line ≡ None
@@ -90,7 +90,7 @@ few_next es ss made (Submitted l) few h =
 few_next es ss made (Happened event.Submitted) few h = let never : Some Number ≡ None = h in absurd cc
 few_next es ss made (Happened (event.MemberEnded n m)) few h = omega (arith, few)
 few_next es ss made (Happened (event.Watched n)) few h = omega (arith, few)
-few_next es ss made (Happened (event.Ended n)) few h = omega (arith, few)
+few_next es ss made (Happened (event.Ended n status)) few h = omega (arith, few)
 few_next es ss made (Happened (event.Known n)) few h = omega (arith, few)
 
 by_more : (lines : List Line) (k : ℕ) → k < length lines → made_by lines (k + 1) ≡ made_by lines k + is_made (event_of (line_at lines k))

@@ -1,4 +1,5 @@
 pub mod Rising
+pub mod Marked
 pub mod Courses
 pub mod Parts
 pub mod Placed

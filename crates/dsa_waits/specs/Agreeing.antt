@@ -12,7 +12,7 @@ use Rattle.dsa_flight.specs.Laws.{EndsInTurn}
 use Rattle.dsa_audit.specs.Members.{KnownConflict}
 use Rattle.dsa_audit.specs.Steps.{AreLasts}
 use Rattle.dsa_waits.specs.declared.course.Course.{Course}
-use Rattle.dsa_waits.specs.Waits.{IsCourse, IsMissingWait, event_at, is_before_epoch, made_before, submission_of, tells}
+use Rattle.dsa_waits.specs.Waits.{IsCourse, IsMissingWait, is_before_epoch, made_before, submission_of, tells}
 
 -- ---- what happens
 
@@ -29,7 +29,7 @@ pub data Act : Type 0 where
 -- The next event comes. What it tells is true: each entry whose end it tells has ended, if it is done at all (`goes`; what
 -- follows a failure in its batch is not).
 pub record EventComes {D P : Type 0} (c : Course) (subs : List (Setup D)) (goes : ℕ → Bool) (s new : Moment P) : Type 0 where
-  pub told : (x : ℕ) → IsTrue (goes x) → IsTrue (tells c (event_at c s.recorded) x) → HasEnded subs s.flight x
+  pub told : (x : ℕ) → IsTrue (goes x) → IsTrue (tells c s.recorded x) → HasEnded subs s.flight x
   pub after : new ≡ record { recorded = s.recorded + 1; flight = s.flight }
 
 -- entry y makes a step: its submission was made before, and the members before its epoch have ended

@@ -59,7 +59,7 @@ misfit_of es ss made (Submitted l) = misfit_made es ss made l
 misfit_of es ss made (Happened event.Submitted) = Some Number
 misfit_of es ss made (Happened (event.MemberEnded n m)) = misfit_member ss made n m
 misfit_of es ss made (Happened (event.Watched n)) = misfit_number made n
-misfit_of es ss made (Happened (event.Ended n)) = misfit_number made n
+misfit_of es ss made (Happened (event.Ended n status)) = misfit_number made n
 misfit_of es ss made (Happened (event.Known n)) = misfit_number made n
 
 -- ---- all lines

@@ -74,9 +74,9 @@ member_with (Some number) (Some member) None = None
 member_with (Some number) None status = None
 member_with None member status = None
 
--- that of a submission
+-- that of a submission, with its status
 abbrev pub ended_with : Option ℕ → Option ℕ → Option Line
-ended_with (Some number) (Some status) = Some (Happened (event.Ended number))
+ended_with (Some number) (Some status) = Some (Happened (event.Ended number status))
 ended_with (Some number) None = None
 ended_with None status = None
 

@@ -1,6 +1,5 @@
 -- What a recording says of the entries and submissions of a course.
-use Rattle.std.specs.Prelude.{ℕ, ◌≡◌, ◌*◌, ◌<◌, ◌≤◌, ◌⊎◌, ◌==◌, bit_and, Bool, true, false, List, [], ◌∷◌, length, get_or, slice_get, Some, slice_index_or, if◌then◌else◌}
-use Rattle.std.specs.List.{Contains}
+use Rattle.std.specs.Prelude.{ℕ, ◌≡◌, ◌*◌, ◌<◌, ◌≤◌, ◌⊎◌, ◌==◌, ◌&&◌, not, bit_and, Bool, true, false, List, [], ◌∷◌, length, get_or, slice_get, Some, slice_index_or, if◌then◌else◌}
 use Rattle.dsa_descriptor.specs.declared.span.Span.{Span}
 use Rattle.dsa_descriptor.specs.Spans.{span}
 use Rattle.dsa_descriptor.specs.Places.{u32_at, u64_at, flags_at, code_at}
@@ -17,7 +16,7 @@ use Rattle.dsa_waits.specs.declared.course.Made.{Made}
 use Rattle.dsa_waits.specs.declared.event.Event.{Event}
 use Rattle.dsa_waits.specs.declared.event.Event.TheVariants.{Submitted, Watched, MemberEnded, Ended, Known as Looked}
 use Rattle.dsa_waits.specs.declared.event.Queue.{Queue}
-use Rattle.dsa_waits.specs.Waits.{entry_at, made_at, no_queue}
+use Rattle.dsa_waits.specs.Waits.{entry_at, failed_by, has_mark, made_at, no_queue, watched_by}
 
 -- ---- an entry
 
@@ -69,19 +68,18 @@ FitsRecording ss Submitted = Unit
 FitsRecording ss (Watched n) = n < length ss
 FitsRecording ss (MemberEnded n m) =
     (s : Submission) × (slice_get ss n ≡ Some s) × (s.is_batch ≡ true) × (m < s.size)
-FitsRecording ss (Ended n) = n < length ss
+FitsRecording ss (Ended n status) = n < length ss
 FitsRecording ss (Looked n) = n < length ss
 
 -- ---- the whole
 
--- submission n, with its queue: a drain has operation code 0x02 (linux/idxd.h)
+-- submission n, with its queue: a drain has operation code 0x02 (linux/idxd.h), and waits for nothing if it fails
 pub record IsMade (es : List (List ℕ)) (events : List Event) (s : Submission) (to : Queue) (n : ℕ) (made : Made) : Type 0 where
   pub first : made.first ≡ head_at s
   pub end : made.end ≡ end_of s
   pub queue : made.queue ≡ to
-  pub is_drain : made.is_drain ≡ (code_at (bytes_of es (head_at s)) == 2)
-  pub watched : made.is_watched ≡ true → Contains events (Watched n)
-  pub not_watched : made.is_watched ≡ false → ¬ Contains events (Watched n)
+  pub is_drain : made.is_drain ≡ (code_at (bytes_of es (head_at s)) == 2 && not (has_mark failed_by events n))
+  pub is_watched : made.is_watched ≡ has_mark watched_by events n
 
 -- entry e is one of submission n
 pub record IsEntryOf (es : List (List ℕ)) (ss : List Submission) (c : Course) (e n : ℕ) : Type 0 where

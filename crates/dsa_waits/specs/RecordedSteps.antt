@@ -1,6 +1,5 @@
 -- ---- for private clauses: the course of a recording, submission by submission
-use Rattle.std.specs.Prelude.{ℕ, zero, suc, ◌≡◌, ◌≢◌, ◌<◌, ◌≤◌, ◌⊎◌, ◌==◌, Bool, true, false, List, [], ◌∷◌, length, get_or, slice_get, Some}
-use Rattle.std.specs.List.{Contains}
+use Rattle.std.specs.Prelude.{ℕ, zero, suc, ◌≡◌, ◌<◌, ◌≤◌, ◌==◌, ◌&&◌, not, Bool, false, List, [], ◌∷◌, length, get_or, slice_get, Option, Some}
 use Rattle.dsa_descriptor.specs.Places.{code_at}
 use Rattle.dsa_audit.specs.declared.member.Member.{Member}
 use Rattle.dsa_audit.specs.declared.member.Member.TheVariants.{Unknown}
@@ -11,10 +10,9 @@ use Rattle.dsa_recording.specs.Submissions.{head_at}
 use Rattle.dsa_waits.specs.declared.course.Entry.{Entry}
 use Rattle.dsa_waits.specs.declared.course.Made.{Made}
 use Rattle.dsa_waits.specs.declared.event.Event.{Event}
-use Rattle.dsa_waits.specs.declared.event.Event.TheVariants.{Submitted, Watched}
 use Rattle.dsa_waits.specs.declared.event.Queue.{Queue}
 use Rattle.dsa_waits.specs.Recorded.{IsAccess, IsEntry, bytes_of}
-use Rattle.dsa_waits.specs.Waits.{made_at, no_entry, no_queue}
+use Rattle.dsa_waits.specs.Waits.{has_mark, made_at, no_entry, no_queue}
 
 -- read where there is none
 abbrev pub no_submission : Submission
@@ -50,30 +48,26 @@ pub record HasEntries (es : List (List ℕ)) (ss : List Submission) (to : ℕ) (
   pub count_members : length members ≡ to
   pub each : (e : ℕ) → e < to → (n : ℕ) × IsEntryAt es ss e n (get_or entries e no_entry) (get_or members e (Unknown Operation))
 
--- the first k events watch these of so many submissions
-pub record AreMarked (events : List Event) (k all : ℕ) (watched : List Bool) : Type 0 where
-  pub count : length watched ≡ all
-  pub marked : (n : ℕ) → n < all → get_or watched n false ≡ true → Contains events (Watched n)
-  pub others : (n : ℕ) → n < all → get_or watched n false ≡ false → (j : ℕ) → j < k → get_or events j Submitted ≢ Watched n
+-- of so many submissions these are marked by the events
+pub record AreMarked (mark : Event → Option ℕ) (events : List Event) (all : ℕ) (flags : List Bool) : Type 0 where
+  pub count : length flags ≡ all
+  pub each : (n : ℕ) → n < all → get_or flags n false ≡ has_mark mark events n
 
--- the event marks the submission whose record is watched from then on
-pub record Marks (event : Event) (old new : List Bool) : Type 0 where
-  pub count : length new ≡ length old
-  pub marked : (n : ℕ) → n < length old → get_or new n false ≡ true → (get_or old n false ≡ true) ⊎ (event ≡ Watched n)
-  pub others : (n : ℕ) → n < length old → get_or new n false ≡ false → (get_or old n false ≡ false) × (event ≢ Watched n)
-
--- the submission, with its queue, and whether it is watched
-abbrev pub made_with : List (List ℕ) → Submission → Queue → Bool → Made
-made_with es s queue is_watched =
+-- the submission, with its queue, whether it is watched, and whether it failed
+abbrev pub made_with : List (List ℕ) → Submission → Queue → Bool → Bool → Made
+made_with es s queue is_watched has_failed =
     record {
       first = head_at s;
       end = end_of s;
       queue = queue;
-      is_drain = code_at (bytes_of es (head_at s)) == 2;
+      is_drain = code_at (bytes_of es (head_at s)) == 2 && not has_failed;
       is_watched = is_watched;
     }
 
 -- the first `to` submissions
-pub record AreMade (es : List (List ℕ)) (ss : List Submission) (queues : List Queue) (watched : List Bool) (to : ℕ) (made : List Made) : Type 0 where
+pub record AreMade (es : List (List ℕ)) (ss : List Submission) (queues : List Queue) (watched failed : List Bool) (to : ℕ) (made : List Made) : Type 0 where
   pub count : length made ≡ to
-  pub each : (n : ℕ) → n < to → made_at made n ≡ made_with es (get_or ss n no_submission) (get_or queues n no_queue) (get_or watched n false)
+  pub each :
+      (n : ℕ) → n < to →
+      made_at made n
+      ≡ made_with es (get_or ss n no_submission) (get_or queues n no_queue) (get_or watched n false) (get_or failed n false)

@@ -1,10 +1,16 @@
 -- ---- for private clauses: the search, event by event
-use Rattle.std.specs.Prelude.{ℕ, ◌≡◌, ◌<◌, ◌≤◌, ◌⊎◌, false, List, length}
+use Rattle.std.specs.Prelude.{ℕ, ◌≡◌, ◌<◌, ◌≤◌, ◌⊎◌, ◌≢◌, Bool, true, false, List, length, get_or, Option, Some}
 use Rattle.std.specs.List.{AllPairs, Contains}
 use Rattle.dsa_audit.specs.Steps.{AreLasts}
 use Rattle.dsa_waits.specs.declared.course.Course.{Course}
 use Rattle.dsa_waits.specs.declared.search.Flying.{Flying}
-use Rattle.dsa_waits.specs.Waits.{IsMissingWait, IsOutstanding, event_at, made_before, submission_of, tells}
+use Rattle.dsa_waits.specs.Waits.{IsMissingWait, IsOutstanding, has_ended, made_before, submission_of, tells}
+
+-- the flag of this submission is set, if there is one
+pub record Marks (number : Option ℕ) (old new : List Bool) : Type 0 where
+  pub count : length new ≡ length old
+  pub marked : (n : ℕ) → n < length old → get_or new n false ≡ true → (get_or old n false ≡ true) ⊎ (number ≡ Some n)
+  pub others : (n : ℕ) → n < length old → get_or new n false ≡ false → (get_or old n false ≡ false) × (number ≢ Some n)
 
 -- each number is below those after it
 abbrev pub IsRising : List ℕ → Type 0
@@ -34,7 +40,7 @@ pub record WithRange (xs : List ℕ) (from end : ℕ) (ys : List ℕ) : Type 0 w
 
 -- by none of the first k events after its making does the program know that entry e has ended
 abbrev pub IsNotTold : Course → ℕ → ℕ → Type 0
-IsNotTold c k e = (q : ℕ) → q < k → submission_of c e < made_before c.events.items q → tells c (event_at c q) e ≡ false
+IsNotTold c k e = (q : ℕ) → q < k → submission_of c e < made_before c.events.items q → tells c q e ≡ false
 
 -- what is in flight after the first k events
 pub record IsFlying (c : Course) (k : ℕ) (f : Flying) : Type 0 where
@@ -47,3 +53,5 @@ pub record IsFlying (c : Course) (k : ℕ) (f : Flying) : Type 0 where
   pub inside : (e : ℕ) → Contains f.outstanding.items e → e < length f.waits.items
   pub not_told : (e : ℕ) → Contains f.outstanding.items e → IsNotTold c k e
   pub all : (e : ℕ) → e < length f.waits.items → IsNotTold c k e → Contains f.outstanding.items e
+  pub flags : length f.ended.items ≡ length c.made.items
+  pub ended : (n : ℕ) → n < length c.made.items → get_or f.ended.items n false ≡ has_ended c k n

@@ -1,7 +1,7 @@
 //! What the program may know, event by event.
 
-ghost use Rattle.std.specs.Prelude.{◌≡◌};
-ghost use Rattle.dsa_waits.specs.Waits.{entry_at, made_at, Fits, is_before_epoch, is_same_or_drained, is_told, told_by, told_by_end, told_by_member};
+ghost use Rattle.std.specs.Prelude.{◌≡◌, ◌<◌, false, get_or, length};
+ghost use Rattle.dsa_waits.specs.Waits.{entry_at, made_at, Fits, is_before_epoch, is_same_or_drained, is_told, told_by, told_by_end, told_by_look, told_by_member};
 
 use crate::event::{Event, Queue};
 use dsa_audit::Member;
@@ -26,7 +26,7 @@ pub struct Made {
     pub end: usize,
     /// The queue to which it went.
     pub queue: Queue,
-    /// Whether it waits for all before it in its queue.
+    /// Whether it waits for all before it in its queue: it is a drain, and did not fail.
     pub is_drain: bool,
     /// Whether it is seen when the program looks at its record.
     pub is_watched: bool,
@@ -50,7 +50,7 @@ pub struct Course {
 pub(crate) enum Told {
     /// None.
     Nothing,
-    /// Those of this submission and, if it is a drain, of all before it in its queue.
+    /// Those of this submission and, if it is a drain that did not fail, of all before it in its queue.
     Submission(usize),
     /// This entry of a batch, and the members before its epoch.
     Entry(usize),
@@ -112,10 +112,23 @@ fn told_by_end(course: &Course, number: usize) -> Told
     }
 }
 
-/// What the event tells.
-pub(crate) fn told_by(course: &Course, event: Event) -> Told
+/// What a look at the record of a submission tells, where these have ended so far.
+fn told_by_look(ended: &[bool], number: usize) -> Told
+    requires { number < length ended.now }
+    ensures { result ≡ told_by_look (λ n. get_or ended.now n false) number }
+{
+    if ended[number] {
+        Told::Submission(number)
+    } else {
+        Told::Nothing
+    }
+}
+
+/// What the event tells, where these submissions have ended so far.
+pub(crate) fn told_by(course: &Course, ended: &[bool], event: Event) -> Told
     requires fits { Fits course.now event }
-    ensures { result ≡ told_by course.now event }
+    requires all { length ended.now ≡ length course.now.made.items }
+    ensures { result ≡ told_by course.now (λ n. get_or ended.now n false) event }
 {
     match event {
         Event::Submitted | Event::Watched(_) => Told::Nothing,
@@ -123,8 +136,8 @@ pub(crate) fn told_by(course: &Course, event: Event) -> Told
             let first = made_at(&course.made, number).first;
             told_by_member(course, first + 1 + member)
         }
-        Event::Ended(number) => told_by_end(course, number),
-        Event::Known(number) => Told::Submission(number),
+        Event::Ended(number, _) => told_by_end(course, number),
+        Event::Known(number) => told_by_look(ended, number),
     }
 }
 

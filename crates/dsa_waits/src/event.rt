@@ -1,5 +1,9 @@
 //! What happened to submissions.
 
+ghost use Rattle.std.specs.Prelude.{◌≡◌};
+ghost use Rattle.dsa_waits.specs.Waits.{ended_by, failed_by, watched_by};
+ghost use Rattle.dsa_waits.specs.Steps.{Marks};
+
 /// A queue, by the names of Linux: `wq0.1` is queue 1 of device 0.
 #[derive(Clone, Copy, Default)]
 pub struct Queue {
@@ -18,8 +22,54 @@ pub enum Event {
     Watched(usize),
     /// The member of the submission has ended: first the submission, then the member.
     MemberEnded(usize, usize),
-    /// The submission has ended.
-    Ended(usize),
-    /// The program has looked at the record of the submission since that ended.
+    /// The submission has ended, with this status.
+    Ended(usize, u64),
+    /// The program has looked at the record of the submission.
     Known(usize),
+}
+
+impl Event {
+    /// The submission whose record is watched from now on.
+    pub(crate) fn watched_number(self) -> Option<usize>
+        ensures { result ≡ watched_by self }
+    {
+        match self {
+            Event::Watched(number) => Some(number),
+            Event::Submitted | Event::MemberEnded(_, _) | Event::Ended(_, _) | Event::Known(_) =>
+                None,
+        }
+    }
+
+    /// The submission that has ended.
+    pub(crate) fn ended_number(self) -> Option<usize>
+        ensures { result ≡ ended_by self }
+    {
+        match self {
+            Event::Ended(number, _) => Some(number),
+            Event::Submitted | Event::Watched(_) | Event::MemberEnded(_, _) | Event::Known(_) =>
+                None,
+        }
+    }
+
+    /// The submission that has ended with an error.
+    pub(crate) fn failed_number(self) -> Option<usize>
+        ensures { result ≡ failed_by self }
+    {
+        match self {
+            Event::Ended(number, status) => { if status == 1 { None } else { Some(number) } }
+            Event::Submitted | Event::Watched(_) | Event::MemberEnded(_, _) | Event::Known(_) =>
+                None,
+        }
+    }
+}
+
+/// Sets the flag of a submission, if there is one.
+pub(crate) fn mark(flags: &mut Vec<bool>, number: Option<usize>)
+    ensures { Marks number flags.old.items flags.new.items }
+{
+    if let Some(number) = number {
+        if number < flags.len() {
+            flags[number] = true;
+        }
+    }
 }

@@ -157,7 +157,7 @@ fn misfit_of(
         Line::Happened(Event::MemberEnded(number, member)) => {
             misfit_member(submissions, made, number, member)
         }
-        Line::Happened(Event::Watched(number) | Event::Ended(number) | Event::Known(number)) => {
+        Line::Happened(Event::Watched(number) | Event::Ended(number, _) | Event::Known(number)) => {
             misfit_number(made, number)
         }
     }

@@ -204,10 +204,10 @@ fn ended_line(text: &[u8]) -> Option<Line>
     let Some(number) = decimal(number) else {
         return None;
     };
-    let Some(_) = decimal(status) else {
+    let Some(status) = decimal(status) else {
         return None;
     };
-    Some(Line::Happened(Event::Ended(number as usize)))
+    Some(Line::Happened(Event::Ended(number as usize, status)))
 }
 
 /// The line of a record that is watched, after its letter.

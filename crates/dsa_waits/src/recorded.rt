@@ -5,11 +5,11 @@ ghost use Rattle.dsa_recording.specs.Entries.{records_of};
 ghost use Rattle.dsa_recording.specs.Streams.{ReadsUpTo, end_of};
 ghost use Rattle.dsa_recording.specs.Submissions.{head_at, is_fenced};
 ghost use Rattle.dsa_waits.specs.Recorded.{FitsRecording, IsAccess, IsCourseOf, IsHeadAccess, asks_record, list_spans};
-ghost use Rattle.dsa_waits.specs.RecordedSteps.{AreMade, AreMarked, HasEntries, Marks, WithEntries, made_with};
-ghost use Rattle.dsa_waits.specs.Waits.{IsCourse, made_before};
+ghost use Rattle.dsa_waits.specs.RecordedSteps.{AreMade, AreMarked, HasEntries, WithEntries, made_with};
+ghost use Rattle.dsa_waits.specs.Waits.{IsCourse, failed_by, made_before, watched_by};
 
 use crate::course::{Course, Entry, Made};
-use crate::event::{Event, Queue};
+use crate::event::{Event, Queue, mark};
 use arrayvec::ArrayVec;
 use bitflags::Flags;
 use dsa_audit::Member;
@@ -146,41 +146,44 @@ fn entries_of(
     Ok((entries, members))
 }
 
-/// Marks the submission whose record is watched from this event on.
-fn mark(watched: &mut Vec<bool>, event: Event)
-    ensures { Marks event watched.old.items watched.new.items }
-{
-    if let Event::Watched(number) = event {
-        if number < watched.len() {
-            watched[number] = true;
-        }
-    }
-}
-
-/// Of each of so many submissions, whether its record is watched.
-fn watched_of(alloc: Global, events: &[Event], count: usize) -> Result<Vec<bool>, AllocError>
-    ensures { IfOk result
-        (λ watched. AreMarked events.now (length events.now) count watched.items) }
+/// Of each of so many submissions, whether its record is watched, and whether it ended with an error.
+fn marks_of(
+    alloc: Global,
+    events: &[Event],
+    count: usize,
+) -> Result<(Vec<bool>, Vec<bool>), AllocError>
+    ensures watched { IfOk result
+        (λ r. AreMarked watched_by events.now count r.0.items) }
+    ensures failed { IfOk result
+        (λ r. AreMarked failed_by events.now count r.1.items) }
 {
     let mut watched = vec![in alloc; false; count]?;
+    let mut failed = vec![in alloc; false; count]?;
     for event in events {
-        mark(&mut watched, *event);
+        mark(&mut watched, event.watched_number());
+        mark(&mut failed, event.failed_number());
     }
-    Ok(watched)
+    Ok((watched, failed))
 }
 
-/// The submission, with its queue, and whether it is watched.
-fn made_with(all: &[[u8; 64]], submission: Submission, queue: Queue, is_watched: bool) -> Made
+/// The submission, with its queue, whether it is watched, and whether it failed.
+fn made_with(
+    all: &[[u8; 64]],
+    submission: Submission,
+    queue: Queue,
+    is_watched: bool,
+    has_failed: bool,
+) -> Made
     requires head { head_at submission < length all.now }
     requires within { end_of submission ≤ length all.now }
-    ensures { result ≡ made_with all.now submission queue is_watched }
+    ensures { result ≡ made_with all.now submission queue is_watched has_failed }
 {
     let first = head_at(submission);
     Made {
         first,
         end: submission.first + submission.size,
         queue,
-        is_drain: Header::of(&all[first]).code == 2,
+        is_drain: Header::of(&all[first]).code == 2 && !has_failed,
         is_watched,
     }
 }
@@ -192,17 +195,25 @@ fn made_of(
     submissions: &[Submission],
     queues: &[Queue],
     watched: &[bool],
+    failed: &[bool],
 ) -> Result<Vec<Made>, AllocError>
     requires reads { ReadsUpTo all.now 0 submissions.now (length all.now) }
     requires queues { length queues.now ≡ length submissions.now }
     requires watched { length watched.now ≡ length submissions.now }
+    requires failed { length failed.now ≡ length submissions.now }
     ensures { IfOk result
-        (λ made. AreMade all.now submissions.now queues.now watched.now
+        (λ made. AreMade all.now submissions.now queues.now watched.now failed.now
         (length submissions.now) made.items) }
 {
     let mut made = Vec::with_capacity(alloc, submissions.len())?;
     for number in 0..submissions.len() {
-        made.push(made_with(all, submissions[number], queues[number], watched[number]))?;
+        made.push(made_with(
+            all,
+            submissions[number],
+            queues[number],
+            watched[number],
+            failed[number],
+        ))?;
     }
     Ok(made)
 }
@@ -224,8 +235,8 @@ pub fn course_of(
         (IsCourseOf all.now submissions.now queues.now events.items) }
 {
     let (entries, members) = entries_of(alloc, all, submissions)?;
-    let watched = watched_of(alloc, &events, submissions.len())?;
-    let made = made_of(alloc, all, submissions, queues, &watched)?;
+    let (watched, failed) = marks_of(alloc, &events, submissions.len())?;
+    let made = made_of(alloc, all, submissions, queues, &watched, &failed)?;
     Ok(Course {
         entries,
         members,

@@ -9,7 +9,7 @@ ghost use Rattle.dsa_waits.specs.Waits.{IsCourse, IsMissingWait, event_at, is_ma
 ghost use Rattle.dsa_waits.specs.Steps.{AreBelow, AreOutstanding, HasSubmission, IsFlying, IsRising, WithRange};
 
 use crate::course::{Course, Told, is_told, made_at, told_by};
-use crate::event::Event;
+use crate::event::{Event, mark};
 use dsa_audit::{KnownConflicts, Member, Relation, all_lasts};
 use std::alloc::{AllocError, Global};
 
@@ -22,6 +22,8 @@ struct Flying {
     outstanding: Vec<usize>,
     /// For each of their entries the last one for which a wait is missing.
     waits: Vec<Option<usize>>,
+    /// Of each submission of the course, whether it has ended.
+    ended: Vec<bool>,
 }
 
 /// The last of the outstanding entries that conflicts with a later one; `last` is the last of all earlier ones.
@@ -110,7 +112,7 @@ fn made_by(event: Event) -> usize
 {
     match event {
         Event::Submitted => 1,
-        Event::Watched(_) | Event::MemberEnded(_, _) | Event::Ended(_) | Event::Known(_) => 0,
+        Event::Watched(_) | Event::MemberEnded(_, _) | Event::Ended(_, _) | Event::Known(_) => 0,
     }
 }
 
@@ -163,8 +165,9 @@ impl Flying {
         if made_by(event) == 1 {
             return self.submit(course, lasts, k);
         }
-        let told = told_by(course, event);
+        let told = told_by(course, &self.ended, event);
         drop_told(&mut self.outstanding, course, told);
+        mark(&mut self.ended, event.ended_number());
         Ok(())
     }
 }
@@ -182,6 +185,7 @@ pub fn missing_waits(alloc: Global, course: &Course) -> Result<Vec<Option<usize>
         number: 0,
         outstanding: Vec::new(alloc),
         waits: Vec::new(alloc),
+        ended: vec![in alloc; false; course.made.len()]?,
     };
     for k in 0..course.events.len() {
         flying.follow(course, &lasts, k)?;

@@ -134,7 +134,7 @@ def random_submission(draw):
 
 
 def random_course(draw):
-    """A recording, its events, for each entry the last one that it should wait for, and what entries read and write."""
+    """A recording, its events, for each entry all that it should wait for, and what entries read and write."""
     recording, lines, made, flying, waits, uses = b"", [], [], {}, {}, []
     open_events = []
     for number in range(draw.randrange(1, 12)):
@@ -145,7 +145,7 @@ def random_course(draw):
             uses.append(new.spans(k))
             against = [e for e in flying if conflict(uses[e], uses[-1])]
             if against:
-                waits[new.first + k] = max(against)
+                waits[new.first + k] = sorted(against)
         made.append(new)
         flying |= {new.first + k: (new, k) for k in range(len(new.entries))}
         if draw.random() < 0.3:
@@ -217,6 +217,31 @@ def places(recording):
     return found
 
 
+def hazard_of(earlier, later):
+    """Why the later entry has to wait for the earlier one, the first that applies."""
+    if meet(earlier[1], later[0]):
+        return "read after write"
+    return "write after write" if meet(earlier[1], later[1]) else "write after read"
+
+
+def keys_of(recording, waits, uses):
+    """For each entry that should wait, the key of each that it should wait for."""
+    where = places(recording)
+    named = lambda e, a: f"missing wait, {hazard_of(uses[a], uses[e])}{where[e][2]}{where[a][2]}"
+    return {later: {earlier: named(later, earlier) for earlier in waits[later]} for later in sorted(waits)}
+
+
+def shown_with(keys, known):
+    """What is shown if these keys are accepted, in order: of each entry the last wait, if it is, and the last that is
+    not; with whether it is an error."""
+    found = []
+    for later, named in keys.items():
+        last, left = max(named), [earlier for earlier in named if named[earlier] not in known]
+        found += [(later, last, "accepted")] if named[last] in known else []
+        found += [(later, max(left), "error")] if left else []
+    return found
+
+
 def judge_report(recording, events, waits, shown, name):
     """What the report in JSON has of the missing waits, and what the words have; answers their keys."""
     _, out, _ = audited(recording, events, "--json")
@@ -239,25 +264,34 @@ def judge_report(recording, events, waits, shown, name):
     return keys
 
 
-def judge_keys(recording, events, keys, name):
-    """The keys of the errors are written, and what is accepted is no error."""
+def judge_keys(recording, events, keys, draw, name):
+    """The keys of the errors are written. A wait that is accepted hides no other; if all are, no wait is an error."""
     status, out, _ = audited(recording, events, "--write-accept")
     written = out.splitlines()
     of_waits = [key for key in written if key.startswith("missing wait")]
-    right = status == 0 and of_waits == list(dict.fromkeys(keys)) and written[-len(of_waits) :] == (of_waits or written)
+    others = written[: len(written) - len(of_waits)]
+    last = list(dict.fromkeys(named[max(named)] for named in keys.values()))
+    right = status == 0 and of_waits == last and written == others + of_waits
     common.expect(right, f"{name}: the keys {written} are not those of {keys}")
-    for known in (written, written[:-1]):
-        status, out, _ = audited(recording, events, known=known)
-        wanted = [("accepted" if key in known else "error") for key in keys]
-        got = re.findall(r": (\w+): missing wait", out)
-        common.expect((status, got) == (int(known != written), wanted), f"{name}, accepting {known}: {status}, {got}")
-        left = audited(recording, events, "--write-accept", known=known)[1].splitlines()
-        common.expect(left == written[len(known) :], f"{name}, accepting {known}: {left} are left")
+    every = sorted({key for named in keys.values() for key in named.values()})
+    some = [key for key in every if draw.random() < 0.5]
+    for known in (of_waits, of_waits[:-1], some, every):
+        status, out, _ = audited(recording, events, known=[*others, *known])
+        found = re.findall(r"entry (\d+) \(.*?\): (\w+): missing wait, .*? what entry (\d+) ", out)
+        got, wanted = [(int(later), int(earlier), kind) for later, kind, earlier in found], shown_with(keys, known)
+        is_error = any(kind == "error" for _, _, kind in wanted)
+        right = (status, got) == (int(is_error), wanted)
+        common.expect(right, f"{name}, accepting {known}: {status}, {got}, not {wanted}")
+        left = audited(recording, events, "--write-accept", known=[*others, *known])[1].splitlines()
+        errors = list(dict.fromkeys(keys[later][earlier] for later, earlier, kind in wanted if kind == "error"))
+        common.expect(left == errors, f"{name}, accepting {known}: {left} are left, not {errors}")
 
 
 def judged(seed):
     """One random recording; answers whether a wait is missing."""
-    recording, events, waits, uses = random_course(random.Random(seed))
+    draw = random.Random(seed)
+    recording, events, every, uses = random_course(draw)
+    waits = {later: max(against) for later, against in every.items()}
     status, out, err = audited(recording, events)
     found, told = {}, {}
     for shown in LINE.finditer(out):
@@ -272,8 +306,9 @@ def judged(seed):
     right = found == waits and wanted in out and (status == 1 or not waits) and status < 2
     common.expect(right, f"seed {seed}: wanted {waits}, found {found}, status {status} {err}")
     if right:
-        keys = judge_report(recording, events, waits, told, f"seed {seed}")
-        judge_keys(recording, events, keys, f"seed {seed}")
+        shown, keys = judge_report(recording, events, waits, told, f"seed {seed}"), keys_of(recording, every, uses)
+        common.expect(shown == [keys[e][waits[e]] for e in keys], f"seed {seed}: the keys are {shown}, not {keys}")
+        judge_keys(recording, events, keys, draw, f"seed {seed}")
     return len(waits) > 0
 
 
@@ -302,6 +337,26 @@ def by_hand():
     for looks, wanted in (("K 0\n", 1), ("W 0\nK 0\n", 1), ("W 0\nC 0 1\nK 0\n", 0), ("W 0\nK 0\nC 0 1\n", 1)):
         status, out, _ = audited(first + second, made[0] + looks + made[1] + "C 1 1\n")
         common.expect(status == wanted and (wait in out) == (status == 1), f"looks {looks!r}: status {status}, {out}")
+
+
+def accepted():
+    """Two moves and a compare that reads what both write: one wait that is accepted does not hide the other."""
+    recording = entry(MOVE, first=0x1000, second=0x2000, size=64)
+    recording += entry(MOVE, record=0x8020, first=0x3000, second=0x4000, size=8)
+    recording += entry(COMPARE, record=0x8040, first=0x2000, second=0x4000, size=8)
+    made = [f"S {k} wq0.0 op {op} members 0\n" for k, op in enumerate((3, 3, 5))]
+    key = "missing wait, read after write; lone: compare, 8 bytes; lone: move, "
+    of_0, of_1 = key + "64 bytes", key + "8 bytes"
+    both, second = "".join(made), made[0] + "C 0 1\n" + made[1] + made[2]
+    for events, known, wanted in (
+        (both, [], [(1, "error")]), (both, [of_1], [(1, "accepted"), (0, "error")]), (both, [of_0], [(1, "error")]),
+        (both, [of_0, of_1], [(1, "accepted")]), (second, [of_1], [(1, "accepted")]),
+        (made[0] + made[1] + "C 1 1\n" + made[2], [of_1], [(0, "error")]),
+    ):
+        status, out, _ = audited(recording, events, known=known)
+        got = [(int(e), kind) for kind, e in re.findall(r": (\w+): missing wait, .*? what entry (\d+) ", out)]
+        is_error = int(any(kind == "error" for _, kind in wanted))
+        common.expect((got, status) == (wanted, is_error), f"{events!r}, accepting {known}: {got}, {status}")
 
 
 def drains():
@@ -347,7 +402,7 @@ def main(words):
     TEXT = [program("dsa_text")]
     numbers = [int(word) for word in words if word.isdigit()]
     COUNT = numbers[-1] if numbers else COUNT
-    for part in named([by_hand, drains, refusals, brute_force], [it for it in words if not it.isdigit()]):
+    for part in named([by_hand, accepted, drains, refusals, brute_force], [it for it in words if not it.isdigit()]):
         part()
 
 

@@ -1,19 +1,23 @@
 -- Submissions in flight, event by event.
-use Rattle.std.proofs.Common.{◌≡◌, ℕ, zero, suc, ◌+◌, ◌<◌, ◌≤◌, inl, inr, Bool, true, false, List, [], ◌∷◌, length, get_or, Option, refl, sym, ap, subst, ◌∙◌, arith, add-one, filter}
+use Rattle.std.proofs.Common.{◌≡◌, ℕ, zero, suc, ◌+◌, ◌<◌, ◌≤◌, inl, inr, Bool, true, false, List, [], ◌∷◌, length, get_or, Option, None, Some, slice_get, refl, sym, ap, subst, ◌∙◌, arith, add-one, filter}
 use Rattle.std.specs.Prelude.{not, ◌||◌, if◌then◌else◌}
 use Rattle.std.specs.List.{Contains}
 use Rattle.std.proofs.lemmas.Bool.{cases_eq, cases_lt}
+use Rattle.std.proofs.lemmas.Option.{slice_get-get_or, slice_get_within}
 use Rattle.std.proofs.lemmas.List.Folds.{list_any_more}
-use Rattle.dsa_audit.specs.Members.{KnownConflict}
 use Rattle.dsa_audit.specs.Steps.{AreLasts}
 use Rattle.dsa_conflicts.specs.Access.{IsGreatest}
 use Rattle.dsa_conflicts.proofs.Greatest.{greatest_same}
+use Rattle.dsa_recording.specs.declared.accepted.Accepted.{Accepted}
+use Rattle.dsa_recording.specs.declared.stream.Submission.{Submission}
 use Rattle.dsa_waits.specs.declared.course.Course.{Course}
 use Rattle.dsa_waits.specs.declared.course.Told.TheVariants as told_of
 use Rattle.dsa_waits.specs.declared.event.Event.{Event}
 use Rattle.dsa_waits.specs.declared.event.Event.TheVariants.{Submitted, Watched, MemberEnded, Ended, Known}
 use Rattle.dsa_waits.specs.declared.search.Flying.{Flying}
+use Rattle.dsa_recording.specs.Accepted.{has_key}
 use Rattle.dsa_waits.specs.Waits.{Fits, IsCourse, IsMissingWait, IsOutstanding, ended_by, event_at, has_ended, is_made, is_number, is_told, made_at, made_before, submission_of, tells, told_by}
+use Rattle.dsa_waits.specs.Keys.{IsLeftConflict, IsLeftWait, NoneIsLeft}
 use Rattle.dsa_waits.specs.Steps.{AreBelow, AreOutstanding, HasSubmission, IsFlying, IsNotTold, IsRising, Marks, WithRange}
 use Rattle.dsa_waits.proofs.Marked.{marked_each}
 use Rattle.dsa_waits.proofs.Rising.{filter_only, filter_keeps, rising_filter}
@@ -77,7 +81,8 @@ made_none (MemberEnded n m) other = refl
 made_none (Ended n status) other = refl
 made_none (Known n) other = refl
 
-module _ (c : Course) (k : ℕ) (f : Flying) (course : IsCourse c) (lt : k < length c.events.items) (flies : IsFlying c k f) where
+module _ (accepted : Accepted) (es : List (List ℕ)) (ss : List Submission) (c : Course) (k : ℕ) (f : Flying) (course : IsCourse c) (lt : k < length c.events.items)
+    (flies : IsFlying accepted es ss c k f) where
   -- ---- the next submission is made
 
   pub made_next : is_made (event_at c k) ≡ 1 → made_before c.events.items (k + 1) ≡ f.number + 1
@@ -144,9 +149,9 @@ module _ (c : Course) (k : ℕ) (f : Flying) (course : IsCourse c) (lt : k < len
       ]
 
   pub submitted : (g : Flying) → is_made (event_at c k) ≡ 1 → g.number ≡ f.number + 1
-      → length g.waits.items ≡ (made_at c.made.items f.number).end → AreLasts (IsMissingWait c) g.waits.items
+      → length g.waits.items ≡ (made_at c.made.items f.number).end → AreLasts (IsLeftWait accepted es ss c) g.waits.items
       → WithRange f.outstanding.items (length f.waits.items) (made_at c.made.items f.number).end g.outstanding.items
-      → g.ended.items ≡ f.ended.items → IsFlying c (k + 1) g
+      → g.ended.items ≡ f.ended.items → IsFlying accepted es ss c (k + 1) g
   submitted g is number count waits range flags =
       record {
         number = omega (arith, number, made_next is);
@@ -187,7 +192,7 @@ module _ (c : Course) (k : ℕ) (f : Flying) (course : IsCourse c) (lt : k < len
 
   pub told : (g : Flying) → (is_made (event_at c k) ≡ 1 → ⊥) → g.number ≡ f.number → g.waits.items ≡ f.waits.items
       → g.outstanding.items ≡ filter (λ e. not (tells c k e)) f.outstanding.items → Marks (ended_by (event_at c k)) f.ended.items g.ended.items
-      → IsFlying c (k + 1) g
+      → IsFlying accepted es ss c (k + 1) g
   told g is number waits left marks =
       let same : made_before c.events.items (k + 1) ≡ f.number = omega (arith, made_more c.events.items k Submitted lt, made_none (event_at c k) is, flies.number) in
       let p : ℕ → Bool = λ e. not (tells c k e) in
@@ -198,7 +203,7 @@ module _ (c : Course) (k : ℕ) (f : Flying) (course : IsCourse c) (lt : k < len
         bound = omega (arith, ap length waits, flies.bound);
         done = λ e low. omega (arith, number, flies.done e (omega (arith, ap length waits)));
         whole = λ e inside before. omega (arith, ap length waits, flies.whole e inside (omega (arith, number)));
-        waits = subst (AreLasts (IsMissingWait c)) (sym waits) flies.waits;
+        waits = subst (AreLasts (IsLeftWait accepted es ss c)) (sym waits) flies.waits;
         rising = subst (λ (xs : List ℕ). IsRising xs) (sym left) (rising_filter p f.outstanding.items flies.rising);
         inside = λ e there. omega (arith, ap length waits, flies.inside e (old e there).0);
         not_told = λ e there. not_told_more e (flies.not_told e (old e there).0) (not_true (tells c k e) (old e there).1);
@@ -214,8 +219,9 @@ module _ (c : Course) (k : ℕ) (f : Flying) (course : IsCourse c) (lt : k < len
 
 -- ---- all events
 
-pub all_done : (c : Course) (k : ℕ) (f : Flying) → IsCourse c → length c.events.items ≡ k → IsFlying c k f → length f.waits.items ≡ length c.entries.items
-all_done c k f course end flies =
+pub all_done : (accepted : Accepted) (es : List (List ℕ)) (ss : List Submission) (c : Course) (k : ℕ) (f : Flying) → IsCourse c → length c.events.items ≡ k → IsFlying accepted es ss c k f
+    → length f.waits.items ≡ length c.entries.items
+all_done accepted es ss c k f course end flies =
     elim (cases_lt (length f.waits.items) (length c.entries.items)) [
       | inl short ↦
           let made : submission_of c (length f.waits.items) < f.number =
@@ -226,21 +232,57 @@ all_done c k f course end flies =
 
 -- ---- one more wait
 
-pub wait_of : (c : Course) (n e : ℕ) (xs : List ℕ) (o : Option ℕ) → AreOutstanding c n xs → AreBelow e xs → submission_of c e ≡ n
-    → IsGreatest (λ a. Contains xs a × KnownConflict c.members.items a e) o → IsGreatest (λ a. (a < e) × IsMissingWait c a e) o
-wait_of c n e xs o are below own last =
-    greatest_same (λ a. Contains xs a × KnownConflict c.members.items a e) (λ a. (a < e) × IsMissingWait c a e) o
+pub wait_of : (accepted : Accepted) (es : List (List ℕ)) (ss : List Submission) (c : Course) (n e : ℕ) (xs : List ℕ) (o : Option ℕ) → AreOutstanding c n xs → AreBelow e xs → submission_of c e ≡ n
+    → IsGreatest (λ a. Contains xs a × IsLeftConflict accepted es ss c a e) o → IsGreatest (λ a. (a < e) × IsLeftWait accepted es ss c a e) o
+wait_of accepted es ss c n e xs o are below own last =
+    greatest_same (λ a. Contains xs a × IsLeftConflict accepted es ss c a e) (λ a. (a < e) × IsLeftWait accepted es ss c a e) o
     (λ a (there, conflict). (
       below a there,
-      record {
-        inside = are.inside a there;
-        before = omega (arith, own, are.before a there);
-        in_flight = subst (λ (m : ℕ). IsOutstanding c a m) (sym own) (are.are a there);
-        conflict = conflict;
-      },
+      (
+        record {
+          inside = are.inside a there;
+          before = omega (arith, own, are.before a there);
+          in_flight = subst (λ (m : ℕ). IsOutstanding c a m) (sym own) (are.are a there);
+          conflict = conflict.0;
+        },
+        conflict.1,
+      ),
     ))
     (λ a (lt, wait). (
-      are.all a wait.inside (omega (arith, own, wait.before)) (subst (λ (m : ℕ). IsOutstanding c a m) own wait.in_flight),
-      wait.conflict,
+      are.all a wait.0.inside (omega (arith, own, wait.0.before)) (subst (λ (m : ℕ). IsOutstanding c a m) own wait.0.in_flight),
+      (wait.0.conflict, wait.1),
     ))
     last
+
+-- ---- if none is left
+
+pub none_left : (accepted : Accepted) (es : List (List ℕ)) (ss : List Submission) (c : Course) (left : List (Option ℕ)) → length c.members.items ≡ length left
+    → AreLasts (IsLeftWait accepted es ss c) left → ((k : ℕ) → k < length left → get_or left k None ≡ None) → NoneIsLeft accepted es ss c
+none_left accepted es ss c left count lasts none earlier later lt wait =
+    let known = wait.0.conflict in
+    let inside : later < length left = omega (arith, slice_get_within c.members.items later known.1 known.3, count) in
+    let is : slice_get left later ≡ Some None = slice_get-get_or left later None inside ∙ ap Some (none later inside) in
+    lasts later None is earlier (lt, wait)
+
+pub some_left : (accepted : Accepted) (es : List (List ℕ)) (ss : List Submission) (c : Course) (left : List (Option ℕ)) (k earlier : ℕ) → k < length left
+    → AreLasts (IsLeftWait accepted es ss c) left → get_or left k None ≡ Some earlier → NoneIsLeft accepted es ss c → ⊥
+some_left accepted es ss c left k earlier inside lasts is none =
+    let last = lasts k (Some earlier) (slice_get-get_or left k None inside ∙ ap Some is) in
+    none earlier k last.0.0 last.0.1
+
+pub all_none : (accepted : Accepted) (es : List (List ℕ)) (ss : List Submission) (c : Course) (left : List (Option ℕ)) → AreLasts (IsLeftWait accepted es ss c) left
+    → NoneIsLeft accepted es ss c → (k : ℕ) → k < length left → get_or left k None ≡ None
+all_none accepted es ss c left lasts none k inside = by_wait (get_or left k None) refl where
+  by_wait : (o : Option ℕ) → get_or left k None ≡ o → get_or left k None ≡ None
+  by_wait None e = e
+  by_wait (Some earlier) e = absurd (some_left accepted es ss c left k earlier inside lasts e none)
+
+-- ---- if nothing is accepted
+
+pub unaccepted : (none : Accepted) (es : List (List ℕ)) (ss : List Submission) (c : Course) (waits : List (Option ℕ)) → ((key : List ℕ) → has_key none key ≡ false)
+    → AreLasts (IsLeftWait none es ss c) waits → AreLasts (IsMissingWait c) waits
+unaccepted none es ss c waits nothing lasts b last at =
+    greatest_same (λ a. (a < b) × IsLeftWait none es ss c a b) (λ a. (a < b) × IsMissingWait c a b) last
+    (λ a (lt, wait). (lt, wait.0))
+    (λ a (lt, wait). (lt, (wait, λ accepted. let no : false ≡ true = sym (nothing accepted.0) ∙ accepted.2 in absurd cc)))
+    (lasts b last at)

@@ -19,8 +19,8 @@ use Rattle.dsa_waits.specs.declared.event.Event.TheVariants.{Submitted, Watched,
 use Rattle.dsa_waits.specs.declared.event.Queue.{Queue}
 use Rattle.dsa_waits.specs.Steps.{Marks}
 use Rattle.dsa_waits.specs.Waits.{Fits, IsCourse, event_at, failed_by, first_of, has_mark, is_number, made_at, made_before, no_entry, submission_of, watched_by}
-use Rattle.dsa_waits.specs.Recorded.{FitsRecording, IsAccess, IsCourseOf, IsEntry, IsEpoch, bytes_of}
-use Rattle.dsa_waits.specs.RecordedSteps.{AreMade, AreMarked, HasEntries, IsEntryAt, WithEntries, entries_before, no_submission}
+use Rattle.dsa_waits.specs.Recorded.{FitsRecording, IsAccess, IsCourseOf, IsEntry, IsEpoch, bytes_of, no_submission}
+use Rattle.dsa_waits.specs.RecordedSteps.{AreMade, AreMarked, HasEntries, IsEntryAt, WithEntries, entries_before}
 use Rattle.dsa_waits.proofs.Marked.{marked_each}
 use Rattle.dsa_waits.proofs.Placed.{IsPlaced, placed, placed_grows}
 

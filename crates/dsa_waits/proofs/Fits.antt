@@ -13,8 +13,8 @@ use Rattle.dsa_waits.specs.declared.event.Queue.{Queue}
 use Rattle.dsa_waits.specs.declared.fitting.Misfit.TheVariants.{Number, Member, Recording}
 use Rattle.dsa_waits.specs.declared.lines.Line.{Line}
 use Rattle.dsa_waits.specs.declared.lines.Line.TheVariants.{Submitted, Happened}
-use Rattle.dsa_waits.specs.Fitting.{AreQueues, FitAll, event_of, line_at, made_by, members_of, misfit_number, misfit_of, no_submission, queues_of, submission_at}
-use Rattle.dsa_waits.specs.Recorded.{FitsRecording, bytes_of}
+use Rattle.dsa_waits.specs.Fitting.{AreQueues, FitAll, event_of, line_at, made_by, members_of, misfit_number, misfit_of, queues_of}
+use Rattle.dsa_waits.specs.Recorded.{FitsRecording, bytes_of, no_submission, submission_at}
 use Rattle.dsa_waits.specs.Waits.{is_made, no_queue}
 use Rattle.dsa_waits.proofs.Courses.{made_grows, made_more, none_before}
 

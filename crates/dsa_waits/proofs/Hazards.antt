@@ -15,9 +15,9 @@ use Rattle.dsa_recording.specs.declared.accepted.Accepted.{Accepted}
 use Rattle.dsa_recording.specs.Accepted.{has_key}
 use Rattle.dsa_recording.proofs.Keyed.{hazard_kinds}
 use Rattle.dsa_waits.specs.declared.course.Course.{Course}
-use Rattle.dsa_waits.specs.Fitting.{submission_at}
 use Rattle.dsa_waits.specs.Keys.{IsWaitAccepted, IsWaitKey, wait_key}
 use Rattle.dsa_waits.specs.Waits.{submission_of}
+use Rattle.dsa_waits.specs.Recorded.{submission_at}
 
 -- what has a hazard conflicts
 hazard_conflicts : (reads writes reads' writes' : List Span) (a : ℕ) (kind : HazardKind) → IsHazard reads writes reads' writes' a kind → SpansConflict reads writes reads' writes'

@@ -11,12 +11,12 @@ use Rattle.dsa_waits.specs.declared.fitting.Found.{Found}
 use Rattle.dsa_waits.specs.declared.fitting.WaitsFault.{WaitsFault}
 use Rattle.dsa_waits.specs.declared.fitting.WaitsFault.TheVariants.{Memory}
 use Rattle.dsa_waits.specs.Fitting.{AreWaits, IsWaitsFault}
-use Rattle.dsa_waits.specs.Keys.{AreWaitsAccepted}
+use Rattle.dsa_waits.specs.Keys.{NoneIsLeft}
 
 -- the status says that each missing wait is accepted, or that one is not
 abbrev pub IsStatusOf : Accepted → List (List ℕ) → List Submission → Found → ℕ → Type 0
 IsStatusOf accepted es ss found status =
-    ((status ≡ 0) × AreWaitsAccepted accepted es ss found) ⊎ ((status ≡ 1) × (¬ AreWaitsAccepted accepted es ss found))
+    ((status ≡ 0) × NoneIsLeft accepted es ss found.course) ⊎ ((status ≡ 1) × (¬ NoneIsLeft accepted es ss found.course))
 
 -- that of a format: of keys it is 0
 abbrev pub IsStatusIn : AuditFormat → Accepted → List (List ℕ) → List Submission → Found → ℕ → Type 0
@@ -26,6 +26,14 @@ IsStatusIn Picture accepted es ss found status = IsStatusOf accepted es ss found
 IsStatusIn Listed accepted es ss found status = IsStatusOf accepted es ss found status
 IsStatusIn Keys accepted es ss found status = status ≡ 0
 
+-- the same, of the status of what was found
+abbrev pub status_in : AuditFormat → ℕ → ℕ
+status_in Text status = status
+status_in Json status = status
+status_in Picture status = status
+status_in Listed status = status
+status_in Keys status = 0
+
 -- the events fit no recording of these entries
 abbrev pub HasFault : List (List ℕ) → List Submission → List ℕ → Type 0
 HasFault es ss text = (fault : WaitsFault) × (fault ≢ Memory) × IsWaitsFault es ss text fault
@@ -34,6 +42,6 @@ HasFault es ss text = (fault : WaitsFault) × (fault ≢ Memory) × IsWaitsFault
 abbrev pub AnswersWaits : AuditFormat → Accepted → List ℕ → List ℕ → AuditAnswer → Type 0
 AnswersWaits format accepted bytes text a =
     ((ss : List Submission) × ReadsStream bytes ss
-    × (((found : Found) × AreWaits (entries bytes) ss text found × IsStatusIn format accepted (entries bytes) ss found a.status)
+    × (((found : Found) × AreWaits accepted (entries bytes) ss text found × IsStatusIn format accepted (entries bytes) ss found a.status)
     ⊎ ((a.status ≡ 2) × HasFault (entries bytes) ss text)))
     ⊎ ((a.status ≡ 2) × ((ss : List Submission) → ¬ ReadsStream bytes ss))

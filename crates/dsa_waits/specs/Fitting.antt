@@ -2,6 +2,7 @@
 use Rattle.std.specs.Prelude.{ℕ, ◌≡◌, ◌<◌, ◌==◌, nat_lt, not, false, List, [], ◌∷◌, length, map, get_or, Option, Some, None, if◌then◌else◌}
 use Rattle.dsa_descriptor.specs.Places.{code_at}
 use Rattle.dsa_audit.specs.Steps.{AreLasts}
+use Rattle.dsa_recording.specs.declared.accepted.Accepted.{Accepted}
 use Rattle.dsa_recording.specs.declared.stream.Submission.{Submission}
 use Rattle.dsa_recording.specs.Submissions.{head_at}
 use Rattle.dsa_waits.specs.declared.event.Event.{Event}
@@ -16,18 +17,11 @@ use Rattle.dsa_waits.specs.declared.lines.Line.{Line}
 use Rattle.dsa_waits.specs.declared.lines.Line.TheVariants.{Submitted, Happened}
 use Rattle.dsa_waits.specs.declared.lines.Submitting.{Submitting}
 use Rattle.dsa_waits.specs.Lines.{IsBadLine, Spells}
-use Rattle.dsa_waits.specs.Recorded.{IsCourseOf, bytes_of}
+use Rattle.dsa_waits.specs.Keys.{IsLeftWait}
+use Rattle.dsa_waits.specs.Recorded.{IsCourseOf, bytes_of, submission_at}
 use Rattle.dsa_waits.specs.Waits.{IsMissingWait, made_before, no_queue}
 
 -- ---- one line
-
--- read where there is none
-abbrev pub no_submission : Submission
-no_submission = record { first = 0; size = 0; is_batch = false }
-
--- submission n of a recording
-abbrev pub submission_at : List Submission → ℕ → Submission
-submission_at ss n = get_or ss n no_submission
 
 -- the members of a batch; of a lone descriptor none
 abbrev pub members_of : Submission → ℕ
@@ -111,8 +105,9 @@ IsUnfit es ss lines fault.Memory = Unit
 
 -- ---- the answer
 
--- for each entry the last one for which a wait is missing, in the course of the recording with the events of the text
-pub record AreWaits (es : List (List ℕ)) (ss : List Submission) (text : List ℕ) (found : Found) : Type 0 where
+-- for each entry the last one for which a wait is missing, in the course of the recording with the events of the text, and
+-- the last one for which that is not accepted
+pub record AreWaits (accepted : Accepted) (es : List (List ℕ)) (ss : List Submission) (text : List ℕ) (found : Found) : Type 0 where
   pub lines : List Line
   pub spelled : Spells text lines
   pub queues : List Queue
@@ -120,6 +115,8 @@ pub record AreWaits (es : List (List ℕ)) (ss : List Submission) (text : List �
   pub recorded : IsCourseOf es ss queues (map event_of lines) found.course
   pub count : length found.waits.items ≡ length es
   pub missing : AreLasts (IsMissingWait found.course) found.waits.items
+  pub count_left : length found.left.items ≡ length es
+  pub left : AreLasts (IsLeftWait accepted es ss found.course) found.left.items
 
 -- the first line that is none of an event; else of lines that are what does not fit
 abbrev pub IsWaitsFault : List (List ℕ) → List Submission → List ℕ → WaitsFault → Type 0

@@ -1,7 +1,7 @@
 -- What missing waits of one kind have in common, and which of them are accepted (this project's choice). As those of other
 -- errors, a key has no address and no number of an entry, so it is the same in another run.
-use Rattle.std.specs.Prelude.{ℕ, ◌≡◌, ◌<◌, true, List, ◌++◌, codes, get_or, Some, None}
-use Rattle.dsa_audit.specs.Members.{IsHazardBetween}
+use Rattle.std.specs.Prelude.{ℕ, ◌≡◌, ◌<◌, true, List, ◌++◌, codes}
+use Rattle.dsa_audit.specs.Members.{IsHazardBetween, KnownConflict}
 use Rattle.dsa_ranges.specs.declared.hazards.Hazard.{Hazard}
 use Rattle.dsa_ranges.specs.declared.hazards.HazardKind.{HazardKind}
 use Rattle.dsa_ranges.specs.declared.hazards.HazardKind.TheVariants.{ReadAfterWrite, WriteAfterRead, WriteAfterWrite}
@@ -10,9 +10,8 @@ use Rattle.dsa_recording.specs.declared.stream.Submission.{Submission}
 use Rattle.dsa_recording.specs.Accepted.{has_key}
 use Rattle.dsa_recording.specs.Keys.{key_of_entry}
 use Rattle.dsa_waits.specs.declared.course.Course.{Course}
-use Rattle.dsa_waits.specs.declared.fitting.Found.{Found}
-use Rattle.dsa_waits.specs.Fitting.{submission_at}
-use Rattle.dsa_waits.specs.Waits.{submission_of}
+use Rattle.dsa_waits.specs.Recorded.{submission_at}
+use Rattle.dsa_waits.specs.Waits.{IsMissingWait, submission_of}
 
 -- the kind of the hazard
 abbrev pub hazard_key : HazardKind → List ℕ
@@ -35,7 +34,16 @@ abbrev pub IsWaitAccepted : Accepted → List (List ℕ) → List Submission →
 IsWaitAccepted accepted es ss c earlier later =
     (key : List ℕ) × IsWaitKey es ss c earlier later key × (has_key accepted key ≡ true)
 
--- each missing wait is accepted
-abbrev pub AreWaitsAccepted : Accepted → List (List ℕ) → List Submission → Found → Type 0
-AreWaitsAccepted accepted es ss found =
-    (earlier later : ℕ) → get_or found.waits.items later None ≡ Some earlier → IsWaitAccepted accepted es ss found.course earlier later
+-- the later entry conflicts with the earlier one so that a wait for that is not accepted
+abbrev pub IsLeftConflict : Accepted → List (List ℕ) → List Submission → Course → ℕ → ℕ → Type 0
+IsLeftConflict accepted es ss c earlier later =
+    KnownConflict c.members.items earlier later × (¬ IsWaitAccepted accepted es ss c earlier later)
+
+-- a missing wait that is left: it is not accepted
+abbrev pub IsLeftWait : Accepted → List (List ℕ) → List Submission → Course → ℕ → ℕ → Type 0
+IsLeftWait accepted es ss c earlier later =
+    IsMissingWait c earlier later × (¬ IsWaitAccepted accepted es ss c earlier later)
+
+-- none is left: each missing wait is accepted
+abbrev pub NoneIsLeft : Accepted → List (List ℕ) → List Submission → Course → Type 0
+NoneIsLeft accepted es ss c = (earlier later : ℕ) → earlier < later → ¬ IsLeftWait accepted es ss c earlier later

@@ -18,6 +18,16 @@ use Rattle.dsa_waits.specs.declared.event.Event.TheVariants.{Submitted, Watched,
 use Rattle.dsa_waits.specs.declared.event.Queue.{Queue}
 use Rattle.dsa_waits.specs.Waits.{entry_at, failed_by, has_mark, made_at, no_queue, watched_by}
 
+-- ---- a submission
+
+-- read where there is none
+abbrev pub no_submission : Submission
+no_submission = record { first = 0; size = 0; is_batch = false }
+
+-- submission n
+abbrev pub submission_at : List Submission → ℕ → Submission
+submission_at ss n = get_or ss n no_submission
+
 -- ---- an entry
 
 -- entry e of a recording

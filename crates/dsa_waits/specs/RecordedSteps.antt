@@ -11,12 +11,8 @@ use Rattle.dsa_waits.specs.declared.course.Entry.{Entry}
 use Rattle.dsa_waits.specs.declared.course.Made.{Made}
 use Rattle.dsa_waits.specs.declared.event.Event.{Event}
 use Rattle.dsa_waits.specs.declared.event.Queue.{Queue}
-use Rattle.dsa_waits.specs.Recorded.{IsAccess, IsEntry, bytes_of}
+use Rattle.dsa_waits.specs.Recorded.{IsAccess, IsEntry, bytes_of, no_submission}
 use Rattle.dsa_waits.specs.Waits.{has_mark, made_at, no_entry, no_queue}
-
--- read where there is none
-abbrev pub no_submission : Submission
-no_submission = record { first = 0; size = 0; is_batch = false }
 
 -- an entry of submission n, and what it reads and writes
 pub record IsEntryAt (es : List (List ℕ)) (ss : List Submission) (e n : ℕ) (what : Entry) (m : Member) : Type 0 where

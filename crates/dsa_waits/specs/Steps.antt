@@ -2,9 +2,12 @@
 use Rattle.std.specs.Prelude.{ℕ, ◌≡◌, ◌<◌, ◌≤◌, ◌⊎◌, ◌≢◌, Bool, true, false, List, length, get_or, Option, Some}
 use Rattle.std.specs.List.{AllPairs, Contains}
 use Rattle.dsa_audit.specs.Steps.{AreLasts}
+use Rattle.dsa_recording.specs.declared.accepted.Accepted.{Accepted}
+use Rattle.dsa_recording.specs.declared.stream.Submission.{Submission}
 use Rattle.dsa_waits.specs.declared.course.Course.{Course}
 use Rattle.dsa_waits.specs.declared.search.Flying.{Flying}
-use Rattle.dsa_waits.specs.Waits.{IsMissingWait, IsOutstanding, has_ended, made_before, submission_of, tells}
+use Rattle.dsa_waits.specs.Keys.{IsLeftWait}
+use Rattle.dsa_waits.specs.Waits.{IsOutstanding, has_ended, made_before, submission_of, tells}
 
 -- the flag of this submission is set, if there is one
 pub record Marks (number : Option ℕ) (old new : List Bool) : Type 0 where
@@ -42,13 +45,13 @@ pub record WithRange (xs : List ℕ) (from end : ℕ) (ys : List ℕ) : Type 0 w
 abbrev pub IsNotTold : Course → ℕ → ℕ → Type 0
 IsNotTold c k e = (q : ℕ) → q < k → submission_of c e < made_before c.events.items q → tells c q e ≡ false
 
--- what is in flight after the first k events
-pub record IsFlying (c : Course) (k : ℕ) (f : Flying) : Type 0 where
+-- what is in flight after the first k events, where these waits are accepted
+pub record IsFlying (accepted : Accepted) (es : List (List ℕ)) (ss : List Submission) (c : Course) (k : ℕ) (f : Flying) : Type 0 where
   pub number : f.number ≡ made_before c.events.items k
   pub bound : length f.waits.items ≤ length c.entries.items
   pub done : (e : ℕ) → e < length f.waits.items → submission_of c e < f.number
   pub whole : (e : ℕ) → e < length c.entries.items → submission_of c e < f.number → e < length f.waits.items
-  pub waits : AreLasts (IsMissingWait c) f.waits.items
+  pub waits : AreLasts (IsLeftWait accepted es ss c) f.waits.items
   pub rising : IsRising f.outstanding.items
   pub inside : (e : ℕ) → Contains f.outstanding.items e → e < length f.waits.items
   pub not_told : (e : ℕ) → Contains f.outstanding.items e → IsNotTold c k e

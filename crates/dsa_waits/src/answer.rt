@@ -1,32 +1,30 @@
 //! What is answered of a recording with events.
 
-ghost use Rattle.std.specs.Prelude.{IfOk};
-ghost use Rattle.dsa_waits.specs.Answered.{AnswersWaits, IsStatusIn, IsStatusOf};
+ghost use Rattle.std.specs.Prelude.{◌≡◌, ℕ, List, IfOk};
+ghost use Rattle.dsa_recording.specs.declared.accepted.Accepted.{Accepted};
+ghost use Rattle.dsa_recording.specs.declared.stream.Submission.{Submission};
+ghost use Rattle.dsa_waits.specs.Answered.{AnswersWaits, IsStatusOf, status_in};
+ghost use Rattle.dsa_waits.specs.Fitting.{AreWaits};
 
 use crate::fitting::{Found, find_waits};
-use crate::keys::are_accepted;
+use crate::keys::{Keyed, are_none};
 use crate::report::{waits_json, waits_keys};
 use crate::words::{fault_text, waits_text};
 use dsa_recording::{Accepted, AuditAnswer, AuditFormat, StreamFault, Submission, read_stream};
 use std::alloc::{AllocError, Global};
 
 /// The status of what was found: whether some missing wait is not accepted.
-fn status_of(
-    alloc: Global,
-    all: &[[u8; 64]],
-    submissions: &[Submission],
-    found: &Found,
-    accepted: &Accepted,
-) -> Result<u8, AllocError>
-    ensures { IfOk result (IsStatusOf accepted.now all.now submissions.now found.now) }
+fn status_of(found: &Found) -> u8
+    ensures { (accepted : Accepted) (es : List (List ℕ)) (ss : List Submission) (text : List ℕ) →
+        AreWaits accepted es ss text found.now → IsStatusOf accepted es ss found.now result }
 {
-    if are_accepted(alloc, all, submissions, found, accepted)? {
-        return Ok(0);
+    if are_none(&found.left) {
+        return 0;
     }
-    Ok(1)
+    1
 }
 
-/// The answer of what was found.
+/// The answer of what was found, which has this status.
 fn found_answer(
     alloc: Global,
     all: &[[u8; 64]],
@@ -34,23 +32,27 @@ fn found_answer(
     found: &Found,
     format: AuditFormat,
     accepted: &Accepted,
+    status: u8,
 ) -> Result<AuditAnswer, AllocError>
-    ensures { IfOk result (λ a. IsStatusIn format accepted.now
-        all.now submissions.now found.now a.status) }
+    ensures { IfOk result (λ a. a.status ≡ status_in format status) }
 {
+    let keyed = Keyed {
+        alloc,
+        all,
+        submissions,
+        accepted,
+    };
     match format {
         AuditFormat::Text | AuditFormat::Picture | AuditFormat::List => {
-            let text = waits_text(alloc, all, submissions, found, accepted)?;
-            let status = status_of(alloc, all, submissions, found, accepted)?;
+            let text = waits_text(keyed, found)?;
             Ok(AuditAnswer { text, status })
         }
         AuditFormat::Json => {
-            let text = waits_json(alloc, all, submissions, found, accepted)?;
-            let status = status_of(alloc, all, submissions, found, accepted)?;
+            let text = waits_json(keyed, found)?;
             Ok(AuditAnswer { text, status })
         }
         AuditFormat::Keys => {
-            let text = waits_keys(alloc, all, submissions, found, accepted)?;
+            let text = waits_keys(keyed, found)?;
             Ok(AuditAnswer { text, status: 0 })
         }
     }
@@ -78,8 +80,11 @@ pub fn answer_waits(
         }
     };
     let (all, _) = bytes.as_chunks::<64>();
-    match find_waits(alloc, all, &submissions, text) {
-        Ok(found) => found_answer(alloc, all, &submissions, &found, format, accepted),
+    match find_waits(alloc, all, &submissions, text, accepted) {
+        Ok(found) => {
+            let status = status_of(&found);
+            found_answer(alloc, all, &submissions, &found, format, accepted, status)
+        }
         Err(fault) => {
             let text = fault_text(alloc, fault)?;
             Ok(AuditAnswer { text, status: 2 })

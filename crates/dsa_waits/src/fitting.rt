@@ -5,14 +5,18 @@ ghost use Rattle.dsa_descriptor.specs.Places.{code_at};
 ghost use Rattle.dsa_recording.specs.Streams.{ReadsUpTo};
 ghost use Rattle.dsa_recording.specs.Submissions.{head_at};
 ghost use Rattle.dsa_waits.specs.declared.fitting.WaitsFault.TheVariants.{Memory};
+ghost use Rattle.dsa_audit.specs.Steps.{AreLasts};
+ghost use Rattle.dsa_waits.specs.Keys.{IsLeftWait};
+ghost use Rattle.dsa_waits.specs.Waits.{IsCourse};
 ghost use Rattle.dsa_waits.specs.Fitting.{AreFitted, AreWaits, IsUnfit, IsWaitsFault, event_of, members_of, misfit_of, misfit_made, misfit_member, misfit_number, queues_of};
 
 use crate::course::Course;
 use crate::event::{Event, Queue};
+use crate::keys::Keyed;
 use crate::lines::{Line, LinesFault, Submitting, read_lines};
 use crate::recorded::{course_of, head_at};
 use crate::search::missing_waits;
-use dsa_recording::{Header, Submission};
+use dsa_recording::{Accepted, Header, Submission};
 use std::alloc::{AllocError, AllocFailed, Global};
 
 /// Why the line of an event does not fit a recording.
@@ -46,6 +50,8 @@ pub struct Found {
     pub course: Course,
     /// For each of its entries the last one for which a wait is missing.
     pub waits: Vec<Option<usize>>,
+    /// For each the last one for which a wait is missing that is not accepted.
+    pub left: Vec<Option<usize>>,
 }
 
 impl From<AllocError> for WaitsFault {
@@ -204,7 +210,31 @@ fn fit_lines(
     Ok((queues, events))
 }
 
-/// The course of a recording, with the text of its events, and for each entry the last one for which a wait is missing.
+/// For each entry of a course the last one for which a wait is missing that is not accepted.
+fn waits_in<'a>(
+    alloc: Global,
+    all: &'a [[u8; 64]],
+    submissions: &'a [Submission],
+    accepted: &'a Accepted,
+    course: &Course,
+) -> Result<Vec<Option<usize>>, AllocError>
+    requires { IsCourse course.now }
+    ensures count { IfOk result
+        (λ waits. length waits.items ≡ length course.now.entries.items) }
+    ensures waits { IfOk result (λ waits. AreLasts
+        (IsLeftWait accepted.now all.now submissions.now course.now) waits.items) }
+{
+    let keyed = Keyed {
+        alloc,
+        all,
+        submissions,
+        accepted,
+    };
+    missing_waits(alloc, course, keyed)
+}
+
+/// The course of a recording, with the text of its events, and for each entry the last one for which a wait is missing,
+/// and the last for which one is that is not accepted.
 ///
 /// # Errors
 /// The first line that is none of an event; else the first that does not fit the recording; else too few submissions;
@@ -214,9 +244,10 @@ pub fn find_waits(
     all: &[[u8; 64]],
     submissions: &[Submission],
     text: &[u8],
+    accepted: &Accepted,
 ) -> Result<Found, WaitsFault>
     requires { ReadsUpTo all.now 0 submissions.now (length all.now) }
-    ensures ok { IfOk result (AreWaits all.now submissions.now text.now) }
+    ensures ok { IfOk result (AreWaits accepted.now all.now submissions.now text.now) }
     ensures err { IfErr result (IsWaitsFault all.now submissions.now text.now) }
 {
     let lines = match read_lines(alloc, text) {
@@ -229,6 +260,12 @@ pub fn find_waits(
         Err(fault) => return Err(fault),
     };
     let course = course_of(alloc, all, submissions, &queues, events)?;
-    let waits = missing_waits(alloc, &course)?;
-    Ok(Found { course, waits })
+    let none = Accepted::none(alloc);
+    let waits = waits_in(alloc, all, submissions, &none, &course)?;
+    let left = waits_in(alloc, all, submissions, accepted, &course)?;
+    Ok(Found {
+        course,
+        waits,
+        left,
+    })
 }

@@ -1,8 +1,8 @@
 //! What missing waits of one kind have in common, and which of them are accepted.
 
-ghost use Rattle.std.specs.Prelude.{◌≡◌, ◌↔◌, ℕ, IfOk, IsTrue, List, MatchOption, string_bytes};
-ghost use Rattle.dsa_waits.specs.Fitting.{submission_at};
-ghost use Rattle.dsa_waits.specs.Keys.{AreWaitsAccepted, IsWaitAccepted, IsWaitKey, hazard_key, wait_key};
+ghost use Rattle.std.specs.Prelude.{◌≡◌, ◌↔◌, ◌<◌, ℕ, IfOk, IsTrue, List, MatchOption, None, get_or, length, string_bytes};
+ghost use Rattle.dsa_waits.specs.Recorded.{submission_at};
+ghost use Rattle.dsa_waits.specs.Keys.{IsWaitAccepted, IsWaitKey, hazard_key, wait_key};
 
 use crate::course::{Course, entry_at};
 use crate::fitting::Found;
@@ -10,6 +10,19 @@ use dsa_audit::hazard_between;
 use dsa_ranges::HazardKind;
 use dsa_recording::{Accepted, Submission, key_of_entry};
 use std::alloc::{AllocError, Global};
+
+/// What the keys of waits rest on, and which of them are accepted.
+#[derive(Clone, Copy)]
+pub struct Keyed<'a> {
+    /// Where their texts are.
+    pub alloc: Global,
+    /// The entries.
+    pub all: &'a [[u8; 64]],
+    /// Their submissions.
+    pub submissions: &'a [Submission],
+    /// The keys that are accepted.
+    pub accepted: &'a Accepted,
+}
 
 /// Submission n; one that is not there has no entries.
 fn submission_at(submissions: &[Submission], n: usize) -> Submission
@@ -81,42 +94,82 @@ pub(crate) fn key_of_wait(
 }
 
 /// Whether the missing wait between two entries is accepted.
-fn is_accepted(
-    alloc: Global,
-    all: &[[u8; 64]],
-    submissions: &[Submission],
+pub(crate) fn is_accepted(
+    keyed: Keyed<'_>,
     course: &Course,
-    accepted: &Accepted,
     earlier: usize,
     later: usize,
 ) -> Result<bool, AllocError>
-    ensures { IfOk result (λ yes. IsTrue yes ↔ IsWaitAccepted accepted.now
-        all.now submissions.now course.now earlier later) }
+    ensures { IfOk result (λ yes. IsTrue yes ↔ IsWaitAccepted keyed.entry.accepted.now
+        keyed.entry.all.now keyed.entry.submissions.now course.now earlier later) }
 {
-    match key_of_wait(alloc, all, submissions, course, earlier, later)? {
-        Some(key) => Ok(accepted.has(&key)),
+    let (all, submissions) = (keyed.all, keyed.submissions);
+    match key_of_wait(keyed.alloc, all, submissions, course, earlier, later)? {
+        Some(key) => Ok(keyed.accepted.has(&key)),
         None => Ok(false),
     }
 }
 
-/// Whether each missing wait is accepted.
-pub(crate) fn are_accepted(
-    alloc: Global,
-    all: &[[u8; 64]],
-    submissions: &[Submission],
-    found: &Found,
-    accepted: &Accepted,
-) -> Result<bool, AllocError>
-    ensures { IfOk result (λ yes. IsTrue yes ↔
-        AreWaitsAccepted accepted.now all.now submissions.now found.now) }
+/// Whether no entry has a wait.
+pub(crate) fn are_none(waits: &[Option<usize>]) -> bool
+    ensures { IsTrue result ↔
+        ((k : ℕ) → k < length waits.now → get_or waits.now k None ≡ None) }
 {
-    for later in 0..found.waits.len() {
-        if let Some(earlier) = found.waits[later] {
-            let course = &found.course;
-            if !is_accepted(alloc, all, submissions, course, accepted, earlier, later)? {
-                return Ok(false);
-            }
+    for wait in waits {
+        if wait.is_some() {
+            return false;
         }
     }
-    Ok(true)
+    true
+}
+
+/// A missing wait that is shown.
+#[derive(Drop)]
+pub(crate) struct Shown {
+    /// The entry that is waited for.
+    pub earlier: usize,
+    /// The entry that has to wait.
+    pub later: usize,
+    /// The key of both.
+    pub key: String,
+    /// Whether it is accepted.
+    pub is_accepted: bool,
+}
+
+/// Adds the missing wait of an entry for an earlier one, if it is accepted or not as asked.
+fn push_shown(
+    shown: &mut Vec<Shown>,
+    keyed: Keyed<'_>,
+    course: &Course,
+    wait: Option<usize>,
+    later: usize,
+    is_accepted: bool,
+) -> Result<(), AllocError> {
+    let Some(earlier) = wait else {
+        return Ok(());
+    };
+    let (all, submissions) = (keyed.all, keyed.submissions);
+    let Some(key) = key_of_wait(keyed.alloc, all, submissions, course, earlier, later)? else {
+        return Ok(());
+    };
+    if keyed.accepted.has(&key) == is_accepted {
+        shown.push(Shown {
+            earlier,
+            later,
+            key,
+            is_accepted,
+        })?;
+    }
+    Ok(())
+}
+
+/// The missing waits that are shown: of each entry the last one, if it is accepted, and the last one that is not.
+pub(crate) fn shown_waits(keyed: Keyed<'_>, found: &Found) -> Result<Vec<Shown>, AllocError> {
+    let mut shown = Vec::new(keyed.alloc);
+    for (later, left) in found.left.iter().enumerate() {
+        let wait = found.waits.get(later).copied().unwrap_or(None);
+        push_shown(&mut shown, keyed, &found.course, wait, later, true)?;
+        push_shown(&mut shown, keyed, &found.course, *left, later, false)?;
+    }
+    Ok(shown)
 }

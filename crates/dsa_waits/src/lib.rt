@@ -18,6 +18,7 @@ pub use answer::answer_waits;
 pub use course::{Course, Entry, Made};
 pub use event::{Event, Queue};
 pub use fitting::{Found, Misfit, WaitsFault, find_waits};
+pub use keys::Keyed;
 pub use laws::waits_suffice;
 pub use lines::{Line, LinesFault, Submitting, read_lines};
 pub use recorded::course_of;

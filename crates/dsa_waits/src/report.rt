@@ -2,10 +2,10 @@
 
 use crate::course::{Course, entry_at, made_at};
 use crate::fitting::Found;
-use crate::keys::key_of_wait;
-use crate::words::some_known;
+use crate::keys::{Keyed, Shown, shown_waits};
+use crate::words::{severity_of, some_known};
 use dsa_audit::hazard_between;
-use dsa_recording::{Accepted, Submission, entry_json, hazard_name, overlap};
+use dsa_recording::{entry_json, hazard_name, overlap};
 use serde_json::{Value, json};
 use std::alloc::{AllocError, Global};
 use std::collections::BTreeSet;
@@ -39,15 +39,8 @@ fn entries_json(
 }
 
 /// The object of a missing wait: both entries, where they conflict and how, and whether it is accepted.
-fn wait_json(
-    alloc: Global,
-    all: &[[u8; 64]],
-    course: &Course,
-    pair: (usize, usize),
-    key: &str,
-    is_accepted: bool,
-) -> Result<Value, AllocError> {
-    let (earlier, later) = pair;
+fn wait_json(keyed: Keyed<'_>, course: &Course, wait: &Shown) -> Result<Value, AllocError> {
+    let (alloc, earlier, later) = (keyed.alloc, wait.earlier, wait.later);
     if earlier >= later || later >= course.members.len() {
         return Ok(Value::Null);
     }
@@ -57,12 +50,12 @@ fn wait_json(
     let bytes = overlap(hazard, &course.members[earlier], &course.members[later]);
     let (name, address) = (hazard_name(hazard.kind), hazard.address);
     let address = format!(in alloc; "0x{address:x}")?;
-    let entries = entries_json(alloc, all, earlier, later)?;
+    let entries = entries_json(alloc, keyed.all, earlier, later)?;
     let (first, second) = (
         place_json(alloc, course, earlier)?,
         place_json(alloc, course, later)?,
     );
-    let severity = if is_accepted { "accepted" } else { "error" };
+    let (key, severity) = (wait.key.as_str(), severity_of(wait.is_accepted));
     json!(in alloc; {
         "address": address,
         "bytes": bytes,
@@ -75,64 +68,30 @@ fn wait_json(
     })
 }
 
-/// The objects of all missing waits, with commas between.
-fn objects_of(
-    alloc: Global,
-    all: &[[u8; 64]],
-    submissions: &[Submission],
-    found: &Found,
-    accepted: &Accepted,
-) -> Result<String, AllocError> {
-    let mut text = String::new(alloc);
-    for (later, wait) in found.waits.iter().enumerate() {
-        if let Some(earlier) = *wait {
-            let course = &found.course;
-            if let Some(key) = key_of_wait(alloc, all, submissions, course, earlier, later)? {
-                let known = accepted.has(&key);
-                let value = wait_json(alloc, all, course, (earlier, later), &key, known)?;
-                if !text.is_empty() {
-                    text.push_str(",")?;
-                }
-                text.push_str(&value.to_string(alloc)?)?;
-            }
+/// All missing waits that are shown, as JSON: the object of each, and whether the events say when the program looked at
+/// records.
+pub(crate) fn waits_json(keyed: Keyed<'_>, found: &Found) -> Result<String, AllocError> {
+    let (alloc, looks) = (keyed.alloc, some_known(&found.course.events));
+    let mut objects = String::new(alloc);
+    for wait in &shown_waits(keyed, found)? {
+        if !objects.is_empty() {
+            objects.push_str(",")?;
         }
+        let value = wait_json(keyed, &found.course, wait)?;
+        objects.push_str(&value.to_string(alloc)?)?;
     }
-    Ok(text)
-}
-
-/// All missing waits as JSON: the object of each, and whether the events say when the program looked at records.
-pub(crate) fn waits_json(
-    alloc: Global,
-    all: &[[u8; 64]],
-    submissions: &[Submission],
-    found: &Found,
-    accepted: &Accepted,
-) -> Result<String, AllocError> {
-    let looks = some_known(&found.course.events);
-    let objects = objects_of(alloc, all, submissions, found, accepted)?;
     format!(in alloc; "{{\"looks\":{looks},\"missing\":[{objects}]}}")
 }
 
 /// The keys of the missing waits that are not accepted, a line each.
-pub(crate) fn waits_keys(
-    alloc: Global,
-    all: &[[u8; 64]],
-    submissions: &[Submission],
-    found: &Found,
-    accepted: &Accepted,
-) -> Result<String, AllocError> {
-    let mut text = String::new(alloc);
-    let mut keys: BTreeSet<String> = BTreeSet::new(alloc);
-    for (later, wait) in found.waits.iter().enumerate() {
-        if let Some(earlier) = *wait {
-            let course = &found.course;
-            if let Some(key) = key_of_wait(alloc, all, submissions, course, earlier, later)? {
-                if !accepted.has(&key) && !keys.contains(key.as_str()) {
-                    text.push_str(&key)?;
-                    text.push_str("\n")?;
-                    keys.insert(key)?;
-                }
-            }
+pub(crate) fn waits_keys(keyed: Keyed<'_>, found: &Found) -> Result<String, AllocError> {
+    let mut text = String::new(keyed.alloc);
+    let mut keys: BTreeSet<String> = BTreeSet::new(keyed.alloc);
+    for wait in shown_waits(keyed, found)? {
+        if !wait.is_accepted && !keys.contains(wait.key.as_str()) {
+            text.push_str(&wait.key)?;
+            text.push_str("\n")?;
+            keys.insert(wait.key)?;
         }
     }
     Ok(text)

@@ -1,16 +1,18 @@
 //! The search for missing waits.
 
-ghost use Rattle.std.specs.Prelude.{◌≡◌, ◌+◌, ◌≤◌, ◌<◌, IfOk, OnOk, filter, get_or, length, not};
+ghost use Rattle.std.specs.Prelude.{◌≡◌, ◌+◌, ◌≤◌, ◌<◌, ◌↔◌, IfOk, IsTrue, OnOk, Some, filter, get_or, length, not};
 ghost use Rattle.std.specs.List.{Contains};
 ghost use Rattle.dsa_audit.specs.Members.{KnownConflict};
 ghost use Rattle.dsa_audit.specs.Steps.{AreLasts};
 ghost use Rattle.dsa_conflicts.specs.Access.{IsGreatest};
-ghost use Rattle.dsa_waits.specs.Waits.{IsCourse, IsMissingWait, event_at, is_made, is_told};
+ghost use Rattle.dsa_waits.specs.Keys.{IsLeftConflict, IsLeftWait};
+ghost use Rattle.dsa_waits.specs.Waits.{IsCourse, event_at, is_made, is_told};
 ghost use Rattle.dsa_waits.specs.Steps.{AreBelow, AreOutstanding, HasSubmission, IsFlying, IsRising, WithRange};
 
 use crate::course::{Course, Told, is_told, made_at, told_by};
 use crate::event::{Event, mark};
-use dsa_audit::{KnownConflicts, Member, Relation, all_lasts};
+use crate::keys::{Keyed, is_accepted};
+use dsa_audit::{KnownConflicts, Relation, all_lasts};
 use std::alloc::{AllocError, Global};
 
 /// What is in flight after some events.
@@ -26,39 +28,70 @@ struct Flying {
     ended: Vec<bool>,
 }
 
-/// The last of the outstanding entries that conflicts with a later one; `last` is the last of all earlier ones.
+/// Whether the earlier of two entries conflicts with the later one so that a wait is not accepted; `last` is the last
+/// that conflicts with the later.
+fn is_left(
+    course: &Course,
+    keyed: Keyed<'_>,
+    last: usize,
+    earlier: usize,
+    entry: usize,
+) -> Result<bool, AllocError>
+    requires before { earlier < entry }
+    requires within { entry < length course.now.members.items }
+    requires last { IsGreatest
+        (λ a. (a < entry) × KnownConflict course.now.members.items a entry) (Some last) }
+    ensures { IfOk result (λ yes. IsTrue yes ↔ IsLeftConflict keyed.entry.accepted.now
+        keyed.entry.all.now keyed.entry.submissions.now course.now earlier entry) }
+{
+    if earlier > last {
+        return Ok(false);
+    }
+    let relation = KnownConflicts {
+        members: &course.members,
+    };
+    if !relation.conflicts(earlier, entry) {
+        return Ok(false);
+    }
+    Ok(!is_accepted(keyed, course, earlier, entry)?)
+}
+
+/// The last of the outstanding entries that conflicts with a later one so that a wait is not accepted; `last` is the
+/// last of all earlier ones that conflicts.
 fn last_outstanding(
-    members: &[Member],
+    course: &Course,
+    keyed: Keyed<'_>,
     outstanding: &[usize],
     last: Option<usize>,
     entry: usize,
-) -> Option<usize>
-    requires within { entry < length members.now }
-    requires last { IsGreatest (λ a. (a < entry) × KnownConflict members.now a entry) last }
+) -> Result<Option<usize>, AllocError>
+    requires within { entry < length course.now.members.items }
+    requires last { IsGreatest
+        (λ a. (a < entry) × KnownConflict course.now.members.items a entry) last }
     requires rising { IsRising outstanding.now }
     requires below { AreBelow entry outstanding.now }
-    ensures { IsGreatest
-        (λ a. Contains outstanding.now a × KnownConflict members.now a entry) result }
+    ensures { IfOk result (IsGreatest (λ a. Contains outstanding.now a
+        × IsLeftConflict keyed.entry.accepted.now keyed.entry.all.now keyed.entry.submissions.now
+        course.now a entry)) }
 {
     let Some(last) = last else {
-        return None;
+        return Ok(None);
     };
-    let relation = KnownConflicts { members };
     let mut i = outstanding.len();
     while i > 0 {
         i -= 1;
-        let earlier = outstanding[i];
-        if earlier <= last && relation.conflicts(earlier, entry) {
-            return Some(earlier);
+        if is_left(course, keyed, last, outstanding[i], entry)? {
+            return Ok(Some(outstanding[i]));
         }
     }
-    None
+    Ok(None)
 }
 
 /// Adds the missing waits of the entries up to `end`, which are those of submission `number`.
 fn push_waits(
     waits: &mut Vec<Option<usize>>,
     course: &Course,
+    keyed: Keyed<'_>,
     lasts: &[Option<usize>],
     outstanding: &[usize],
     number: usize,
@@ -73,12 +106,14 @@ fn push_waits(
     requires begun { length waits.old.items ≤ end }
     requires within { end ≤ length course.now.entries.items }
     requires own { HasSubmission course.now number (length waits.old.items) end }
-    requires sofar { AreLasts (IsMissingWait course.now) waits.old.items }
+    requires sofar { AreLasts (IsLeftWait keyed.accepted.now keyed.all.now
+        keyed.submissions.now course.now) waits.old.items }
     ensures count { OnOk result (length waits.new.items ≡ end) }
-    ensures waits { OnOk result (AreLasts (IsMissingWait course.now) waits.new.items) }
+    ensures waits { OnOk result (AreLasts (IsLeftWait keyed.entry.accepted.now
+        keyed.entry.all.now keyed.entry.submissions.now course.now) waits.new.items) }
 {
     for entry in waits.len()..end {
-        let wait = last_outstanding(&course.members, outstanding, lasts[entry], entry);
+        let wait = last_outstanding(course, keyed, outstanding, lasts[entry], entry)?;
         waits.push(wait)?;
     }
     Ok(())
@@ -121,6 +156,7 @@ impl Flying {
     fn submit(
         &mut self,
         course: &Course,
+        keyed: Keyed<'_>,
         lasts: &[Option<usize>],
         k: usize,
     ) -> Result<(), AllocError>
@@ -129,14 +165,17 @@ impl Flying {
         requires all { length lasts.now ≡ length course.now.entries.items }
         requires within { k < length course.now.events.items }
         requires event { is_made (event_at course.now k) ≡ 1 }
-        requires sofar { IsFlying course.now k self.old }
-        ensures { OnOk result (IsFlying course.now (k + 1) self.new) }
+        requires sofar { IsFlying keyed.accepted.now keyed.all.now
+            keyed.submissions.now course.now k self.old }
+        ensures { OnOk result (IsFlying keyed.entry.accepted.now keyed.entry.all.now
+            keyed.entry.submissions.now course.now (k + 1) self.new) }
     {
         let end = made_at(&course.made, self.number).end;
         let from = self.waits.len();
         push_waits(
             &mut self.waits,
             course,
+            keyed,
             lasts,
             &self.outstanding,
             self.number,
@@ -151,6 +190,7 @@ impl Flying {
     fn follow(
         &mut self,
         course: &Course,
+        keyed: Keyed<'_>,
         lasts: &[Option<usize>],
         k: usize,
     ) -> Result<(), AllocError>
@@ -158,12 +198,14 @@ impl Flying {
         requires lasts { AreLasts (KnownConflict course.now.members.items) lasts.now }
         requires all { length lasts.now ≡ length course.now.entries.items }
         requires within { k < length course.now.events.items }
-        requires sofar { IsFlying course.now k self.old }
-        ensures { OnOk result (IsFlying course.now (k + 1) self.new) }
+        requires sofar { IsFlying keyed.accepted.now keyed.all.now
+            keyed.submissions.now course.now k self.old }
+        ensures { OnOk result (IsFlying keyed.entry.accepted.now keyed.entry.all.now
+            keyed.entry.submissions.now course.now (k + 1) self.new) }
     {
         let event = course.events[k];
         if made_by(event) == 1 {
-            return self.submit(course, lasts, k);
+            return self.submit(course, keyed, lasts, k);
         }
         let told = told_by(course, &self.ended, event);
         drop_told(&mut self.outstanding, course, told);
@@ -172,13 +214,18 @@ impl Flying {
     }
 }
 
-/// For each entry of a course the last one for which a wait is missing: it conflicts, and is of an earlier submission
-/// that the program could not know to have ended.
-pub fn missing_waits(alloc: Global, course: &Course) -> Result<Vec<Option<usize>>, AllocError>
+/// For each entry of a course the last one for which a wait is missing that is not accepted: it conflicts, and is of an
+/// earlier submission that the program could not know to have ended.
+pub fn missing_waits(
+    alloc: Global,
+    course: &Course,
+    keyed: Keyed<'_>,
+) -> Result<Vec<Option<usize>>, AllocError>
     requires { IsCourse course.now }
     ensures count { IfOk result
         (λ waits. length waits.items ≡ length course.now.entries.items) }
-    ensures waits { IfOk result (λ waits. AreLasts (IsMissingWait course.now) waits.items) }
+    ensures waits { IfOk result (λ waits. AreLasts (IsLeftWait keyed.entry.accepted.now
+        keyed.entry.all.now keyed.entry.submissions.now course.now) waits.items) }
 {
     let lasts = all_lasts(alloc, &course.members)?;
     let mut flying = Flying {
@@ -188,7 +235,7 @@ pub fn missing_waits(alloc: Global, course: &Course) -> Result<Vec<Option<usize>
         ended: vec![in alloc; false; course.made.len()]?,
     };
     for k in 0..course.events.len() {
-        flying.follow(course, &lasts, k)?;
+        flying.follow(course, keyed, &lasts, k)?;
     }
     Ok(flying.waits)
 }

@@ -6,10 +6,10 @@ ghost use Rattle.dsa_waits.specs.declared.fitting.WaitsFault.TheVariants.{Memory
 use crate::course::{Course, entry_at, made_at};
 use crate::event::Event;
 use crate::fitting::{Found, Misfit, WaitsFault};
-use crate::keys::key_of_wait;
+use crate::keys::{Keyed, shown_waits};
 use dsa_audit::hazard_between;
 use dsa_ranges::{Hazard, HazardKind};
-use dsa_recording::{Accepted, Submission, bytes_text, overlap, push_entry};
+use dsa_recording::{bytes_text, overlap, push_entry};
 use std::alloc::{AllocError, Global};
 
 /// An entry: its number, its submission and what it is there.
@@ -89,17 +89,8 @@ fn plural(count: usize) -> &'static str {
 }
 
 /// How severe a missing wait is.
-fn severity_of(key: Option<String>, accepted: &Accepted) -> &'static str {
-    match key {
-        Some(key) => {
-            if accepted.has(&key) {
-                "accepted"
-            } else {
-                "error"
-            }
-        }
-        None => "error",
-    }
+pub(crate) fn severity_of(is_accepted: bool) -> &'static str {
+    if is_accepted { "accepted" } else { "error" }
 }
 
 /// How many missing waits and submissions there are, and what that rests on.
@@ -115,26 +106,17 @@ fn totals_text(alloc: Global, found: &Found, missing: usize) -> Result<String, A
     Ok(text)
 }
 
-/// The lines of all missing waits, and how many there are.
-pub(crate) fn waits_text(
-    alloc: Global,
-    all: &[[u8; 64]],
-    submissions: &[Submission],
-    found: &Found,
-    accepted: &Accepted,
-) -> Result<String, AllocError> {
+/// The lines of all missing waits that are shown, and how many there are.
+pub(crate) fn waits_text(keyed: Keyed<'_>, found: &Found) -> Result<String, AllocError> {
+    let (alloc, course) = (keyed.alloc, &found.course);
     let mut text = String::new(alloc);
-    let mut missing: usize = 0;
-    for (later, wait) in found.waits.iter().enumerate() {
-        if let Some(earlier) = *wait {
-            let course = &found.course;
-            let key = key_of_wait(alloc, all, submissions, course, earlier, later)?;
-            let severity = severity_of(key, accepted);
-            text.push_str(&wait_text(alloc, all, course, earlier, later, severity)?)?;
-            missing = missing.saturating_add(1);
-        }
+    let shown = shown_waits(keyed, found)?;
+    for wait in &shown {
+        let severity = severity_of(wait.is_accepted);
+        let lines = wait_text(alloc, keyed.all, course, wait.earlier, wait.later, severity)?;
+        text.push_str(&lines)?;
     }
-    text.push_str(&totals_text(alloc, found, missing)?)?;
+    text.push_str(&totals_text(alloc, found, shown.len())?)?;
     Ok(text)
 }
 

@@ -4,6 +4,7 @@ use Rattle.dsa_waits.specs.declared.event.Queue.{Queue}
 use Rattle.dsa_waits.specs.declared.lines.Line.{Line}
 use Rattle.dsa_waits.specs.Fitting.{AreFitted, event_of}
 use Rattle.dsa_waits.specs.Recorded.{FitsRecording, IsCourseOf}
+use Rattle.dsa_waits.proofs.Courses.{unaccepted}
 use Rattle.dsa_waits.proofs.Fits.{all_fit}
 use Rattle.dsa_waits.proofs.fitting.find_waits.Goals as goal
 
@@ -31,5 +32,7 @@ returns-clause-ok c =
       fitted = record { fit = f.fit; queues_are = f.queues_are; events_are = refl };
       recorded = recorded;
       count = c.in_ok-waits.ensures.count ∙ recorded.entries;
-      missing = c.in_ok-waits.ensures.waits;
+      missing = unaccepted c.none-none.result c.args.all.now c.args.submissions.now c.in_ok-course.course c.in_ok-waits.waits.items c.none-none.ensures c.in_ok-waits.ensures.waits;
+      count_left = c.in_ok-left.ensures.count ∙ recorded.entries;
+      left = c.in_ok-left.ensures.waits;
     }

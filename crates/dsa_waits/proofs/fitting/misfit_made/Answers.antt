@@ -1,7 +1,7 @@
 use Rattle.std.proofs.Common.{length, arith}
-use Rattle.dsa_waits.specs.Fitting.{no_submission}
 use Rattle.dsa_waits.proofs.Placed.{placed}
 use Rattle.dsa_waits.proofs.fitting.misfit_made.Goals as goal
+use Rattle.dsa_waits.specs.Recorded.{no_submission}
 
 pub code_of-requires : goal.code_of-requires
 code_of-requires c =

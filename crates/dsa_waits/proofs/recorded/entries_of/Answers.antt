@@ -1,8 +1,9 @@
 use Rattle.std.proofs.Common.{◌≡◌, ℕ, length, sym, ap, subst, ◌∙◌, arith}
-use Rattle.dsa_waits.specs.RecordedSteps.{HasEntries, entries_before, no_submission}
+use Rattle.dsa_waits.specs.RecordedSteps.{HasEntries, entries_before}
 use Rattle.dsa_waits.proofs.Placed.{placed, placed_all}
 use Rattle.dsa_waits.proofs.Entered.{entries_next}
 use Rattle.dsa_waits.proofs.recorded.entries_of.Goals as goal
+use Rattle.dsa_waits.specs.Recorded.{no_submission}
 
 pub add_entries-requires-clause-entries : goal.add_entries-requires-clause-entries
 add_entries-requires-clause-entries c =

@@ -1,7 +1,7 @@
 use Rattle.std.proofs.Common.{length, arith}
-use Rattle.dsa_waits.specs.RecordedSteps.{no_submission}
 use Rattle.dsa_waits.proofs.Placed.{placed}
 use Rattle.dsa_waits.proofs.recorded.made_of.Goals as goal
+use Rattle.dsa_waits.specs.Recorded.{no_submission}
 
 pub made_with-requires-clause-head : goal.made_with-requires-clause-head
 made_with-requires-clause-head c =

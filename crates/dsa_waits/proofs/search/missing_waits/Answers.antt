@@ -6,4 +6,4 @@ pub returns-clause-count : goal.returns-clause-count
 returns-clause-count c =
     let end : length c.args.course.now.events.items ≡ c.loop-k.k =
     omega (arith, c.loop-k-test.false, c.loop-k.auto.k-end, c.len-k-end.ensures, c.args.course.now.events.ok) in
-    all_done c.args.course.now c.loop-k.k c.loop-k.flying c.requires end c.loop-k.invariant
+    all_done c.args.keyed.accepted.now c.args.keyed.all.now c.args.keyed.submissions.now c.args.course.now c.loop-k.k c.loop-k.flying c.requires end c.loop-k.invariant

@@ -12,26 +12,26 @@ push_waits-requires-clause-below c =
 pub push_waits-requires-clause-exact : goal.push_waits-requires-clause-exact
 push_waits-requires-clause-exact c =
     subst (AreOutstanding c.args.course.now c.args.self.now.number) (sym c.deref-2.ensures.value)
-    (outstanding_now c.args.course.now c.args.k c.args.self.now c.requires.course c.requires.within c.requires.sofar c.requires.event)
+    (outstanding_now c.args.keyed.accepted.now c.args.keyed.all.now c.args.keyed.submissions.now c.args.course.now c.args.k c.args.self.now c.requires.course c.requires.within c.requires.sofar c.requires.event)
 
 pub push_waits-requires-clause-begun : goal.push_waits-requires-clause-begun
 push_waits-requires-clause-begun c =
     let E : c.made_at-end.result.end ≡ (made_at c.args.course.now.made.items c.args.self.now.number).end =
     ap (λ m. m.end) c.made_at-end.ensures ∙ ap (λ (made : List Made). (made_at made c.args.self.now.number).end) c.deref.ensures.value in
-    omega (arith, E, begun c.args.course.now c.args.k c.args.self.now c.requires.course c.requires.within c.requires.sofar c.requires.event)
+    omega (arith, E, begun c.args.keyed.accepted.now c.args.keyed.all.now c.args.keyed.submissions.now c.args.course.now c.args.k c.args.self.now c.requires.course c.requires.within c.requires.sofar c.requires.event)
 
 pub push_waits-requires-clause-within : goal.push_waits-requires-clause-within
 push_waits-requires-clause-within c =
     let E : c.made_at-end.result.end ≡ (made_at c.args.course.now.made.items c.args.self.now.number).end =
     ap (λ m. m.end) c.made_at-end.ensures ∙ ap (λ (made : List Made). (made_at made c.args.self.now.number).end) c.deref.ensures.value in
-    omega (arith, E, ends_within c.args.course.now c.args.k c.args.self.now c.requires.course c.requires.within c.requires.sofar c.requires.event)
+    omega (arith, E, ends_within c.args.keyed.accepted.now c.args.keyed.all.now c.args.keyed.submissions.now c.args.course.now c.args.k c.args.self.now c.requires.course c.requires.within c.requires.sofar c.requires.event)
 
 pub push_waits-requires-clause-own : goal.push_waits-requires-clause-own
 push_waits-requires-clause-own c =
     let E : c.made_at-end.result.end ≡ (made_at c.args.course.now.made.items c.args.self.now.number).end =
     ap (λ m. m.end) c.made_at-end.ensures ∙ ap (λ (made : List Made). (made_at made c.args.self.now.number).end) c.deref.ensures.value in
     subst (HasSubmission c.args.course.now c.args.self.now.number (length c.args.self.now.waits.items)) (sym E)
-    (own c.args.course.now c.args.k c.args.self.now c.requires.course c.requires.within c.requires.sofar c.requires.event)
+    (own c.args.keyed.accepted.now c.args.keyed.all.now c.args.keyed.submissions.now c.args.course.now c.args.k c.args.self.now c.requires.course c.requires.within c.requires.sofar c.requires.event)
 
 pub push_entries-requires-clause-below : goal.push_entries-requires-clause-below
 push_entries-requires-clause-below c x there = omega (arith, c.requires.sofar.inside x there, c.len-from.ensures)
@@ -40,16 +40,16 @@ pub push_entries-requires-clause-begun : goal.push_entries-requires-clause-begun
 push_entries-requires-clause-begun c =
     let E : c.made_at-end.result.end ≡ (made_at c.args.course.now.made.items c.args.self.now.number).end =
     ap (λ m. m.end) c.made_at-end.ensures ∙ ap (λ (made : List Made). (made_at made c.args.self.now.number).end) c.deref.ensures.value in
-    omega (arith, c.len-from.ensures, E, begun c.args.course.now c.args.k c.args.self.now c.requires.course c.requires.within c.requires.sofar c.requires.event)
+    omega (arith, c.len-from.ensures, E, begun c.args.keyed.accepted.now c.args.keyed.all.now c.args.keyed.submissions.now c.args.course.now c.args.k c.args.self.now c.requires.course c.requires.within c.requires.sofar c.requires.event)
 
 pub overflow_add-self : goal.overflow_add-self
-overflow_add-self c = omega (arith, number_within c.args.course.now c.args.k c.args.self.now c.requires.course c.requires.within c.requires.sofar c.requires.event, c.args.course.now.made.ok, c.args.course.now.made.small)
+overflow_add-self c = omega (arith, number_within c.args.keyed.accepted.now c.args.keyed.all.now c.args.keyed.submissions.now c.args.course.now c.args.k c.args.self.now c.requires.course c.requires.within c.requires.sofar c.requires.event, c.args.course.now.made.ok, c.args.course.now.made.small)
 
 pub returns : goal.returns
 returns c =
     let E : c.made_at-end.result.end ≡ (made_at c.args.course.now.made.items c.args.self.now.number).end =
     ap (λ m. m.end) c.made_at-end.ensures ∙ ap (λ (made : List Made). (made_at made c.args.self.now.number).end) c.deref.ensures.value in
-    submitted c.args.course.now c.args.k c.args.self.now c.requires.course c.requires.within c.requires.sofar
+    submitted c.args.keyed.accepted.now c.args.keyed.all.now c.args.keyed.submissions.now c.args.course.now c.args.k c.args.self.now c.requires.course c.requires.within c.requires.sofar
     (record { number = c.args.self.now.number + 1; outstanding = c.push_entries.new.outstanding; waits = c.push_waits.new.waits; ended = c.args.self.now.ended }) c.requires.event refl
     (c.in_ok-push_waits.ensures.count ∙ E) c.in_ok-push_waits.ensures.waits
     (subst (λ (n : ℕ). WithRange c.args.self.now.outstanding.items (length c.args.self.now.waits.items) n c.push_entries.new.outstanding.items) E

@@ -43,12 +43,19 @@ class Model:
                 return 124, at
         return self.take(reads, writes, also)
 
-    def submit(self, pieces, staging, also):
-        """The pieces are tuples: operation, source or second source, destination, size, record, owner."""
-        owners = [piece[5] for piece in pieces]
+    def submit(self, operations, greatest, staging, also):
+        """The operations are tuples: operation, source or second source, destination, size, record, owner. No piece is
+        longer than the greatest transfer."""
+        if staging[0] % 64 or staging[0] > 2**63:
+            return 83, 7
+        owners = [operation[5] for operation in operations]
         for at, owner in enumerate(owners):
             if owner != owners[0]:
                 return 12, at
+        pieces = [piece for operation in operations for piece in split(operation, greatest)]
+        for at, piece in enumerate(pieces):
+            if meet(read_by([piece]) + written_by([piece]), [(staging[0], 96 * len(pieces))]):
+                return 33, at
         if None not in self.slots:
             return 120, 0
         if 3 * len(pieces) + 1 > self.room:
@@ -113,6 +120,14 @@ def written_by(pieces):
     return writes + [(record, 32) for *_, record, _ in pieces]
 
 
+def split(operation, greatest):
+    """The pieces of an operation, of which no range overlaps another: each has its part of them, and a record."""
+    code, source, other, size, record, owner = operation
+    for at in range(0, size, greatest):
+        first = source if code == FILL else source + at
+        yield code, first, other + at, min(greatest, size - at), record + 32 * (at // greatest), owner
+
+
 def emitted(groups, staging):
     """The portal and the staging bytes of groups without fences, by docs/FORMATS.md."""
     batches = [group for group in groups if len(group) > 1]
@@ -167,12 +182,15 @@ class Sequence:
     def also(self):
         return [self.chance.randrange(64) for _ in range(self.chance.choice([0, 0, 0, 1, 3]))]
 
-    def pieces(self):
-        """Pieces that planning would read, but perhaps of two owners."""
+    def perhaps_fenced(self, entry):
+        return entry[:4] + bytes([entry[4] | (self.chance.random() < 0.2)]) + entry[5:]
+
+    def operations(self):
+        """Operations that planning would read, but perhaps of two owners."""
         chance, found = self.chance, []
         owner = chance.choice([(5, 0), (5, 0), (5, 0), (5, 1), (6, 0)])
         for _ in range(chance.randrange(4)):
-            found.append(self.piece(owner if chance.random() < 0.97 else (7, 1)))
+            found.append(self.piece(owner if chance.random() < 0.97 else (7, 1), [1, 8, 8, 20]))
         return found
 
     def groups(self):
@@ -182,11 +200,11 @@ class Sequence:
         pieces = [self.piece(owner) for _ in range(sum(sizes))]
         return [[pieces.pop() for _ in range(size)] for size in sizes]
 
-    def piece(self, owner):
+    def piece(self, owner, sizes=(1, 8)):
         source, target = self.chance.sample(range(16), 2)
         record = 0x100000 + 32 * self.chance.randrange(8)
         code = self.chance.choice([MOVE, FILL, COMPARE])
-        return code, 4096 * source, 4096 * target, self.chance.choice([1, 8]), record, owner
+        return code, 4096 * source, 4096 * target, self.chance.choice(sizes), record, owner
 
     def step(self):
         """A call by both; answers what it was, what the tracker answered, and what the model did."""
@@ -195,10 +213,15 @@ class Sequence:
             given = self.spans(), self.spans(), self.also()
             return call, given, answered(self.tracker.submit_spans, *given), self.model.submit_spans(*given)
         if call == "list":
-            pieces, also = self.pieces(), self.also()
-            staging = (0x200000 + 4096 * self.chance.randrange(3), self.chance.choice([0, 96, 96, 96, MOST - 1]))
-            got = answered(self.tracker.submit, b"".join(map(spelled, pieces)), staging, also)
-            return call, (pieces, staging, also), got, self.model.submit(pieces, staging, also)
+            operations, also, greatest = self.operations(), self.also(), self.chance.choice([8, 4096])
+            at = self.chance.choice([4096 * self.chance.randrange(16), 0x200001] + 30 * [0x200000, 0x201000, 0x202000])
+            staging = (at, self.chance.choice([0, 96, 96, 96, MOST - 1]))
+            # the settings' own staging area does not count, and no barrier does
+            settings = settings_at(self.chance.choice([0, 0x200000]), greatest)
+            entries = b"".join(self.perhaps_fenced(spelled(operation)) for operation in operations)
+            got = answered(self.tracker.submit, settings, entries, staging, also)
+            given = operations, greatest, staging, also
+            return call, given, got, self.model.submit(*given)
         if call == "groups":
             groups, also = self.groups(), self.also()
             staging = 0x200000 + 64 * self.chance.randrange(9)
@@ -220,8 +243,8 @@ class Sequence:
         return self.model.against(*cut)
 
 
-def settings_at(staging):
-    return Settings(greatest_batch=16, greatest_transfer=4096, lone=10, batch=14, fence=3, staging=staging)
+def settings_at(staging, greatest=4096):
+    return Settings(greatest_batch=16, greatest_transfer=greatest, lone=10, batch=14, fence=3, staging=staging)
 
 
 def answered(call, *given):
@@ -250,7 +273,7 @@ def main(count, seed):
                 print("\n".join(map(str, trail[-12:])))
                 return 1
     refusals = {("groups", 128), ("groups", 121), ("groups", 125), ("list", 12), ("list", 125), ("complete", 122)}
-    refusals |= {("complete", 123), ("waits", 122), ("withdraw", 122)}
+    refusals |= {("list", 33), ("list", 83), ("complete", 123), ("waits", 122), ("withdraw", 122)}
     lacking = sorted((refusals | {(call, n) for call in ("spans", "list") for n in (120, 121, 124)}) - kinds)
     print(f"{count} sequences, {calls} calls" + (f", but none refused as {lacking}" if lacking else ""))
     return 1 if lacking else 0

@@ -522,16 +522,19 @@ uint32_t dsa_track_begin(uint64_t *words, size_t words_len,
                          struct dsa_refusal *refusal);
 
 /*
- * Takes a submission of descriptors, 64 bytes for each: the pieces as they are submitted, but without their fences;
- * none is split. Their staging area at `staging` counts as written. All pieces of a tracker have one PASID and
- * privilege. The submission gets the first free slot and waits for the outstanding ones that conflict with it, and for
- * those of `also` that are outstanding.
+ * Takes a list as a submission, 64 bytes for each operation, as dsa_plan_list or dsa_plan_fenced_list takes it: what
+ * the pieces into which these settings split it read and write, records included, and the staging_len bytes of the
+ * staging area at `staging`, which count as written. settings->staging is not read. The flag 0x0001, a barrier, orders
+ * nothing between submissions. All pieces of a tracker have one PASID and privilege. The submission gets the first free
+ * slot and waits for the outstanding ones that conflict with it, and for those of `also` that are outstanding.
  *
  * Returns 0: slot and waits are written. Returns another number: refusal has it, and nothing else was written. What
- * dsa_plan_list refuses of the bytes, 1 to 13, comes first; then DSA_NOT_A_TRACKER, 120, 121, 124 and 125. It
- * allocates as much as the descriptors take.
+ * planning refuses of the list with this staging address comes first, 83 (setting 7 is `staging`), 1 to 13, and 30 to
+ * 35; then DSA_NOT_A_TRACKER, 120, 121, 124 and 125. It allocates as much as the pieces take.
  */
 uint32_t dsa_track_list(uint64_t *words, size_t words_len,
+                        const struct dsa_settings *settings,
+                        const uint64_t *table, size_t table_len,
                         const uint8_t *list, size_t list_len,
                         uint64_t staging, uint64_t staging_len, uint64_t also,
                         uint32_t *slot, uint64_t *waits,

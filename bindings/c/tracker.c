@@ -8,6 +8,8 @@
 enum { SLOTS = 64, SPANS = DSA_TRACKER_SPANS(1), LOG2_ROWS = 13, LOG2_PAGE = 12 };
 enum { WORDS = DSA_TRACKER_WORDS(SLOTS, SPANS, LOG2_ROWS) };
 static uint64_t tracker[WORDS];
+static const struct dsa_settings settings = {
+    .version = 1, .greatest_batch = 4, .greatest_transfer = 4096, .lone = 10, .batch = 14, .fence = 3};
 
 /* A move of a page; its staging area is 96 bytes. Prints what it waits for. */
 static uint32_t submit(uint64_t source, uint64_t target, uint64_t record, uint64_t staging)
@@ -18,7 +20,8 @@ static uint32_t submit(uint64_t source, uint64_t target, uint64_t record, uint64
     struct dsa_refusal refusal;
     uint32_t slot = 0;
     uint64_t waits = 0;
-    if (dsa_track_list(tracker, WORDS, (const uint8_t *)&move, sizeof move, staging, 96, 0, &slot, &waits, &refusal))
+    if (dsa_track_list(tracker, WORDS, &settings, &settings.batch, 0, (const uint8_t *)&move, sizeof move, staging, 96,
+                       0, &slot, &waits, &refusal))
         return SLOTS;
     printf("slot %u waits for %#llx\n", (unsigned)slot, (unsigned long long)waits);
     return slot;

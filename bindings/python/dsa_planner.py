@@ -162,7 +162,7 @@ def _declare(library: ctypes.CDLL) -> None:
         **dict.fromkeys(("dsa_prepare", "dsa_prepare_fenced"), (number, [*listed, *kept, info, refusal])),
         "dsa_fill": (ctypes.c_uint32, [rows, size, word, size, ctypes.c_uint64, *rooms, refusal]),
         "dsa_track_begin": (number, [*words, number, number, number, number, refusal]),
-        "dsa_track_list": (number, [*words, byte, size, *[ctypes.c_uint64] * 3, slot, word, refusal]),
+        "dsa_track_list": (number, [*words, *listed, *[ctypes.c_uint64] * 3, slot, word, refusal]),
         "dsa_track_spans": (number, [*words, *spans, ctypes.c_uint64, slot, word, refusal]),
         "dsa_track_groups": (number, [*words, *listed, byte, size, ctypes.c_uint64, slot, size, refusal]),
         "dsa_track_ask": (number, [*words, *spans, word, refusal]),
@@ -257,16 +257,14 @@ class Certificate:
 
 @dataclass(frozen=True)
 class Planned:
-    """What `plan_list_certified` answers."""
+    """What `plan_list_certified` answers: what the plan costs, which no legal plan of these pieces undercuts; the bytes
+    for the portal, 64 for each group, and for the staging area; the mark of each piece (`BEGINS`, `FENCED` or their
+    sum); and the certificate."""
 
     cost: int
-    """What the plan costs. No legal plan of these pieces costs less."""
     portal: bytes
-    """The bytes for the work queue's portal, 64 for each group."""
     staging: bytes
-    """The bytes for the staging area."""
     marks: bytes
-    """The mark of each piece: `BEGINS`, `FENCED` or their sum."""
     certificate: Certificate
 
 
@@ -360,16 +358,12 @@ class Refusal(Exception):
     @property
     def name(self) -> str:
         """The name of the cause, as Unfenced."""
-        return _name(self.number)
+        return CAUSES.get(self.number, "Unknown")
 
     def __str__(self) -> str:
-        numbers = [self.number, self.inner] if self.inner else [self.number]
-        said = (f"{number} {_name(number)}: {_sentence(number, self.first, self.second)}" for number in numbers)
+        named = ((number, CAUSES.get(number, "Unknown")) for number in (self.number, self.inner) if number)
+        said = (f"{number} {name}: {_sentence(number, self.first, self.second)}" for number, name in named)
         return "refused " + ": ".join(said)
-
-
-def _name(number: int) -> str:
-    return CAUSES.get(number, "Unknown")
 
 
 def _sentence(number: int, first: int, second: int) -> str:
@@ -737,13 +731,15 @@ class Tracker:
             raise Refusal(73) from None
         _answered(_library.dsa_track_begin(*self._words, *numbers, refusal), refusal)
 
-    def submit(self, pieces: Bytes, staging: Tuple[int, int], also: Iterable[int] = ()) -> Submitted:
-        """Takes a submission of descriptors without their fences, whose staging area, its address and its length,
-        counts as written. It waits for the outstanding ones that conflict with it, and for those of `also` that
-        are outstanding."""
+    def submit(self, settings: Settings, operations: Bytes, staging: Tuple[int, int],
+               also: Iterable[int] = ()) -> Submitted:
+        """Takes a list as a submission, with barriers or without: the pieces into which these settings split it, and
+        the staging area, its address and its length, which counts as written; that of the settings does not. It waits
+        for the outstanding ones that conflict with it, and for those of `also` that are outstanding."""
+        raw, table, entries = settings._raw()
         slot, waits, refusal = ctypes.c_uint32(), ctypes.c_uint64(), _Refusal()
         first, length = (_whole("the staging area", value) for value in staging)
-        given = *_given("pieces", pieces), first, length, _word(also)
+        given = raw, table, entries, *_given("operations", operations), first, length, _word(also)
         _answered(_library.dsa_track_list(*self._words, *given, slot, waits, refusal), refusal)
         return Submitted(slot.value, _slots(waits.value))
 
@@ -754,9 +750,8 @@ class Tracker:
         _answered(_library.dsa_track_spans(*self._words, *given, slot, waits, refusal), refusal)
         return Submitted(slot.value, _slots(waits.value))
 
-    def submit_groups(
-        self, settings: Settings, portal: Bytes, staging: Bytes, also: Iterable[int] = ()
-    ) -> List[int]:
+    def submit_groups(self, settings: Settings, portal: Bytes, staging: Bytes,
+                      also: Iterable[int] = ()) -> List[int]:
         """Takes each entry of a portal as a submission of its own, in their order, and answers their slots: groups of
         one plan that do not conflict need not wait for each other. The bytes are those that planning or filling
         answered, under these settings. An entry's submission has its pieces and, as written, what the entry names of

@@ -77,7 +77,8 @@ static uint32_t track(int which, struct dsa_refusal *r)
     memcpy(old, words, sizeof old);
     memset(&outputs, 0xa5, sizeof outputs);
     if (which == 5)
-        code = dsa_track_list(words, WORDS, list, sizeof list, 0, 0, 0, &o->slot, &o->waits, r);
+        code = dsa_track_list(words, WORDS, &settings, &settings.batch, 0, list, sizeof list, settings.staging, 0, 0,
+                              &o->slot, &o->waits, r);
     else
         code = dsa_track_groups(words, WORDS, &settings, &settings.batch, 0, portal_in, planned_in.portal_len,
                                 staging_in, planned_in.staging_len, 0, o->slots, N, r);

@@ -72,8 +72,8 @@ static void *call(void *which)
     case 7:
         code = dsa_track_begin(words, sizeof words / sizeof *words, 1, DSA_TRACKER_SPANS(MOST), 13, 12, &refusal);
         if (code == DSA_OK)
-            code = dsa_track_list(words, sizeof words / sizeof *words, list, len, s->staging, 96 * n, 0, &slot, &waited,
-                                  &refusal);
+            code = dsa_track_list(words, sizeof words / sizeof *words, s, &s->batch, 0, list, len, s->staging, 96 * n,
+                                  0, &slot, &waited, &refusal);
         break;
     case 8:
         code = dsa_track_complete(words, sizeof words / sizeof *words, slot, &waited, &ready, &refusal);

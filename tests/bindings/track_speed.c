@@ -97,6 +97,7 @@ static double best_of(double best, double start, size_t operations)
 /* Submits each list in turn, and takes the oldest off once so many are in flight, which is ready by then. */
 static bool track(size_t moves, size_t flight)
 {
+    const struct dsa_settings settings = {1, MOST_MOVES, PAGE, 10, 14, 3, 0};
     uint32_t slots[LISTS];
     uint64_t waits, waited, ready;
     struct dsa_refusal r;
@@ -108,7 +109,8 @@ static bool track(size_t moves, size_t flight)
         if (i >= LISTS)
             continue;
         const struct list *l = &lists[i];
-        if (dsa_track_list(words, WORDS, l->bytes, 64 * moves, l->staging, 96 * moves, 0, &slots[i], &waits, &r))
+        if (dsa_track_list(words, WORDS, &settings, &settings.batch, 0, l->bytes, 64 * moves, l->staging, 96 * moves, 0,
+                           &slots[i], &waits, &r))
             return false;
     }
     return true;

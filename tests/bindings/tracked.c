@@ -142,8 +142,9 @@ static uint32_t call(unsigned which, struct array *a, struct outputs *o) {
     switch (which) {
     case 0: code = dsa_track_spans(a->words, a->len, reads, reads_len, writes, writes_len, number(), &o->slot,
                                    &o->waits, &o->refusal); break;
-    case 1: code = dsa_track_list(a->words, a->len, list, list_len, number(), number(), number(), &o->slot, &o->waits,
-                                  &o->refusal); break;
+    case 1: code = dsa_track_list(a->words, a->len, &settings, &settings.batch, 0, list, list_len,
+                                  below(4) ? number() & ~UINT64_C(63) : number(), number(), number(), &o->slot,
+                                  &o->waits, &o->refusal); break;
     case 2: code = dsa_track_ask(a->words, a->len, reads, reads_len, writes, writes_len, &o->waits, &o->refusal); break;
     case 3: code = dsa_track_waits(a->words, a->len, slot, &o->waits, &o->refusal); break;
     case 4: code = dsa_track_groups(a->words, a->len, &settings, &settings.batch, 0, s.portal, s.portal_len, s.staging,
@@ -182,7 +183,7 @@ static int is_right(struct array *a) {
     if (memcmp(a->words, a->before, a->len * sizeof *a->words) || o.slot != old.slot || o.waits != old.waits ||
         o.waited != old.waited || o.ready != old.ready || memcmp(o.slots, old.slots, sizeof o.slots))
         return 0;
-    int is_of_list = (which == 1 && code < 20) || (which == 4 && code >= 44 && code < 50);
+    int is_of_list = (which == 1 && (code < 40 || code == DSA_SETTINGS)) || (which == 4 && code >= 44 && code < 50);
     return o.refusal.number == code && (is_of_list || (code == DSA_NOT_A_TRACKER) == !form);
 }
 

@@ -313,6 +313,9 @@ extern "C" {
     pub fn dsa_track_list(
         words: *mut u64,
         words_len: usize,
+        settings: *const Settings,
+        table: *const u64,
+        table_len: usize,
         list: *const u8,
         list_len: usize,
         staging: u64,

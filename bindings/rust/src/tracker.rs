@@ -107,27 +107,33 @@ impl Tracker {
         answer(code, Tracker { words }, refusal)
     }
 
-    /// Takes a submission of descriptors, 64 bytes for each, without their fences; the staging area counts as
-    /// written. It waits for the outstanding ones that conflict with it, and for those of `also` that are
-    /// outstanding.
+    /// Takes a list as a submission, with barriers or without: the pieces into which these settings split it, and the
+    /// staging area, which counts as written. The address of the settings' own staging area does not count. It waits
+    /// for the outstanding ones that conflict with it, and for those of `also` that are outstanding. A barrier orders
+    /// nothing between submissions.
     ///
     /// # Errors
-    /// What [`plan_list`](crate::plan_list) refuses of the bytes; then the first of
+    /// What [`plan_list`](crate::plan_list) refuses of the list with this staging address; then the first of
     /// [`Cause::NoSlot`](crate::Cause::NoSlot), `TooManySpans`, `SpanWrap` and `OtherOwner`.
     pub fn submit(
         &mut self,
-        pieces: &[u8],
+        settings: &Settings,
+        list: &[u8],
         staging: Span,
         also: Slots,
     ) -> Result<Submitted, Refusal> {
+        let (raw, table) = settings.raw();
         self.take(|words, slot, waits, refusal| {
             // SAFETY: each pointer and length are those of one slice, and no output overlaps another argument.
             unsafe {
                 raw::dsa_track_list(
                     words.as_mut_ptr(),
                     words.len(),
-                    pieces.as_ptr(),
-                    pieces.len(),
+                    &raw,
+                    table.as_ptr(),
+                    table.len(),
+                    list.as_ptr(),
+                    list.len(),
                     staging.first,
                     staging.len,
                     also.0,

@@ -27,6 +27,17 @@ fn fill_bytes(target: u64, record: u64, pasid: u32) -> [u8; 64] {
     bytes
 }
 
+fn settings() -> Settings {
+    Settings {
+        greatest_batch: 2,
+        greatest_transfer: 4096,
+        lone: 10,
+        batch: BatchPrice::Flat(14),
+        fence: 3,
+        staging: 0x10000,
+    }
+}
+
 #[test]
 fn waits_for_conflicts_and_named_slots() {
     let mut tracker = Tracker::new(3, 4, 8, 12).unwrap();
@@ -65,45 +76,64 @@ fn waits_for_conflicts_and_named_slots() {
 fn takes_descriptors_of_one_owner() {
     let mut tracker = Tracker::new(4, 4, 8, 12).unwrap();
     let staging = span(0x10000, 96);
-    let first = tracker.submit(&fill_bytes(0x1000, 0x8000, 5), staging, Slots::EMPTY);
+    let first = tracker.submit(&settings(), &fill_bytes(0x1000, 0x8000, 5), staging, Slots::EMPTY);
     assert_eq!(first.map(|one| one.waits), Ok(Slots::EMPTY));
-    let same_staging = tracker.submit(&fill_bytes(0x2000, 0x8020, 5), staging, Slots::EMPTY);
+    let same_staging = tracker.submit(&settings(), &fill_bytes(0x2000, 0x8020, 5), staging, Slots::EMPTY);
     assert_eq!(same_staging.map(|one| one.waits), Ok(Slots(1)));
-    let other = tracker.submit(&fill_bytes(0x2000, 0x8020, 6), staging, Slots::EMPTY);
+    let other = tracker.submit(&settings(), &fill_bytes(0x2000, 0x8020, 6), staging, Slots::EMPTY);
     assert_eq!(other, Err(refused(Cause::OtherOwner, 0)));
     let past = tracker.submit(
+        &settings(),
         &fill_bytes(0x2000, 0x8020, 5),
-        span(1, u64::MAX),
+        span(0x40, u64::MAX - 0x40),
         Slots::EMPTY,
     );
     assert_eq!(past.map(|one| one.slot), Ok(2));
     let wrap = tracker.submit(
+        &settings(),
         &fill_bytes(0x2000, 0x8020, 5),
-        span(2, u64::MAX),
+        span(0x40, u64::MAX),
         Slots::EMPTY,
     );
     assert_eq!(wrap, Err(refused(Cause::SpanWrap, 0)));
     assert_eq!(
-        tracker.submit(&[0; 63], staging, Slots::EMPTY),
+        tracker.submit(&settings(), &[0; 63], staging, Slots::EMPTY),
         Err(refused(Cause::Length, 0))
     );
     let two = [fill_bytes(0x1000, 0x8000, 5), fill_bytes(0x2000, 0x8020, 5)].concat();
     assert_eq!(
-        tracker.submit(&two, staging, Slots::EMPTY),
+        tracker.submit(&settings(), &two, staging, Slots::EMPTY),
         Err(refused(Cause::TooManySpans, 7))
     );
 }
 
 #[test]
+fn splits_lists_and_looks_through_barriers() {
+    let mut tracker = Tracker::new(4, 8, 8, 12).unwrap();
+    let none = span(0x20000, 0);
+    // two pieces, with records at 0x8000 and 0x8020, after a barrier
+    let mut long = fill_bytes(0x100000, 0x8000, 0);
+    long[32..36].copy_from_slice(&8192u32.to_le_bytes());
+    long[4] |= 1;
+    let first = tracker.submit(&settings(), &long, none, Slots::EMPTY);
+    assert_eq!(first.map(|one| one.waits), Ok(Slots::EMPTY));
+    let second = tracker.submit(&settings(), &fill_bytes(0x2000, 0x8020, 0), none, Slots::EMPTY);
+    assert_eq!(second.map(|one| one.waits), Ok(Slots(0b01)));
+    let third = tracker.submit(&settings(), &fill_bytes(0x3000, 0x8040, 0), none, Slots::EMPTY);
+    assert_eq!(third.map(|one| one.waits), Ok(Slots::EMPTY));
+    let fill = fill_bytes(0x4000, 0x8060, 0);
+    for (staging, cause, first) in [
+        (0x4000, Cause::StagingMeets, 0),
+        (0x4001, Cause::Settings, 7),
+    ] {
+        let got = tracker.submit(&settings(), &fill, span(staging, 0), Slots::EMPTY);
+        assert_eq!(got, Err(refused(cause, first)));
+    }
+}
+
+#[test]
 fn takes_the_entries_of_a_portal() {
-    let settings = Settings {
-        greatest_batch: 2,
-        greatest_transfer: 4096,
-        lone: 10,
-        batch: BatchPrice::Flat(14),
-        fence: 3,
-        staging: 0x10000,
-    };
+    let settings = settings();
     let fills = [0x1000, 0x2000, 0x3000, 0x4000, 0x5000, 0x1000];
     let records = 0x8000..;
     let list: Vec<u8> = fills

@@ -22,6 +22,16 @@ limits_of r table = limits r.greatest_batch r.greatest_transfer r.lone (prices_i
 abbrev pub AreSettings : RawSettings → List ℕ → Type 0
 AreSettings r table = ((r.version ≡ 1) ⊎ (r.version ≡ 2)) × AreInLimits (limits_of r table)
 
+-- they are but for the prices of batches
+abbrev pub HaveLimits : RawSettings → Type 0
+HaveLimits r =
+    ((r.version ≡ 1) ⊎ (r.version ≡ 2))
+    × AreInLimits (limits r.greatest_batch r.greatest_transfer r.lone (SamePrice 0) r.fence r.staging)
+
+-- the settings with this staging address in place of theirs
+abbrev pub staged_at : RawSettings → ℕ → RawSettings
+staged_at r staging = record r { staging = staging }
+
 -- the setting of this number is outside its limits: 1 to 7 are the members of the struct in their order, 8 is the table of
 -- prices, which counts only in version 2 (this project's choice)
 abbrev pub IsOutside : ℕ → RawSettings → List ℕ → Type 0

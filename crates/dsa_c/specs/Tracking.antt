@@ -1,20 +1,18 @@
 -- What the calls of a tracker in an array of words promise.
-use Rattle.std.specs.Prelude.{◌≡◌, ◌≢◌, ◌⊎◌, ℕ, ◌≤◌, List, length, map, min, slice_get, slice_index_or}
+use Rattle.std.specs.Prelude.{◌≡◌, ◌≢◌, ◌⊎◌, ℕ, ◌≤◌, Bool, List, length, map, min, slice_get, slice_index_or, Err}
 use Rattle.dsa_descriptor.specs.declared.descriptor.Descriptor.{Descriptor}
-use Rattle.dsa_descriptor.specs.declared.fault.ListFault.{ListFault}
-use Rattle.dsa_descriptor.specs.declared.fault.ListFault.TheVariants.{Memory as ListMemory}
 use Rattle.dsa_descriptor.specs.declared.span.Span.{Span}
 use Rattle.dsa_descriptor.specs.Causes.{index_list}
 use Rattle.dsa_descriptor.specs.Descriptors.{fields}
 use Rattle.dsa_descriptor.specs.Fields.{Fields}
-use Rattle.dsa_descriptor.specs.Lists.{IsFirstListFault}
 use Rattle.dsa_flight.specs.Spans.{all_reads, staged_writes}
 use Rattle.dsa_plan.specs.EmissionFaults.{IsEmission, IsFirstEmissionFault}
 use Rattle.dsa_plan.specs.Plan.{Plan}
 use Rattle.dsa_emission.specs.declared.emission_fault.EmissionFault.{EmissionFault}
 use Rattle.dsa_emission.specs.declared.emission_fault.EmissionFault.TheVariants.{Memory as EmissionMemory}
-use Rattle.dsa_calls.specs.declared.fault.PlanFault.TheVariants.{Emission as InEmission, List as InList, Memory}
-use Rattle.dsa_calls.specs.Lists.{IsListOf}
+use Rattle.dsa_calls.specs.declared.fault.PlanFault.{PlanFault}
+use Rattle.dsa_calls.specs.declared.fault.PlanFault.TheVariants.{Emission as InEmission, Memory}
+use Rattle.dsa_calls.specs.Fenced.{AreFencedPieces, PlansFenced}
 use Rattle.dsa_tracker.specs.declared.fault.WordsFault.{WordsFault}
 use Rattle.dsa_tracker.specs.declared.fault.WordsFault.TheVariants.{NotATracker}
 use Rattle.dsa_tracker.specs.declared.slots.Slots.{Slots}
@@ -28,7 +26,7 @@ use Rattle.dsa_tracker.specs.Words.{AreMeasures, IsShapedIn, IsTracker, RefusesI
 use Rattle.dsa_c.specs.declared.refusal.RawRefusal.{RawRefusal}
 use Rattle.dsa_c.specs.declared.settings.RawSettings.{RawSettings}
 use Rattle.dsa_c.specs.Preparing.{refusal_at}
-use Rattle.dsa_c.specs.Raw.{AreSettings, RefusesSettings, limits_of, refusal_of}
+use Rattle.dsa_c.specs.Raw.{AreSettings, RefusesSettings, limits_of, refusal_of, staged_at}
 
 -- the slots that the bits of a word say
 abbrev pub slots_of : ℕ → Slots
@@ -59,6 +57,11 @@ TakesSpans words reads writes also submitted new =
     IsShapedIn words × IsShapedIn new × CanKeep (room_in words) reads writes
     × (IsTracker words → IsTracker new × Submits (table_in words) reads writes also (owner_in words) submitted (table_in new))
 
+-- under these settings, these are the pieces of the operations that the bytes spell, without their fences
+pub record ArePiecesUnder (s : RawSettings) (table list : List ℕ) (pieces : List Descriptor) (barriers : List Bool) : Type 0 where
+  pub settings : AreSettings s table
+  pub pieces_are : AreFencedPieces list (limits_of s table) pieces barriers
+
 -- a submission of these pieces is taken
 abbrev pub TakesPieces : List ℕ → List Fields → Span → Slots → Submitted → List ℕ → Type 0
 TakesPieces words pieces staging also submitted new =
@@ -66,10 +69,12 @@ TakesPieces words pieces staging also submitted new =
     × (IsTracker words →
     IsTracker new × Submits (table_in words) (all_reads pieces) (staged_writes staging pieces) also (owner_with (owner_in words) pieces) submitted (table_in new))
 
--- a submission of the pieces that these bytes spell is taken
-abbrev pub TakesList : List ℕ → List ℕ → Span → Slots → Submitted → List ℕ → Type 0
-TakesList words list staging also submitted new =
-    (pieces : List Descriptor) × IsListOf list pieces × TakesPieces words (map fields pieces) staging also submitted new
+-- A submission of the pieces of the operations that these bytes spell, without their fences, is taken. They are split as
+-- planning splits them under the settings with the address of the staging area that is given here.
+abbrev pub TakesList : RawSettings → List ℕ → List ℕ → List ℕ → Span → Slots → Submitted → List ℕ → Type 0
+TakesList s table words list staging also submitted new =
+    (pieces : List Descriptor) × (barriers : List Bool) × ArePiecesUnder (staged_at s staging.first) table list pieces barriers
+    × TakesPieces words (map fields pieces) staging also submitted new
 
 -- the groups of a plan of these pieces are taken one after another, and each gets the slot at its number; the other places
 -- of the array stay
@@ -115,14 +120,25 @@ abbrev pub RefusesSpans : List ℕ → List Span → List Span → RawRefusal �
 RefusesSpans words reads writes r =
     (fault : WordsFault) × RefusesIn words fault (λ f. IsRefused (table_in words) f (IsSpanFault (room_in words) reads writes f)) × (r ≡ track_refusal_of fault)
 
--- an allocation failed, the bytes are no list, with their first fault, or the tracker refuses the pieces
-abbrev pub RefusesList : List ℕ → List ℕ → Span → RawRefusal → Type 0
-RefusesList words list staging r =
-    (r ≡ refusal_of Memory)
-    ⊎ ((fault : ListFault) × (fault ≢ ListMemory) × IsFirstListFault list fault × (r ≡ refusal_of (InList fault)))
-    ⊎ ((pieces : List Descriptor) × (fault : WordsFault) × IsListOf list pieces
-    × RefusesIn words fault (λ f. IsRefused (table_in words) f (IsListFault (room_in words) (owner_with (owner_in words) (map fields pieces)) (map fields pieces) staging f))
-    × (r ≡ track_refusal_of fault))
+-- the tracker refuses these pieces
+abbrev pub RefusesPieces : List ℕ → List Fields → Span → WordsFault → Type 0
+RefusesPieces words pieces staging fault =
+    RefusesIn words fault (λ f. IsRefused (table_in words) f (IsListFault (room_in words) (owner_with (owner_in words) pieces) pieces staging f))
+
+-- why the list has no pieces: the numbers are no settings; an allocation failed; or planning refuses the bytes without
+-- their fences
+abbrev pub RefusesToSplit : RawSettings → List ℕ → List ℕ → RawRefusal → Type 0
+RefusesToSplit s table list r =
+    RefusesSettings s table r
+    ⊎ ((r ≡ refusal_of Memory) × AreSettings s table)
+    ⊎ ((fault : PlanFault) × AreSettings s table × PlansFenced list (limits_of s table) (Err fault) × (r ≡ refusal_of fault))
+
+-- the list has no pieces, or the tracker refuses them
+abbrev pub RefusesList : RawSettings → List ℕ → List ℕ → List ℕ → Span → RawRefusal → Type 0
+RefusesList s table words list staging r =
+    RefusesToSplit (staged_at s staging.first) table list r
+    ⊎ ((pieces : List Descriptor) × (barriers : List Bool) × (fault : WordsFault) × ArePiecesUnder (staged_at s staging.first) table list pieces barriers
+    × RefusesPieces words (map fields pieces) staging fault × (r ≡ track_refusal_of fault))
 
 -- the tracker refuses the groups of a plan of these pieces
 abbrev pub RefusesPlan : List ℕ → List Fields → Plan → ℕ → ℕ → WordsFault → Type 0

@@ -1,7 +1,9 @@
 //! The settings, as C lays them out.
 
-ghost use Rattle.std.specs.Prelude.{◌≡◌, ◌<◌, ℕ, List, MatchResult};
-ghost use Rattle.dsa_c.specs.Raw.{limits_of, AreSettings, IsOutside, RefusesSettings};
+ghost use Rattle.std.specs.Prelude.{◌≡◌, ◌<◌, ◌≤◌, ℕ, IsTrue, List, MatchResult};
+ghost use Rattle.dsa_plan.specs.Settings.{AreBatchPrices};
+ghost use Rattle.dsa_plan.specs.Settings.BatchPrices.{BySize};
+ghost use Rattle.dsa_c.specs.Raw.{limits_of, staged_at, AreSettings, HaveLimits, IsOutside, RefusesSettings};
 
 use crate::refusal::{RawRefusal, refusal_at};
 use dsa_plan::{Settings, SettingsFault};
@@ -82,10 +84,11 @@ const OUTSIDE: u32 = 83;
 /// The greatest price.
 const GREATEST_PRICE: u64 = 1_000_000_000;
 
-/// The first of the settings that is outside its limits, if one of them or of the prices of batches is: 1 to 7 are the
-/// members of the struct in their order, but for 5, the price of a batch, which comes last, and then the table is 8.
-fn outside(raw: &RawSettings) -> u64
-    ensures { (table : List ℕ) → ¬ AreSettings raw.now table → IsOutside result raw.now table }
+/// The first of the settings that is outside its limits, but for the prices of batches: 1 to 7 are the members of the
+/// struct in their order. 0 if none is.
+fn outside_limits(raw: &RawSettings) -> u64
+    ensures outside { 0 < result → (table : List ℕ) → IsOutside result raw.now table }
+    ensures within { result ≡ 0 → HaveLimits raw.now }
 {
     if raw.version != 1 {
         if raw.version != 2 {
@@ -119,7 +122,50 @@ fn outside(raw: &RawSettings) -> u64
     if raw.staging % 64 != 0 {
         return 7;
     }
+    0
+}
+
+/// The first of the settings that is outside its limits, if one of them or of the prices of batches is: 1 to 7 are the
+/// members of the struct in their order, but for 5, the price of a batch, which comes last, and then the table is 8.
+fn outside(raw: &RawSettings) -> u64
+    ensures { (table : List ℕ) → ¬ AreSettings raw.now table → IsOutside result raw.now table }
+{
+    let limit = outside_limits(raw);
+    if limit > 0 {
+        return limit;
+    }
     if raw.version == 1 { 5 } else { 8 }
+}
+
+/// True only if the table has a price in its limits for each size of a batch.
+fn are_batch_prices(greatest_batch: u64, table: &[u64]) -> bool
+    requires { 2 ≤ greatest_batch }
+    ensures { IsTrue result → AreBatchPrices greatest_batch (BySize table.now) }
+{
+    if table.len() as u64 != greatest_batch - 1 {
+        return false;
+    }
+    table.iter().all(|price| *price <= GREATEST_PRICE)
+}
+
+/// True only if the numbers and the table are settings: a test that copies no table.
+pub(crate) fn are_settings(raw: &RawSettings, table: &[u64]) -> bool
+    ensures { IsTrue result → AreSettings raw.now table.now }
+{
+    if outside_limits(raw) > 0 {
+        return false;
+    }
+    if raw.version == 1 {
+        return raw.batch <= GREATEST_PRICE;
+    }
+    are_batch_prices(raw.greatest_batch, table)
+}
+
+/// The settings with this staging address in place of theirs.
+pub(crate) fn staged_at(raw: &RawSettings, staging: u64) -> RawSettings
+    ensures { result ≡ staged_at raw.now staging }
+{
+    RawSettings { staging, ..*raw }
 }
 
 /// The refusal of settings, which names the setting that is outside its limits.

@@ -1,15 +1,15 @@
 //! Submissions handed to a tracker in the caller's words.
 
-ghost use Rattle.std.specs.Prelude.{◌≡◌, ◌≢◌, ◌<◌, None, MatchResult, length, map, replicate};
+ghost use Rattle.std.specs.Prelude.{◌≡◌, ◌≢◌, ◌<◌, Bool, List, None, MatchResult, length, map, replicate};
 ghost use Rattle.dsa_descriptor.specs.Spans.{span};
 ghost use Rattle.dsa_tracker.specs.declared.fault.WordsFault.TheVariants.{NotATracker};
 ghost use Rattle.dsa_tracker.specs.Words.{IsTracker, table_in};
-ghost use Rattle.dsa_c.specs.Tracking.{CanBegin, RefusesGroups, RefusesList, RefusesSpans, TakesGroups, TakesList, TakesSpans, slots_of, submitted_of, track_refusal_of};
+ghost use Rattle.dsa_c.specs.Tracking.{ArePiecesUnder, CanBegin, RefusesGroups, RefusesList, RefusesSpans, RefusesToSplit, TakesGroups, TakesList, TakesSpans, slots_of, submitted_of, track_refusal_of};
 
 use crate::refusal::{RawRefusal, first_two, refusal, refusal_at};
-use crate::settings::{RawSettings, settings_of, settings_refusal};
-use dsa_calls::PlanFault;
-use dsa_descriptor::{Span, read_list};
+use crate::settings::{RawSettings, are_settings, settings_of, settings_refusal, staged_at};
+use dsa_calls::{PlanFault, fenced_pieces, own_pieces};
+use dsa_descriptor::{Descriptor, Span};
 use dsa_plan::read_emission;
 use dsa_tracker::{Slots, Submitted, WordsFault, words};
 use std::alloc::Global;
@@ -54,22 +54,70 @@ pub extern "C" fn dsa_track_begin(
     }
 }
 
-/// Hands a submission of the pieces that the bytes spell to the tracker.
+/// The pieces of a list as planning splits it, whatever they are. Not inlined: settings take 8 KiB, and most lists
+/// have their pieces without.
+#[inline(never)]
+fn split_pieces(
+    alloc: Global,
+    settings: &RawSettings,
+    table: &[u64],
+    list: &[u8],
+) -> Result<Vec<Descriptor>, RawRefusal>
+    ensures { let s = settings.now in let t = table.now in MatchResult result
+        (λ pieces. (barriers : List Bool) ×
+        ArePiecesUnder s t list.now pieces.items barriers)
+        (λ r. (0 < r.number) × RefusesToSplit s t list.now r) }
+{
+    let Ok(checked) = settings_of(settings, table) else {
+        return Err(settings_refusal(settings));
+    };
+    match fenced_pieces(alloc, list, &checked) {
+        Ok(found) => Ok(found.pieces),
+        Err(fault) => Err(refusal(fault)),
+    }
+}
+
+/// The pieces of a list, or why it has none.
+fn pieces_for(
+    alloc: Global,
+    settings: &RawSettings,
+    table: &[u64],
+    list: &[u8],
+) -> Result<Vec<Descriptor>, RawRefusal>
+    ensures { let s = settings.now in let t = table.now in MatchResult result
+        (λ pieces. (barriers : List Bool) ×
+        ArePiecesUnder s t list.now pieces.items barriers)
+        (λ r. (0 < r.number) × RefusesToSplit s t list.now r) }
+{
+    if !are_settings(settings, table) {
+        return split_pieces(alloc, settings, table, list);
+    }
+    match own_pieces(alloc, list, settings.greatest_transfer, settings.staging) {
+        Ok(Some(pieces)) => Ok(pieces),
+        Ok(None) => split_pieces(alloc, settings, table, list),
+        Err(_) => Err(refusal(PlanFault::Memory)),
+    }
+}
+
+/// Hands a submission of the pieces of the operations that the bytes spell to the tracker.
 fn take_list(
     alloc: Global,
     words: &mut [u64],
+    settings: &RawSettings,
+    table: &[u64],
     list: &[u8],
     staging: Span,
     also: Slots,
 ) -> Result<Submitted, RawRefusal>
-    ensures { MatchResult result
-        (λ s. TakesList words.old list.now staging also s words.new)
-        (λ r. (0 < r.number) × RefusesList words.old list.now staging r
+    ensures { let s = settings.now in let t = table.now in MatchResult result
+        (λ taken. TakesList s t words.old list.now staging also taken words.new)
+        (λ r. (0 < r.number) × RefusesList s t words.old list.now staging r
         × (words.new ≡ words.old)) }
 {
-    let pieces = match read_list(alloc, list) {
+    let staged = staged_at(settings, staging.first);
+    let pieces = match pieces_for(alloc, &staged, table, list) {
         Ok(pieces) => pieces,
-        Err(fault) => return Err(refusal(PlanFault::from(fault))),
+        Err(cause) => return Err(cause),
     };
     match words::submit(words, &pieces, staging, also) {
         Ok(submitted) => Ok(submitted),
@@ -112,13 +160,16 @@ pub extern "C" fn dsa_track_spans(
     }
 }
 
-/// Takes a submission of the pieces that the bytes of `list` spell, whose staging area counts as written: writes
-/// its slot to `slot`, and the slots of those that it waits for to `waits`, a bit for each. It returns 0 then; else it
-/// returns the number of the refusal, and has written only `refusal`.
+/// Takes a submission of a list, whose staging area counts as written: of the pieces that its operations are split into
+/// under these settings with the staging address of the call, whether or not operations have the flag 0x0001, fence.
+/// Writes its slot to `slot`, and the slots of those that it waits for to `waits`, a bit for each. It returns 0 then;
+/// else it returns the number of the refusal, and has written only `refusal`.
 #[unsafe(no_mangle)]
 pub extern "C" fn dsa_track_list(
     alloc: Global,
     words: &mut [u64],
+    settings: &RawSettings,
+    table: &[u64],
     list: &[u8],
     staging: u64,
     staging_len: u64,
@@ -127,10 +178,11 @@ pub extern "C" fn dsa_track_list(
     waits: &mut u64,
     refusal: &mut RawRefusal,
 ) -> u32
-    ensures taken { result ≡ 0 → TakesList words.old list.now (span staging staging_len)
-        (slots_of also) (submitted_of slot.new waits.new) words.new }
+    ensures taken { result ≡ 0 → TakesList settings.now table.now words.old list.now
+        (span staging staging_len) (slots_of also) (submitted_of slot.new waits.new) words.new }
     ensures refused { result ≢ 0 → (result ≡ refusal.new.number)
-        × RefusesList words.old list.now (span staging staging_len) refusal.new }
+        × RefusesList settings.now table.now words.old list.now (span staging staging_len)
+        refusal.new }
     ensures unchanged { result ≢ 0 →
         (words.new ≡ words.old) × (slot.new ≡ slot.old) × (waits.new ≡ waits.old) }
     ensures quiet { result ≡ 0 → refusal.new ≡ refusal.old }
@@ -139,7 +191,7 @@ pub extern "C" fn dsa_track_list(
         first: staging,
         len: staging_len,
     };
-    match take_list(alloc, words, list, area, Slots(also)) {
+    match take_list(alloc, words, settings, table, list, area, Slots(also)) {
         Ok(submitted) => {
             *slot = submitted.slot;
             *waits = submitted.waits.0;

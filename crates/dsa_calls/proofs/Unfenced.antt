@@ -1,9 +1,16 @@
 -- A list whose fences say nothing is planned as without them.
-use Rattle.std.proofs.Common.{◌≡◌, ◌≢◌, ℕ, zero, suc, ◌-◌, ◌*◌, ◌/◌, ◌%◌, ◌<◌, ◌↔◌, inl, inr, Bool, true, false, List, [], ◌∷◌, ◌++◌, length, take, drop, get_or, map, replicate, Result, Ok, Err, Some, refl, sym, ap, subst, ◌∙◌, append_assoc, arith}
+use Rattle.std.proofs.Common.{◌≡◌, ◌≢◌, ℕ, zero, suc, ◌+◌, ◌-◌, ◌*◌, ◌/◌, ◌%◌, ◌<◌, ◌↔◌, inl, inr, Bool, true, false, List, [], ◌∷◌, ◌++◌, length, take, drop, get_or, map, replicate, Result, Ok, Err, Some, slice_get, refl, sym, ap, subst, ◌∙◌, append_assoc, arith}
 use Rattle.std.specs.List.{flat_map}
 use Rattle.std.specs.Simd.{first_chunks}
 use Rattle.std.proofs.lemmas.Bool.{cases_Bool, eqb-false}
-use Rattle.std.proofs.lemmas.List.{set-get_or, take-append-drop, drop-drop}
+use Rattle.std.proofs.lemmas.List.{set-get_or, take-append-drop, take_at, drop_at, drop-drop}
+use Rattle.std.proofs.lemmas.Option.{same_Some}
+use Rattle.dsa_descriptor.specs.declared.descriptor.Descriptor.{Descriptor}
+use Rattle.dsa_descriptor.specs.Lists.{list_spelling}
+use Rattle.dsa_descriptor.specs.Spelling.{spelling}
+use Rattle.dsa_descriptor.proofs.Entries.{length-list_spelling, length-spelling}
+use Rattle.dsa_emission.specs.Emission.{with_fence}
+use Rattle.dsa_emission.proofs.Spelt.{told_piece}
 use Rattle.dsa_descriptor.specs.Fields.{Fields}
 use Rattle.dsa_descriptor.specs.Descriptors.{fields}
 use Rattle.dsa_ranges.specs.Ranges.{ConflictAt}
@@ -13,7 +20,7 @@ use Rattle.dsa_plan.specs.Settings.{Limits}
 use Rattle.dsa_settings.proofs.Barriers.{parted_by, by_conflict}
 use Rattle.dsa_splitter.specs.Pieces.{piece_barriers, piece_count}
 use Rattle.dsa_calls.specs.declared.fault.PlanFault.{PlanFault}
-use Rattle.dsa_calls.specs.Lists.{OverList}
+use Rattle.dsa_calls.specs.Lists.{IsListOf, OverList}
 use Rattle.dsa_calls.specs.Planned.{Submission, Plans, PlansOperations}
 use Rattle.dsa_calls.specs.Fenced.{fences_of, unfenced_list, PlansWith, PlansFenced, NoBarriersPlanAlike, NoFencesPlanAlike}
 use Rattle.dsa_calls.proofs.SameChoice.{Within, submission_goes}
@@ -100,6 +107,9 @@ no_barriers_plan_alike bytes s outcome none = (
 
 -- ---- bytes with no flag
 
+no_fence : (f : Fields) → with_fence false f ≡ f
+no_fence f = let same : f.flags + 0 ≡ f.flags = omega arith in λ i. record f { flags = same i }
+
 pub plain_entry : (entry : List ℕ) → (is_fenced entry ≡ true → ⊥) → unfenced entry ≡ entry
 plain_entry entry none =
     elim (cases_Bool (is_fenced entry)) [
@@ -125,6 +135,29 @@ plain_joined (suc n) bytes none =
 
 unfenced_stays : (bytes : List ℕ) → AreUnset (fences_of bytes) → unfenced_list bytes ≡ bytes
 unfenced_stays bytes none = plain_joined (length bytes / 64) bytes none
+
+-- a listed descriptor has no fence
+spelled_unset : (ds : List Descriptor) → AreUnset (map is_fenced (first_chunks 64 (length ds) (list_spelling (map fields ds))))
+spelled_unset [] k is = cc
+spelled_unset (d ∷ ds) zero is =
+    let front : take 64 (spelling (fields d) ++ list_spelling (map fields ds)) ≡ spelling (fields d) = take_at (spelling (fields d)) (list_spelling (map fields ds)) 64 (length-spelling d) in
+    let plain : is_fenced (spelling (with_fence false (fields d))) ≡ false = (told_piece (spelling (with_fence false (fields d))) false d refl).0 in
+    let same : with_fence false (fields d) ≡ fields d = no_fence (fields d) in
+    let told : is_fenced (spelling (fields d)) ≡ false = ap (λ (f : Fields). is_fenced (spelling f)) (sym same) ∙ plain in
+    let set : is_fenced (spelling (fields d)) ≡ true = ap is_fenced (sym front) ∙ same_Some _ true is in
+    absurd (cc (told, set))
+spelled_unset (d ∷ ds) (suc k) is =
+    let back : drop 64 (spelling (fields d) ++ list_spelling (map fields ds)) ≡ list_spelling (map fields ds) = drop_at (spelling (fields d)) (list_spelling (map fields ds)) 64 (length-spelling d) in
+    spelled_unset ds k (subst (λ (rest : List ℕ). slice_get (map is_fenced (first_chunks 64 (length ds) rest)) k ≡ Some true) back is)
+
+-- so what a list spells it spells without its fences
+pub listed_unfenced : (bytes : List ℕ) (ds : List Descriptor) → IsListOf bytes ds → IsListOf (unfenced_list bytes) ds
+listed_unfenced bytes ds listed =
+    let count : length bytes / 64 ≡ length ds = omega (arith, ap length listed.spelled, length-list_spelling ds) in
+    let unset : AreUnset (fences_of bytes) =
+    subst (λ (n : ℕ). AreUnset (map is_fenced (first_chunks 64 n bytes))) (sym count)
+    (subst (λ (b : List ℕ). AreUnset (map is_fenced (first_chunks 64 (length ds) b))) (sym listed.spelled) (spelled_unset ds)) in
+    subst (λ (b : List ℕ). IsListOf b ds) (sym (unfenced_stays bytes unset)) listed
 
 pub no_fences_plan_alike : NoFencesPlanAlike
 no_fences_plan_alike bytes s outcome none =

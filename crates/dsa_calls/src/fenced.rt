@@ -1,11 +1,12 @@
 //! Planning and judging lists in which a fence is a barrier.
 
-ghost use Rattle.std.specs.Prelude.{◌≡◌, ◌⊎◌, ℕ, Err, IfOk, IfErr, map, Result};
+ghost use Rattle.std.specs.Prelude.{◌≡◌, ◌⊎◌, ℕ, Bool, Err, IfOk, IfErr, IfSome, List, map, Result};
 ghost use Rattle.dsa_descriptor.specs.Descriptors.{fields};
 ghost use Rattle.dsa_descriptor.specs.Faults.{IsFirstFault};
 ghost use Rattle.dsa_descriptor.specs.Lists.{IsFirstListFault};
 ghost use Rattle.dsa_descriptor.specs.Spelling.{spelling};
 ghost use Rattle.dsa_plan.specs.EmissionFaults.{unfenced};
+ghost use Rattle.dsa_plan.specs.Settings.{Limits};
 ghost use Rattle.dsa_descriptor.specs.declared.fault.ListFault.TheVariants.{Memory as ListMemory};
 ghost use Rattle.dsa_calls.specs.declared.fault.PlanFault.{PlanFault};
 ghost use Rattle.dsa_calls.specs.declared.fault.PlanFault.TheVariants.{Memory};
@@ -16,10 +17,10 @@ ghost use Rattle.dsa_calls.specs.Fenced.{fences_of, unfenced_list, AreFencedPiec
 use crate::fault::PlanFault;
 use crate::judging::judge_pieces_with;
 use crate::planning::{Planned, plan_pieces};
-use dsa_descriptor::{Descriptor, FieldFault, ListFault, agree_on_owner};
+use dsa_descriptor::{Descriptor, FieldFault, ListFault, agree_on_owner, read_list};
 use dsa_plan::{Plan, Settings, is_fenced, unfenced};
-use dsa_splitter::{MarkedPieces, into_marked_pieces};
-use std::alloc::Global;
+use dsa_splitter::{MarkedPieces, are_own_pieces, into_marked_pieces};
+use std::alloc::{AllocError, Global};
 
 /// What the bytes of a list with fences spell.
 #[derive(Drop)]
@@ -73,8 +74,40 @@ pub fn read_fenced_list(alloc: Global, bytes: &[u8]) -> Result<FencedList, ListF
     Ok(FencedList { operations, fences })
 }
 
+/// The pieces of a list, by a look that most lists pass and that needs no settings: some only if no operation has a
+/// fence, and each is its own only piece, clear of a staging area at this address.
+///
+/// # Errors
+/// An allocation failed.
+pub fn own_pieces(
+    alloc: Global,
+    list: &[u8],
+    greatest: u64,
+    staging: u64,
+) -> Result<Option<Vec<Descriptor>>, AllocError>
+    ensures { (s : Limits) → s.greatest_transfer ≡ greatest → s.staging ≡ staging →
+        IfOk result (λ found. IfSome found (λ pieces. (barriers : List Bool) ×
+        AreFencedPieces list.now s pieces.items barriers)) }
+{
+    let operations = match read_list(alloc, list) {
+        Ok(operations) => operations,
+        Err(ListFault::Memory) => return Err(AllocError),
+        Err(ListFault::Length | ListFault::Field(_, _) | ListFault::MixedPasid(_)) => {
+            return Ok(None);
+        }
+    };
+    if are_own_pieces(&operations, greatest, staging) {
+        Ok(Some(operations))
+    } else {
+        Ok(None)
+    }
+}
+
 /// The pieces of the operations that the bytes spell, fenced or not, and their barriers.
-pub(crate) fn fenced_pieces(
+///
+/// # Errors
+/// As [`plan_fenced_list`].
+pub fn fenced_pieces(
     alloc: Global,
     list: &[u8],
     settings: &Settings,

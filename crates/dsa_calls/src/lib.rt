@@ -16,7 +16,9 @@ mod running;
 pub use checking::{check_bytes, check_plan, check_plan_with};
 pub use dsa_descriptor::MOST_PIECES;
 pub use fault::{InnerFault, PlanFault};
-pub use fenced::{FencedList, judge_fenced_list, plan_fenced_list, read_fenced_list};
+pub use fenced::{
+    FencedList, fenced_pieces, judge_fenced_list, own_pieces, plan_fenced_list, read_fenced_list,
+};
 pub use fenced_checking::{FencedFault, check_fenced_list};
 pub use judging::{judge_bytes, judge_pieces, judge_pieces_with};
 pub use laws::{

@@ -46,19 +46,27 @@ fn are_plain(list: &[Descriptor], greatest: u64, area: Span) -> bool
     is_outside(area, low, high) && is_outside(area, from, to)
 }
 
-/// Whether the list is split as it is: true only if each operation is its own only piece, and the rules of a split list
-/// are kept.
-pub(crate) fn is_split(list: &[Descriptor], settings: &Settings) -> bool
-    ensures whole { IsTrue result → AreWhole list.now settings.now.greatest_transfer }
-    ensures split { IsTrue result → IsSplit
-        settings.now.greatest_transfer settings.now.staging (map fields list.now) }
+/// True only if each operation is its own only piece, and the rules of a split list are kept with a staging area at
+/// this address.
+pub fn are_own_pieces(list: &[Descriptor], greatest: u64, staging: u64) -> bool
+    ensures whole { IsTrue result → AreWhole list.now greatest }
+    ensures split { IsTrue result → IsSplit greatest staging (map fields list.now) }
 {
     if list.len() > MOST_PIECES {
         return false;
     }
     let area = Span {
-        first: settings.staging(),
+        first: staging,
         len: STAGED_LEN * list.len() as u64,
     };
-    are_plain(list, settings.greatest_transfer(), area)
+    are_plain(list, greatest, area)
+}
+
+/// Whether the list is split as it is under these settings.
+pub(crate) fn is_split(list: &[Descriptor], settings: &Settings) -> bool
+    ensures whole { IsTrue result → AreWhole list.now settings.now.greatest_transfer }
+    ensures split { IsTrue result → IsSplit
+        settings.now.greatest_transfer settings.now.staging (map fields list.now) }
+{
+    are_own_pieces(list, settings.greatest_transfer(), settings.staging())
 }

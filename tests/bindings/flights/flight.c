@@ -162,7 +162,9 @@ static uint32_t track_bytes(struct flight *f, const struct list *l, uint64_t als
             memcpy(bytes + 64 * k + 16, o->pattern, 8);
     }
     const uint64_t staging = BASE + staging_of(l);
-    return dsa_track_list(f->words, WORDS, bytes, 64 * l->count, staging, 96 * l->count, also, slot, waits, &r);
+    const struct dsa_settings settings = {1, 1024, UINT64_C(1) << 31, 10, 14, 3, 0};
+    return dsa_track_list(f->words, WORDS, &settings, &settings.batch, 0, bytes, 64 * l->count, staging, 96 * l->count,
+                          also, slot, waits, &r);
 }
 
 static uint32_t track_spans(struct flight *f, const struct list *l, uint64_t also, uint32_t *slot, uint64_t *waits)

@@ -1,0 +1,69 @@
+-- The pieces of a list for a tracker, or why it has none.
+use Rattle.std.proofs.Common.{◌≡◌, ◌⊎◌, inl, inr, ℕ, ◌≤◌, Bool, List, Err, refl, ap, subst, ◌∙◌}
+use Rattle.dsa_descriptor.specs.declared.descriptor.Descriptor.{Descriptor}
+use Rattle.dsa_plan.specs.Settings.{Limits, AreBatchPrices, AreInLimits, greatest_price}
+use Rattle.dsa_plan.specs.Settings.BatchPrices.{BySize}
+use Rattle.dsa_calls.specs.declared.fault.PlanFault.{PlanFault}
+use Rattle.dsa_calls.specs.declared.fault.PlanFault.TheVariants.{Memory}
+use Rattle.dsa_calls.specs.Fenced.{AreFencedPieces, PlansFenced}
+use Rattle.dsa_c.specs.declared.refusal.RawRefusal.{RawRefusal}
+use Rattle.dsa_c.specs.declared.settings.RawSettings.{RawSettings}
+use Rattle.dsa_c.specs.Raw.{limits_of, prices_in, refusal_of, AreSettings, HaveLimits, IsOutside}
+use Rattle.dsa_c.specs.Tracking.{ArePiecesUnder, RefusesToSplit}
+
+-- ---- settings
+
+-- numbers within their limits are settings if the prices of batches are, too
+pub settings_from : (r : RawSettings) (table : List ℕ) → HaveLimits r → AreBatchPrices r.greatest_batch (prices_in r table) → AreSettings r table
+settings_from r table (known, have) prices = (
+  known,
+  record {
+    least_batch = have.least_batch;
+    most_batch = have.most_batch;
+    least_transfer = have.least_transfer;
+    most_transfer = have.most_transfer;
+    transfer_by_eights = have.transfer_by_eights;
+    most_lone = have.most_lone;
+    batch_prices = prices;
+    most_fence = have.most_fence;
+    most_staging = have.most_staging;
+    staging_by_lines = have.staging_by_lines;
+  },
+)
+
+pub same_price : (r : RawSettings) (table : List ℕ) → r.version ≡ 1 → r.batch ≤ greatest_price → AreBatchPrices r.greatest_batch (prices_in r table)
+same_price r table is price = rw is price
+
+pub by_size : (r : RawSettings) (table : List ℕ) → r.version ≡ 2 → AreBatchPrices r.greatest_batch (BySize table) → AreBatchPrices r.greatest_batch (prices_in r table)
+by_size r table is prices = rw is prices
+
+second_version : (r : RawSettings) → (r.version ≡ 1) ⊎ (r.version ≡ 2) → (r.version ≡ 1 → ⊥) → r.version ≡ 2
+second_version r (inl one) other = absurd (other one)
+second_version r (inr two) other = two
+
+pub settings_by_size : (r : RawSettings) (table : List ℕ) → HaveLimits r → (r.version ≡ 1 → ⊥) → AreBatchPrices r.greatest_batch (BySize table) → AreSettings r table
+settings_by_size r table have other prices = settings_from r table have (by_size r table (second_version r have.0 other) prices)
+
+pub version_two : (r : RawSettings) → HaveLimits r → (r.version ≡ 1 → ⊥) → r.version ≡ 2
+version_two r have other = second_version r have.0 other
+
+-- else one of the prices of batches is outside
+pub outside_price : (r : RawSettings) (table : List ℕ) → HaveLimits r → r.version ≡ 1 → (AreSettings r table → ⊥) → IsOutside 5 r table
+outside_price r table have is none = inr (inr (inr (inr (inl (refl, is, λ le. none (settings_from r table have (same_price r table is le)))))))
+
+pub outside_table : (r : RawSettings) (table : List ℕ) → HaveLimits r → (r.version ≡ 1 → ⊥) → (AreSettings r table → ⊥) → IsOutside 8 r table
+outside_table r table have other none =
+    inr (inr (inr (inr (inr (inr (inr (refl, version_two r have other, λ prices. none (settings_by_size r table have other prices))))))))
+
+-- ---- pieces
+
+pub are_pieces : (s : RawSettings) (table list : List ℕ) (l : Limits) (pieces : List Descriptor) (barriers : List Bool) → l ≡ limits_of s table → AreSettings s table
+    → AreFencedPieces list l pieces barriers → ArePiecesUnder s table list pieces barriers
+are_pieces s table list l pieces barriers is are found =
+    record { settings = are; pieces_are = subst (λ (x : Limits). AreFencedPieces list x pieces barriers) is found }
+
+pub refuses_to_split : (s : RawSettings) (table list : List ℕ) (l : Limits) (fault : PlanFault) (r : RawRefusal) → l ≡ limits_of s table → AreSettings s table
+    → (fault ≡ Memory) ⊎ PlansFenced list l (Err fault) → r ≡ refusal_of fault → RefusesToSplit s table list r
+refuses_to_split s table list l fault r is are (inl memory) value = inr (inl (value ∙ ap refusal_of memory, are))
+refuses_to_split s table list l fault r is are (inr refused) value =
+    inr (inr (fault, are, subst (λ (x : Limits). PlansFenced list x (Err fault)) is refused, value))

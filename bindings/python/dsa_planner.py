@@ -712,9 +712,10 @@ class Tracker:
     reads or writes. A submission has a slot until it is taken off. Calls on one tracker are made by one thread
     at a time.
 
-    Its caller rings a submission only when it is ready, completes only what was rung and has ended, and withdraws
-    only what was not rung. Then what it rings leaves what it leaves one after another. Each call may raise
-    `Refusal`, and has changed nothing then."""
+    Its caller rings a submission once and only when it is ready, completes only what was rung and has ended, and
+    withdraws only what was not rung. It fills a list's staging area and clears its records only when it is ready, too,
+    and reads its records and results before it completes it: another may be rung over them then. Then what it rings
+    leaves what it leaves one after another. Each call may raise `Refusal`, and has changed nothing then."""
 
     def __init__(self, slots: int, spans: int, log2_unit: int = 12, log2_rows: int = 13) -> None:
         """At most 64 slots, for submissions that read at most so many spans and write at most so many; a list of n

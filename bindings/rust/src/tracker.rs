@@ -58,8 +58,9 @@ pub struct Retired {
 /// or writes. A submission has a slot until it is taken off.
 ///
 /// Its caller rings each submission once and only when it is ready, completes only what was rung and has ended, and
-/// withdraws only what was not rung. Then what it rings leaves what it leaves one after another. A call that fails
-/// has changed nothing.
+/// withdraws only what was not rung. It fills a list's staging area and clears its records only when it is ready, too,
+/// and reads its records and results before it completes it: another may be rung over them then. Then what it rings
+/// leaves what it leaves one after another. A call that fails has changed nothing.
 ///
 /// ```
 /// use dsa_planner::{Slots, Span, Tracker};

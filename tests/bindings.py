@@ -102,12 +102,26 @@ def fenced():
     tried("fenced", [compiled("tests/bindings/fenced.c"), count], f"{count} lists with barriers\n")
 
 
+def with_library():
+    """The environment in which the Python module finds a shared object of the archive."""
+    library = f"{WORK}/libdsa_planner.so.1"
+    if not Path(library).exists():
+        whole = ["-Wl,--whole-archive", ARCHIVE, "-Wl,--no-whole-archive"]
+        parts = [f"bindings/c/{name}.c" for name in ("memory", "version")]
+        flags = ["-O2", "-fPIC", "-shared", "-I", "bindings/c"]
+        tried("the build of a shared object", [compiler(), *flags, *parts, *whole, "-o", library])
+    return {**os.environ, "DSA_PLANNER_LIBRARY": library}
+
+
 def resumed():
-    """What is left of random lists by random completion records, and each refusal (RESUMED=100000)."""
+    """What is left of random lists by random completion records, and each refusal (RESUMED=100000); lists that stop,
+    some with shared records, beside a model (STOPPED=20000)."""
     count = os.environ.get("RESUMED", "2000")
     tried("resumed", [compiled("tests/bindings/resumed.c"), count, "20261127"], f"{count} lists resumed\n")
     if sanitizers():
         tried("resumed with sanitizers", [compiled("tests/bindings/resumed.c", *SANITIZE), "200", "7"])
+    command = [sys.executable, "-B", "tests/resume_model.py", os.environ.get("STOPPED", "200"), "20261128"]
+    tried("lists that stop beside the model", command, env=with_library())
 
 
 def random_lists():
@@ -160,13 +174,8 @@ def tracked():
         tried("a tracker on any words under valgrind", [*watch, compiled(source), "200", "7"])
     if sanitizers():
         tried("a tracker on any words with sanitizers", [compiled(source, *SANITIZE), "2000", "9"])
-    library = f"{WORK}/libdsa_planner.so.1"
-    whole = ["-Wl,--whole-archive", ARCHIVE, "-Wl,--no-whole-archive"]
-    parts = [f"bindings/c/{name}.c" for name in ("memory", "version")]
-    flags = ["-O2", "-fPIC", "-shared", "-I", "bindings/c"]
-    tried("the build of a shared object", [compiler(), *flags, *parts, *whole, "-o", library])
-    how = {**os.environ, "DSA_PLANNER_LIBRARY": library}
-    tried("a tracker beside the model", [sys.executable, "-B", "tests/tracker_model.py", count, "20261126"], env=how)
+    command = [sys.executable, "-B", "tests/tracker_model.py", count, "20261126"]
+    tried("a tracker beside the model", command, env=with_library())
 
 
 def flights():

@@ -1,7 +1,8 @@
 """Texts that a person types: with mistakes, each of which dsa_text names; with barriers, which the plan keeps at least
-cost; and of a list that stopped, of which `resume` says what is left."""
+cost; and of a list that stopped, of which `resume` says what is left, or that two pieces share a record."""
 import json
 import random
+import re
 import subprocess
 import tempfile
 from pathlib import Path
@@ -113,7 +114,8 @@ def resumed(text):
             expect(got == (0, wanted, ""), f"{words}: wanted {wanted!r}, got {got}")
         records = "there are not 32 bytes of completion records for each piece [112 Records]"
         sizes = "note: {} pieces have {} bytes of records, and these are {}\n".format
-        apart = "note: a list with barriers is not resumed: resume what is between two barriers by itself\n"
+        apart = "note: a list with barriers is not resumed: resume what is between two, "
+        apart += "nothing after a failed check\n"
         for words, given, status, error in (
             ([*short, "--records", f"{folder}/odd"], lines, 1, f"error: {records}\n{sizes(4, 128, 127)}"),
             (["--records", f"{folder}/some"], lines, 1, f"error: {records}\n{sizes(2, 64, 128)}"),
@@ -151,3 +153,37 @@ def resumed(text):
             ran = subprocess.run([text, *words], input=listed, capture_output=True, text=True)
             got, wanted = (ran.returncode, ran.stderr), (0, early.format(*places) if places else "")
             expect(got == wanted, f"resume, statuses {statuses}: wanted {wanted}, got {got}")
+        sharing(text, folder)
+
+
+def sharing(text, folder):
+    """Lists in which a piece writes into the record of another are refused, whatever the records say: the least second
+    piece is named, and for it the greatest first one. The operations beside it are named as `explain` names them."""
+    words = "one of pieces {} and {} writes into the other's record: resume from the failed entry on if only groups "
+    words += "before it share records; else restore the memory, and run the whole list with a record for each "
+    words += "[113 SharedRecord {} {}]"
+    row = "warning: operation {}'s record is in the row of operation {} (1 record, 0x8000 to 0x801f): use 0x{}\n".format
+    over = "warning: operation {} writes data at 0x{:x} to 0x{:x}, "
+    over += "and operation {} writes its completion records at 0x{:x} to 0x{:x}\n"
+    moves = ["move 0x100 -> 0x200, 8 bytes, record 0x8000\n", "move 0x400 -> 0x500, 8 bytes, record 0x8020\n"]
+    third = "move 0x300 -> 0x600, 8 bytes, record 0x{:x}\n".format
+    one_record = ["move 0x100 -> 0x200, 8 bytes, record 0x8000\n", "move 0x300 -> 0x100, 8 bytes, record 0x8000\n"]
+    one_record += ["move 0x400 -> 0x500, 8 bytes, record 0x8000\n"]
+    shared_by_all = row(1, 0, "8020") + row(2, 0, "8040")
+    fill = "fill 0x8010 with 0000000000000000, {} bytes, record 0x9000\n".format
+    for lines, statuses, pair, notes in (
+        ([*moves, third(0x8000)], (1, 3, 1), (0, 2), row(2, 0, "8040")),
+        (one_record, (3, 3, 3), (0, 1), shared_by_all),
+        ([fill(16), *moves], (1, 0, 3), (0, 1), over.format(0, 0x8010, 0x801F, 1, 0x8000, 0x801F)),
+        ([*moves, fill(24)], (1, 1, 3), (1, 2), over.format(2, 0x8010, 0x8027, 1, 0x8020, 0x803F)),
+        ([*moves, third(0x8040)], (1, 1, 3), None, ""),
+    ):
+        Path(folder, "some").write_bytes(b"".join(bytes([status]).ljust(32, b"\0") for status in statuses))
+        command = [text, "resume", "--records", f"{folder}/some"]
+        ran = subprocess.run(command, input="".join(lines), capture_output=True, text=True)
+        wanted = (1, "", f"error: {words.format(*pair, *pair)}\n{notes}") if pair else (0, lines[2], "")
+        said = re.sub("warning: piece .*\n", "", ran.stderr)
+        got = (ran.returncode, ran.stdout, said)
+        expect(got == wanted, f"resume of {lines}: wanted {wanted}, got {got}")
+    ran = subprocess.run([text, "explain"], input="".join(one_record), capture_output=True, text=True)
+    expect((ran.returncode, ran.stderr) == (0, shared_by_all), f"explain of {one_record}: {ran.stderr!r}")

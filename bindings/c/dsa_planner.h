@@ -202,6 +202,7 @@ enum dsa_number {
     DSA_NOT_PREPARED = 111,       /* no index: the rows do not have the form of a prepared list of this version */
     /* resuming */
     DSA_RECORDS = 112, /* no index: there are not 32 bytes of completion records for each piece */
+    DSA_SHARED_RECORD = 113, /* the two pieces: one of them writes into the completion record of the other */
     /* tracking */
     DSA_NO_SLOT = 120,         /* no index: all slots have outstanding submissions */
     DSA_TOO_MANY_SPANS = 121,  /* how many spans the submission may read or write */
@@ -356,14 +357,21 @@ uint32_t dsa_check_fenced_list(const struct dsa_settings *settings,
  * move to a higher address within its own range run from the end, and so do their records: the one at its record
  * address is that of its last piece.
  *
+ * A list with barriers can't be resumed (DSA_FLAG_BITS): resume what is between two barriers by itself, and nothing
+ * after a barrier before which a record has the status 2. Clearing the flags does not help: what a failed check has
+ * stopped would be done.
+ *
  * Returns 0: rest begins with the list of the pieces that have not finished, 64 bytes each, and rest_len is its length
  * (64 bytes for each piece are always enough). They are as they were listed; if failed_first is not 0, those that
- * failed come before those that wait. Clear their completion records, and plan the list. If no entry of the portal was
- * submitted after one that failed, doing it leaves what the whole list leaves, provided that what is left writes each
- * byte that a failed piece or the clearing of a record has changed before it reads it.
+ * failed come before those that wait. Clear their completion records, and plan the list: planning does not refuse it.
+ * If no entry of the portal was submitted after one that failed, doing it leaves what the whole list leaves, provided
+ * that what is left writes each byte that a failed piece or the clearing of a record has changed before it reads it.
  *
  * Returns another number: refusal has it, and nothing else was written: the first refusal of dsa_plan_list but for
- * DSA_NO_ROOM, then DSA_RECORDS, then DSA_NO_ROOM_FOR_LIST.
+ * DSA_NO_ROOM, then DSA_RECORDS, then DSA_SHARED_RECORD, then DSA_NO_ROOM_FOR_LIST. DSA_SHARED_RECORD: a record that
+ * another piece writes, with its data or its own record, does not say how its piece has ended. Give each piece a record
+ * of its own before the next run. Now, if only pieces of completed groups share records, give the pieces from the
+ * failed entry on, with their records, as the list; else restore the memory and run the whole list.
  */
 uint32_t dsa_resume(const struct dsa_settings *settings,
                     const uint64_t *table, size_t table_len,

@@ -325,6 +325,7 @@ CAUSES: Dict[int, str] = {
     110: "Staging",
     111: "NotPrepared",
     112: "Records",
+    113: "SharedRecord",
     120: "NoSlot",
     121: "TooManySpans",
     122: "NotOutstanding",
@@ -579,7 +580,11 @@ def resume(settings: Settings, operations: Bytes, records: Bytes, failed_first: 
     """What is left to submit of a list that was planned with these settings, once a submission has stopped: the pieces
     that have not finished, by their completion records, 32 bytes for each in their order (first byte 0: it waits; 1, 2:
     it has finished). Those of a move to a higher address within its own range run from the end, and so do its records.
-    Clear the records of what is left, and plan it: docs/USING.md says when that is right. Raises `Refusal`."""
+    Clear the records of what is left, and plan it: docs/USING.md says when that is right. Raises `Refusal`.
+
+    A list with barriers can't be resumed (3): resume what is between two barriers by itself, and nothing after one
+    before which a record has the status 2. Nor can one in which a piece writes into the record of another (113): resume
+    from the failed entry on if only completed groups share records; else restore the memory and run all of it."""
     raw, table, entries = settings._raw()
     listed, size = _given("operations", operations)
     pieces = min(int(_library.dsa_count_pieces(raw, table, entries, listed, size)), MOST_PIECES)

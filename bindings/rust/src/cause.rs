@@ -166,6 +166,8 @@ causes! {
     NotPrepared = 111,
     /// There are not 32 bytes of completion records for each piece.
     Records = 112,
+    /// One of pieces `first` and `second` writes into the completion record of the other.
+    SharedRecord = 113,
     /// All slots have outstanding submissions.
     NoSlot = 120,
     /// The submission may read or write `first` spans, more than the tracker keeps of one.

@@ -2,7 +2,7 @@
 use Rattle.std.specs.Prelude.{◌≡◌, ◌⊎◌, ℕ, ◌<◌, ◌≤◌, ◌==◌, List, length, Ok, Err, if◌then◌else◌}
 use Rattle.dsa_calls.specs.declared.fault.PlanFault.TheVariants.{Memory}
 use Rattle.dsa_resume.specs.declared.fault.ResumeFault.{ResumeFault}
-use Rattle.dsa_resume.specs.declared.fault.ResumeFault.TheVariants.{Plan, Records}
+use Rattle.dsa_resume.specs.declared.fault.ResumeFault.TheVariants.{Plan, Records, SharedRecord}
 use Rattle.dsa_resume.specs.declared.left.LeftOrder.{LeftOrder}
 use Rattle.dsa_resume.specs.declared.left.LeftOrder.TheVariants.{AsListed, FailedFirst}
 use Rattle.dsa_resume.specs.Resumed.{Resumes}
@@ -15,10 +15,12 @@ use Rattle.dsa_c.specs.Raw.{limits_of, AreSettings, RefusesSettings, written, re
 abbrev pub order_of : ℕ → LeftOrder
 order_of failed_first = if failed_first == 0 then AsListed else FailedFirst
 
--- the refusal of a cause why a list is not resumed; number 112 for records of another length (this project's choice)
+-- the refusal of a cause why a list is not resumed; number 112 for records of another length, 113 for two pieces that share a
+-- record (this project's choice)
 abbrev pub resume_refusal_of : ResumeFault → RawRefusal
 resume_refusal_of (Plan fault) = refusal_of fault
 resume_refusal_of Records = refusal_at 112 0 0
+resume_refusal_of (SharedRecord i j) = refusal_at 113 i j
 
 -- the refusal of a buffer that is too small for the list: number 93, and the bytes that are needed (this project's choice)
 abbrev pub no_room_for_list : ℕ → RawRefusal

@@ -15,6 +15,9 @@ pub const NO_ROOM_FOR_LIST: u32 = 93;
 /// The number of the refusal of records of another length.
 pub const RECORDS: u32 = 112;
 
+/// The number of the refusal of two pieces that share a completion record.
+pub const SHARED_RECORD: u32 = 113;
+
 /// The refusal of this cause.
 fn resume_refusal(fault: ResumeFault) -> RawRefusal
     ensures value { result ≡ resume_refusal_of fault }
@@ -23,6 +26,7 @@ fn resume_refusal(fault: ResumeFault) -> RawRefusal
     match fault {
         ResumeFault::Plan(fault) => refusal(fault),
         ResumeFault::Records => refusal_at(RECORDS, 0, 0),
+        ResumeFault::SharedRecord(i, j) => refusal_at(SHARED_RECORD, i as u64, j as u64),
     }
 }
 

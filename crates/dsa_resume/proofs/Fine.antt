@@ -29,7 +29,7 @@ all_fine d [] m fine all = tt
 all_fine d (e ∷ es) m fine (here, all) = (still_fine d e m fine here, all_fine d es m fine all)
 
 -- two that don't conflict leave the same in either order
-swapped : (d e : Fields) (m : Memory) → IsFine m d → IsFine m e → (Conflicts d e → ⊥) → done d (done e m) ≡ done e (done d m)
+pub swapped : (d e : Fields) (m : Memory) → IsFine m d → IsFine m e → (Conflicts d e → ⊥) → done d (done e m) ≡ done e (done d m)
 swapped d e m (held_d, apart_d) (held_e, apart_e) clear =
     let both : (machine.done descriptor_machine d (machine.done descriptor_machine e m).memory).memory
     ≡ (machine.done descriptor_machine e (machine.done descriptor_machine d m).memory).memory =

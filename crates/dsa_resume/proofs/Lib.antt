@@ -1,6 +1,10 @@
 pub mod Fine
 pub mod Redone
 pub mod Parting
+pub mod FirstFailed
 pub mod Plans
+pub mod Sharing
+pub mod Storing
 pub mod Resumed
 pub mod Short
+pub mod Again

@@ -34,7 +34,7 @@ fine_by : (b : Bool) (wanted : Ended → Bool) (m : Memory) (p : Fields) (ps : L
 fine_by true wanted m p ps r rs e here all = rw e (here, all)
 fine_by false wanted m p ps r rs e here all = rw e all
 
-those_fine : (wanted : Ended → Bool) (m : Memory) (ps : List Fields) (rs : List (List ℕ)) → AllByRecursion (IsFine m) ps → AllByRecursion (IsFine m) (those wanted ps rs)
+pub those_fine : (wanted : Ended → Bool) (m : Memory) (ps : List Fields) (rs : List (List ℕ)) → AllByRecursion (IsFine m) ps → AllByRecursion (IsFine m) (those wanted ps rs)
 those_fine wanted m [] rs all = tt
 those_fine wanted m (p ∷ ps) [] all = tt
 those_fine wanted m (p ∷ ps) (r ∷ rs) (here, all) = fine_by (wanted (ended_of r)) wanted m p ps r rs refl here (those_fine wanted m ps rs all)
@@ -46,7 +46,7 @@ clear_by : (b : Bool) (wanted : Ended → Bool) (p q : Fields) (ps : List Fields
 clear_by true wanted p q ps r rs e here all = rw e (here e, all)
 clear_by false wanted p q ps r rs e here all = rw e all
 
-clear_of : (wanted : Ended → Bool) (p : Fields) (ps : List Fields) (rs : List (List ℕ))
+pub clear_of : (wanted : Ended → Bool) (p : Fields) (ps : List Fields) (rs : List (List ℕ))
     → ((j : ℕ) (e : Fields) → HasEnded wanted rs j → slice_get ps j ≡ Some e → Conflicts p e → ⊥) → AllByRecursion (λ (e : Fields). Conflicts p e → ⊥) (those wanted ps rs)
 clear_of wanted p [] rs apart = tt
 clear_of wanted p (q ∷ ps) [] apart = tt
@@ -54,7 +54,7 @@ clear_of wanted p (q ∷ ps) (r ∷ rs) apart =
     clear_by (wanted (ended_of r)) wanted p q ps r rs refl (λ e. apart 0 q (r, refl, e) refl) (clear_of wanted p ps rs (λ j e ended there. apart (suc j) e ended there))
 
 -- the condition on the later pieces
-later : (first second : Ended → Bool) (p : Fields) (ps : List Fields) (r : List ℕ) (rs : List (List ℕ)) → MayComeFirst first second (p ∷ ps) (r ∷ rs) → MayComeFirst first second ps rs
+pub later : (first second : Ended → Bool) (p : Fields) (ps : List Fields) (r : List ℕ) (rs : List (List ℕ)) → MayComeFirst first second (p ∷ ps) (r ∷ rs) → MayComeFirst first second ps rs
 later first second p ps r rs may i j less one two (d, e, at, there, conflict) = may (suc i) (suc j) (omega arith) one two (d, e, at, there, conflict)
 
 -- the same of a first piece, by its part
@@ -114,7 +114,7 @@ listed_fine [] m holds = tt
 listed_fine (d ∷ ds) m holds = ((All-head (HoldsRanges m) (fields d) (map fields ds) holds, d.listed.regions_apart), listed_fine ds m (All-tail (HoldsRanges m) (fields d) (map fields ds) holds))
 
 -- those that have finished keep all else fine
-fine_after : (es ps : List Fields) (m : Memory) → AllByRecursion (IsFine m) es → AllByRecursion (IsFine m) ps → AllByRecursion (IsFine (fold_done es m)) ps
+pub fine_after : (es ps : List Fields) (m : Memory) → AllByRecursion (IsFine m) es → AllByRecursion (IsFine m) ps → AllByRecursion (IsFine (fold_done es m)) ps
 fine_after [] ps m fine all = all
 fine_after (e ∷ es) ps m (here, fine) all = fine_after es ps (done e m) (all_fine e es m here fine) (all_fine e ps m here all)
 

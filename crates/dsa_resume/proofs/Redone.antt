@@ -23,7 +23,7 @@ use Rattle.dsa_resume.specs.Laws.{Overwrites, IsRewritten, HasLeft}
 
 -- ---- what an operation writes and finds rests on what it reads
 
-data_same : (op : Op) (size : ℕ) (m n : Memory) → AgreeOn (sources op size) m n → (a : ℕ) → data_of_op op size n a ≡ data_of_op op size m a
+pub data_same : (op : Op) (size : ℕ) (m n : Memory) → AgreeOn (sources op size) m n → (a : ℕ) → data_of_op op size n a ≡ data_of_op op size m a
 data_same (Move src dst) size m n agree a = copied_same m n src dst 0 size (same_source m n src size 0 size (omega arith) (λ b h. agree b (inl h))) a
 data_same (Fill pattern dst) size m n agree a = refl
 data_same (Compare src src2 expected) size m n agree a = refl

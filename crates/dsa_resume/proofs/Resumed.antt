@@ -10,10 +10,11 @@ use Rattle.dsa_plan.specs.Settings.{Limits}
 use Rattle.dsa_calls.specs.declared.fault.PlanFault.{PlanFault}
 use Rattle.dsa_calls.specs.declared.fault.PlanFault.TheVariants.{Memory}
 use Rattle.dsa_calls.specs.Planned.{ArePiecesOf, SplitsList}
-use Rattle.dsa_resume.specs.declared.fault.ResumeFault.TheVariants.{Plan, Records}
+use Rattle.dsa_resume.specs.declared.fault.ResumeFault.TheVariants.{Plan, Records, SharedRecord}
 use Rattle.dsa_resume.specs.declared.left.LeftOrder.{LeftOrder}
 use Rattle.dsa_resume.specs.Left.{left_of}
-use Rattle.dsa_resume.specs.Resumed.{completions_of, is_refused, lacks_records, has_left, AnswersResume}
+use Rattle.dsa_resume.specs.Resumed.{completions_of, is_refused, lacks_records, shares_record, has_left, AnswersResume}
+use Rattle.dsa_resume.specs.Shared.{IsFirstShared, NoneShare}
 
 -- the list has no pieces
 pub answer_refused : (s : Limits) (list records : List ℕ) (order : LeftOrder) (fault : PlanFault) → (fault ≡ Memory) ⊎ SplitsList s list (Err fault)
@@ -26,13 +27,18 @@ pub answer_records : (s : Limits) (list records : List ℕ) (order : LeftOrder) 
     → AnswersResume s list records order (Err Records)
 answer_records s list records order pieces are other = inr (lacks_records pieces are other refl)
 
+-- two pieces share a record
+pub answer_shared : (s : Limits) (list records : List ℕ) (order : LeftOrder) (pieces : List Descriptor) (i j : ℕ) → ArePiecesOf s list pieces → length records ≡ 32 * length pieces
+    → IsFirstShared (map fields pieces) i j → AnswersResume s list records order (Err (SharedRecord i j))
+answer_shared s list records order pieces i j are count first = inr (shares_record pieces i j are count first refl)
+
 -- the bytes of what is left
 pub answer_left : (s : Limits) (list records : List ℕ) (order : LeftOrder) (pieces : List Descriptor) (completions : List (List ℕ)) (bytes : Vec ℕ Global) → ArePiecesOf s list pieces
-    → length records ≡ 32 * length pieces → completions ≡ first_chunks 32 (length records / 32) records
+    → length records ≡ 32 * length pieces → NoneShare (map fields pieces) → completions ≡ first_chunks 32 (length records / 32) records
     → bytes.items ≡ list_spelling (map fields (left_of order pieces completions)) → AnswersResume s list records order (Ok bytes)
-answer_left s list records order pieces completions bytes are count chunks is =
+answer_left s list records order pieces completions bytes are count none chunks is =
     let same : completions ≡ completions_of records pieces = chunks ∙ ap (λ (n : ℕ). first_chunks 32 n records) (omega arith) in
-    has_left pieces are count (ap Ok (is ∙ ap (λ (rs : List (List ℕ)). list_spelling (map fields (left_of order pieces rs))) same))
+    has_left pieces are count none (ap Ok (is ∙ ap (λ (rs : List (List ℕ)). list_spelling (map fields (left_of order pieces rs))) same))
 
 -- one more descriptor is spelled
 pub spelled_more : (list : List Descriptor) (i : ℕ) (d : Descriptor) (all bytes more : List ℕ) → i < length list → d ≡ get_or list i d

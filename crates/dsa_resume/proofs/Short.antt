@@ -9,7 +9,7 @@ use Rattle.dsa_resume.specs.declared.left.LeftOrder.{LeftOrder}
 use Rattle.dsa_resume.specs.declared.left.LeftOrder.TheVariants.{AsListed, FailedFirst}
 use Rattle.dsa_resume.specs.Ended.{ended_of, is_left, has_failed, is_waiting}
 use Rattle.dsa_resume.specs.Left.{those, left_of}
-use Rattle.dsa_resume.specs.Resumed.{completions_of, left_bytes, is_refused, lacks_records, has_left}
+use Rattle.dsa_resume.specs.Resumed.{completions_of, left_bytes, is_refused, lacks_records, shares_record, has_left}
 use Rattle.dsa_resume.specs.Laws.{LeftIsShort}
 
 -- those of one piece more
@@ -46,14 +46,15 @@ both_few (d ∷ ds) (r ∷ rs) =
       both_few ds rs,
     )
 
-few_left : (order : LeftOrder) (ds : List Descriptor) (rs : List (List ℕ)) → length (left_of order ds rs) ≤ length ds
+pub few_left : (order : LeftOrder) (ds : List Descriptor) (rs : List (List ℕ)) → length (left_of order ds rs) ≤ length ds
 few_left AsListed ds rs = left_few ds rs
 few_left FailedFirst ds rs = omega (arith, length-append (those has_failed ds rs) (those is_waiting ds rs), both_few ds rs)
 
 pub left_is_short : LeftIsShort
 left_is_short s list records bytes order (is_refused fault split e) = absurd (cc)
 left_is_short s list records bytes order (lacks_records pieces are none e) = absurd (cc)
-left_is_short s list records bytes order (has_left pieces are count e) =
+left_is_short s list records bytes order (shares_record pieces i j are count first e) = absurd (cc)
+left_is_short s list records bytes order (has_left pieces are count none e) =
     let rest : List Descriptor = left_of order pieces (completions_of records pieces) in
     let is : bytes ≡ left_bytes order pieces records = cc in
     (pieces, are, omega (arith, ap length is, length-list_spelling rest, few_left order pieces (completions_of records pieces)))

@@ -67,6 +67,15 @@ ResumesFailedFirst =
     → HasLeft (left_of FailedFirst (map fields ds) completions) (fold_done (those has_finished (map fields ds) completions) m) n
     → fold_done (left_of FailedFirst (map fields ds) completions) n ≡ fold_done (map fields ds) m
 
+-- What is left in the listed order is what is left with the failed pieces first, too, if none that waits conflicts with a
+-- later one that failed.
+abbrev pub FailedFirstHasLeft : Type 0
+FailedFirstHasLeft =
+    (ds : List Descriptor) (completions : List (List ℕ)) (m n : Memory) → AreRecorded (map fields ds) completions m
+    → MayComeFirst has_failed is_waiting (map fields ds) completions
+    → HasLeft (left_of AsListed (map fields ds) completions) (fold_done (those has_finished (map fields ds) completions) m) n
+    → HasLeft (left_of FailedFirst (map fields ds) completions) (fold_done (those has_finished (map fields ds) completions) m) n
+
 -- If a piece has begun, all pieces of earlier epochs have succeeded (specification 341204, batch and fence; of groups, that
 -- the next one is submitted after success): so it is in the epoch of each earlier piece that has not finished.
 abbrev pub StopsAtAnEpoch : Plan → List (List ℕ) → Type 0

@@ -13,6 +13,8 @@ pub enum ResumeFault {
     Plan(PlanFault),
     /// There are not 32 bytes of records for each piece.
     Records,
+    /// One of these two pieces writes into the completion record of the other.
+    SharedRecord(usize, usize),
 }
 
 impl ResumeFault {
@@ -23,6 +25,7 @@ impl ResumeFault {
         match self {
             ResumeFault::Plan(fault) => fault.number(),
             ResumeFault::Records => 112,
+            ResumeFault::SharedRecord(_, _) => 113,
         }
     }
 
@@ -34,6 +37,7 @@ impl ResumeFault {
         match self {
             ResumeFault::Plan(fault) => fault.name(),
             ResumeFault::Records => "Records",
+            ResumeFault::SharedRecord(_, _) => "SharedRecord",
         }
     }
 
@@ -44,6 +48,7 @@ impl ResumeFault {
         match self {
             ResumeFault::Plan(fault) => fault.indices(),
             ResumeFault::Records => Indices::Empty,
+            ResumeFault::SharedRecord(i, j) => Indices::Two(i as u64, j as u64),
         }
     }
 }

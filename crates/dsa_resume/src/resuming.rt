@@ -6,10 +6,11 @@ ghost use Rattle.dsa_descriptor.specs.Lists.{list_spelling};
 ghost use Rattle.dsa_calls.specs.Lists.{OrMemory};
 ghost use Rattle.dsa_calls.specs.Planned.{CanBePlanned, SplitsList};
 ghost use Rattle.dsa_resume.specs.Left.{left_of};
-ghost use Rattle.dsa_resume.specs.Resumed.{AnswersResume};
+ghost use Rattle.dsa_resume.specs.Resumed.{AnswersResume, CanBePlannedAgain};
 
 use crate::fault::ResumeFault;
 use crate::left::{LeftOrder, left_pieces};
+use crate::shared::first_shared;
 use dsa_calls::PlanFault;
 use dsa_descriptor::{Descriptor, read_list};
 use dsa_settings::Settings;
@@ -20,8 +21,12 @@ use std::alloc::{AllocError, Global};
 /// its pieces, 32 bytes each, in the order of the pieces: the list of the pieces that have not finished, in this order.
 /// They have no fence.
 ///
+/// A list with a fence is refused [`ListFault::Field`](dsa_descriptor::ListFault::Field): of a list with barriers
+/// resume what is between two barriers by itself, and nothing after a barrier before which a record has the status 2.
+///
 /// # Errors
-/// What planning refuses of the list before it has pieces; else [`ResumeFault::Records`];
+/// What planning refuses of the list before it has pieces; else [`ResumeFault::Records`]; else
+/// [`ResumeFault::SharedRecord`] for the first two pieces of which one writes into the record of the other;
 /// [`PlanFault::Memory`] at the first allocation that fails.
 pub fn resume_list(
     alloc: Global,
@@ -30,7 +35,8 @@ pub fn resume_list(
     records: &[u8],
     order: LeftOrder,
 ) -> Result<Vec<u8>, ResumeFault>
-    ensures { AnswersResume settings.now list.now records.now order result }
+    ensures answer { AnswersResume settings.now list.now records.now order result }
+    ensures again { IfOk result (λ bytes. CanBePlannedAgain settings.now bytes.items) }
 {
     let pieces = match pieces_of(alloc, list, settings) {
         Ok(pieces) => pieces,
@@ -38,6 +44,12 @@ pub fn resume_list(
     };
     if records.len() != 32 * pieces.len() {
         return Err(ResumeFault::Records);
+    }
+    // no piece touches the staging area, so its first byte is in no record
+    match first_shared(alloc, &pieces, settings.staging()) {
+        Ok(Some((i, j))) => return Err(ResumeFault::SharedRecord(i, j)),
+        Ok(None) => {}
+        Err(_) => return Err(ResumeFault::Plan(PlanFault::Memory)),
     }
     let (completions, _) = records.as_chunks::<32>();
     match left_bytes(alloc, &pieces, completions, order) {

@@ -12,12 +12,12 @@ use Rattle.dsa_lines.specs.Barriers.{AssemblesMarked, IsMarkedListing}
 use Rattle.dsa_calls.specs.declared.fault.PlanFault.{PlanFault}
 use Rattle.dsa_calls.specs.declared.fault.PlanFault.TheVariants.{Memory}
 use Rattle.dsa_resume.specs.declared.fault.ResumeFault.{ResumeFault}
-use Rattle.dsa_resume.specs.declared.fault.ResumeFault.TheVariants.{Plan, Records}
+use Rattle.dsa_resume.specs.declared.fault.ResumeFault.TheVariants.{Plan, Records, SharedRecord}
 use Rattle.dsa_resume.specs.declared.left.LeftOrder.{LeftOrder}
 use Rattle.dsa_resume.specs.Resumed.{Resumes}
 use Rattle.dsa_text.specs.declared.answer.Answer.{Answer}
 use Rattle.dsa_text.specs.Refusals.{IsRefusal, RefusesText}
-use Rattle.dsa_text.specs.Resumed.{LacksRecords, ResumesText, is_no_list, is_refused, lacks_records, has_left}
+use Rattle.dsa_text.specs.Resumed.{LacksRecords, NamesShared, ResumesText, is_no_list, is_refused, lacks_records, shares_record, has_left}
 
 -- what holds of an answer
 pub if_ok_more : {E : Type 0} (P Q : Answer → Type 0) (r : Result Answer E) → ((a : Answer) → P a → Q a) → IfOk r P → IfOk r Q
@@ -40,6 +40,12 @@ pub resume_lacks : (text list : List ℕ) (s : Limits) (records : List ℕ) (ord
     → (◌≡◌ {A = ResumeFault} Records (Plan Memory)) ⊎ Resumes s list records order (Err Records) → LacksRecords a → ResumesText text s records order a
 resume_lacks text list s records order a listing (inl is) refusal = absurd cc
 resume_lacks text list s records order a listing (inr refused) refusal = lacks_records list listing refused refusal
+
+-- two pieces share a record
+pub resume_shares : (text list : List ℕ) (s : Limits) (records : List ℕ) (order : LeftOrder) (i j : ℕ) (a : Answer) → IsMarkedListing false (lines_of text) list
+    → (◌≡◌ {A = ResumeFault} (SharedRecord i j) (Plan Memory)) ⊎ Resumes s list records order (Err (SharedRecord i j)) → NamesShared i j a → ResumesText text s records order a
+resume_shares text list s records order i j a listing (inl is) names = absurd cc
+resume_shares text list s records order i j a listing (inr refused) names = shares_record list i j listing refused names
 
 -- the lines of what is left
 pub resume_left : (text list rest : List ℕ) (s : Limits) (records : List ℕ) (order : LeftOrder) (ds : List Descriptor) (a : Answer) → IsMarkedListing false (lines_of text) list

@@ -4,8 +4,10 @@ ghost use Rattle.std.specs.Prelude.{map};
 ghost use Rattle.dsa_descriptor.specs.Descriptors.{fields};
 ghost use Rattle.dsa_descriptor.specs.Lists.{HaveOneOwner};
 
-use crate::kept::cuts_of;
+use crate::kept::{cuts_of, joined};
 use crate::origins::count_of;
+use crate::overwritten::overwritten_notes;
+use crate::rows::warnings_of;
 use dsa_calls::{PlanFault, plan_operations};
 use dsa_descriptor::Descriptor;
 use dsa_lines::{TextFault, parse_operations, text_barriers};
@@ -14,7 +16,7 @@ use std::alloc::{AllocError, Global};
 
 /// The note on a list with barriers.
 const BARRIERS: &str =
-    "note: a list with barriers is not resumed: resume what is between two barriers by itself\n";
+    "note: a list with barriers is not resumed: resume what is between two, nothing after a failed check\n";
 
 /// A piece that has begun, though an earlier one of another epoch has not succeeded.
 #[derive(Clone, Copy)]
@@ -104,8 +106,9 @@ fn early_note(
     Ok(Some(text))
 }
 
-/// The note or warning about a list and records: that the list has barriers, how long the records should be, or that
-/// submitting the groups of its plan in turn does not leave them.
+/// The notes and warnings about a list and records: that the list has barriers, or how long the records should be; else
+/// which operations meet the records of others, and that submitting the groups of its plan in turn does not leave such
+/// records.
 pub(crate) fn resume_notes(
     alloc: Global,
     text: &[u8],
@@ -127,5 +130,9 @@ pub(crate) fn resume_notes(
             "note: {pieces} pieces have {needed} bytes of records, and these are {given}\n"
         )?));
     }
-    early_note(alloc, &operations, settings, records)
+    let shared = joined(
+        warnings_of(alloc, &operations, settings)?,
+        overwritten_notes(alloc, &operations, settings)?,
+    )?;
+    joined(shared, early_note(alloc, &operations, settings, records)?)
 }

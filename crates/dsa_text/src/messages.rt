@@ -33,7 +33,11 @@ fn without_place(said: &str) -> &str {
 }
 
 /// Writes the sentence of a cause with its indices. Which descriptor it is about is written before, as the place.
-fn push_sentence(text: &mut String, number: u64, indices: Indices) -> Result<(), AllocError> {
+pub(crate) fn push_sentence(
+    text: &mut String,
+    number: u64,
+    indices: Indices,
+) -> Result<(), AllocError> {
     let (first, second) = numbers_of(indices);
     let number = u32::try_from(number).unwrap_or(0);
     let said = refusal_text(number, 0, first, second);

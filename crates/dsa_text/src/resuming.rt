@@ -1,12 +1,14 @@
 //! `resume`: the lines of what is left of a list whose submission stopped.
 
 ghost use Rattle.std.specs.Prelude.{IfOk};
-ghost use Rattle.dsa_text.specs.Resumed.{LacksRecords, ResumesText};
+ghost use Rattle.dsa_text.specs.Resumed.{LacksRecords, NamesShared, ResumesText};
 
 use crate::answer::Answer;
+use crate::messages::push_sentence;
 use crate::{file, flag, settings_options};
 use clap::{Arg, ArgAction, Command};
 use dsa_calls::PlanFault;
+use dsa_descriptor::Indices;
 use dsa_lines::{assemble_fenced, disassemble};
 use dsa_plan::Settings;
 use dsa_resume::{LeftOrder, ResumeFault, resume_list};
@@ -21,6 +23,10 @@ first, as explain shows. They are read as disassemble reads bytes.
 
 What is written are the lines of the pieces that have not finished (status other than 1 and 2): plan these, with
 their records set to zero.
+
+A list with barriers is refused: resume what is between two barriers by itself, and nothing after a barrier before
+which a record has status 2. So is a list in which an operation writes into the completion record of another, since
+such a record does not say how its own operation has ended.
 Example: dsa_text resume --records records.hex store.txt";
 
 /// The refusal of records of another length.
@@ -77,6 +83,7 @@ pub(crate) fn resume_text(
         },
         Err(ResumeFault::Plan(fault)) => Answer::fault(alloc, fault),
         Err(ResumeFault::Records) => other_records(alloc),
+        Err(ResumeFault::SharedRecord(i, j)) => shared_record(alloc, i, j),
     }
 }
 
@@ -85,4 +92,14 @@ fn other_records(alloc: Global) -> Result<Answer, AllocError>
     ensures { IfOk result LacksRecords }
 {
     Ok(Answer::refused(String::from_str(alloc, OTHER_RECORDS)?))
+}
+
+/// The refusal of two pieces that share a record.
+fn shared_record(alloc: Global, i: usize, j: usize) -> Result<Answer, AllocError>
+    ensures { IfOk result (NamesShared i j) }
+{
+    let mut text = String::from_str(alloc, "error: ")?;
+    push_sentence(&mut text, 113, Indices::Two(i as u64, j as u64))?;
+    text.push_str(&format!(in alloc; " [113 SharedRecord {i} {j}]\n")?)?;
+    Ok(Answer::refused(text))
 }

@@ -62,6 +62,10 @@ long errors_noted(const char *records, const char *base, FILE *report)
         found = show(line, found < MOST_SHOWN ? report : NULL) ? found + 1 : -1;
     if (found < 0)
         fprintf(stderr, "dsa_trace: %s has a line that is no error: %s", path, line);
+    if (ferror(errors)) {
+        fprintf(stderr, "dsa_trace: %s can't be read\n", path);
+        found = -1;
+    }
     if (found > MOST_SHOWN)
         fprintf(report, "and %ld more errors of records and lists\n", found - MOST_SHOWN);
     fclose(errors);

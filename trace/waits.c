@@ -286,7 +286,7 @@ long waits_missing(const char *records, const char *base, FILE *report, uint64_t
     bool is_read = events;
     while (is_read && fgets(line, sizeof line, events))
         is_read = event(&r, line);
-    if (!is_read) {
+    if (!is_read || ferror(events)) {
         fprintf(stderr, "dsa_trace: %s can't be read with its recording\n", path);
         r.found = -1;
     }

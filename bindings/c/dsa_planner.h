@@ -252,8 +252,9 @@ uint64_t dsa_count_pieces(const struct dsa_settings *settings,
  * pieces (32 bytes for each piece of an operation, one after another from its record address on), and put the staging
  * bytes, which clear the records of the batches, at settings->staging, anew for each run; then for each 64 bytes of
  * portal: write them to the work queue's portal, wait until the completion record at the address in their bytes 8..16
- * has a status, and stop if the status is not 1. The staging area is 96 bytes for each piece from settings->staging
- * on; a list that meets it is refused (33).
+ * has a status, and stop if the status is not 1. (If a lone piece has the record of an earlier piece, clear it again
+ * before its entry is written: else the wait passes at once.) The staging area is 96 bytes for each piece from
+ * settings->staging on; a list that meets it is refused (33).
  *
  * Returns another number: refusal has it, and nothing else was written. DSA_NO_ROOM: refusal.first and refusal.second
  * are the bytes that portal and staging need.
@@ -357,9 +358,9 @@ uint32_t dsa_check_fenced_list(const struct dsa_settings *settings,
  * move to a higher address within its own range run from the end, and so do their records: the one at its record
  * address is that of its last piece.
  *
- * A list with barriers can't be resumed (DSA_FLAG_BITS): resume what is between two barriers by itself, and nothing
- * after a barrier before which a record has the status 2. Clearing the flags does not help: what a failed check has
- * stopped would be done.
+ * A list with barriers can't be resumed (DSA_FLAG_BITS): if no two of its pieces share a record, resume what is between
+ * two barriers by itself, and nothing after a barrier before which a record has the status 2; else restore the memory
+ * and run the whole list. Clearing the flags does not help: what a failed check has stopped would be done.
  *
  * Returns 0: rest begins with the list of the pieces that have not finished, 64 bytes each, and rest_len is its length
  * (64 bytes for each piece are always enough). They are as they were listed; if failed_first is not 0, those that
@@ -370,8 +371,9 @@ uint32_t dsa_check_fenced_list(const struct dsa_settings *settings,
  * Returns another number: refusal has it, and nothing else was written: the first refusal of dsa_plan_list but for
  * DSA_NO_ROOM, then DSA_RECORDS, then DSA_SHARED_RECORD, then DSA_NO_ROOM_FOR_LIST. DSA_SHARED_RECORD: a record that
  * another piece writes, with its data or its own record, does not say how its piece has ended. Give each piece a record
- * of its own before the next run. Now, if only pieces of completed groups share records, give the pieces from the
- * failed entry on, with their records, as the list; else restore the memory and run the whole list.
+ * of its own before the next run. Now, if only pieces of groups that are known to have completed, by the records of
+ * their batches, share records, give the pieces from the failed entry on, with their records, as the list; else restore
+ * the memory and run the whole list.
  */
 uint32_t dsa_resume(const struct dsa_settings *settings,
                     const uint64_t *table, size_t table_len,

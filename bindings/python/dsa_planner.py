@@ -582,9 +582,9 @@ def resume(settings: Settings, operations: Bytes, records: Bytes, failed_first: 
     it has finished). Those of a move to a higher address within its own range run from the end, and so do its records.
     Clear the records of what is left, and plan it: docs/USING.md says when that is right. Raises `Refusal`.
 
-    A list with barriers can't be resumed (3): resume what is between two barriers by itself, and nothing after one
-    before which a record has the status 2. Nor can one in which a piece writes into the record of another (113): resume
-    from the failed entry on if only completed groups share records; else restore the memory and run all of it."""
+    A list with barriers can't be resumed (3): if no two pieces share a record, resume what is between two barriers, and
+    nothing after one before which a record has status 2. Nor can one with a piece that writes into another's record
+    (113): resume from the failed entry on if only groups that completed by their batches' records share records."""
     raw, table, entries = settings._raw()
     listed, size = _given("operations", operations)
     pieces = min(int(_library.dsa_count_pieces(raw, table, entries, listed, size)), MOST_PIECES)

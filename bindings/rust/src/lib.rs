@@ -572,14 +572,15 @@ pub enum LeftOrder {
 /// within its own range run from the end: the record at its record address is that of its last piece. Clear the
 /// records of what is left, and plan it; docs/USING.md says when that leaves what the whole list leaves.
 ///
-/// A list with barriers can't be resumed ([`Cause::FlagBits`]): resume what is between two barriers by itself, and
-/// nothing after a barrier before which a record has the status 2.
+/// A list with barriers can't be resumed ([`Cause::FlagBits`]): if no two of its pieces share a record, resume what is
+/// between two barriers by itself, and nothing after a barrier before which a record has the status 2; else restore the
+/// memory, and run the whole list.
 ///
 /// # Errors
 /// The first fault of the settings or the list; [`Cause::Records`]; [`Cause::SharedRecord`] if a piece writes into the
 /// record of another, which then does not say how its own piece has ended; [`Cause::Memory`]. Of a list with shared
-/// records give the pieces from the failed entry on, if only pieces of completed groups share them; else restore the
-/// memory, and run the whole list with a record for each piece.
+/// records give the pieces from the failed entry on, if only pieces of groups share them that have completed by the
+/// records of their batches; else restore the memory, and run the whole list with a record for each piece.
 ///
 /// ```
 /// # use dsa_planner::{list_of, resume, BatchPrice, Descriptor, LeftOrder, Settings};

@@ -114,8 +114,8 @@ impl Tracker {
     /// nothing between submissions.
     ///
     /// # Errors
-    /// What [`plan_list`](crate::plan_list) refuses of the list with this staging address; then the first of
-    /// [`Cause::NoSlot`](crate::Cause::NoSlot), `TooManySpans`, `SpanWrap` and `OtherOwner`.
+    /// What [`plan_fenced_list`](crate::plan_fenced_list) refuses of the list with this staging address; then the first
+    /// of [`Cause::NoSlot`](crate::Cause::NoSlot), `TooManySpans`, `SpanWrap` and `OtherOwner`.
     pub fn submit(
         &mut self,
         settings: &Settings,

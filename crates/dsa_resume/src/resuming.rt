@@ -21,8 +21,9 @@ use std::alloc::{AllocError, Global};
 /// its pieces, 32 bytes each, in the order of the pieces: the list of the pieces that have not finished, in this order.
 /// They have no fence.
 ///
-/// A list with a fence is refused [`ListFault::Field`](dsa_descriptor::ListFault::Field): of a list with barriers
-/// resume what is between two barriers by itself, and nothing after a barrier before which a record has the status 2.
+/// A list with a fence is refused [`ListFault::Field`](dsa_descriptor::ListFault::Field): of a list with barriers, if
+/// no two of its pieces share a record, resume what is between two barriers by itself, and nothing after a barrier
+/// before which a record has the status 2; else restore the memory and run the whole list.
 ///
 /// # Errors
 /// What planning refuses of the list before it has pieces; else [`ResumeFault::Records`]; else

@@ -24,9 +24,9 @@ first, as explain shows. They are read as disassemble reads bytes.
 What is written are the lines of the pieces that have not finished (status other than 1 and 2): plan these, with
 their records set to zero.
 
-A list with barriers is refused: resume what is between two barriers by itself, and nothing after a barrier before
-which a record has status 2. So is a list in which an operation writes into the completion record of another, since
-such a record does not say how its own operation has ended.
+A list with barriers is refused: if no two of its operations share a record, resume what is between two barriers by
+itself, and nothing after a barrier before which a record has status 2. So is a list in which an operation writes into
+the completion record of another, since such a record does not say how its own operation has ended.
 Example: dsa_text resume --records records.hex store.txt";
 
 /// The refusal of records of another length.

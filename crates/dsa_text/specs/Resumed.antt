@@ -20,13 +20,15 @@ pub record LacksRecords (a : Answer) : Type 0 where
   pub status : a.status ≡ 1
   pub message : string_bytes a.text ≡ codes "error: there are not 32 bytes of completion records for each piece [112 Records]\n"
 
--- the refusal of two pieces of which one writes into the record of the other: after other words it names them
+-- the words that name two pieces of which one writes into the record of the other
+abbrev pub shared_text : ℕ → ℕ → List ℕ
+shared_text i j = codes " [113 SharedRecord " ++ (decimal i ++ (codes " " ++ (decimal j ++ codes "]\n")))
+
+-- the refusal of two such pieces: after other words it names them
 pub record NamesShared (i j : ℕ) (a : Answer) : Type 0 where
   pub status : a.status ≡ 1
   pub front : List ℕ
-  pub message :
-      string_bytes a.text
-      ≡ front ++ (codes " [113 SharedRecord " ++ (decimal i ++ (codes " " ++ (decimal j ++ codes "]\n"))))
+  pub message : string_bytes a.text ≡ front ++ shared_text i j
 
 -- The answer to a text and to records: the refusal of a text that spells no list, or of its list, which has a fence for
 -- each barrier; or the canonical text of what is left.

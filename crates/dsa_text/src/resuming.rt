@@ -1,7 +1,7 @@
 //! `resume`: the lines of what is left of a list whose submission stopped.
 
-ghost use Rattle.std.specs.Prelude.{IfOk};
-ghost use Rattle.dsa_text.specs.Resumed.{LacksRecords, NamesShared, ResumesText};
+ghost use Rattle.std.specs.Prelude.{IfOk, ◌≡◌, ◌++◌, OnOk, string_bytes};
+ghost use Rattle.dsa_text.specs.Resumed.{LacksRecords, NamesShared, ResumesText, shared_text};
 
 use crate::answer::Answer;
 use crate::messages::push_sentence;
@@ -100,6 +100,13 @@ fn shared_record(alloc: Global, i: usize, j: usize) -> Result<Answer, AllocError
 {
     let mut text = String::from_str(alloc, "error: ")?;
     push_sentence(&mut text, 113, Indices::Two(i as u64, j as u64))?;
-    text.push_str(&format!(in alloc; " [113 SharedRecord {i} {j}]\n")?)?;
+    push_shared(alloc, &mut text, i, j)?;
     Ok(Answer::refused(text))
+}
+
+/// Writes which pieces share a record.
+fn push_shared(alloc: Global, text: &mut String, i: usize, j: usize) -> Result<(), AllocError>
+    ensures { OnOk result (string_bytes text.new ≡ string_bytes text.old ++ shared_text i j) }
+{
+    text.push_str(&format!(in alloc; " [113 SharedRecord {i} {j}]\n")?)
 }

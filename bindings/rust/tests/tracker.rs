@@ -27,7 +27,7 @@ fn fill_bytes(target: u64, record: u64, pasid: u32) -> [u8; 64] {
     bytes
 }
 
-fn settings() -> Settings {
+fn settings() -> Settings<'static> {
     Settings {
         greatest_batch: 2,
         greatest_transfer: 4096,

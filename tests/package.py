@@ -94,22 +94,6 @@ def version():
     expect(printed == (0, f"dsa_text {whole}\n"), f"dsa_text --version: {printed}, the header has {whole}")
 
 
-def causes():
-    """The crate and the Python module name each cause as the header and docs/FORMATS.md do."""
-    header = dict(re.findall(r"^    DSA_(\w+) = (\d+)", Path("bindings/c/dsa_planner.h").read_text(), re.M))
-    header = {int(number): name.title().replace("_", "") for name, number in header.items() if number != "0"}
-    rust = dict(re.findall(r"^    (\w+) = (\d+),$", Path("bindings/rust/src/cause.rs").read_text(), re.M))
-    rust = {int(number): name for name, number in rust.items()}
-    python = re.findall(r'^    (\d+): "(\w+)",$', Path("bindings/python/dsa_planner.py").read_text(), re.M)
-    python = {int(number): name for number, name in python}
-    expect(header == rust == python, f"the causes differ: {header.items() ^ rust.items() ^ python.items()}")
-    formats = Path("docs/FORMATS.md").read_text()
-    page = re.findall(r"^\| (\d+) \| ([A-Z]\w+)", formats, re.M) + re.findall(r"\b(\d+) \(([A-Z]\w+)\)", formats)
-    page = {int(number): name for number, name in page}
-    other = {number for number in header if number < 90 and page.get(number) != header[number]}
-    expect(not other, f"docs/FORMATS.md names other causes: {other}")
-
-
 def reproduced():
     """Made again, the packages are the same, byte for byte."""
     for path in make.make(Path(WORK, "again")):
@@ -550,7 +534,7 @@ def threads():
         tried(f"threads {kind}", "./threads", os.environ.get("LISTS", "100"), 8, 20261124)
 
 
-PARTS = [version, causes, reproduced, unproved, installed, debian, symbols, pages, completion, device, said]
+PARTS = [version, reproduced, unproved, installed, debian, symbols, pages, completion, device, said]
 PARTS += [c, cmake, rust, python, sentences, readme, threads]
 
 

@@ -130,89 +130,153 @@ struct dsa_pair {
 #define DSA_FENCED 2u
 
 /*
- * What a call returns: 0, or the number of the refusal. docs/FORMATS.md explains each cause and their order. An index
- * that a comment names is in refusal.first (a second one in refusal.second).
+ * What a call returns: 0, or the number of the refusal. docs/FORMATS.md has the order in which causes are looked for.
+ * `first`, `second` and `inner` are members of struct dsa_refusal; those that a comment does not name are 0.
  */
 enum dsa_number {
     DSA_OK = 0,
-    /* the list: index of the descriptor */
-    DSA_LENGTH = 1, /* no index: the length is no multiple of 64 */
+    /* the list's length is no multiple of 64 */
+    DSA_LENGTH = 1,
+    /* descriptor `first`: the operation code is not one of a move, fill, compare, compare pattern, delta or
+       dualcast */
     DSA_OPCODE = 2,
+    /* descriptor `first`: flags 0x0004 and 0x0008 have to be set; 0x0010 (interrupt), 0x0040 and bits 16 to 23 may
+       not; 0x0001 (fence) only in fenced lists, which are resumed from one barrier to the next; 0x0080 (check) only
+       in compares */
     DSA_FLAG_BITS = 3,
+    /* descriptor `first`: a reserved bit or byte is not zero */
     DSA_RESERVED = 4,
+    /* descriptor `first`: the transfer size is 0 */
     DSA_SIZE_ZERO = 5,
+    /* descriptor `first`: an address of its data or its record would be 2^64 or more */
     DSA_WRAP = 6,
+    /* descriptor `first`: the record's address is no multiple of 32 */
     DSA_RECORD_ALIGN = 7,
+    /* descriptor `first`: the low twelve bits of a dualcast's destinations differ */
     DSA_DUALCAST_BITS = 8,
+    /* descriptor `first`: two of a dualcast's regions meet, or a delta's record and its destination */
     DSA_OVERLAP = 9,
+    /* descriptor `first`: a delta's size is no multiple of 8 or above 0x80000, its destination no multiple of 8, or
+       its record's size no multiple of 10 */
     DSA_DELTA = 10,
+    /* descriptor `first`: the expected result of a compare or a compare pattern is above 1 */
     DSA_EXPECTED = 11,
+    /* descriptor `first`: its PASID or privilege is not the first operation's */
     DSA_MIXED_PASID = 12,
+    /* descriptor `first`: the 32 bytes of the record meet a data range */
     DSA_RECORD_MEETS_DATA = 13,
-    /* splitting: index of the operation */
+    /* operation `first` is a delta longer than the greatest transfer */
     DSA_DELTA_TOO_LONG = 30,
+    /* operation `first` checks for a difference and needs more than one piece */
     DSA_EXPECTED_SPLIT = 31,
-    DSA_TOO_MANY_PIECES = 32, /* no index */
-    DSA_STAGING_MEETS = 33,   /* index of the piece */
+    /* there are more than 65,536 pieces */
+    DSA_TOO_MANY_PIECES = 32,
+    /* the staging area, 96 bytes for each piece, meets a range of piece `first` */
+    DSA_STAGING_MEETS = 33,
+    /* the row of records of operation `first`'s pieces meets its own data */
     DSA_ROW_MEETS_DATA = 34,
+    /* an address of the row of records of operation `first` would be 2^64 or more */
     DSA_ROW_WRAP = 35,
-    /* judging: index of the descriptor, which is longer than greatest_transfer */
+    /* descriptor `first` is longer than the greatest transfer: split it first */
     DSA_OVER_TRANSFER = 37,
-    /* a plan: of dsa_judge the number, of dsa_check the inner number of DSA_PLAN */
-    DSA_COUNT = 40,       /* no index */
-    DSA_GROUP_SIZE = 41,  /* index of the group */
-    DSA_FIRST_FENCE = 42, /* index of the group */
-    DSA_UNFENCED = 43,    /* the two pieces */
-    /* bytes to submit */
-    DSA_PORTAL_LENGTH = 44,  /* no index */
-    DSA_BATCH_FIELDS = 45,   /* index of the group: its count of descriptors or another byte of its entry is wrong */
-    DSA_STAGING_LENGTH = 46, /* no index: the length is wrong, or there are more than 65,536 pieces */
-    DSA_ENTRY = 47,          /* index of the piece */
-    DSA_ENTRY_FENCE = 48,    /* index of the group */
-    DSA_RECORD_BYTES = 49,   /* index of the batch */
-    /* a certificate */
-    DSA_PLAN = 60,    /* the indices of the plan's fault */
-    DSA_LENGTHS = 61, /* no index */
-    DSA_PAIR = 62,    /* index of the piece */
-    DSA_PRICE = 63,   /* where the group begins, and where it ends */
-    DSA_TOTAL = 64,   /* no index */
-    DSA_VERSION = 65, /* no index */
-    DSA_OTHER_PIECE = 66, /* index of the piece; of dsa_check_fenced_list alone */
-    /* any call */
-    DSA_MEMORY = 73,   /* no index: an allocation failed */
-    DSA_SETTINGS = 83, /* the number of the setting: outside its limits, an unknown version, a table of another length */
-    /* room in the caller's arrays */
+    /* the sizes of the groups do not add up to the number of pieces */
+    DSA_COUNT = 40,
+    /* group `first` is empty or larger than the greatest batch */
+    DSA_GROUP_SIZE = 41,
+    /* the first of group `first` is fenced */
+    DSA_FIRST_FENCE = 42,
+    /* pieces `first` and `second` of one group conflict, or have a barrier between, but no fence */
+    DSA_UNFENCED = 43,
+    /* the portal's length is no multiple of 64 */
+    DSA_PORTAL_LENGTH = 44,
+    /* the number of descriptors in the batch entry of group `first` is outside 2 to the greatest batch, or a byte
+       is not the one of its place */
+    DSA_BATCH_FIELDS = 45,
+    /* the staging's length is not 64 for each piece in a batch and 32 for each batch, or there are more than 65,536
+       pieces */
+    DSA_STAGING_LENGTH = 46,
+    /* piece `first` is refused; `inner` is the cause */
+    DSA_ENTRY = 47,
+    /* the first piece of group `first` is fenced */
+    DSA_ENTRY_FENCE = 48,
+    /* the 32 record bytes of batch `first` are not all zero */
+    DSA_RECORD_BYTES = 49,
+    /* the plan is not legal; `inner` is the cause, and the places are its own */
+    DSA_PLAN = 60,
+    /* there are not n + 1 prices and n pairs for n pieces */
+    DSA_LENGTHS = 61,
+    /* the pair of piece `first` is not one of conflicting pieces from there on */
+    DSA_PAIR = 62,
+    /* one group from piece `first` on gives a lower price at `second` (0 and 0: the first price is not 0) */
+    DSA_PRICE = 63,
+    /* the last price is not the plan's cost */
+    DSA_TOTAL = 64,
+    /* the certificate is of another version than the settings */
+    DSA_VERSION = 65,
+    /* the submitted piece `first` is not the list's; only where the list is given too */
+    DSA_OTHER_PIECE = 66,
+    /* there was not enough memory */
+    DSA_MEMORY = 73,
+    /* a setting is outside its limits, the version is neither 1 nor 2, or the table of prices has a wrong length;
+       `first` is the number of the setting, from 1 on in the order of the settings, and 8 for the table */
+    DSA_SETTINGS = 83,
+    /* a buffer is too small for the bytes to submit: portal needs `first` bytes and staging `second` */
     DSA_NO_ROOM = 90,
+    /* an array is too small for the prices, the pairs or the marks of `first` pieces */
     DSA_NO_ROOM_FOR_CERTIFICATE = 91,
-    DSA_NO_ROOM_FOR_ROWS = 92, /* the rows that are needed */
-    DSA_NO_ROOM_FOR_LIST = 93, /* the bytes that are needed */
-    /* preparing: index of the region */
-    DSA_REGION_WRAP = 100,  /* it goes past 2^64 */
-    DSA_REGION_ORDER = 101, /* it begins before the one before it has ended */
-    DSA_OUTSIDE = 102,      /* index of the operation, of which a range or the row of its records lies in no one region */
-    /* filling: index of the region at its new base */
-    DSA_BASES = 103,              /* no index: there are not as many bases as regions */
-    DSA_ROOM = 104,               /* no index: portal or staging is too small */
-    DSA_BASE_WRAP = 105,          /* it would go past 2^64 */
-    DSA_MISALIGNED = 106,         /* a record there would be no multiple of 32, or a delta's destination none of 8 */
-    DSA_BASE_DUALCAST_BITS = 107, /* the two regions of a dualcast's destinations, whose low 12 bits would differ */
-    DSA_REGIONS_MEET = 108,       /* the region, and an earlier one with which it would overlap */
-    DSA_BASE_STAGING_MEETS = 109, /* it would overlap the staging area */
-    DSA_STAGING = 110,            /* no index: the staging address is no multiple of 64, or above 2^63 */
-    DSA_NOT_PREPARED = 111,       /* no index: the rows do not have the form of a prepared list of this version */
-    /* resuming */
-    DSA_RECORDS = 112, /* no index: there are not 32 bytes of completion records for each piece */
-    DSA_SHARED_RECORD = 113, /* the two pieces: one of them writes into the completion record of the other */
-    /* tracking */
-    DSA_NO_SLOT = 120,         /* no index: all slots have outstanding submissions */
-    DSA_TOO_MANY_SPANS = 121,  /* how many spans the submission may read or write */
-    DSA_NOT_OUTSTANDING = 122, /* the slot: it has no outstanding submission */
-    DSA_HELD = 123,            /* the slot: its submission still waits */
-    DSA_SPAN_WRAP = 124,       /* index of the span that goes past 2^64, reads first; 0 of a staging area */
-    DSA_OTHER_OWNER = 125,     /* index of the piece with another PASID or privilege than the first that came */
-    DSA_NOT_A_TRACKER = 126,   /* no index: the words do not have the form of a tracker, or are too few */
-    DSA_OTHER_PLAN = 127,      /* no index, and no call from C has it: a portal tells its groups and their pieces */
-    DSA_FEW_SLOTS = 128        /* how many entries the portal has, more than slots are free or have a place in slots */
+    /* the array of rows is too small: `first` rows are needed */
+    DSA_NO_ROOM_FOR_ROWS = 92,
+    /* the buffer is too small for the list of what is left: `first` bytes are needed */
+    DSA_NO_ROOM_FOR_LIST = 93,
+    /* region `first` goes past 2^64 */
+    DSA_REGION_WRAP = 100,
+    /* region `first` begins before the one before it has ended */
+    DSA_REGION_ORDER = 101,
+    /* a range of operation `first`, or the row of its records, lies in no one region */
+    DSA_OUTSIDE = 102,
+    /* there are not as many bases as regions */
+    DSA_BASES = 103,
+    /* a buffer is shorter than the bytes to submit */
+    DSA_ROOM = 104,
+    /* at its new base region `first` would go past 2^64 */
+    DSA_BASE_WRAP = 105,
+    /* a completion record in region `first` would be no multiple of 32, or a delta's destination there no multiple
+       of 8 */
+    DSA_MISALIGNED = 106,
+    /* the two destinations of a dualcast, in regions `first` and `second`, would differ in their low 12 bits */
+    DSA_BASE_DUALCAST_BITS = 107,
+    /* at their new bases region `first` and the earlier region `second` share an address */
+    DSA_REGIONS_MEET = 108,
+    /* at its new base region `first` has an address in the staging area, 96 bytes for each piece */
+    DSA_BASE_STAGING_MEETS = 109,
+    /* the staging address is no multiple of 64, or above 2^63 */
+    DSA_STAGING = 110,
+    /* the rows do not have the form of a prepared list */
+    DSA_NOT_PREPARED = 111,
+    /* there are not 32 bytes of completion records for each piece */
+    DSA_RECORDS = 112,
+    /* one of pieces `first` and `second` writes into the other's record: resume from the failed entry on if only
+       groups before it share records; else restore the memory, and run the whole list with a record for each */
+    DSA_SHARED_RECORD = 113,
+    /* no slot is free: complete a submission first */
+    DSA_NO_SLOT = 120,
+    /* the submission may read or write `first` spans, more than the tracker keeps of one */
+    DSA_TOO_MANY_SPANS = 121,
+    /* slot `first` has no outstanding submission */
+    DSA_NOT_OUTSTANDING = 122,
+    /* the submission of slot `first` still waits for another */
+    DSA_HELD = 123,
+    /* span `first` goes past 2^64 */
+    DSA_SPAN_WRAP = 124,
+    /* piece `first` has another PASID or privilege than the first piece that came */
+    DSA_OTHER_OWNER = 125,
+    /* the words do not have the form of a tracker, or are too few for one of these measures */
+    DSA_NOT_A_TRACKER = 126,
+    /* the groups of the plan do not have as many pieces as there are; no call from C has it, since a portal tells
+       its groups and their pieces */
+    DSA_OTHER_PLAN = 127,
+    /* the plan has `first` groups, more than slots are free or have a place in the array */
+    DSA_FEW_SLOTS = 128,
 };
 
 /* The most bytes of the text of a refusal. */

@@ -54,91 +54,99 @@ macro_rules! causes {
 }
 
 causes! {
-    /// The length of the list is no multiple of 64 bytes.
+    /// The list's length is no multiple of 64.
     Length = 1,
-    /// Descriptor `first` has an operation code that cannot be planned.
+    /// Descriptor `first`: the operation code is not one of a move, fill, compare, compare pattern, delta
+    /// or dualcast.
     Opcode = 2,
-    /// Descriptor `first` lacks a flag that it needs, or has one that is not allowed.
+    /// Descriptor `first`: flags 0x0004 and 0x0008 have to be set; 0x0010 (interrupt), 0x0040 and bits 16
+    /// to 23 may not; 0x0001 (fence) only in fenced lists, which are resumed from one barrier to the next;
+    /// 0x0080 (check) only in compares.
     FlagBits = 3,
-    /// A reserved bit or byte of descriptor `first` is not zero.
+    /// Descriptor `first`: a reserved bit or byte is not zero.
     Reserved = 4,
-    /// The transfer size of descriptor `first` is 0.
+    /// Descriptor `first`: the transfer size is 0.
     SizeZero = 5,
-    /// An address of descriptor `first` would be 2^64 or more.
+    /// Descriptor `first`: an address of its data or its record would be 2^64 or more.
     Wrap = 6,
-    /// The completion record of descriptor `first` is not at a multiple of 32.
+    /// Descriptor `first`: the record's address is no multiple of 32.
     RecordAlign = 7,
-    /// The low twelve bits of the two destinations of descriptor `first` differ.
+    /// Descriptor `first`: the low twelve bits of a dualcast's destinations differ.
     DualcastBits = 8,
-    /// Two regions of descriptor `first` overlap that must not.
+    /// Descriptor `first`: two of a dualcast's regions meet, or a delta's record and its destination.
     Overlap = 9,
-    /// Descriptor `first`, a delta, has a size or a destination that no delta may have.
+    /// Descriptor `first`: a delta's size is no multiple of 8 or above 0x80000, its destination no multiple
+    /// of 8, or its record's size no multiple of 10.
     Delta = 10,
-    /// The expected result of descriptor `first` is above 1.
+    /// Descriptor `first`: the expected result of a compare or a compare pattern is above 1.
     Expected = 11,
-    /// Descriptor `first` has another PASID or privilege than the first.
+    /// Descriptor `first`: its PASID or privilege is not the first operation's.
     MixedPasid = 12,
-    /// The completion record of descriptor `first` overlaps its data.
+    /// Descriptor `first`: the 32 bytes of the record meet a data range.
     RecordMeetsData = 13,
-    /// Operation `first`, a delta, is longer than greatest_transfer.
+    /// Operation `first` is a delta longer than the greatest transfer.
     DeltaTooLong = 30,
-    /// Operation `first`, a compare that checks its result, is longer than greatest_transfer.
+    /// Operation `first` checks for a difference and needs more than one piece.
     ExpectedSplit = 31,
-    /// The list has more than 65,536 pieces.
+    /// There are more than 65,536 pieces.
     TooManyPieces = 32,
-    /// Piece `first` touches the staging area.
+    /// The staging area, 96 bytes for each piece, meets a range of piece `first`.
     StagingMeets = 33,
-    /// The completion records of the pieces of operation `first` overlap its data.
+    /// The row of records of operation `first`'s pieces meets its own data.
     RowMeetsData = 34,
-    /// An address of the completion records of the pieces of operation `first` would be 2^64 or more.
+    /// An address of the row of records of operation `first` would be 2^64 or more.
     RowWrap = 35,
-    /// Descriptor `first` is longer than greatest_transfer.
+    /// Descriptor `first` is longer than the greatest transfer: split it first.
     OverTransfer = 37,
-    /// The plan and the list have different numbers of pieces.
+    /// The sizes of the groups do not add up to the number of pieces.
     Count = 40,
-    /// Group `first` is empty or larger than greatest_batch.
+    /// Group `first` is empty or larger than the greatest batch.
     GroupSize = 41,
-    /// The first piece of group `first` is fenced.
+    /// The first of group `first` is fenced.
     FirstFence = 42,
-    /// Pieces `first` and `second` conflict, and no fence is between them.
+    /// Pieces `first` and `second` of one group conflict, or have a barrier between, but no fence.
     Unfenced = 43,
-    /// The length of the portal bytes is no multiple of 64.
+    /// The portal's length is no multiple of 64.
     PortalLength = 44,
-    /// The number of descriptors in the batch entry of group `first`, or another byte of it, is wrong.
+    /// The number of descriptors in the batch entry of group `first` is outside 2 to the greatest batch, or
+    /// a byte is not the one of its place.
     BatchFields = 45,
-    /// The length of the staging bytes does not fit the portal bytes, or there are more than 65,536 pieces.
+    /// The staging's length is not 64 for each piece in a batch and 32 for each batch, or there are more
+    /// than 65,536 pieces.
     StagingLength = 46,
-    /// Piece `first` is refused.
+    /// Piece `first` is refused; `inner` is the cause.
     Entry = 47,
     /// The first piece of group `first` is fenced.
     EntryFence = 48,
-    /// The completion record of batch `first` is not all zero.
+    /// The 32 record bytes of batch `first` are not all zero.
     RecordBytes = 49,
-    /// The plan is not legal.
+    /// The plan is not legal; `inner` is the cause, and the places are its own.
     Plan = 60,
-    /// The certificate does not have n + 1 prices and n pairs for n pieces.
+    /// There are not n + 1 prices and n pairs for n pieces.
     Lengths = 61,
-    /// The certificate's pair of piece `first` is not one of conflicting pieces from there on.
+    /// The pair of piece `first` is not one of conflicting pieces from there on.
     Pair = 62,
-    /// The certificate's price at `second` is higher than one group from `first` on allows.
+    /// One group from piece `first` on gives a lower price at `second` (0 and 0: the first price is not 0).
     Price = 63,
-    /// The certificate's last price is not the cost of the plan.
+    /// The last price is not the plan's cost.
     Total = 64,
-    /// The certificate has another version than the settings.
+    /// The certificate is of another version than the settings.
     Version = 65,
-    /// The submitted piece `first` is not the list's.
+    /// The submitted piece `first` is not the list's; only where the list is given too.
     OtherPiece = 66,
-    /// An allocation failed.
+    /// There was not enough memory.
     Memory = 73,
-    /// A setting is outside its limits, the version is neither 1 nor 2, or the table of prices has a wrong length.
+    /// A setting is outside its limits, the version is neither 1 nor 2, or the table of prices has a wrong
+    /// length; `first` is the number of the setting, from 1 on in the order of the settings, and 8 for the
+    /// table.
     Settings = 83,
-    /// Portal needs `first` bytes and staging `second`.
+    /// A buffer is too small for the bytes to submit: portal needs `first` bytes and staging `second`.
     NoRoom = 90,
-    /// The arrays of the certificate need room for `first` pieces.
+    /// An array is too small for the prices, the pairs or the marks of `first` pieces.
     NoRoomForCertificate = 91,
-    /// The array of rows needs room for `first` rows.
+    /// The array of rows is too small: `first` rows are needed.
     NoRoomForRows = 92,
-    /// The buffer needs `first` bytes for the list of what is left.
+    /// The buffer is too small for the list of what is left: `first` bytes are needed.
     NoRoomForList = 93,
     /// Region `first` goes past 2^64.
     RegionWrap = 100,
@@ -150,25 +158,29 @@ causes! {
     Bases = 103,
     /// A buffer is shorter than the bytes to submit.
     Room = 104,
-    /// At its new base, region `first` would go past 2^64.
+    /// At its new base region `first` would go past 2^64.
     BaseWrap = 105,
-    /// A completion record or a delta's destination in region `first` would not be aligned.
+    /// A completion record in region `first` would be no multiple of 32, or a delta's destination there no
+    /// multiple of 8.
     Misaligned = 106,
-    /// The destinations of a dualcast, in regions `first` and `second`, would differ in their low twelve bits.
+    /// The two destinations of a dualcast, in regions `first` and `second`, would differ in their low 12
+    /// bits.
     BaseDualcastBits = 107,
-    /// At their new bases, region `first` and the earlier region `second` would overlap.
+    /// At their new bases region `first` and the earlier region `second` share an address.
     RegionsMeet = 108,
-    /// At its new base, region `first` would overlap the staging area.
+    /// At its new base region `first` has an address in the staging area, 96 bytes for each piece.
     BaseStagingMeets = 109,
     /// The staging address is no multiple of 64, or above 2^63.
     Staging = 110,
-    /// The rows do not have the form of a prepared list of this version.
+    /// The rows do not have the form of a prepared list.
     NotPrepared = 111,
     /// There are not 32 bytes of completion records for each piece.
     Records = 112,
-    /// One of pieces `first` and `second` writes into the completion record of the other.
+    /// One of pieces `first` and `second` writes into the other's record: resume from the failed entry on
+    /// if only groups before it share records; else restore the memory, and run the whole list with a
+    /// record for each.
     SharedRecord = 113,
-    /// All slots have outstanding submissions.
+    /// No slot is free: complete a submission first.
     NoSlot = 120,
     /// The submission may read or write `first` spans, more than the tracker keeps of one.
     TooManySpans = 121,
@@ -182,7 +194,8 @@ causes! {
     OtherOwner = 125,
     /// The words do not have the form of a tracker, or are too few for one of these measures.
     NotATracker = 126,
-    /// The groups of the plan do not have as many pieces as there are.
+    /// The groups of the plan do not have as many pieces as there are; no call from C has it, since a
+    /// portal tells its groups and their pieces.
     OtherPlan = 127,
     /// The plan has `first` groups, more than slots are free or have a place in the array.
     FewSlots = 128,

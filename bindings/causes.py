@@ -12,7 +12,7 @@ from pathlib import Path
 
 ROOT = Path(__file__).resolve().parent.parent
 # Causes that jobs, texts or pictures alone meet, so that no call from C names them.
-ELSEWHERE = {20, 21, 50, 70, 71, 72, 75, 76, 77, 80, 81, 82, 84, 85, 86}
+ELSEWHERE = {20, 21, 50, 70, 71, 72, 75, 76, 77, 80, 81, 82, 84, 85, 86, 130, 131, 132}
 # What a refusal has beside the places that the sentence names.
 BESIDE = {
     47: "`inner` is the cause",

@@ -295,7 +295,7 @@ def too_large():
         (batch(*[entry(0, 0)] * 63) * 1023 + batch(*[entry(0, 0)] * 64), "65537 entries, a picture has 65536"),
     ]:
         got = draw(recording)
-        common.expect(got == ("", 2, f"error: {reason} at most [91 Picture]\n"), f"{reason}: {got}"[:600])
+        common.expect(got == ("", 2, f"error: {reason} at most [131 Picture]\n"), f"{reason}: {got}"[:600])
         _, status = audited(recording)
         common.expect(status in (0, 1), f"{reason}: the report ends with status {status}")
 

@@ -10,6 +10,7 @@ import random
 import re
 import shlex
 import subprocess
+import sys
 import tempfile
 from pathlib import Path
 
@@ -22,6 +23,9 @@ import typed
 from common import move, named, program, run_test
 import model
 from model import COMPARE, DELTA, DUALCAST, FILL, PATTERN, Op
+
+sys.path.insert(0, str(common.ROOT / "bindings"))
+import causes
 
 LEAST = model.Settings(4, 4096, 10, 14, 3, 0x10000)
 PAIR = "move 1 -> 2, 3 bytes, record 32"
@@ -113,7 +117,7 @@ def refusals():
     two = "move 1 -> 2, 3 bytes, record 32\nmove 1 - 2\n"
     many = "move 0 -> 4096, 64 bytes, record 8192\n" * 1025
     for command, text, begin, name in [
-        ("assemble", two, "line 2, column 8: expected ->, found '-'", "90 Line"),
+        ("assemble", two, "line 2, column 8: expected ->, found '-'", "130 Line"),
         ("assemble", "\nmove 1 -> 2, 0 bytes, record 32\n", "line 2, operation 0: the transfer size is 0", "5 SizeZero 0"),
         ("explain --lone 1000000001", PAIR + "\n", "--lone: ", "83 Settings"),
         ("disassemble", "xy", "line 1, column 1: expected a hexadecimal digit", "84 Hex"),
@@ -122,13 +126,13 @@ def refusals():
         ("disassemble --staging", "00000000  00 00\n*\n", "line 2, column 1: lines are left out here: use hexdump -v -C", "84 Hex"),
         ("explain", '{"do":"run"}', "", "81 Member"),
         ("explain", run, "a job to replay or to run is not explained", "82 Do"),
-        ("explain --fence 3", plan, "a job has settings of its own", "92 Options"),
+        ("explain --fence 3", plan, "a job has settings of its own", "132 Options"),
         ("explain", re.sub(r'("list": *")', r"\1 ", plan), "`list` is no hexadecimal text", "84 Hex"),
         ("disassemble --staging --at 0x10001", "", "--at: '0x10001' is no multiple of 64", "83 Settings"),
         ("disassemble --staging --at 0x8000000000000040", "", "--at: ", "83 Settings"),
         ("assemble", "compare 1 with patern 2, 8 bytes\n",
-         "line 1, column 16: expected a number below 2^64, or pattern, found 'patern'", "90 Line"),
-        ("explain --svg --lone 0", many, "1025 groups, a picture has 1024 at most", "91 Picture"),
+         "line 1, column 16: expected a number below 2^64, or pattern, found 'patern'", "130 Line"),
+        ("explain --svg --lone 0", many, "1025 groups, a picture has 1024 at most", "131 Picture"),
     ]:
         refused(command, text, begin, name)
     # the most groups that a picture has
@@ -208,7 +212,7 @@ def grammar():
         (f"{PAIR}, flags 4", 40, "flags of 0x0002, 0x0020 and 0x0100 to 0x8000"),
         (f"{PAIR}, handle 65536", 41, "a number below 2^16"),
     ]:
-        refused("assemble", line, f"line 1, column {column}: expected {words}, found ", "90 Line")
+        refused("assemble", line, f"line 1, column {column}: expected {words}, found ", "130 Line")
 
 
 def texts():
@@ -244,14 +248,14 @@ def sizes():
     size = "column 24: expected a number below 2^32, found"
     for word, more in [("4096M", ""), ("4k", " (K and M are capitals)"), ("K", ""), ("0xK", ""), ("4KK", "")]:
         end = f"'{word}'{more}"
-        refused("assemble", f"move 0 -> 0x200000000, {word} bytes, record 0x8000", f"line 1, {size} {end}", "90 Line")
+        refused("assemble", f"move 0 -> 0x200000000, {word} bytes, record 0x8000", f"line 1, {size} {end}", "130 Line")
     at_address = "line 1, column 6: expected a number below 2^64, found '4K' (K and M are for sizes)"
-    refused("assemble", "move 4K -> 0x2000, 8 bytes, record 0x8000", at_address, "90 Line")
+    refused("assemble", "move 4K -> 0x2000, 8 bytes, record 0x8000", at_address, "130 Line")
 
 
 def sentences():
-    """The sentences of dsa_sentences are those of docs/FORMATS.md, word for word, and there is no other cause; the Rust
-    crate and the Python module name the causes that a caller can meet."""
+    """The sentences of dsa_sentences are those of docs/FORMATS.md, word for word, and there is no other cause; the
+    causes in the header, the Rust crate and the Python module are made of them."""
     source = Path("crates/dsa_sentences/src/sentences.rt").read_text()
     of_causes, of_settings = source[: source.index("fn of_settings")], source[source.index("fn of_settings") :]
     pattern = r'^ *(\d+) =>\s*"([^"]*)"'
@@ -269,13 +273,8 @@ def sentences():
     settings = re.findall(r"^\| (\d) \| `\w+` \| (.*) \|$", page, re.M)
     said = re.findall(r'^ *(\d) =>\s*"([^"]*)"', of_settings[: of_settings.index("pub fn sentence_of")], re.M)
     common.expect(len(settings) == 8 and said == settings, f"FORMATS.md says of settings {settings}, the source {said}")
-    jobs = {20, 21, 50, 70, 71, 72, 75, 76, 77, 80, 81, 82, 84, 85, 86}
-    wanted = {*known} - jobs
-    rust, python = Path("bindings/rust/src/cause.rs").read_text(), Path("bindings/python/dsa_planner.py").read_text()
-    of_rust = {int(number): name for name, number in re.findall(r"^    (\w+) = (\d+),", rust, re.M)}
-    of_python = {int(number): name for number, name in re.findall(r'^    (\d+): "(\w+)",', python, re.M)}
-    right = of_rust == of_python and wanted == {*of_rust}
-    common.expect(right, f"the bindings have other causes: {wanted ^ {*of_rust}}")
+    for path, text in causes.made():
+        common.expect(path.read_text() == text, f"{path} has other causes than bindings/causes.py makes of FORMATS.md")
 
 
 def pieces_of(moves):

@@ -13,8 +13,8 @@ from common import expect, move
 LEAST = model.Settings(4, 4096, 10, 14, 3, 0x10000)
 PAIR = "move 1 -> 2, 3 bytes, record 32"
 WRONG = [
-    ("move 1", "column 7: expected ->, found the end of the line", "90 Line"),
-    ("MOVE 1 -> 2", "column 1: expected move, fill, compare, delta or dualcast, found 'MOVE'", "90 Line"),
+    ("move 1", "column 7: expected ->, found the end of the line", "130 Line"),
+    ("MOVE 1 -> 2", "column 1: expected move, fill, compare, delta or dualcast, found 'MOVE'", "130 Line"),
     ("move 1 -> 2, 0 bytes, record 32", "operation {}: the transfer size is 0", "5 SizeZero {}"),
     ("move 1 -> 2, 3 bytes, record 33", "column 30, operation {}: ", "7 RecordAlign {}"),
     (f"{PAIR}, pasid 1", "column 40, operation {}: ", "12 MixedPasid {}"),
@@ -30,20 +30,20 @@ def mistakes(text):
             line, begin, name = choose.choice([*WRONG, (PAIR, None, None), ("# none", None, None)])
             lines.append(line)
             # of whom the operations are is known up to the first line that leaves the grammar
-            is_told = "pasid" not in line or all(it[2] != "90 Line" for it in found)
+            is_told = "pasid" not in line or all(it[2] != "130 Line" for it in found)
             if begin and is_told:
                 found.append((number, begin.format(operations), name.format(operations)))
             operations += line[0] != "#"
         ran = subprocess.run([text, "assemble"], input="\n".join(lines).encode(), capture_output=True)
         said = ran.stderr.decode().splitlines()
-        is_grammar = any(name == "90 Line" for _, _, name in found)
-        first = next((it for it in found if it[2] == "90 Line" or not is_grammar), None)
+        is_grammar = any(name == "130 Line" for _, _, name in found)
+        first = next((it for it in found if it[2] == "130 Line" or not is_grammar), None)
         others = [it for it in found if it != first][:19]
         named_lines = sorted([*others, first]) if first else []
         wanted = [(f"error: line {number}, {begin}", f" [{name}]") for number, begin, name in named_lines]
         if len(found) > 1:
             left = f", and {len(found) - len(named_lines)} of them are not named" * (len(found) > 20)
-            wanted.append((f"error: {len(found)} lines are wrong{left}", " [90 Line]" * is_grammar))
+            wanted.append((f"error: {len(found)} lines are wrong{left}", " [130 Line]" * is_grammar))
         pairs = zip(said, wanted)
         is_right = len(said) == len(wanted) and all(it.startswith(a) and it.endswith(b) for it, (a, b) in pairs)
         expect(is_right and ran.returncode == int(bool(found)), f"{lines}: {said}, not {wanted}")
@@ -119,7 +119,7 @@ def resumed(text):
         for words, given, status, error in (
             ([*short, "--records", f"{folder}/odd"], lines, 1, f"error: {records}\n{sizes(4, 128, 127)}"),
             (["--records", f"{folder}/some"], lines, 1, f"error: {records}\n{sizes(2, 64, 128)}"),
-            ([*short, "--records", f"{folder}/some"], "mov 1", 1, "[90 Line]\n"),
+            ([*short, "--records", f"{folder}/some"], "mov 1", 1, "[130 Line]\n"),
             ([*short, "--records", f"{folder}/some"], f"{first}barrier\n{fill}", 1, f"[3 FlagBits 1]\n{apart}"),
             (["--greatest-transfer", "7", "--records", f"{folder}/some"], lines, 1, "[83 Settings]\n"),
             (["--records", f"{folder}/no"], lines, 2, f"{folder}/no can't be opened: there is no such file\n"),

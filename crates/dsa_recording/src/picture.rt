@@ -23,6 +23,7 @@ use crate::words::{Severity, unseen_text};
 use dsa_audit::{Member, all_lasts};
 use dsa_descriptor::op_at;
 use dsa_drawing::{Bar, Buffer, Column, Group, Layout, MOST_ROWS, op_name};
+use dsa_sentences::TextCause;
 use dsa_settings::Settings;
 use std::alloc::{AllocError, Global};
 
@@ -293,13 +294,11 @@ pub(crate) fn too_large_text(
     report: &Report,
 ) -> Result<String, AllocError> {
     let (submissions, entries) = (report.submissions.len(), all.len());
-    if submissions > MOST_ROWS {
-        format!(in alloc;
-            "error: {submissions} submissions, a picture has {MOST_ROWS} at most [91 Picture]\n"
-        )
+    let mut text = if submissions > MOST_ROWS {
+        format!(in alloc; "error: {submissions} submissions, a picture has {MOST_ROWS} at most")?
     } else {
-        format!(in alloc;
-            "error: {entries} entries, a picture has {MOST_ENTRIES} at most [91 Picture]\n"
-        )
-    }
+        format!(in alloc; "error: {entries} entries, a picture has {MOST_ENTRIES} at most")?
+    };
+    text.push_str(TextCause::Picture.ending())?;
+    Ok(text)
 }

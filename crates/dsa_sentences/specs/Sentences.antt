@@ -118,6 +118,14 @@ of_trackers n =
     if n == 128 then codes "the plan has # groups, more than slots are free or have a place in the array" else
     []
 
+-- of texts and pictures
+unfoldable pub of_texts : ℕ → List ℕ
+of_texts n =
+    if n == 130 then codes "a line of the text leaves the grammar" else
+    if n == 131 then codes "a picture has at most 1,024 groups or submissions, and 65,536 entries" else
+    if n == 132 then codes "options give settings beside a job, which has settings of its own" else
+    []
+
 -- of settings, by the number of the setting that is outside its limits; for any other number, the limits of all
 unfoldable pub of_settings : ℕ → List ℕ
 of_settings n =
@@ -140,7 +148,8 @@ sentence n =
     if nat_lt n 70 then of_certificates n else
     if nat_lt n 90 then of_runs n else
     if nat_lt n 120 then of_buffers n else
-    of_trackers n
+    if nat_lt n 130 then of_trackers n else
+    of_texts n
 
 -- of any number; 83 names the setting by its first number
 abbrev pub said : ℕ → ℕ → List ℕ

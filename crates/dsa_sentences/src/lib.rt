@@ -2,8 +2,10 @@
 //! allocated.
 #![tactic(auto)]
 
+mod causes;
 mod sentences;
 mod text;
 
+pub use causes::TextCause;
 pub use sentences::sentence_of;
 pub use text::{LONGEST_TEXT, refusal_text};

@@ -2,7 +2,7 @@
 //! second. docs/FORMATS.md has the same sentences.
 
 ghost use Rattle.std.specs.Prelude.{◌≡◌, ◌≤◌};
-ghost use Rattle.dsa_sentences.specs.Sentences.{said, sentence, of_buffers, of_certificates, of_lists, of_operations, of_plans, of_runs, of_settings, of_trackers};
+ghost use Rattle.dsa_sentences.specs.Sentences.{said, sentence, of_buffers, of_certificates, of_lists, of_operations, of_plans, of_runs, of_settings, of_texts, of_trackers};
 ghost use Rattle.dsa_sentences.specs.Texts.{longest};
 
 /// The causes of a list.
@@ -177,6 +177,20 @@ fn of_trackers(number: u64) -> &'static str
     }
 }
 
+/// The causes of texts and pictures.
+#[tactic(auto, unfolding(crate::specs::Sentences::of_texts))]
+fn of_texts(number: u64) -> &'static str
+    ensures value { result.now ≡ of_texts number }
+    ensures short { longest result.now ≤ 250 }
+{
+    match number {
+        130 => "a line of the text leaves the grammar",
+        131 => "a picture has at most 1,024 groups or submissions, and 65,536 entries",
+        132 => "options give settings beside a job, which has settings of its own",
+        _ => "",
+    }
+}
+
 /// Which setting is outside its limits, by its number; for any other number, the limits of all.
 #[tactic(auto, unfolding(crate::specs::Sentences::of_settings))]
 fn of_settings(number: u64) -> &'static str
@@ -221,7 +235,10 @@ pub fn sentence_of(number: u64) -> &'static str
     if number < 120 {
         return of_buffers(number);
     }
-    of_trackers(number)
+    if number < 130 {
+        return of_trackers(number);
+    }
+    of_texts(number)
 }
 
 /// What the cause of this number means. For 83, the first number that the refusal names is that of the setting.

@@ -1,7 +1,9 @@
 -- What `explain` answers to an input and options (this project's choice).
-use Rattle.std.specs.Prelude.{◌≡◌, ◌==◌, ℕ, Bool, true, false, List, [], ◌∷◌, codes, string_bytes, Some, None, if◌then◌else◌}
+use Rattle.std.specs.Prelude.{◌≡◌, ◌==◌, ℕ, Bool, true, false, List, [], ◌∷◌, ◌++◌, codes, string_bytes, Some, None, if◌then◌else◌}
 use Rattle.std.specs.Char.{is_ascii_whitespace}
 use Rattle.clap.specs.declared.parser.matches.ArgMatches.{ArgMatches}
+use Rattle.dsa_sentences.specs.declared.causes.TextCause.TheVariants.{Options}
+use Rattle.dsa_sentences.specs.Endings.{ending_of}
 use Rattle.dsa_plan.specs.Settings.{Limits}
 use Rattle.dsa_calls.specs.declared.fault.PlanFault.TheVariants.{Settings as Outside}
 use Rattle.dsa_text.specs.declared.answer.Answer.{Answer}
@@ -21,7 +23,7 @@ is_job (c ∷ cs) = if is_ascii_whitespace c then is_job cs else c == 123
 
 -- the message if an option gives settings beside a job
 abbrev pub options_message : List ℕ
-options_message = codes "error: a job has settings of its own, so no option gives any [92 Options]\n"
+options_message = codes "error: a job has settings of its own, so no option gives any" ++ ending_of Options
 
 -- a job is refused if some option of settings is given; else it is explained
 pub data ExplainsWithOptions (m : ArgMatches) (text : List ℕ) (form : Form) (a : Answer) : Type 0 where

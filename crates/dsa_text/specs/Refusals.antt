@@ -1,6 +1,8 @@
 -- Refusals: a status, and a message that names the cause (this project's choice).
 use Rattle.std.specs.Prelude.{◌≡◌, ℕ, List, ◌++◌, codes, decimal, string_bytes}
 use Rattle.dsa_splitter.specs.declared.fault.SplitFault.TheVariants.{TooManyPieces}
+use Rattle.dsa_sentences.specs.declared.causes.TextCause.TheVariants.{Line}
+use Rattle.dsa_sentences.specs.Endings.{ending_of}
 use Rattle.dsa_lines.specs.declared.fault.TextFault.{TextFault}
 use Rattle.dsa_lines.specs.declared.fault.TextFault.TheVariants.{Grammar, List as Listed, Memory as TextMemory}
 use Rattle.dsa_calls.specs.declared.fault.PlanFault.{PlanFault}
@@ -22,7 +24,7 @@ NamesCause fault message =
 
 -- after other words the message names the grammar as the cause
 abbrev pub NamesGrammar : List ℕ → Type 0
-NamesGrammar message = (front : List ℕ) × (message ≡ front ++ codes " [90 Line]\n")
+NamesGrammar message = (front : List ℕ) × (message ≡ front ++ ending_of Line)
 
 -- a refusal for this cause
 pub record IsRefusal (fault : PlanFault) (a : Answer) : Type 0 where

@@ -2,6 +2,8 @@
 use Rattle.std.specs.Prelude.{◌≡◌, ◌<◌, ◌≤◌, ℕ, Bool, List, [], ◌++◌, codes, decimal, length, map, string_bytes, Option, Err, if◌then◌else◌}
 use Rattle.dsa_descriptor.specs.declared.descriptor.Descriptor.{Descriptor}
 use Rattle.dsa_descriptor.specs.Descriptors.{fields}
+use Rattle.dsa_sentences.specs.declared.causes.TextCause.TheVariants.{Picture as Large}
+use Rattle.dsa_sentences.specs.Endings.{ending_of}
 use Rattle.dsa_plan.specs.Plan.{Plan}
 use Rattle.dsa_plan.specs.Settings.{Limits}
 use Rattle.dsa_explain.specs.declared.fences.Detail.{Detail}
@@ -86,7 +88,7 @@ ShowsPlan Waits s plan pieces barriers labels least text = TellsWaits s plan pie
 -- the message if a plan has too many groups to draw
 abbrev pub too_many_groups : ℕ → List ℕ
 too_many_groups groups =
-    codes "error: " ++ (decimal groups ++ codes " groups, a picture has 1024 at most [91 Picture]\n")
+    codes "error: " ++ (decimal groups ++ (codes " groups, a picture has 1024 at most" ++ ending_of Large))
 
 -- the message if a tracker refuses the groups
 abbrev pub untracked : TrackFault → List ℕ

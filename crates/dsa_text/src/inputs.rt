@@ -13,6 +13,7 @@ use crate::options::{are_settings_given, settings_words};
 use crate::settings::{SettingsWords, settings_fault, settings_of};
 use clap::ArgMatches;
 use dsa_calls::PlanFault;
+use dsa_sentences::TextCause;
 use std::alloc::{AllocError, Global};
 
 /// Whether an input is a job: a brace is its first byte that is no blank.
@@ -44,8 +45,10 @@ pub(crate) fn refused_settings(
 fn refused_options(alloc: Global) -> Result<Answer, AllocError>
     ensures { IfOk result (λ a. (a.status ≡ 1) × (string_bytes a.text ≡ options_message)) }
 {
-    let line = "error: a job has settings of its own, so no option gives any [92 Options]\n";
-    Ok(Answer::refused(String::from_str(alloc, line)?))
+    let line = "error: a job has settings of its own, so no option gives any";
+    let mut text = String::from_str(alloc, line)?;
+    text.push_str(TextCause::Options.ending())?;
+    Ok(Answer::refused(text))
 }
 
 /// What `explain` answers to a job, which has settings of its own.

@@ -9,7 +9,7 @@ use crate::words::{column_at_fault, hint_of, line_at, push_found, word_at};
 use dsa_calls::{InnerFault, PlanFault};
 use dsa_descriptor::{Indices, ListFault, u32_at};
 use dsa_lines::{Expected, operation_bytes};
-use dsa_sentences::refusal_text;
+use dsa_sentences::{TextCause, refusal_text};
 use std::alloc::{AllocError, Global};
 
 /// The first two numbers of the indices, 0 for each that is missing.
@@ -242,6 +242,6 @@ pub(crate) fn grammar_message(
 {
     let mut text = format!(in alloc; "error: line {line}, column {column}: ")?;
     push_expected(alloc, &mut text, word_at(given, line, column), expected)?;
-    text.push_str(" [90 Line]\n")?;
+    text.push_str(TextCause::Line.ending())?;
     Ok(text)
 }

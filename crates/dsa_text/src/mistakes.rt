@@ -7,6 +7,7 @@ ghost use Rattle.dsa_text.specs.Refusals.{NamesCause, NamesGrammar};
 use crate::messages::{grammar_message, line_message};
 use dsa_descriptor::{Descriptor, ListFault, u32_at};
 use dsa_lines::{Expected, operation_bytes};
+use dsa_sentences::TextCause;
 use std::alloc::{AllocError, Global};
 
 /// The most lines that a message names, beside the first that is refused.
@@ -155,7 +156,7 @@ pub(crate) fn grammar_mistakes(
     all.push_str(&first)?;
     all.push_str(&others.after)?;
     all.push_str(&count_text(alloc, &others)?)?;
-    all.push_str(" [90 Line]\n")?;
+    all.push_str(TextCause::Line.ending())?;
     Ok(all)
 }
 

@@ -15,6 +15,7 @@ use dsa_explain::{
     explanation_line, explanation_text, group_waits, waits_text,
 };
 use dsa_plan::{Plan, Settings};
+use dsa_sentences::TextCause;
 use dsa_tracker::TrackFault;
 use std::alloc::{AllocError, Global};
 
@@ -147,7 +148,7 @@ fn too_many_groups(alloc: Global, groups: usize) -> Result<Answer, AllocError>
     ensures text { IfOk result (λ a. string_bytes a.text ≡ too_many_groups groups) }
 {
     let mut text = format!(in alloc; "error: {groups} groups, a picture has 1024 at most")?;
-    text.push_str(" [91 Picture]\n")?;
+    text.push_str(TextCause::Picture.ending())?;
     Ok(Answer::refused(text))
 }
 

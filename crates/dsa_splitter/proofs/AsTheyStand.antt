@@ -17,41 +17,41 @@ use Rattle.dsa_splitter.specs.Rules.{AllMaySplit, AreWhole, IsClear, IsSplit, Ma
 use Rattle.dsa_splitter.proofs.OnePiece.{short_may_split, whole_pieces}
 use Rattle.dsa_splitter.proofs.Walks.{length_all}
 
--- the first n operations are no longer than a piece may be, and between these addresses lies all that they touch
-pub record ArePlain (ds : List Descriptor) (g low high from to n : ℕ) : Type 0 where
-  pub short : (i : ℕ) (d : Descriptor) → i < n → slice_get ds i ≡ Some d → d.size ≤ g
+-- the first n operations have at most this length, and between these addresses lies all that they touch
+pub record ArePlain (ds : List Descriptor) (longest low high from to n : ℕ) : Type 0 where
+  pub short : (i : ℕ) (d : Descriptor) → i < n → slice_get ds i ≡ Some d → d.size ≤ longest
   pub within :
       (i x : ℕ) (f : Fields) → i < n → slice_get (map fields ds) i ≡ Some f → Touches f x →
-      ((low ≤ x) × (x < high)) ⊎ ((from ≤ x) × (x < to))
+      ((low ≤ x) × (x < high + longest)) ⊎ ((from ≤ x) × (x < to + 32))
 
-pub plain_none : (ds : List Descriptor) (g low high from to : ℕ) → ArePlain ds g low high from to 0
-plain_none ds g low high from to = record { short = λ i d lt at. absurd (omega arith); within = λ i x f lt at touches. absurd (omega arith) }
+pub plain_none : (ds : List Descriptor) (longest low high from to : ℕ) → ArePlain ds longest low high from to 0
+plain_none ds longest low high from to = record { short = λ i d lt at. absurd (omega arith); within = λ i x f lt at touches. absurd (omega arith) }
 
 -- one operation more
-module _ (ds : List Descriptor) (g n : ℕ) (d : Descriptor) (here : slice_get ds n ≡ Some d) (at : slice_get (map fields ds) n ≡ Some (fields d)) (short : d.size ≤ g) (p q : ℕ)
+module _ (ds : List Descriptor) (n : ℕ) (d : Descriptor) (here : slice_get ds n ≡ Some d) (at : slice_get (map fields ds) n ≡ Some (fields d)) (p q : ℕ)
     (its : (x : ℕ) → InSome (sources d.op d.size) x ⊎ InSome (targets d.op d.size) x → InSpan (span p d.size) x ⊎ InSpan (span q d.size) x)
-    (low high from to low' high' from' to' : ℕ) (l0 : low' ≤ low) (l1 : low' ≤ p) (l2 : low' ≤ q) (h0 : high ≤ high') (h1 : p + d.size ≤ high') (h2 : q + d.size ≤ high')
-    (f0 : from' ≤ from) (f1 : from' ≤ d.record_at) (t0 : to ≤ to') (t1 : d.record_at + 32 ≤ to') where
-  by_data : (x : ℕ) → InSome (sources d.op d.size) x ⊎ InSome (targets d.op d.size) x → ((low' ≤ x) × (x < high')) ⊎ ((from' ≤ x) × (x < to'))
+    (longest low high from to longest' low' high' from' to' : ℕ) (s0 : longest ≤ longest') (s1 : d.size ≤ longest') (l0 : low' ≤ low) (l1 : low' ≤ p) (l2 : low' ≤ q)
+    (h0 : high ≤ high') (h1 : p ≤ high') (h2 : q ≤ high') (f0 : from' ≤ from) (f1 : from' ≤ d.record_at) (t0 : to ≤ to') (t1 : d.record_at ≤ to') where
+  by_data : (x : ℕ) → InSome (sources d.op d.size) x ⊎ InSome (targets d.op d.size) x → ((low' ≤ x) × (x < high' + longest')) ⊎ ((from' ≤ x) × (x < to' + 32))
   by_data x h =
       elim (its x h) [
         | inl w ↦ inl (omega (arith, w.0), omega (arith, w.1))
         | inr w ↦ inl (omega (arith, w.0), omega (arith, w.1))
       ]
 
-  by_touch : (x : ℕ) → Touches (fields d) x → ((low' ≤ x) × (x < high')) ⊎ ((from' ≤ x) × (x < to'))
+  by_touch : (x : ℕ) → Touches (fields d) x → ((low' ≤ x) × (x < high' + longest')) ⊎ ((from' ≤ x) × (x < to' + 32))
   by_touch x (inl reads) = by_data x (inl reads)
   by_touch x (inr (inl record_has)) = inr (omega (arith, record_has.0), omega (arith, record_has.1))
   by_touch x (inr (inr writes)) = by_data x (inr writes)
 
-  pub plain_more : ArePlain ds g low high from to n → ArePlain ds g low' high' from' to' (n + 1)
+  pub plain_more : ArePlain ds longest low high from to n → ArePlain ds longest' low' high' from' to' (n + 1)
   plain_more old = record {
     short = λ i e lt there. elim (cases_lt i n) [
-      | inl less ↦ old.short i e less there
+      | inl less ↦ omega (arith, old.short i e less there)
       | inr most ↦
           let same_place : n ≡ i = omega arith in
           let same : d ≡ e = same_Some d e (sym here ∙ ap (slice_get ds) same_place ∙ there) in
-          subst (λ (y : Descriptor). y.size ≤ g) same short
+          subst (λ (y : Descriptor). y.size ≤ longest') same s1
     ];
     within = λ i x f lt there touches. elim (cases_lt i n) [
       | inl less ↦ elim (old.within i x f less there touches) [
@@ -66,11 +66,12 @@ module _ (ds : List Descriptor) (g n : ℕ) (d : Descriptor) (here : slice_get d
   }
 
 -- all of them
-module _ (ds : List Descriptor) (g low high from to n : ℕ) (all : length ds ≤ n) (plain : ArePlain ds g low high from to n) where
-  pub plain_whole : AreWhole ds g
-  plain_whole i d at = plain.short i d (omega (arith, slice_get_within ds i d at, all)) at
+module _ (ds : List Descriptor) (longest low high from to n : ℕ) (all : length ds ≤ n) (plain : ArePlain ds longest low high from to n) where
+  pub plain_whole : (g : ℕ) → longest ≤ g → AreWhole ds g
+  plain_whole g fits i d at = omega (arith, fits, plain.short i d (omega (arith, slice_get_within ds i d at, all)) at)
 
-  pub plain_clear : (area : Span) → ((x : ℕ) → low ≤ x → x < high → InSpan area x → ⊥) → ((x : ℕ) → from ≤ x → x < to → InSpan area x → ⊥) → IsClear area (map fields ds)
+  pub plain_clear : (area : Span) → ((x : ℕ) → low ≤ x → x < high + longest → InSpan area x → ⊥) → ((x : ℕ) → from ≤ x → x < to + 32 → InSpan area x → ⊥)
+      → IsClear area (map fields ds)
   plain_clear area off_data off_records i f at (x, inside, touches) =
       elim (plain.within i x f (omega (arith, slice_get_within (map fields ds) i f at, length-map ds fields, all)) at touches) [
         | inl w ↦ off_data x w.0 w.1 inside

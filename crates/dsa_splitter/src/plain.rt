@@ -6,7 +6,6 @@ ghost use Rattle.dsa_descriptor.specs.Spans.{InSpan};
 ghost use Rattle.dsa_splitter.specs.Rules.{AreWhole, IsClear, IsSplit};
 
 use crate::operations::data_at;
-use crate::rules::is_one_piece;
 use dsa_descriptor::{Descriptor, MOST_PIECES, RECORD_LEN, Span};
 use dsa_settings::{STAGED_LEN, Settings};
 
@@ -18,32 +17,34 @@ fn is_outside(area: Span, low: u64, high: u64) -> bool
 }
 
 /// True only if each operation is its own only piece, and none has an address in the area. All data has to lie on one
-/// side of the area, and so do all records.
+/// side of the area, and so do all records. The loop only collects the ends, which are looked at once.
 fn are_plain(list: &[Descriptor], greatest: u64, area: Span) -> bool
     ensures whole { IsTrue result → AreWhole list.now greatest }
     ensures clear { IsTrue result → IsClear area (map fields list.now) }
 {
-    let (mut low, mut high) = (u64::MAX, 0u64);
+    let (mut low, mut high, mut longest) = (u64::MAX, 0u64, 0u32);
     let (mut from, mut to) = (u64::MAX, 0u64);
     for d in list {
-        if !is_one_piece(d, greatest) {
-            return false;
-        }
         let Some((p, q)) = data_at(&d.op) else {
             return false;
         };
-        let Some(end) = p.max(q).checked_add(u64::from(d.size)) else {
-            return false;
-        };
-        let Some(record_end) = d.record_at.checked_add(RECORD_LEN) else {
-            return false;
-        };
         low = low.min(p.min(q));
-        high = high.max(end);
+        high = high.max(p.max(q));
+        longest = longest.max(d.size);
         from = from.min(d.record_at);
-        to = to.max(record_end);
+        to = to.max(d.record_at);
     }
-    is_outside(area, low, high) && is_outside(area, from, to)
+    let length = u64::from(longest);
+    if length > greatest {
+        return false;
+    }
+    let Some(end) = high.checked_add(length) else {
+        return false;
+    };
+    let Some(record_end) = to.checked_add(RECORD_LEN) else {
+        return false;
+    };
+    is_outside(area, low, end) && is_outside(area, from, record_end)
 }
 
 /// True only if each operation is its own only piece, and the rules of a split list are kept with a staging area at

@@ -51,6 +51,9 @@ def lost():
         end = audited("--", "sh", "-c", f"exec {client('unseen')} {how} 2> /dev/null")
         told(f"the same ({how}) without standard error", end, 125, *said)
         expect("is not recorded" not in end.stderr, f"the program says it on our standard error: {end.stderr}")
+    shell = f"[ $DSA_TRACE_SEED = 2 ] && exec {client('unseen')} files; exec {client('unseen')} right"
+    end = audited("--seeds", 3, "--", "sh", "-c", shell)
+    told("the second of three", end, 125, "the audits of 0 of 2 runs find errors, and those of 1 have seen a part; ")
     with tempfile.TemporaryDirectory(dir=WORK) as folder:
         end = traced("--out", folder, *unseen("files"))
         told("the same without an audit", end, 0, " breaks off: ", " can't grow: Too many open files\n")

@@ -147,7 +147,8 @@ void audit_run(struct audits *a, const struct run *run, const char *folder)
     if (!is_seen(run, run_of.recorded))
         status = FAILED;
     a->runs++;
-    a->faulty += status != 0;
+    a->faulty += status == 1;
+    a->partial += status == FAILED;
     a->empty += seen_submitted(run) == 0;
     if (!status && a->status) {
         fclose(report);
@@ -160,17 +161,19 @@ void audit_run(struct audits *a, const struct run *run, const char *folder)
     a->status = status > a->status ? status : a->status;
 }
 
-/// Of several runs: how many have errors, and of which the report is.
+/// Of several runs: how many have errors or were seen in part, and of which the report is.
 static void say_which(const struct audits *a, const struct options *o, bool has_failed)
 {
     const uint64_t last = o->settings.seed + a->runs - 1;
-    if (!a->faulty) {
+    if (!a->faulty && !a->partial) {
         fprintf(stderr, "dsa_trace: the audits of %llu runs find no errors; the last:\n", a->runs);
         return;
     }
     const bool is_repeated = has_failed && a->seed == last; /* how to run it again is said already */
-    fprintf(stderr, "dsa_trace: the audits of %llu of %llu runs find errors; %s %llu:\n", a->faulty, a->runs,
-            is_repeated ? "that of seed" : "to repeat seed", (unsigned long long)a->seed);
+    fprintf(stderr, "dsa_trace: the audits of %llu of %llu runs find errors", a->faulty, a->runs);
+    if (a->partial)
+        fprintf(stderr, ", and those of %llu have seen a part", a->partial);
+    fprintf(stderr, "; %s %llu:\n", is_repeated ? "that of seed" : "to repeat seed", (unsigned long long)a->seed);
     if (!is_repeated)
         options_repeat(o, a->seed);
 }
@@ -212,7 +215,7 @@ int audit_end(struct audits *a, const struct options *o, bool has_failed)
         fwrite(part, 1, length, stdout);
     if (ferror(a->report) || fflush(stdout))
         fail("the report of the audit");
-    if (has_failed && !a->empty && !a->faulty)
+    if (has_failed && !a->empty && !a->faulty && !a->partial)
         say_what_else(o);
     fclose(a->report);
     return a->status || !a->empty || has_failed ? a->status : 1;

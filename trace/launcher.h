@@ -76,7 +76,7 @@ const char *audit_find(void);
  * audited; `report` is that of the run with `seed`. */
 struct audits {
     const char *dsa_text;
-    unsigned long long runs, faulty, empty; /* of `empty` runs no submission was seen */
+    unsigned long long runs, faulty, partial, empty; /* of `partial` runs a part was seen, of `empty` no submission */
     uint64_t seed;
     int status;
     FILE *report;

@@ -2,7 +2,7 @@
 
 use crate::timing::nanos_each;
 use dsa_descriptor::Span;
-use dsa_tracker::{Slots, Tracker};
+use dsa_tracker::{Slots, words};
 use std::alloc::{AllocError, Global};
 use std::io;
 use std::time::Instant;
@@ -87,15 +87,15 @@ fn accesses_of(
 }
 
 /// Completes the submission at this place of those in flight.
-fn complete(tracker: &mut Tracker, flying: &mut Vec<u32>, place: usize) {
+fn complete(tracker: &mut [u64], flying: &mut Vec<u32>, place: usize) {
     if place < flying.len() {
         let slot = flying.swap_remove(place);
-        let _ = tracker.complete(slot);
+        let _ = words::complete(tracker, slot);
     }
 }
 
 /// Completes those that a submission waits for.
-fn complete_awaited(tracker: &mut Tracker, flying: &mut Vec<u32>, waits: Slots) {
+fn complete_awaited(tracker: &mut [u64], flying: &mut Vec<u32>, waits: Slots) {
     if waits.is_empty() {
         return;
     }
@@ -108,7 +108,7 @@ fn complete_awaited(tracker: &mut Tracker, flying: &mut Vec<u32>, waits: Slots) 
 }
 
 /// Submits each list, with so many in flight at most, and completes all.
-fn fly(tracker: &mut Tracker, lists: &[Accesses], flying: &mut Vec<u32>, most: usize) {
+fn fly(tracker: &mut [u64], lists: &[Accesses], flying: &mut Vec<u32>, most: usize) {
     let mut drawn = 1u64;
     for list in lists {
         drawn = drawn.wrapping_mul(0x5851_f42d_4c95_7f2d).wrapping_add(1);
@@ -118,7 +118,12 @@ fn fly(tracker: &mut Tracker, lists: &[Accesses], flying: &mut Vec<u32>, most: u
                 .unwrap_or(0);
             complete(tracker, flying, place);
         }
-        if let Ok(submitted) = tracker.submit_spans(&list.reads, &list.writes, Slots::EMPTY) {
+        if let Ok(submitted) = words::submit_spans(
+            tracker,
+            &list.reads,
+            &list.writes,
+            Slots::EMPTY,
+        ) {
             complete_awaited(tracker, flying, submitted.waits);
             let _ = flying.push(submitted.slot);
         }
@@ -134,7 +139,7 @@ fn measure(rt: &HostRuntime, pages: Pages, length: u64, most: usize) -> io::Resu
     for list in 0..OPERATIONS.checked_div(length).unwrap_or(0) {
         lists.push(accesses_of(rt.alloc(), pages, list, length)?)?;
     }
-    let mut tracker = Tracker::new(rt.alloc(), 64, 200, 12)?;
+    let mut tracker = words::begun(rt.alloc(), 64, 200, 14, 12)?;
     let mut flying = Vec::with_capacity(rt.alloc(), 64)?;
     let mut best = u128::MAX;
     for _ in 0..ROUNDS {

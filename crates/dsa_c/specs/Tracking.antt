@@ -16,8 +16,8 @@ use Rattle.dsa_calls.specs.Fenced.{AreFencedPieces, PlansFenced}
 use Rattle.dsa_tracker.specs.declared.fault.WordsFault.{WordsFault}
 use Rattle.dsa_tracker.specs.declared.fault.WordsFault.TheVariants.{NotATracker}
 use Rattle.dsa_tracker.specs.declared.slots.Slots.{Slots}
-use Rattle.dsa_tracker.specs.declared.tracker.Retired.{Retired}
-use Rattle.dsa_tracker.specs.declared.tracker.Submitted.{Submitted}
+use Rattle.dsa_tracker.specs.declared.submitted.Retired.{Retired}
+use Rattle.dsa_tracker.specs.declared.submitted.Submitted.{Submitted}
 use Rattle.dsa_tracker.specs.Calls.{CanKeep, CanKeepList, IsCompleteFault, IsListFault, IsRefused, IsSpanFault, IsWithdrawFault, Retires, Submits, owner_with}
 use Rattle.dsa_tracker.specs.Causes.{words_indices, words_number}
 use Rattle.dsa_tracker.specs.Groups.{CanTakeGroups, IsGroupsFault, SubmitsInTurn, free_count, group_reads, group_writes}

@@ -18,12 +18,6 @@ last_or_before [] x y (suc k) is = absurd cc
 last_or_before (z ∷ xs) x y zero is = inl is
 last_or_before (z ∷ xs) x y (suc k) is = elim (last_or_before xs x y k is) [ inl before ↦ inl before | inr last ↦ inr (ap suc last.0, last.1) ]
 
-pub fault_told :
-    (t : Table) (n : ℕ) (plan : Plan) (pieces : List Fields) (staging : ℕ) (fault : TrackFault) → t ≡ free_table → n ≡ length plan →
-    IsGroupsFault t.room (min (free_count t.slots) n) (owner_with t.owner pieces) pieces plan staging fault → RefusesWaits staging plan pieces (Track fault)
-fault_told t n plan pieces staging fault t_is n_is h =
-    subst (λ (x : Table × ℕ). IsGroupsFault x.0.room (min (free_count x.0.slots) x.1) (owner_with x.0.owner pieces) pieces plan staging fault) (λ i. (t_is i, n_is i)) h
-
 pub waits_told :
     (t mid : Table) (slots items told : List ℕ) (sets : List Slots) (plan : Plan) (pieces : List Fields) (staging : ℕ) → t ≡ free_table →
     SubmitsInTurn t (group_reads plan pieces) (group_writes staging plan pieces) (record { 0 = 0 }) (owner_with t.owner pieces) slots (length plan) mid → items ≡ slots → told ≡ items → length slots ≡ length plan →

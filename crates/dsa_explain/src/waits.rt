@@ -2,6 +2,8 @@
 
 ghost use Rattle.std.specs.Prelude.{◌≡◌, ◌++◌, ◌<◌, ◌≤◌, IfOk, MatchResult, OnOk, codes, decimal, length, map, string_bytes};
 ghost use Rattle.dsa_descriptor.specs.Descriptors.{fields};
+ghost use Rattle.dsa_tracker.specs.Table.{IsExactly, WaitsFor};
+ghost use Rattle.dsa_tracker.specs.Words.{IsTracker, table_in};
 ghost use Rattle.dsa_explain.specs.declared.waits.WaitsFault.TheVariants.{Memory};
 ghost use Rattle.dsa_explain.specs.Waits.{AreSets, AreWaits, RefusesWaits, awaited_words, chains_of, has_group, longest, longest_in, saved_words, set_words, waits_line, waits_lines, waits_words};
 
@@ -9,7 +11,7 @@ use crate::listing::push_line;
 use crate::words::plural;
 use dsa_descriptor::Descriptor;
 use dsa_plan::Plan;
-use dsa_tracker::{Slots, TrackFault, Tracker};
+use dsa_tracker::{Slots, TrackFault, WordsFault, words};
 use std::alloc::{AllocError, Global};
 
 /// The most slots of a tracker, and so the most groups that can be explained.
@@ -17,6 +19,12 @@ const MOST_GROUPS: u32 = 64;
 
 /// How many spans a group of 1,024 pieces may read or write.
 const MOST_SPANS: u32 = 3074;
+
+/// The rows of the tracker, as a power of two.
+const LOG2_ROWS: u32 = 14;
+
+/// The length of the units that addresses are cut into, as a power of two.
+const LOG2_UNIT: u32 = 12;
 
 /// What groups wait for, if a tracker takes one after another.
 #[derive(Drop)]
@@ -44,13 +52,25 @@ impl From<AllocError> for WaitsFault {
     }
 }
 
+/// What the submission of a slot waits for: nothing, if the slot is free.
+fn waits_of(tracker: &[u64], slot: u32) -> Slots
+    requires { IsTracker tracker.now }
+    ensures { IsExactly result (λ s. WaitsFor (table_in tracker.now).slots s slot) }
+{
+    match words::waits(tracker, slot) {
+        Ok(waits) => waits,
+        Err(_) => Slots::EMPTY,
+    }
+}
+
 /// What the submissions of these slots wait for.
-fn sets_of(alloc: Global, tracker: &Tracker, slots: &[u32]) -> Result<Vec<Slots>, AllocError>
-    ensures { IfOk result (λ sets. AreSets tracker.now slots.now sets.items) }
+fn sets_of(alloc: Global, tracker: &[u64], slots: &[u32]) -> Result<Vec<Slots>, AllocError>
+    requires { IsTracker tracker.now }
+    ensures { IfOk result (λ sets. AreSets (table_in tracker.now) slots.now sets.items) }
 {
     let mut sets = Vec::with_capacity(alloc, slots.len())?;
     for slot in slots {
-        sets.push(tracker.waits(*slot))?;
+        sets.push(waits_of(tracker, *slot))?;
     }
     Ok(sets)
 }
@@ -71,10 +91,20 @@ pub fn group_waits(
         (λ w. AreWaits staging plan.now list w.slots.items w.sets.items)
         (RefusesWaits staging plan.now list) }
 {
-    let mut tracker = Tracker::new(alloc, MOST_GROUPS, MOST_SPANS, 12)?;
+    let mut tracker = words::begun(alloc, MOST_GROUPS, MOST_SPANS, LOG2_ROWS, LOG2_UNIT)?;
     let mut slots = vec![in alloc; 0; plan.groups().len()]?;
-    if let Err(fault) = tracker.submit_groups(pieces, plan, staging, Slots::EMPTY, &mut slots) {
-        return Err(WaitsFault::Track(fault));
+    match words::submit_groups(
+        &mut tracker,
+        pieces,
+        plan,
+        staging,
+        Slots::EMPTY,
+        &mut slots,
+    ) {
+        Ok(()) => {}
+        Err(WordsFault::Track(fault)) => return Err(WaitsFault::Track(fault)),
+        // which words that are a tracker never answer
+        Err(WordsFault::NotATracker) => return Err(WaitsFault::Memory),
     }
     let sets = sets_of(alloc, &tracker, &slots)?;
     Ok(Waits { slots, sets })

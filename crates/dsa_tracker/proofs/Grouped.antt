@@ -15,7 +15,7 @@ use Rattle.dsa_settings.specs.Plan.{Group, Plan, piece_count}
 use Rattle.dsa_tracker.specs.declared.fault.TrackFault.{TrackFault}
 use Rattle.dsa_tracker.specs.declared.owner.Owner.{Owner}
 use Rattle.dsa_tracker.specs.declared.slots.Slots.{Slots}
-use Rattle.dsa_tracker.specs.declared.tracker.Submitted.{Submitted}
+use Rattle.dsa_tracker.specs.declared.submitted.Submitted.{Submitted}
 use Rattle.dsa_tracker.specs.Calls.{Submits}
 use Rattle.dsa_tracker.specs.Groups.{CanTakeGroups, IsGroupsFault, SubmitsInTurn, free_count, group_at, group_staging, pieces_of}
 use Rattle.dsa_tracker.specs.Table.{Table}

@@ -14,7 +14,7 @@ use Rattle.dsa_flight.specs.Caller.{Tracking, Session, with, MeetsCover}
 use Rattle.dsa_flight.specs.Spans.{SpansTell}
 use Rattle.dsa_flight.proofs.Caller.{tracked_ends_in_turn, with_same, with_other}
 use Rattle.dsa_tracker.specs.declared.slots.Slots.{Slots}
-use Rattle.dsa_tracker.specs.declared.tracker.Submitted.{Submitted}
+use Rattle.dsa_tracker.specs.declared.submitted.Submitted.{Submitted}
 use Rattle.dsa_tracker.specs.Calls.{Releases}
 use Rattle.dsa_tracker.specs.Honest.{Moment, Act, with_number, Covers, SubmitsNext, DoesAll, TrackerEndsInTurn}
 use Rattle.dsa_tracker.specs.Honest.Act.{Submit, Ring, Complete, Withdraw, Work}

@@ -13,7 +13,6 @@ pub mod Taking
 pub mod Releasing
 pub mod Asked
 pub mod Tables
-pub mod Filling
 pub mod Lists
 pub mod Parted
 pub mod Rewritten

@@ -22,7 +22,7 @@ use Rattle.dsa_flight.proofs.Spans.{descriptors_tell}
 use Rattle.dsa_settings.specs.Plan.{Plan, start_of}
 use Rattle.dsa_tracker.specs.declared.owner.Owner.{Owner}
 use Rattle.dsa_tracker.specs.declared.slots.Slots.{Slots}
-use Rattle.dsa_tracker.specs.declared.tracker.Submitted.{Submitted}
+use Rattle.dsa_tracker.specs.declared.submitted.Submitted.{Submitted}
 use Rattle.dsa_tracker.specs.Groups.{SubmitsInTurn, group_at, group_reads, group_staging, group_writes, pieces_of}
 use Rattle.dsa_tracker.specs.Honest.{Moment, Act, Covers, Does, DoesAll, SubmitsNext, with_number}
 use Rattle.dsa_tracker.specs.Honest.Act.{Submit}

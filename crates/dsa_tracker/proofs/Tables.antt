@@ -8,7 +8,7 @@ use Rattle.dsa_tracker.specs.declared.board.Board.{Board}
 use Rattle.dsa_tracker.specs.declared.grid.Shape.{Shape}
 use Rattle.dsa_tracker.specs.declared.owner.Owner.{Owner}
 use Rattle.dsa_tracker.specs.declared.slots.Slots.{Slots}
-use Rattle.dsa_tracker.specs.declared.tracker.Retired.{Retired}
+use Rattle.dsa_tracker.specs.declared.submitted.Retired.{Retired}
 use Rattle.dsa_tracker.specs.declared.fault.TrackFault.{TrackFault}
 use Rattle.dsa_tracker.specs.declared.fault.TrackFault.TheVariants.{NoSlot, TooManySpans, NotOutstanding, Held, Wrap, OtherOwner, OtherPlan, FewSlots}
 use Rattle.dsa_tracker.specs.Calls.{IsListFault, IsRefused, IsSpanFault, Releases, Retires, SameAddresses, Submits}

@@ -6,7 +6,7 @@ use Rattle.dsa_tracker.specs.declared.board.Board.{Board}
 use Rattle.dsa_tracker.specs.declared.head.Head.{Head}
 use Rattle.dsa_tracker.specs.declared.owner.Owner.{Owner}
 use Rattle.dsa_tracker.specs.declared.slots.Slots.{Slots}
-use Rattle.dsa_tracker.specs.declared.tracker.Retired.{Retired}
+use Rattle.dsa_tracker.specs.declared.submitted.Retired.{Retired}
 use Rattle.dsa_tracker.specs.Calls.{Releases, Retires, SameAddresses, Submits}
 use Rattle.dsa_tracker.specs.Finding.{reads_store, writes_store}
 use Rattle.dsa_tracker.specs.Groups.{free_count}

@@ -6,8 +6,8 @@ use Rattle.dsa_descriptor.specs.Spans.{InSome, IsAddressable}
 use Rattle.dsa_tracker.specs.declared.fault.TrackFault.{TrackFault}
 use Rattle.dsa_tracker.specs.declared.fault.TrackFault.TheVariants.{NoSlot, TooManySpans, NotOutstanding, Held, Wrap, OtherOwner, OtherPlan, FewSlots}
 use Rattle.dsa_tracker.specs.declared.owner.Owner.{Owner}
-use Rattle.dsa_tracker.specs.declared.tracker.Retired.{Retired}
-use Rattle.dsa_tracker.specs.declared.tracker.Submitted.{Submitted}
+use Rattle.dsa_tracker.specs.declared.submitted.Retired.{Retired}
+use Rattle.dsa_tracker.specs.declared.submitted.Submitted.{Submitted}
 use Rattle.dsa_tracker.specs.declared.slots.Slots.{Slots}
 use Rattle.dsa_tracker.specs.Table.{Outstanding, Table, IsHeld, IsFree, IsFirstFree, IsFull, HasToWait, WaitsFor, IsReady, IsExactly, IsWithout}
 

@@ -12,8 +12,8 @@ use Rattle.dsa_flight.specs.Flight.{Flight, lane_state, HasEnded, start_flight, 
 use Rattle.dsa_flight.specs.Laws.{EndsInTurn}
 use Rattle.dsa_tracker.specs.declared.owner.Owner.{Owner}
 use Rattle.dsa_tracker.specs.declared.slots.Slots.{Slots}
-use Rattle.dsa_tracker.specs.declared.tracker.Retired.{Retired}
-use Rattle.dsa_tracker.specs.declared.tracker.Submitted.{Submitted}
+use Rattle.dsa_tracker.specs.declared.submitted.Retired.{Retired}
+use Rattle.dsa_tracker.specs.declared.submitted.Submitted.{Submitted}
 use Rattle.dsa_tracker.specs.Calls.{Submits, Retires}
 use Rattle.dsa_tracker.specs.Table.{Table, IsHeld, IsReady}
 

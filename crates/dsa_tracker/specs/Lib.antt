@@ -9,7 +9,6 @@ pub mod Kept
 pub mod Keeping
 pub mod Finding
 pub mod State
-pub mod Inside
 pub mod Words
 pub mod Head
 pub mod Honest

@@ -14,7 +14,7 @@ use crate::grid::Shape;
 use crate::kept::store;
 use crate::marking::{note_slot, unmark_slot};
 use crate::slots::Slots;
-use crate::tracker::Retired;
+use crate::submitted::Retired;
 
 /// Which slots have an outstanding submission, which of these wait for some other, and which have
 /// spans of too many units to mark.

@@ -17,7 +17,7 @@ mod marks;
 mod owner;
 mod parts;
 mod slots;
-mod tracker;
+mod submitted;
 mod units;
 pub mod words;
 
@@ -25,4 +25,4 @@ pub use fault::{TrackFault, WordsFault};
 pub use laws::{groups_end_in_turn, groups_stage_what_entries_name, tracker_ends_in_turn};
 pub use owner::Owner;
 pub use slots::Slots;
-pub use tracker::{Retired, Submitted, Tracker};
+pub use submitted::{Retired, Submitted};

@@ -19,7 +19,7 @@ use crate::head::{HEAD_LEN, Head, write_head};
 use crate::keeping::{keep_reads, keep_spans, keep_writes};
 use crate::owner::Owner;
 use crate::slots::Slots;
-use crate::tracker::Retired;
+use crate::submitted::Retired;
 use dsa_descriptor::{Descriptor, Span};
 
 /// Keeps just these spans in the stores of the free slot.

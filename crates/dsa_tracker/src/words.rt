@@ -1,7 +1,7 @@
 //! A tracker in an array of words that the caller holds. Whatever the words are, each call is safe,
 //! and a refusal leaves them as they were. The answers are a tracker's if the words are.
 
-ghost use Rattle.std.specs.Prelude.{◌≡◌, ◌↔◌, ℕ, ◌+◌, ◌*◌, ◌<◌, ◌≤◌, ◌⊎◌, ◌++◌, None, IsTrue, MatchResult, length, map, min, replicate, slice_get};
+ghost use Rattle.std.specs.Prelude.{◌≡◌, ◌↔◌, ℕ, ◌+◌, ◌*◌, ◌<◌, ◌≤◌, ◌⊎◌, ◌++◌, None, IfOk, IsTrue, MatchResult, length, map, min, replicate, slice_get};
 ghost use Rattle.dsa_descriptor.specs.Descriptors.{fields};
 ghost use Rattle.dsa_emission.specs.Emission.{batched_count};
 ghost use Rattle.dsa_flight.specs.Spans.{all_reads, all_writes, staged_writes};
@@ -21,9 +21,10 @@ use crate::limits::{list_fault, span_fault};
 use crate::owner::{Owner, expected_owner};
 use crate::parts::{conflicts_in, keep_list_in, keep_spans_in, release_in, take_in, waits_at_in};
 use crate::slots::Slots;
-use crate::tracker::{Retired, Submitted};
+use crate::submitted::{Retired, Submitted};
 use dsa_descriptor::{Descriptor, Span};
 use dsa_settings::Plan;
+use std::alloc::{AllocError, Global};
 
 /// The head of a tracker all of whose slots are free.
 fn first_head(slots: u32, room: u32, log2_rows: u32, log2_unit: u32) -> Head
@@ -92,10 +93,33 @@ pub fn begin(
     Ok(())
 }
 
-/// Takes a submission that reads and writes these spans, as `Tracker::submit_spans` does.
+/// Words that are a tracker of these measures, as [`begin`] makes them.
 ///
 /// # Errors
-/// The words are no tracker's, or its refusal.
+/// An allocation failed.
+pub fn begun(
+    alloc: Global,
+    slots: u32,
+    room: u32,
+    log2_rows: u32,
+    log2_unit: u32,
+) -> Result<Vec<u64>, AllocError>
+    requires { AreMeasures slots room log2_rows log2_unit }
+    ensures { IfOk result (λ words. IsTracker words.items × (table_in words.items ≡
+        record { slots = replicate slots None; room = room; owner = None })) }
+{
+    let len = needed(slots as usize, room as usize, log2_rows as usize);
+    let mut words = vec![in alloc; 0; len]?;
+    let _ = begin(&mut words, slots, room, log2_rows, log2_unit);
+    Ok(words)
+}
+
+/// Takes a submission that reads and writes these spans. It waits for the outstanding ones that it conflicts with, and
+/// for those of `also` that are outstanding.
+///
+/// # Errors
+/// The first cause: the words are no tracker's, no slot is free, there are too many spans, a span of `reads` and then
+/// `writes` goes past 2^64.
 pub fn submit_spans(
     words: &mut [u64],
     reads: &[Span],
@@ -125,11 +149,12 @@ pub fn submit_spans(
     Ok(Submitted { slot, waits })
 }
 
-/// Takes a submission of these pieces, whose staging area counts as written, as `Tracker::submit`
-/// does.
+/// Takes a submission of these pieces, whose staging area (its batch descriptors and batch records) counts as written.
+/// It waits for the outstanding ones that it conflicts with, and for those of `also` that are outstanding.
 ///
 /// # Errors
-/// The words are no tracker's, or its refusal.
+/// The first cause: the words are no tracker's, no slot is free, there are too many pieces, the staging area goes past
+/// 2^64, a piece has another owner than the first piece that came.
 pub fn submit(
     words: &mut [u64],
     pieces: &[Descriptor],
@@ -233,11 +258,15 @@ fn take_groups(
     }
 }
 
-/// Takes the groups of a plan of these pieces one after another, each as a submission of its own,
-/// as `Tracker::submit_groups` does.
+/// Takes the groups of a plan of these pieces one after another, each as a submission of its own: its pieces, and its
+/// part of the staging area at this address, which counts as written. Each waits for the outstanding ones that it
+/// conflicts with, those of earlier groups among them, and for those of `also` that are outstanding then: with all
+/// slots in `also` it waits for each earlier group. `slots` begins with the slot of each group, and its rest stays.
 ///
 /// # Errors
-/// The words are no tracker's, or its refusal.
+/// The first cause: the words are no tracker's, the plan is of another number of pieces, it has more groups than slots
+/// are free or have a place in `slots`, a group may have too many spans, the staging bytes go past 2^64, a piece has
+/// another owner than the first piece that came.
 pub fn submit_groups(
     words: &mut [u64],
     pieces: &[Descriptor],
@@ -275,7 +304,8 @@ pub fn submit_groups(
     }
 }
 
-/// The outstanding submissions that conflict with accesses to these spans, as `Tracker::ask` says.
+/// The outstanding submissions that conflict with accesses to these spans, also with accesses of the host: if there are
+/// none, the accesses may be done at once.
 ///
 /// # Errors
 /// The words are no tracker's.

@@ -1,21 +1,22 @@
 -- The pieces of a list for a tracker, or why it has none.
 use Rattle.std.proofs.Common.{◌≡◌, ◌⊎◌, inl, inr, ℕ, ◌≤◌, Bool, List, Err, refl, ap, subst, ◌∙◌}
 use Rattle.dsa_descriptor.specs.declared.descriptor.Descriptor.{Descriptor}
-use Rattle.dsa_plan.specs.Settings.{Limits, AreBatchPrices, AreInLimits, greatest_price}
-use Rattle.dsa_plan.specs.Settings.BatchPrices.{BySize}
+use Rattle.dsa_settings.specs.Settings.{Limits, AreBatchPrices, AreInLimits}
+use Rattle.dsa_settings.specs.Outside.{IsFirstOutside}
+use Rattle.dsa_settings.specs.declared.setting.Setting.TheVariants.{Batch}
 use Rattle.dsa_calls.specs.declared.fault.PlanFault.{PlanFault}
 use Rattle.dsa_calls.specs.declared.fault.PlanFault.TheVariants.{Memory}
 use Rattle.dsa_calls.specs.Fenced.{AreFencedPieces, PlansFenced}
 use Rattle.dsa_c.specs.declared.refusal.RawRefusal.{RawRefusal}
 use Rattle.dsa_c.specs.declared.settings.RawSettings.{RawSettings}
-use Rattle.dsa_c.specs.Raw.{limits_of, prices_in, refusal_of, AreSettings, HaveLimits, IsOutside}
+use Rattle.dsa_c.specs.Raw.{limits_of, prices_in, refusal_of, AreSettings, HaveLimits}
 use Rattle.dsa_c.specs.Tracking.{ArePiecesUnder, RefusesToSplit}
 
 -- ---- settings
 
 -- numbers within their limits are settings if the prices of batches are, too
-pub settings_from : (r : RawSettings) (table : List ℕ) → HaveLimits r → AreBatchPrices r.greatest_batch (prices_in r table) → AreSettings r table
-settings_from r table (known, have) prices = (
+pub settings_from : (r : RawSettings) (table : List ℕ) → (r.version ≡ 1) ⊎ (r.version ≡ 2) → HaveLimits r → AreBatchPrices r.greatest_batch (prices_in r table) → AreSettings r table
+settings_from r table known have prices = (
   known,
   record {
     least_batch = have.least_batch;
@@ -31,29 +32,19 @@ settings_from r table (known, have) prices = (
   },
 )
 
-pub same_price : (r : RawSettings) (table : List ℕ) → r.version ≡ 1 → r.batch ≤ greatest_price → AreBatchPrices r.greatest_batch (prices_in r table)
-same_price r table is price = rw is price
-
-pub by_size : (r : RawSettings) (table : List ℕ) → r.version ≡ 2 → AreBatchPrices r.greatest_batch (BySize table) → AreBatchPrices r.greatest_batch (prices_in r table)
-by_size r table is prices = rw is prices
-
-second_version : (r : RawSettings) → (r.version ≡ 1) ⊎ (r.version ≡ 2) → (r.version ≡ 1 → ⊥) → r.version ≡ 2
-second_version r (inl one) other = absurd (other one)
-second_version r (inr two) other = two
-
-pub settings_by_size : (r : RawSettings) (table : List ℕ) → HaveLimits r → (r.version ≡ 1 → ⊥) → AreBatchPrices r.greatest_batch (BySize table) → AreSettings r table
-settings_by_size r table have other prices = settings_from r table have (by_size r table (second_version r have.0 other) prices)
-
-pub version_two : (r : RawSettings) → HaveLimits r → (r.version ≡ 1 → ⊥) → r.version ≡ 2
-version_two r have other = second_version r have.0 other
-
--- else one of the prices of batches is outside
-pub outside_price : (r : RawSettings) (table : List ℕ) → HaveLimits r → r.version ≡ 1 → (AreSettings r table → ⊥) → IsOutside 5 r table
-outside_price r table have is none = inr (inr (inr (inr (inl (refl, is, λ le. none (settings_from r table have (same_price r table is le)))))))
-
-pub outside_table : (r : RawSettings) (table : List ℕ) → HaveLimits r → (r.version ≡ 1 → ⊥) → (AreSettings r table → ⊥) → IsOutside 8 r table
-outside_table r table have other none =
-    inr (inr (inr (inr (inr (inr (inr (refl, version_two r have other, λ prices. none (settings_by_size r table have other prices))))))))
+-- else the prices of batches are the first that are outside
+pub outside_prices : (r : RawSettings) (table : List ℕ) → (r.version ≡ 1) ⊎ (r.version ≡ 2) → HaveLimits r → (AreSettings r table → ⊥)
+    → IsFirstOutside Batch (limits_of r table)
+outside_prices r table known have none = (
+  (
+    (have.least_batch, have.most_batch),
+    (have.least_transfer, have.most_transfer, have.transfer_by_eights),
+    have.most_lone,
+    have.most_fence,
+    (have.most_staging, have.staging_by_lines),
+  ),
+  λ prices. none (settings_from r table known have prices),
+)
 
 -- ---- pieces
 

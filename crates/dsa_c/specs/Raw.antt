@@ -1,6 +1,9 @@
 -- What goes to C and comes from it.
-use Rattle.std.specs.Prelude.{◌≡◌, ◌⊎◌, if◌then◌else◌, ◌==◌, ◌≤◌, ◌%◌, ◌^◌, ℕ, List, [], ◌++◌, drop, length, slice_index_or, Option, Some, None}
-use Rattle.dsa_plan.specs.Settings.{BatchPrices, Limits, AreBatchPrices, AreInLimits, greatest_price, limits}
+use Rattle.std.specs.Prelude.{◌≡◌, ◌⊎◌, if◌then◌else◌, ◌==◌, ℕ, List, [], ◌++◌, drop, length, slice_index_or, Option, Some, None}
+use Rattle.dsa_settings.specs.declared.setting.Setting.{Setting}
+use Rattle.dsa_settings.specs.declared.setting.Setting.TheVariants.{GreatestBatch, GreatestTransfer, Lone, Fence, Staging, Batch}
+use Rattle.dsa_settings.specs.Outside.{IsFirstOutside}
+use Rattle.dsa_plan.specs.Settings.{BatchPrices, Limits, AreInLimits, limits}
 use Rattle.dsa_plan.specs.Settings.BatchPrices.{SamePrice, BySize}
 use Rattle.dsa_descriptor.specs.Causes.{index_list}
 use Rattle.dsa_calls.specs.declared.fault.PlanFault.{PlanFault}
@@ -22,34 +25,36 @@ limits_of r table = limits r.greatest_batch r.greatest_transfer r.lone (prices_i
 abbrev pub AreSettings : RawSettings → List ℕ → Type 0
 AreSettings r table = ((r.version ≡ 1) ⊎ (r.version ≡ 2)) × AreInLimits (limits_of r table)
 
--- they are but for the prices of batches
+-- each number is within its limits, but for the version and the prices of batches
 abbrev pub HaveLimits : RawSettings → Type 0
-HaveLimits r =
-    ((r.version ≡ 1) ⊎ (r.version ≡ 2))
-    × AreInLimits (limits r.greatest_batch r.greatest_transfer r.lone (SamePrice 0) r.fence r.staging)
+HaveLimits r = AreInLimits (limits r.greatest_batch r.greatest_transfer r.lone (SamePrice 0) r.fence r.staging)
 
 -- the settings with this staging address in place of theirs
 abbrev pub staged_at : RawSettings → ℕ → RawSettings
 staged_at r staging = record r { staging = staging }
 
--- the setting of this number is outside its limits: 1 to 7 are the members of the struct in their order, 8 is the table of
--- prices, which counts only in version 2 (this project's choice)
+-- the number of a setting, after 1 for the version: 2 to 7 are the members of the struct in their order, 8 is the table of
+-- prices, which counts in version 2 alone (this project's choice)
+abbrev pub setting_number : ℕ → Setting → ℕ
+setting_number version GreatestBatch = 2
+setting_number version GreatestTransfer = 3
+setting_number version Lone = 4
+setting_number version Fence = 6
+setting_number version Staging = 7
+setting_number version Batch = if version == 2 then 8 else 5
+
+-- the setting of this number is the first outside its limits
 abbrev pub IsOutside : ℕ → RawSettings → List ℕ → Type 0
 IsOutside setting s table =
     ((setting ≡ 1) × (¬ ((s.version ≡ 1) ⊎ (s.version ≡ 2))))
-    ⊎ ((setting ≡ 2) × (¬ ((2 ≤ s.greatest_batch) × (s.greatest_batch ≤ 1024))))
-    ⊎ ((setting ≡ 3) × (¬ ((8 ≤ s.greatest_transfer) × (s.greatest_transfer ≤ 2 ^ 31) × (s.greatest_transfer % 8 ≡ 0))))
-    ⊎ ((setting ≡ 4) × (¬ (s.lone ≤ greatest_price)))
-    ⊎ ((setting ≡ 5) × (s.version ≡ 1) × (¬ (s.batch ≤ greatest_price)))
-    ⊎ ((setting ≡ 6) × (¬ (s.fence ≤ greatest_price)))
-    ⊎ ((setting ≡ 7) × (¬ ((s.staging ≤ 2 ^ 63) × (s.staging % 64 ≡ 0))))
-    ⊎ ((setting ≡ 8) × (s.version ≡ 2) × (¬ AreBatchPrices s.greatest_batch (BySize table)))
+    ⊎ ((which : Setting) × (setting ≡ setting_number s.version which)
+    × ((s.version ≡ 1) ⊎ (s.version ≡ 2)) × IsFirstOutside which (limits_of s table))
 
 -- the refusal of settings, number 83, which names the setting of this number
 abbrev pub settings_refusal : ℕ → RawRefusal
 settings_refusal setting = record { number = 83; inner = 0; first = setting; second = 0 }
 
--- the numbers are no settings, and the refusal names one that is outside its limits
+-- the numbers are no settings, and the refusal names the first that is outside its limits
 abbrev pub RefusesSettings : RawSettings → List ℕ → RawRefusal → Type 0
 RefusesSettings s table r =
     (setting : ℕ) × (r ≡ settings_refusal setting) × IsOutside setting s table × (¬ AreSettings s table)

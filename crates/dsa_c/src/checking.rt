@@ -33,7 +33,7 @@ fn check_for(
         (λ cost. IsCheckedCost s t portal.now staging.now c cost)
         (λ r. (0 < r.number) × RefusesCheck s t portal.now staging.now c r) }
 {
-    let Ok(checked) = settings_of(settings, table) else {
+    let Some(checked) = settings_of(settings, table) else {
         return Err(settings_refusal(settings));
     };
     let Ok(certificate) = certificate_of(alloc, given.version, given.prices, given.pairs) else {

@@ -55,7 +55,7 @@ pub extern "C" fn dsa_count_pieces(settings: &RawSettings, table: &[u64], list: 
         PlansFenced list.now (limits_of settings.now table.now) (Ok p) →
         (result ≡ length p.pieces) × HasRoom p }
 {
-    let Ok(checked) = settings_of(settings, table) else {
+    let Some(checked) = settings_of(settings, table) else {
         return 0;
     };
     let (entries, _) = list.as_chunks::<64>();

@@ -42,7 +42,7 @@ fn check_fenced_for(
         (λ r. (0 < r.number)
         × RefusesFencedCheck s t list.now portal.now staging.now c r) }
 {
-    let Ok(checked) = settings_of(settings, table) else {
+    let Some(checked) = settings_of(settings, table) else {
         return Err(settings_refusal(settings));
     };
     let Ok(certificate) = certificate_of(alloc, given.version, given.prices, given.pairs) else {

@@ -21,7 +21,7 @@ fn judge_fenced_for(
         (λ cost. IsFencedJudgedCost settings.now table.now list.now marks.now cost)
         (λ r. (0 < r.number) × RefusesFencedJudge settings.now table.now list.now marks.now r) }
 {
-    let Ok(checked) = settings_of(settings, table) else {
+    let Some(checked) = settings_of(settings, table) else {
         return Err(settings_refusal(settings));
     };
     let Ok(plan) = plan_of(alloc, marks) else {

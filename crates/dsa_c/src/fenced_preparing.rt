@@ -59,8 +59,8 @@ fn prepare_fenced_for(
         regions.now room r) }
 {
     match &settings_of(settings, table) {
-        Ok(checked) => prepare_fenced_under(alloc, checked, list, regions, room),
-        Err(_) => Err(settings_refusal(settings)),
+        Some(checked) => prepare_fenced_under(alloc, checked, list, regions, room),
+        None => Err(settings_refusal(settings)),
     }
 }
 

@@ -39,10 +39,10 @@ pub(crate) fn prepare_refusal(fault: PrepareFault) -> RawRefusal
     ensures some { 0 < result.number }
 {
     match fault {
-        PrepareFault::Plan(fault) => refusal(fault),
-        PrepareFault::RegionWrap(region) => refusal_at(100, region as u64, 0),
-        PrepareFault::RegionOrder(region) => refusal_at(101, region as u64, 0),
-        PrepareFault::Outside(operation) => refusal_at(102, operation as u64, 0),
+        PrepareFault::Plan(cause) => refusal(cause),
+        PrepareFault::RegionWrap(place)
+        | PrepareFault::RegionOrder(place)
+        | PrepareFault::Outside(place) => refusal_at(fault.number() as u32, place as u64, 0),
     }
 }
 
@@ -103,8 +103,8 @@ fn prepare_for(
         regions.now room r) }
 {
     match &settings_of(settings, table) {
-        Ok(checked) => prepare_under(alloc, checked, list, regions, room),
-        Err(_) => Err(settings_refusal(settings)),
+        Some(checked) => prepare_under(alloc, checked, list, regions, room),
+        None => Err(settings_refusal(settings)),
     }
 }
 

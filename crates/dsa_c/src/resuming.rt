@@ -12,21 +12,15 @@ use std::alloc::Global;
 /// The number of the refusal of a buffer that is too small for the list.
 pub const NO_ROOM_FOR_LIST: u32 = 93;
 
-/// The number of the refusal of records of another length.
-pub const RECORDS: u32 = 112;
-
-/// The number of the refusal of two pieces that share a completion record.
-pub const SHARED_RECORD: u32 = 113;
-
 /// The refusal of this cause.
 fn resume_refusal(fault: ResumeFault) -> RawRefusal
     ensures value { result ≡ resume_refusal_of fault }
     ensures some { 0 < result.number }
 {
     match fault {
-        ResumeFault::Plan(fault) => refusal(fault),
-        ResumeFault::Records => refusal_at(RECORDS, 0, 0),
-        ResumeFault::SharedRecord(i, j) => refusal_at(SHARED_RECORD, i as u64, j as u64),
+        ResumeFault::Plan(cause) => refusal(cause),
+        ResumeFault::Records => refusal_at(fault.number() as u32, 0, 0),
+        ResumeFault::SharedRecord(i, j) => refusal_at(fault.number() as u32, i as u64, j as u64),
     }
 }
 
@@ -57,7 +51,7 @@ fn left_for(
         (λ r. (0 < r.number)
         × RefusesResume s t list.now records.now failed_first room r) }
 {
-    let Ok(checked) = settings_of(settings, table) else {
+    let Some(checked) = settings_of(settings, table) else {
         return Err(settings_refusal(settings));
     };
     match resume_list(alloc, list, &checked, records, order_of(failed_first)) {

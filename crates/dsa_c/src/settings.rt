@@ -1,12 +1,12 @@
 //! The settings, as C lays them out.
 
-ghost use Rattle.std.specs.Prelude.{◌≡◌, ◌<◌, ◌≤◌, ℕ, IsTrue, List, MatchResult};
-ghost use Rattle.dsa_plan.specs.Settings.{AreBatchPrices};
-ghost use Rattle.dsa_plan.specs.Settings.BatchPrices.{BySize};
-ghost use Rattle.dsa_c.specs.Raw.{limits_of, staged_at, AreSettings, HaveLimits, IsOutside, RefusesSettings};
+ghost use Rattle.std.specs.Prelude.{◌≡◌, ◌↔◌, ◌⊎◌, ◌<◌, ℕ, IsTrue, List, MatchOption, MatchResult};
+ghost use Rattle.dsa_settings.specs.Outside.{IsFirstOutside};
+ghost use Rattle.dsa_c.specs.Raw.{limits_of, setting_number, staged_at, AreSettings, HaveLimits, IsOutside, RefusesSettings};
 
 use crate::refusal::{RawRefusal, refusal_at};
-use dsa_plan::{Settings, SettingsFault};
+use dsa_calls::PlanFault;
+use dsa_settings::{Setting, Settings, SettingsFault, are_batch_prices, outside_limits};
 
 /// `struct dsa_settings`.
 #[repr(C)]
@@ -65,100 +65,84 @@ pub(crate) fn by_size(raw: &RawSettings, table: &[u64]) -> Result<Settings, Sett
 
 /// The settings of these numbers, if they are of a known version and in their limits. The table has the price of a
 /// batch by its size; it counts only with version 2.
-pub(crate) fn settings_of(raw: &RawSettings, table: &[u64]) -> Result<Settings, SettingsFault>
+pub(crate) fn settings_of(raw: &RawSettings, table: &[u64]) -> Option<Settings>
     ensures { let s = raw.now in let t = table.now in
-        MatchResult result (λ l. (l ≡ limits_of s t) × AreSettings s t) (λ _. ¬ AreSettings s t) }
+        MatchOption result (¬ AreSettings s t) (λ l. (l ≡ limits_of s t) × AreSettings s t) }
 {
     if raw.version == 2 {
-        return by_size(raw, table);
+        return match by_size(raw, table) {
+            Ok(settings) => Some(settings),
+            Err(_) => None,
+        };
     }
     if raw.version != 1 {
-        return Err(SettingsFault::Settings);
+        return None;
     }
-    same_price(raw)
+    match same_price(raw) {
+        Ok(settings) => Some(settings),
+        Err(_) => None,
+    }
 }
 
-/// The number of the refusal of settings.
-const OUTSIDE: u32 = 83;
-
-/// The greatest price.
-const GREATEST_PRICE: u64 = 1_000_000_000;
-
-/// The first of the settings that is outside its limits, but for the prices of batches: 1 to 7 are the members of the
-/// struct in their order. 0 if none is.
-fn outside_limits(raw: &RawSettings) -> u64
-    ensures outside { 0 < result → (table : List ℕ) → IsOutside result raw.now table }
-    ensures within { result ≡ 0 → HaveLimits raw.now }
+/// The number of a setting: that of its member of the struct, from 1 on, or 8 for the table of prices.
+fn number_of(setting: Setting, version: u64) -> u64
+    ensures { result ≡ setting_number version setting }
 {
-    if raw.version != 1 {
-        if raw.version != 2 {
-            return 1;
-        }
+    match setting {
+        Setting::GreatestBatch => 2,
+        Setting::GreatestTransfer => 3,
+        Setting::Lone => 4,
+        Setting::Fence => 6,
+        Setting::Staging => 7,
+        Setting::Batch => { if version == 2 { 8 } else { 5 } }
     }
-    if raw.greatest_batch < 2 {
-        return 2;
-    }
-    if raw.greatest_batch > 1024 {
-        return 2;
-    }
-    if raw.greatest_transfer < 8 {
-        return 3;
-    }
-    if raw.greatest_transfer > 1 << 31 {
-        return 3;
-    }
-    if raw.greatest_transfer % 8 != 0 {
-        return 3;
-    }
-    if raw.lone > GREATEST_PRICE {
-        return 4;
-    }
-    if raw.fence > GREATEST_PRICE {
-        return 6;
-    }
-    if raw.staging > 1 << 63 {
-        return 7;
-    }
-    if raw.staging % 64 != 0 {
-        return 7;
-    }
-    0
 }
 
-/// The first of the settings that is outside its limits, if one of them or of the prices of batches is: 1 to 7 are the
-/// members of the struct in their order, but for 5, the price of a batch, which comes last, and then the table is 8.
+/// The first of the settings that is outside its limits, but for the version and the prices of batches.
+fn limits_fault(raw: &RawSettings) -> Option<Setting>
+    ensures { MatchOption result (HaveLimits raw.now)
+        (λ setting. (table : List ℕ) → IsFirstOutside setting (limits_of raw.now table)) }
+{
+    outside_limits(
+        raw.greatest_batch,
+        raw.greatest_transfer,
+        raw.lone,
+        raw.fence,
+        raw.staging,
+    )
+}
+
+/// Whether settings may have this version.
+fn is_known(version: u64) -> bool
+    ensures { IsTrue result ↔ ((version ≡ 1) ⊎ (version ≡ 2)) }
+{
+    version == 1 || version == 2
+}
+
+/// The number of the first setting that is outside its limits, if one is.
 fn outside(raw: &RawSettings) -> u64
     ensures { (table : List ℕ) → ¬ AreSettings raw.now table → IsOutside result raw.now table }
 {
-    let limit = outside_limits(raw);
-    if limit > 0 {
-        return limit;
+    if !is_known(raw.version) {
+        return 1;
     }
-    if raw.version == 1 { 5 } else { 8 }
-}
-
-/// True only if the table has a price in its limits for each size of a batch.
-fn are_batch_prices(greatest_batch: u64, table: &[u64]) -> bool
-    requires { 2 ≤ greatest_batch }
-    ensures { IsTrue result → AreBatchPrices greatest_batch (BySize table.now) }
-{
-    if table.len() as u64 != greatest_batch - 1 {
-        return false;
+    match limits_fault(raw) {
+        Some(setting) => number_of(setting, raw.version),
+        None => number_of(Setting::Batch, raw.version),
     }
-    table.iter().all(|price| *price <= GREATEST_PRICE)
 }
 
 /// True only if the numbers and the table are settings: a test that copies no table.
 pub(crate) fn are_settings(raw: &RawSettings, table: &[u64]) -> bool
     ensures { IsTrue result → AreSettings raw.now table.now }
 {
-    if outside_limits(raw) > 0 {
+    if limits_fault(raw).is_some() {
         return false;
     }
     if raw.version == 1 {
-        return raw.batch <= GREATEST_PRICE;
+        return Setting::Batch.allows(raw.batch);
     }
-    are_batch_prices(raw.greatest_batch, table)
+    raw.version == 2 && are_batch_prices(raw.greatest_batch, table)
 }
 
 /// The settings with this staging address in place of theirs.
@@ -174,5 +158,5 @@ pub(crate) fn settings_refusal(raw: &RawSettings) -> RawRefusal
     ensures names { (table : List ℕ) → ¬ AreSettings raw.now table →
         RefusesSettings raw.now table result }
 {
-    refusal_at(OUTSIDE, outside(raw), 0)
+    refusal_at(PlanFault::Settings.number() as u32, outside(raw), 0)
 }

@@ -68,7 +68,7 @@ fn split_pieces(
         ArePiecesUnder s t list.now pieces.items barriers)
         (λ r. (0 < r.number) × RefusesToSplit s t list.now r) }
 {
-    let Ok(checked) = settings_of(settings, table) else {
+    let Some(checked) = settings_of(settings, table) else {
         return Err(settings_refusal(settings));
     };
     match fenced_pieces(alloc, list, &checked) {
@@ -223,7 +223,7 @@ fn take_groups(
         × RefusesGroups s t words.old portal.now staging.now (length places) r
         × (words.new ≡ words.old) × (slots.new ≡ slots.old)) }
 {
-    let Ok(limits) = settings_of(settings, table) else {
+    let Some(limits) = settings_of(settings, table) else {
         return Err(settings_refusal(settings));
     };
     let (plan, pieces) = match read_emission(alloc, portal, staging, &limits) {

@@ -6,6 +6,8 @@ use Rattle.dsa_descriptor.specs.Descriptors.{fields}
 use Rattle.dsa_descriptor.specs.Lists.{list_spelling}
 use Rattle.dsa_descriptor.specs.Spans.{span, Apart, IsAddressable}
 use Rattle.dsa_plan.specs.Settings.{Limits}
+use Rattle.dsa_settings.specs.declared.setting.Setting.TheVariants.{Staging as Area}
+use Rattle.dsa_settings.specs.Outside.{Allows}
 use Rattle.dsa_settings.specs.Staging.{staging_area}
 use Rattle.dsa_calls.specs.Planned.{Submission, Plans}
 use Rattle.dsa_prepared.specs.Relocated.{relocated_fields}
@@ -74,9 +76,9 @@ IsApartFromEarlier rs bases i = AllBelow i (AreApartAt rs bases i)
 abbrev pub IsClearAt : List Span → List ℕ → Span → ℕ → Type 0
 IsClearAt rs bases area i = Apart area (new_region rs bases i)
 
--- the staging area may begin here (the same limits as those of settings)
+-- the staging area may begin here, as by the settings
 abbrev pub IsStaging : ℕ → Type 0
-IsStaging staging = (staging ≤ 2 ^ 63) × (staging % 64 ≡ 0)
+IsStaging staging = Allows Area staging
 
 -- at its new base the region lies from the first of these addresses to before the second (only private clauses cite this)
 abbrev pub LiesBetween : List Span → List ℕ → ℕ → ℕ → ℕ → Type 0

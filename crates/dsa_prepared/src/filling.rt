@@ -10,7 +10,7 @@ ghost use Rattle.dsa_prepared.specs.Rows.{AreOrigins, ArePrepared, HasKinds, Hav
 ghost use Rattle.dsa_prepared.specs.Sound.{ArePut, AreUnits, HasValues, IsUnit};
 ghost use Rattle.dsa_prepared.specs.Templates.{filled_portal, filled_staging};
 ghost use Rattle.dsa_prepared.specs.Preparing.{IsPreparedOf, region_at};
-ghost use Rattle.dsa_prepared.specs.Filling.{AllBelow, IsFirstNot, LiesBetween, FitsAt, IsAlignedBase, IsTied, IsTiedAt, AreApartAt, IsApartFromEarlier, IsClearAt, IsStaging, HasBases, HasRoom, HasBuffers, CanFill, IsFirstFillFault, IsPlannedInto, new_region, tie_at, written};
+ghost use Rattle.dsa_prepared.specs.Filling.{AllBelow, IsFirstNot, LiesBetween, FitsAt, IsAlignedBase, IsTied, IsTiedAt, AreApartAt, IsApartFromEarlier, IsClearAt, HasBases, HasRoom, HasBuffers, CanFill, IsFirstFillFault, IsPlannedInto, new_region, tie_at, written};
 
 use crate::fault::FillFault;
 use crate::reading::{header_word, portal_rows, region_rows, staging_rows, tie_rows};
@@ -18,7 +18,7 @@ use crate::row::{Origins, Row};
 use crate::sorted::are_apart;
 use crate::tie::Tie;
 use dsa_descriptor::Span;
-use dsa_settings::STAGED_LEN;
+use dsa_settings::{STAGED_LEN, Setting};
 
 /// The region of that number at its new base.
 #[inline(always)]
@@ -210,13 +210,6 @@ fn first_in_area(regions: &[Row], bases: &[u64], area: Span) -> Option<usize>
     None
 }
 
-/// Whether the staging area may begin here.
-fn is_staging(staging: u64) -> bool
-    ensures { IsTrue result ↔ IsStaging staging }
-{
-    staging <= 1 << 63 && staging % 64 == 0
-}
-
 /// Writes the bytes of the entries from `start` on, as long as their words are of these kinds, and returns where that
 /// ends. Most lists have the same regions in entry after entry.
 #[inline(always)]
@@ -351,7 +344,7 @@ fn can_fill(rows: &[Row], bases: &[u64], staging: u64) -> bool
     requires based { HasBases (template_in rows.now) bases.now }
     ensures { IsTrue result → CanFill (template_in rows.now) bases.now staging }
 {
-    if !is_staging(staging) {
+    if !Setting::Staging.allows(staging) {
         return false;
     }
     match first_untied(tie_rows(rows), bases) {
@@ -412,7 +405,7 @@ fn first_base_fault(rows: &[Row], bases: &[u64], staging: u64) -> Option<FillFau
         Some(region) => return Some(FillFault::StagingMeets(region)),
         None => (),
     }
-    if is_staging(staging) {
+    if Setting::Staging.allows(staging) {
         None
     } else {
         Some(FillFault::Staging)

@@ -1,3 +1,4 @@
+pub mod Outside
 pub mod Plans
 pub mod Equal
 pub mod Numbering

@@ -1,5 +1,6 @@
 pub mod Plan
 pub mod Settings
+pub mod Outside
 pub mod Staging
 pub mod Kept
 pub mod Legal

@@ -1,32 +1,13 @@
 //! The settings of a planner.
 
-ghost use Rattle.std.specs.Prelude.{◌≡◌, ℕ, ◌≤◌, ◌↔◌, length, IsTrue, MatchOption, MatchResult};
-ghost use Rattle.dsa_settings.specs.Settings.{AreInLimits, ArePrices, batch_price, limits, version_of, greatest_price};
+ghost use Rattle.std.specs.Prelude.{◌≡◌, ℕ, ◌≤◌, length, MatchOption, MatchResult};
+ghost use Rattle.dsa_settings.specs.Outside.{IsFirstOutside};
+ghost use Rattle.dsa_settings.specs.Settings.{AreInLimits, batch_price, limits, version_of, greatest_price};
 ghost use Rattle.dsa_settings.specs.Settings.BatchPrices.{BySize, SamePrice};
 
+use crate::setting::{Setting, SettingsFault, are_batch_prices, outside_limits};
 use arrayvec::ArrayVec;
-use std::fmt;
 use std::marker::Model;
-
-/// The greatest price, in the unit of all prices.
-const GREATEST_PRICE: u64 = 1_000_000_000;
-
-/// The greatest number of pieces that a batch may have.
-const GREATEST_BATCH: u64 = 1024;
-
-/// Why numbers are not valid settings.
-#[derive(Clone, Copy)]
-pub enum SettingsFault {
-    /// A number is outside its limits.
-    Settings,
-}
-
-/// Its name, without what it has.
-impl fmt::Debug for SettingsFault {
-    fn fmt<W: fmt::Write>(&self, f: &mut fmt::Formatter<W>) -> fmt::Result {
-        f.write_str("Settings")
-    }
-}
 
 /// The settings of a planner: sizes, prices and an address, each within its limits. Contracts see them as a record
 /// `Limits`.
@@ -55,18 +36,6 @@ impl Model for Settings {
     ghost invariant = { λ s. AreInLimits (limits s.greatest_batch s.greatest_transfer s.lone (kept_prices s.same s.table.items) s.fence s.staging) };
 }
 
-/// Whether no price is above the greatest.
-fn are_prices(table: &[u64]) -> bool
-    ensures { IsTrue result ↔ ArePrices table.now }
-{
-    for k in 0..table.len() {
-        if table[k] > GREATEST_PRICE {
-            return false;
-        }
-    }
-    true
-}
-
 /// A copy of the prices.
 fn kept(table: &[u64]) -> ArrayVec<u64, 1023>
     requires { length table.now ≤ 1023 }
@@ -77,31 +46,9 @@ fn kept(table: &[u64]) -> ArrayVec<u64, 1023>
     kept
 }
 
-/// Whether the numbers of both versions are within their limits.
-fn are_in_limits(
-    greatest_batch: u64,
-    greatest_transfer: u64,
-    lone: u64,
-    fence: u64,
-    staging: u64,
-) -> bool
-    ensures { IsTrue result ↔
-        AreInLimits (limits greatest_batch greatest_transfer lone (SamePrice 0) fence staging) }
-{
-    (2..=GREATEST_BATCH).contains(&greatest_batch)
-        && (8..=1 << 31).contains(&greatest_transfer)
-        && greatest_transfer % 8 == 0
-        && lone <= GREATEST_PRICE
-        && fence <= GREATEST_PRICE
-        && staging <= 1 << 63
-        && staging % 64 == 0
-}
-
 impl Settings {
-    /// The settings of these numbers, if each is within its limits: `greatest_batch` from 2 to 1,024 pieces,
-    /// `greatest_transfer` a multiple of 8 from 8 to 2^31 bytes, the prices `lone`, `batch` and `fence` at most
-    /// 1,000,000,000, and `staging` an address that is a multiple of 64 and at most 2^63. Each batch costs `batch`,
-    /// whatever its size.
+    /// The settings of these numbers, if each is within its limits ([`Setting::allows`]), else the first that is
+    /// not. Each batch costs `batch`, whatever its size.
     pub fn new(
         greatest_batch: u64,
         greatest_transfer: u64,
@@ -112,13 +59,16 @@ impl Settings {
     ) -> Result<Settings, SettingsFault>
         ensures { let s = limits greatest_batch greatest_transfer lone
             (SamePrice batch) fence staging in
-            MatchResult result (λ settings. (settings ≡ s) × AreInLimits s) (λ _. ¬ AreInLimits s) }
+            MatchResult result (λ settings. (settings ≡ s) × AreInLimits s)
+            (λ fault. IsFirstOutside fault.setting s × ¬ AreInLimits s) }
     {
-        if !are_in_limits(greatest_batch, greatest_transfer, lone, fence, staging) {
-            return Err(SettingsFault::Settings);
+        let limits = outside_limits(greatest_batch, greatest_transfer, lone, fence, staging);
+        if let Some(setting) = limits {
+            return Err(SettingsFault { setting });
         }
-        if batch > GREATEST_PRICE {
-            return Err(SettingsFault::Settings);
+        if !Setting::Batch.allows(batch) {
+            let setting = Setting::Batch;
+            return Err(SettingsFault { setting });
         }
         Ok(Settings {
             greatest_batch,
@@ -132,8 +82,8 @@ impl Settings {
     }
 
     /// The settings of these numbers, with a price of a batch by its size: the first entry of `batch` is the price of a
-    /// batch of 2 pieces, the last that of a batch of `greatest_batch` pieces, each at most 1,000,000,000. The other
-    /// limits are those of [`Settings::new`].
+    /// batch of 2 pieces, the last that of a batch of `greatest_batch` pieces. The refusals are those of
+    /// [`Settings::new`]; a table of another length is refused as `Batch`.
     pub fn with_table(
         greatest_batch: u64,
         greatest_transfer: u64,
@@ -144,16 +94,16 @@ impl Settings {
     ) -> Result<Settings, SettingsFault>
         ensures { let s = limits greatest_batch greatest_transfer lone
             (BySize batch.now) fence staging in
-            MatchResult result (λ settings. (settings ≡ s) × AreInLimits s) (λ _. ¬ AreInLimits s) }
+            MatchResult result (λ settings. (settings ≡ s) × AreInLimits s)
+            (λ fault. IsFirstOutside fault.setting s × ¬ AreInLimits s) }
     {
-        if !are_in_limits(greatest_batch, greatest_transfer, lone, fence, staging) {
-            return Err(SettingsFault::Settings);
+        let limits = outside_limits(greatest_batch, greatest_transfer, lone, fence, staging);
+        if let Some(setting) = limits {
+            return Err(SettingsFault { setting });
         }
-        if batch.len() as u64 + 1 != greatest_batch {
-            return Err(SettingsFault::Settings);
-        }
-        if !are_prices(batch) {
-            return Err(SettingsFault::Settings);
+        if !are_batch_prices(greatest_batch, batch) {
+            let setting = Setting::Batch;
+            return Err(SettingsFault { setting });
         }
         Ok(Settings {
             greatest_batch,

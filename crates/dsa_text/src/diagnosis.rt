@@ -4,7 +4,7 @@ ghost use Rattle.std.specs.Prelude.{IfOk};
 ghost use Rattle.dsa_text.specs.Refusals.{IsRefusal};
 
 use crate::answer::Answer;
-use crate::settings::Setting;
+use crate::settings::{SETTINGS, limits_of, member_of};
 use dsa_calls::PlanFault;
 use serde_json::Value;
 use std::alloc::{AllocError, Global};
@@ -20,7 +20,7 @@ const JOBS: [(&str, &[&str]); 3] = [
 ];
 
 /// The members of settings.
-const SETTINGS: [&str; 7] = [
+const SETTINGS_MEMBERS: [&str; 7] = [
     "version",
     "greatest_batch",
     "greatest_transfer",
@@ -84,7 +84,7 @@ fn member_fault(alloc: Global, job: &Value) -> Found {
         }
     }
     match job.get("settings") {
-        Some(settings) => names_fault(alloc, settings, "`settings`", &SETTINGS),
+        Some(settings) => names_fault(alloc, settings, "`settings`", &SETTINGS_MEMBERS),
         None => Ok(None),
     }
 }
@@ -94,11 +94,11 @@ fn setting_fault(alloc: Global, job: &Value) -> Found {
     let Some(settings) = job.get("settings") else {
         return Ok(None);
     };
-    for setting in Setting::ALL {
-        let member = setting.member();
+    for setting in SETTINGS {
+        let member = member_of(setting);
         if let Some(number) = settings.get(member).and_then(Value::as_u64) {
             if !setting.allows(number) {
-                let limits = setting.limits();
+                let limits = limits_of(setting);
                 return Ok(Some(format!(in alloc; "`settings`: `{member}` is no {limits}")?));
             }
         }

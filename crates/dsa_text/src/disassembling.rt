@@ -8,7 +8,7 @@ use crate::answer::Answer;
 use dsa_calls::PlanFault;
 use dsa_descriptor::read_list;
 use dsa_lines::{EmittedFault, text_with_barriers};
-use dsa_plan::{is_fenced, unfenced};
+use dsa_plan::{Setting, is_fenced, unfenced};
 use std::alloc::{AllocError, Global};
 
 /// The text of a list.
@@ -80,7 +80,7 @@ pub fn disassemble_portal(alloc: Global, portal: &[u8]) -> Result<Answer, AllocE
 /// The text of a staging area at an address: a line for each entry and each record. The address is a multiple of 64 and
 /// at most 2^63, as that of settings is.
 pub fn disassemble_staging(alloc: Global, staging: &[u8], at: u64) -> Result<Answer, AllocError> {
-    if at % 64 != 0 || at > 1 << 63 {
+    if !Setting::Staging.allows(at) {
         return Answer::fault(alloc, PlanFault::Settings);
     }
     answer_of(alloc, dsa_lines::disassemble_staging(alloc, staging, at))

@@ -54,12 +54,12 @@ use crate::messages::message_of;
 use crate::numbers::number_of;
 use crate::options::{settings_words, word};
 use crate::resuming::{order_of, resume_command, resume_text};
-use crate::settings::{Setting, settings_of};
+use crate::settings::{limits_of, settings_of};
 use crate::traced::audit_traced;
 use clap::error::ErrorKind;
 use clap::{Arg, ArgAction, ArgMatches, Command};
 use dsa_calls::PlanFault;
-use dsa_plan::Settings;
+use dsa_plan::{Setting, Settings};
 use dsa_recording::{Accepted, AuditAnswer, ReadFault, VERSION, is_text};
 use dsa_report::{Stop, read_text, write_line};
 use std::alloc::{AllocError, Global};
@@ -343,7 +343,7 @@ fn disassemble(
 ) -> Result<Answer, AllocError> {
     let word = word(matches, "at");
     let Some(at) = number_of(word).filter(|at| Setting::Staging.allows(*at)) else {
-        let limits = Setting::Staging.limits();
+        let limits = limits_of(Setting::Staging);
         let message = format!(in alloc; "--at: '{word}' is no {limits}")?;
         return Answer::fault_with(alloc, PlanFault::Settings, &message);
     };

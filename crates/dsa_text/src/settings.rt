@@ -6,7 +6,7 @@ ghost use Rattle.dsa_text.specs.Numbers.{numbers_of};
 ghost use Rattle.dsa_text.specs.SettingsWords.{AreNumbers, GivesSettings};
 
 use crate::numbers::{number_of, numbers_of, size_of};
-use dsa_plan::Settings;
+use dsa_plan::{Setting, Settings};
 use std::alloc::{AllocError, Global};
 
 /// The settings as arguments spell them.
@@ -28,96 +28,71 @@ pub struct SettingsWords<'a> {
     pub staging: &'a str,
 }
 
-/// One of the settings that are a number.
-#[derive(Clone, Copy)]
-pub(crate) enum Setting {
-    GreatestBatch,
-    GreatestTransfer,
-    Lone,
-    Batch,
-    Fence,
-    Staging,
+/// The settings, in the order of the options; the first of them that is outside its limits is named.
+pub(crate) const SETTINGS: [Setting; 6] = [
+    Setting::GreatestBatch,
+    Setting::GreatestTransfer,
+    Setting::Lone,
+    Setting::Batch,
+    Setting::Fence,
+    Setting::Staging,
+];
+
+/// The name of a setting among the options.
+fn option_of(setting: Setting) -> &'static str {
+    match setting {
+        Setting::GreatestBatch => "greatest-batch",
+        Setting::GreatestTransfer => "greatest-transfer",
+        Setting::Lone => "lone",
+        Setting::Fence => "fence",
+        Setting::Staging => "staging",
+        Setting::Batch => "batch",
+    }
 }
 
-impl Setting {
-    /// All of them, in the order in which they are tested.
-    pub(crate) const ALL: [Setting; 6] = [
-        Setting::GreatestBatch,
-        Setting::GreatestTransfer,
-        Setting::Lone,
-        Setting::Batch,
-        Setting::Fence,
-        Setting::Staging,
-    ];
-
-    /// Its name among the options.
-    pub(crate) fn option(self) -> &'static str {
-        match self {
-            Setting::GreatestBatch => "greatest-batch",
-            Setting::GreatestTransfer => "greatest-transfer",
-            Setting::Lone => "lone",
-            Setting::Batch => "batch",
-            Setting::Fence => "fence",
-            Setting::Staging => "staging",
-        }
+/// The name of a setting in a job.
+pub(crate) fn member_of(setting: Setting) -> &'static str {
+    match setting {
+        Setting::GreatestBatch => "greatest_batch",
+        Setting::GreatestTransfer => "greatest_transfer",
+        Setting::Lone => "lone",
+        Setting::Fence => "fence",
+        Setting::Staging => "staging",
+        Setting::Batch => "batch",
     }
+}
 
-    /// Its name in a job.
-    pub(crate) fn member(self) -> &'static str {
-        match self {
-            Setting::GreatestBatch => "greatest_batch",
-            Setting::GreatestTransfer => "greatest_transfer",
-            Setting::Lone => "lone",
-            Setting::Batch => "batch",
-            Setting::Fence => "fence",
-            Setting::Staging => "staging",
-        }
+/// What a setting has to be, after "a".
+pub(crate) fn limits_of(setting: Setting) -> &'static str {
+    match setting {
+        Setting::GreatestBatch => "number from 2 to 1024",
+        Setting::GreatestTransfer => "multiple of 8 from 8 to 2147483648 (2048M)",
+        Setting::Lone | Setting::Fence | Setting::Batch => "number from 0 to 1000000000",
+        Setting::Staging => "multiple of 64 from 0 to 0x8000000000000000",
     }
+}
 
-    /// What it has to be, after "a".
-    pub(crate) fn limits(self) -> &'static str {
-        match self {
-            Setting::GreatestBatch => "number from 2 to 1024",
-            Setting::GreatestTransfer => "multiple of 8 from 8 to 2147483648 (2048M)",
-            Setting::Lone | Setting::Batch | Setting::Fence => "number from 0 to 1000000000",
-            Setting::Staging => "multiple of 64 from 0 to 0x8000000000000000",
-        }
+/// The word that spells a setting.
+fn word_of<'a>(setting: Setting, words: &SettingsWords<'a>) -> &'a str {
+    match setting {
+        Setting::GreatestBatch => words.greatest_batch,
+        Setting::GreatestTransfer => words.greatest_transfer,
+        Setting::Lone => words.lone,
+        Setting::Fence => words.fence,
+        Setting::Staging => words.staging,
+        Setting::Batch => words.batch,
     }
+}
 
-    /// Whether the number is within its limits.
-    pub(crate) fn allows(self, number: u64) -> bool {
-        match self {
-            Setting::GreatestBatch => Settings::new(number, 8, 0, 0, 0, 0).is_ok(),
-            Setting::GreatestTransfer => Settings::new(2, number, 0, 0, 0, 0).is_ok(),
-            Setting::Lone => Settings::new(2, 8, number, 0, 0, 0).is_ok(),
-            Setting::Batch => Settings::new(2, 8, 0, number, 0, 0).is_ok(),
-            Setting::Fence => Settings::new(2, 8, 0, 0, number, 0).is_ok(),
-            Setting::Staging => Settings::new(2, 8, 0, 0, 0, number).is_ok(),
-        }
-    }
-
-    /// The word that spells it.
-    fn word<'a>(self, words: &SettingsWords<'a>) -> &'a str {
-        match self {
-            Setting::GreatestBatch => words.greatest_batch,
-            Setting::GreatestTransfer => words.greatest_transfer,
-            Setting::Lone => words.lone,
-            Setting::Batch => words.batch,
-            Setting::Fence => words.fence,
-            Setting::Staging => words.staging,
-        }
-    }
-
-    /// The number that the word spells; a K or an M may follow a size.
-    fn read(self, word: &str) -> Option<u64> {
-        match self {
-            Setting::GreatestTransfer => size_of(word),
-            Setting::GreatestBatch
-            | Setting::Lone
-            | Setting::Batch
-            | Setting::Fence
-            | Setting::Staging => number_of(word),
-        }
+/// The number that the word of a setting spells; a K or an M may follow a size.
+fn read(setting: Setting, word: &str) -> Option<u64> {
+    match setting {
+        Setting::GreatestTransfer => size_of(word),
+        Setting::GreatestBatch
+        | Setting::Lone
+        | Setting::Fence
+        | Setting::Staging
+        | Setting::Batch => number_of(word),
     }
 }
 
@@ -130,7 +105,7 @@ fn table_fault(
     let mut count: u64 = 0;
     for word in batches.split(',') {
         if !number_of(word).is_some_and(|number| Setting::Batch.allows(number)) {
-            let limits = Setting::Batch.limits();
+            let limits = limits_of(Setting::Batch);
             return format!(in alloc; "--batches: '{word}' is no {limits}");
         }
         count = count.saturating_add(1);
@@ -147,13 +122,10 @@ pub(crate) fn settings_fault(
     alloc: Global,
     words: &SettingsWords<'_>,
 ) -> Result<String, AllocError> {
-    for setting in Setting::ALL {
-        let word = setting.word(words);
-        if !setting
-            .read(word)
-            .is_some_and(|number| setting.allows(number))
-        {
-            let (option, limits) = (setting.option(), setting.limits());
+    for setting in SETTINGS {
+        let word = word_of(setting, words);
+        if !read(setting, word).is_some_and(|number| setting.allows(number)) {
+            let (option, limits) = (option_of(setting), limits_of(setting));
             return format!(in alloc; "--{option}: '{word}' is no {limits}");
         }
     }

@@ -5,12 +5,12 @@ use Rattle.dsa_c.proofs.fenced_checking.check_fenced_for.Goals as goal
 
 pub returns-in-Ok-check_fenced_list : goal.returns-in-Ok-check_fenced_list
 returns-in-Ok-check_fenced_list c =
-    fenced_cost c.args.settings.now c.args.table.now c.args.list.now c.args.portal.now c.args.staging.now c.in-Ok.checked (contents_of c.args.given.now.version c.args.given.now.prices.now c.args.given.now.pairs.now) (contents c.in-Ok-certificate_of.certificate)
-    c.in-Ok-check_fenced_list.cost c.in-Ok.ensures.0 c.in-Ok.ensures.1 c.in-Ok-certificate_of.ensures c.in-Ok-check_fenced_list.ensures.answer c.in-Ok-check_fenced_list.ensures.least
+    fenced_cost c.args.settings.now c.args.table.now c.args.list.now c.args.portal.now c.args.staging.now c.in-Some.checked (contents_of c.args.given.now.version c.args.given.now.prices.now c.args.given.now.pairs.now) (contents c.in-Ok.certificate)
+    c.in-Ok-check_fenced_list.cost c.in-Some.ensures.0 c.in-Some.ensures.1 c.in-Ok.ensures c.in-Ok-check_fenced_list.ensures.answer c.in-Ok-check_fenced_list.ensures.least
 
 pub returns : goal.returns
 returns c = (
   c.fenced_refusal.ensures.some,
-  refuses_fenced_check c.args.settings.now c.args.table.now c.args.list.now c.args.portal.now c.args.staging.now c.in-Ok.checked (contents_of c.args.given.now.version c.args.given.now.prices.now c.args.given.now.pairs.now) (contents c.in-Ok-certificate_of.certificate)
-      c.in-Err.fault c.fenced_refusal.result c.in-Ok.ensures.0 c.in-Ok.ensures.1 c.in-Ok-certificate_of.ensures c.in-Err.ensures.answer c.fenced_refusal.ensures.value,
+  refuses_fenced_check c.args.settings.now c.args.table.now c.args.list.now c.args.portal.now c.args.staging.now c.in-Some.checked (contents_of c.args.given.now.version c.args.given.now.prices.now c.args.given.now.pairs.now) (contents c.in-Ok.certificate)
+      c.in-Err.fault c.fenced_refusal.result c.in-Some.ensures.0 c.in-Some.ensures.1 c.in-Ok.ensures c.in-Err.ensures.answer c.fenced_refusal.ensures.value,
 )

@@ -10,7 +10,7 @@ use Rattle.dsa_c.proofs.tracking.take_groups.Goals as goal
 pub returns-in-Err : goal.returns-in-Err
 returns-in-Err c = (
   c.refusal.ensures.some,
-  refuses_emission c.args.settings.now c.args.table.now c.args.words.now c.args.portal.now c.args.staging.now _ c.in-Ok.limits c.in-Err.fault c.from.result c.refusal.result c.in-Ok.ensures.0 c.in-Ok.ensures.1 c.in-Err.ensures.fault c.from.ensures c.refusal.ensures.value,
+  refuses_emission c.args.settings.now c.args.table.now c.args.words.now c.args.portal.now c.args.staging.now _ c.in-Some.limits c.in-Err.fault c.from.result c.refusal.result c.in-Some.ensures.0 c.in-Some.ensures.1 c.in-Err.ensures.fault c.from.ensures c.refusal.ensures.value,
   refl,
   refl,
 )
@@ -18,11 +18,11 @@ returns-in-Err c = (
 pub returns-in-Ok-submit_groups : goal.returns-in-Ok-submit_groups
 returns-in-Ok-submit_groups c =
     let answer = c.in-Ok-submit_groups.ensures.answer in (
-      c.in-Ok-read_emission.read.0,
-      c.in-Ok-read_emission.read.1.items,
-      c.in-Ok.ensures.1,
-      subst (λ (l : Limits). IsEmission l c.args.portal.now c.args.staging.now c.in-Ok-read_emission.read.0 c.in-Ok-read_emission.read.1.items) c.in-Ok.ensures.0 c.in-Ok-read_emission.ensures.found,
-      subst (λ (ds : List Descriptor). TakesPlan c.args.words.now (map fields ds) c.in-Ok-read_emission.read.0 c.args.settings.now.staging c.args.also c.args.slots.now c.submit_groups.new.slots c.submit_groups.new.words)
+      c.in-Ok.read.0,
+      c.in-Ok.read.1.items,
+      c.in-Some.ensures.1,
+      subst (λ (l : Limits). IsEmission l c.args.portal.now c.args.staging.now c.in-Ok.read.0 c.in-Ok.read.1.items) c.in-Some.ensures.0 c.in-Ok.ensures.found,
+      subst (λ (ds : List Descriptor). TakesPlan c.args.words.now (map fields ds) c.in-Ok.read.0 c.args.settings.now.staging c.args.also c.args.slots.now c.submit_groups.new.slots c.submit_groups.new.words)
           c.deref.ensures.value (answer.0, answer.1, answer.2, answer.3, c.in-Ok-submit_groups.ensures.rest),
     )
 
@@ -31,12 +31,12 @@ returns c =
     let answer = c.in-Err-submit_groups.ensures.answer in (
       c.track_refusal.ensures.some,
       inr (inr (inr (
-        c.in-Ok-read_emission.read.0,
-        c.in-Ok-read_emission.read.1.items,
+        c.in-Ok.read.0,
+        c.in-Ok.read.1.items,
         c.in-Err-submit_groups.fault,
-        c.in-Ok.ensures.1,
-        subst (λ (l : Limits). IsEmission l c.args.portal.now c.args.staging.now c.in-Ok-read_emission.read.0 c.in-Ok-read_emission.read.1.items) c.in-Ok.ensures.0 c.in-Ok-read_emission.ensures.found,
-        subst (λ (ds : List Descriptor). RefusesPlan c.args.words.now (map fields ds) c.in-Ok-read_emission.read.0 c.args.settings.now.staging (length c.args.slots.now) c.in-Err-submit_groups.fault)
+        c.in-Some.ensures.1,
+        subst (λ (l : Limits). IsEmission l c.args.portal.now c.args.staging.now c.in-Ok.read.0 c.in-Ok.read.1.items) c.in-Some.ensures.0 c.in-Ok.ensures.found,
+        subst (λ (ds : List Descriptor). RefusesPlan c.args.words.now (map fields ds) c.in-Ok.read.0 c.args.settings.now.staging (length c.args.slots.now) c.in-Err-submit_groups.fault)
             c.deref.ensures.value answer.0,
         c.track_refusal.ensures.value,
       ))),

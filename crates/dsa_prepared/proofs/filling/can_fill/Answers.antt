@@ -21,5 +21,5 @@ returns c = λ yes.
       apart = all_of (λ (rs : List Row). IsApartFromEarlier (map region_in rs) bases) region_in found whole is made.2;
       clear = subst (λ (area : Span). AllBelow (length (map region_in whole)) (IsClearAt (map region_in whole) bases area)) c.area_of.ensures
           (all_of (λ (rs : List Row). IsClearAt (map region_in rs) bases c.area_of.result) region_in found whole is made.3);
-      address = c.if-not-is_staging.ensures.0 refl;
+      address = c.if-not-allows.ensures.0 refl;
     }

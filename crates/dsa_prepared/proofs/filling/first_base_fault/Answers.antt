@@ -79,8 +79,8 @@ returns-in-Some-first_in_area c =
     let first = first_of (λ (rs : List Row). IsClearAt (map region_in rs) bases (span c.args.staging (96 * header_word rows 6))) region_in found whole c.in-Some-first_in_area.region is here in
     λ portal_len staging_len room. ((c.requires.based, room), fit, aligned, tied, apart, first)
 
-pub returns-then-is_staging : goal.returns-then-is_staging
-returns-then-is_staging c =
+pub returns-then-allows : goal.returns-then-allows
+returns-then-allows c =
     let rows : List Row = c.args.rows.now in
     let bases : List ℕ = c.args.bases.now in
     let found : List Row = c.region_rows-regions.result.now in
@@ -92,10 +92,10 @@ returns-then-is_staging c =
     let apart : AllApart (template_in rows) bases = all_of (λ (rs : List Row). IsApartFromEarlier (map region_in rs) bases) region_in found whole is c.in-None-first_meeting.ensures in
     let clear : AllClear (template_in rows) bases c.args.staging = all_of (λ (rs : List Row). IsClearAt (map region_in rs) bases (span c.args.staging (96 * header_word rows 6))) region_in found whole is
     (subst (λ (area : Span). AllBelow (length found) (IsClearAt (map region_in found) bases area)) c.area_of-area.ensures c.in-None-first_in_area.ensures) in
-    record { fit = fit; aligned = aligned; tied = tied; apart = apart; clear = clear; address = c.is_staging.ensures.0 c.if-is_staging.true }
+    record { fit = fit; aligned = aligned; tied = tied; apart = apart; clear = clear; address = c.allows.ensures.0 c.if-allows.true }
 
-pub returns-else-is_staging : goal.returns-else-is_staging
-returns-else-is_staging c =
+pub returns-else-allows : goal.returns-else-allows
+returns-else-allows c =
     let rows : List Row = c.args.rows.now in
     let bases : List ℕ = c.args.bases.now in
     let found : List Row = c.region_rows-regions.result.now in
@@ -107,4 +107,4 @@ returns-else-is_staging c =
     let apart : AllApart (template_in rows) bases = all_of (λ (rs : List Row). IsApartFromEarlier (map region_in rs) bases) region_in found whole is c.in-None-first_meeting.ensures in
     let clear : AllClear (template_in rows) bases c.args.staging = all_of (λ (rs : List Row). IsClearAt (map region_in rs) bases (span c.args.staging (96 * header_word rows 6))) region_in found whole is
     (subst (λ (area : Span). AllBelow (length found) (IsClearAt (map region_in found) bases area)) c.area_of-area.ensures c.in-None-first_in_area.ensures) in
-    λ portal_len staging_len room. ((c.requires.based, room), fit, aligned, tied, apart, clear, λ at. absurd (false≢true (sym c.if-is_staging.false ∙ c.is_staging.ensures.1 at)))
+    λ portal_len staging_len room. ((c.requires.based, room), fit, aligned, tied, apart, clear, λ at. absurd (false≢true (sym c.if-allows.false ∙ c.allows.ensures.1 at)))

@@ -13,4 +13,4 @@ returns-in-Ok c =
 pub returns-in-Err : goal.returns-in-Err
 returns-in-Err c =
     no_settings c.args.words.now c.in-Some.n (BySize c.args.table.now) c.in-Some.ensures
-    (same_table c.args.words.now c.args.batches.now c.args.table.now c.requires.given c.requires.spelled) c.in-Err.ensures
+    (same_table c.args.words.now c.args.batches.now c.args.table.now c.requires.given c.requires.spelled) c.in-Err.ensures.1

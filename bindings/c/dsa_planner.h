@@ -436,8 +436,9 @@ uint32_t dsa_check_fenced_list(const struct dsa_settings *settings,
  * DSA_NO_ROOM, then DSA_RECORDS, then DSA_SHARED_RECORD, then DSA_NO_ROOM_FOR_LIST. DSA_SHARED_RECORD: a record that
  * another piece writes, with its data or its own record, does not say how its piece has ended. Give each piece a record
  * of its own before the next run. Now, if only pieces of groups that are known to have completed, by the records of
- * their batches, share records, give the pieces from the failed entry on, with their records, as the list; else restore
- * the memory and run the whole list.
+ * their batches, share records, give the pieces from the failed entry on, with their records, as the list: they are the
+ * descriptors that were submitted, in the portal and in the staging area, without their fence flags (0x0001). Else
+ * restore the memory and run the whole list.
  */
 uint32_t dsa_resume(const struct dsa_settings *settings,
                     const uint64_t *table, size_t table_len,

@@ -5,7 +5,7 @@ use Rattle.dsa_calls.specs.declared.fault.PlanFault.TheVariants.{Memory}
 use Rattle.dsa_resume.specs.declared.fault.ResumeFault.{ResumeFault}
 use Rattle.dsa_resume.specs.declared.fault.ResumeFault.TheVariants.{Plan}
 use Rattle.dsa_resume.specs.declared.left.LeftOrder.{LeftOrder}
-use Rattle.dsa_resume.specs.Resumed.{Resumes}
+use Rattle.dsa_resume.specs.Resumed.{CanBePlannedAgain, Resumes}
 use Rattle.dsa_c.specs.declared.settings.RawSettings.{RawSettings}
 use Rattle.dsa_c.specs.declared.refusal.RawRefusal.{RawRefusal}
 use Rattle.dsa_c.specs.Preparing.{refusal_at}
@@ -14,12 +14,13 @@ use Rattle.dsa_c.specs.Resuming.{order_of, resume_refusal_of, IsLeftOf, RefusesR
 
 -- what is left under the settings that the numbers are
 pub left_of_settings : (s : RawSettings) (table list records : List ℕ) (failed_first : ℕ) (l : Limits) (order : LeftOrder) (bytes : List ℕ) → l ≡ limits_of s table
-    → AreSettings s table → order ≡ order_of failed_first → Resumes l list records order (Ok bytes) → IsLeftOf s table list records failed_first bytes
-left_of_settings s table list records failed_first l order bytes is are same resumes =
+    → AreSettings s table → order ≡ order_of failed_first → Resumes l list records order (Ok bytes) → CanBePlannedAgain l bytes → IsLeftOf s table list records failed_first bytes
+left_of_settings s table list records failed_first l order bytes is are same resumes again =
     record {
       settings = are;
       resumed =
           subst (λ (o : LeftOrder). Resumes (limits_of s table) list records o (Ok bytes)) same (subst (λ (x : Limits). Resumes x list records order (Ok bytes)) is resumes);
+      again = subst (λ (x : Limits). CanBePlannedAgain x bytes) is again;
     }
 
 -- resuming refuses

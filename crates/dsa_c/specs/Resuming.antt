@@ -5,7 +5,7 @@ use Rattle.dsa_resume.specs.declared.fault.ResumeFault.{ResumeFault}
 use Rattle.dsa_resume.specs.declared.fault.ResumeFault.TheVariants.{Plan, Records, SharedRecord}
 use Rattle.dsa_resume.specs.declared.left.LeftOrder.{LeftOrder}
 use Rattle.dsa_resume.specs.declared.left.LeftOrder.TheVariants.{AsListed, FailedFirst}
-use Rattle.dsa_resume.specs.Resumed.{Resumes}
+use Rattle.dsa_resume.specs.Resumed.{CanBePlannedAgain, Resumes}
 use Rattle.dsa_c.specs.declared.settings.RawSettings.{RawSettings}
 use Rattle.dsa_c.specs.declared.refusal.RawRefusal.{RawRefusal}
 use Rattle.dsa_c.specs.Preparing.{refusal_at}
@@ -26,10 +26,11 @@ resume_refusal_of (SharedRecord i j) = refusal_at 113 i j
 abbrev pub no_room_for_list : ℕ → RawRefusal
 no_room_for_list bytes = refusal_at 93 bytes 0
 
--- these are the bytes of what is left
+-- these are the bytes of what is left, which can be planned with the same settings
 pub record IsLeftOf (s : RawSettings) (table list records : List ℕ) (failed_first : ℕ) (bytes : List ℕ) : Type 0 where
   pub settings : AreSettings s table
   pub resumed : Resumes (limits_of s table) list records (order_of failed_first) (Ok bytes)
+  pub again : CanBePlannedAgain (limits_of s table) bytes
 
 -- they are at the front of the buffer, whose rest is unchanged
 pub record IsResumedInto (s : RawSettings) (table list records : List ℕ) (failed_first : ℕ) (rest new_rest : List ℕ) (count : ℕ) : Type 0 where

@@ -212,9 +212,9 @@ def definitions(tried):
 
 
 def checkers(tried):
-    """The proof refuses each wrong checker."""
-    for name, is_proved in coq_wrong.proofs_of_wrong_checkers(tried.out):
-        expect(not is_proved, f"a wrong checker is proved: {name}")
+    """The right checkers are proved, and no wrong one is."""
+    for name, is_proved in coq_wrong.proofs_of_checkers(tried.out):
+        expect(is_proved == (not name), f"a wrong checker is proved: {name}" if name else "a right one is not proved")
 
 
 PARTS = [statements, examples, generated, lists, runs, definitions, checkers]

@@ -28,30 +28,40 @@ DEFINITIONS = [
     ("records are aligned to 64", "record d mod 32", "record d mod 64"),
     ("a batch has three pieces at the least", "1 <? count g", "2 <? count g"),
 ]
-# The same of Checker.v.
-CHECKERS = [
-    ("pairs may come before the piece", "(k <=? a) && (a <? b) &&", "(a <? b) &&"),
-    ("pairs of one piece", "(k <=? a) && (a <? b) &&", "(k <=? a) &&"),
-    ("pairs need no conflict", "Some x, Some y => cb x y | _", "Some x, Some y => true | _"),
-    ("each price may be one too high", "(p <=? budget + c) && along", "(p <=? budget + c + 1) && along"),
-    ("a pair counts two fences", "if hit then budget + fence s else", "if hit then budget + fence s + fence s else"),
-    ("no bound by a lone piece", "(p <=? price + lone s)\n      && along", "along"),
-    ("no bound by a batch", "      && along (k + 1) (option_map snd link) price batch_costs prs' rest'\n", ""),
-    ("any first price", "(price =? 0) && steps", "steps"),
-    ("the last price may be one too low", "[], [] => price =? total", "[], [] => total <=? price + 1"),
-    ("the first of a group may be fenced", "match g with [] => false | m :: _ => negb (fst m) end\n  && ", ""),
-    ("groups of any size", "  && (count g <=? greatest_batch s) && parted [] g", "  && parted [] g"),
-    ("two writes do not conflict", " || any_meet (snd x) (snd y) ||", " ||"),
-    ("the staging area is not compared", " && equal (staging_bytes p) staged", ""),
-    ("the pieces are not looked at", " && submittable s (pieces p)", ""),
-]
-# Those that Checker.v needs to be right about.
-PROOFS = ("Sound", "Unique", "Split")
-JUDGE = """From Coq Require Import Extraction ExtrOcamlBasic ExtrOcamlZBigInt.
-From Dsa Require Import Definitions Checker.
-Extract Constant N.eqb => "Big_int_Z.eq_big_int".
-Extract Constant N.leb => "Big_int_Z.le_big_int".
-Extract Constant N.ltb => "Big_int_Z.lt_big_int".
+# The same of the checker, and of the quick one that the judges run.
+CHECKERS = {
+    "Checker": [
+        ("pairs may come before the piece", "(k <=? a) && (a <? b) &&", "(a <? b) &&"),
+        ("pairs of one piece", "(k <=? a) && (a <? b) &&", "(k <=? a) &&"),
+        ("pairs need no conflict", "Some x, Some y => cb x y | _", "Some x, Some y => true | _"),
+        ("each price may be one too high", "(p <=? budget + c) && along", "(p <=? budget + c + 1) && along"),
+        ("a pair counts two fences", "then budget + fence s else", "then budget + fence s + fence s else"),
+        ("no bound by a lone piece", "(p <=? price + lone s)\n      && along", "along"),
+        ("no bound by a batch", "      && along (k + 1) (option_map snd link) price batch_costs prs' rest'\n", ""),
+        ("any first price", "(price =? 0) && steps", "steps"),
+        ("the last price may be one too low", "[], [] => price =? total", "[], [] => total <=? price + 1"),
+        ("the first of a group may be fenced", "match g with [] => false | m :: _ => negb (fst m) end\n  && ", ""),
+        ("groups of any size", "  && (count g <=? greatest_batch s) && parted [] g", "  && parted [] g"),
+        ("two writes do not conflict", " || any_meet (snd x) (snd y) ||", " ||"),
+        ("the staging area is not compared", " && equal (staging_bytes p) staged", ""),
+        ("the pieces are not looked at", " && submittable s (pieces p)", ""),
+    ],
+    "Quick": [
+        ("reads meet no write", "if is_write m then all else written) (whose m)", "written) (whose m)"),
+        ("the second end stays", "second := N.max (second t) e", "second := second t"),
+        ("a range of no byte conflicts", "\n    (filter (fun r => 0 <? snd r) l)", " l"),
+        ("a fence is not seen", "if f then now :: between_fences [x] r else", "if f then between_fences [x] r else"),
+        ("the next pair may end elsewhere", "(a =? a') && (b =? b')", "(a =? a')"),
+        ("a piece before the one that was found", " && (fst found <=? b) then", " then"),
+        ("the rise of the costs is left out", "(b' + rise <=? b)", "(b' <=? b)"),
+        ("the last step is left out", "one_step last_cost (raised (b - b') far)", "Some (raised (b - b') far)"),
+        ("bytes 38 and 39 are left out", " && (its_zeros v =? 0)", ""),
+        ("more bytes may come after", "| [] => match m with [] => true | _ => false end", "| [] => true"),
+    ],
+}
+# Those that each needs to be right about.
+PROOFS = {"Checker": ("Sound", "Unique", "Split"), "Quick": ("QuickConflicts", "QuickPrices", "QuickBytes")}
+JUDGE = """From Dsa Require Import Numbers Checker.
 Extraction "checker.ml" check.
 """
 
@@ -81,9 +91,11 @@ def judged_by_wrong_definitions(jobs):
             with_edit(folder, "Definitions.v", old, new)
             Path(folder, "Judge.v").write_text(JUDGE)
             shutil.copy(COQ / "judge/fast.ml", f"{folder}/num.ml")
-            text = (COQ / "judge/main.ml").read_text().replace("check_list s l portal", "check s portal")
+            text = (COQ / "judge/main.ml").read_text()
+            for call in ("quick_check_list s l", "quick_check s"):
+                text = text.replace(f"{call} portal", "check s portal")
             Path(folder, "main.ml").write_text(text)
-            if not all(compiled(folder, it) for it in ("Definitions", "Checker", "Judge")):
+            if not all(compiled(folder, it) for it in ("Definitions", "Checker", "Numbers", "Judge")):
                 common.stop(f"the wrong definition does not compile: {name}")
             Path(folder, "checker.mli").unlink()
             words = "ocamlfind ocamlopt -w -a -package zarith,yojson -linkpkg checker.ml num.ml main.ml -o judge"
@@ -95,19 +107,22 @@ def judged_by_wrong_definitions(jobs):
     return common.side_by_side(tried, DEFINITIONS)
 
 
-def proofs_of_wrong_checkers(out):
-    """Yields the name of each wrong checker, and whether its proof holds."""
+def is_proved(out, file, old, new):
+    """Whether the proofs of a checker with an edit hold; if both texts are one, of the checker as it is."""
+    with tempfile.TemporaryDirectory() as folder:
+        with_edit(folder, f"{file}.v", old, new)
+        for path in Path(out).glob("*.vo"):
+            shutil.copy(path, folder)
+        if not compiled(folder, file):
+            common.stop(f"{file}.v does not compile with: {new}")
+        return all(compiled(folder, it) for it in PROOFS[file])
 
-    def tried(edit):
-        name, old, new = edit
-        with tempfile.TemporaryDirectory() as folder:
-            with_edit(folder, "Checker.v", old, new)
-            shutil.copy(f"{out}/Definitions.vo", folder)
-            if not compiled(folder, "Checker"):
-                common.stop(f"the wrong checker does not compile: {name}")
-            return name, all(compiled(folder, it) for it in PROOFS)
 
-    return common.side_by_side(tried, CHECKERS)
+def proofs_of_checkers(out):
+    """The name of each wrong checker, and whether its proofs hold; and the same of the right ones."""
+    edits = [(file, *edit) for file, edits in CHECKERS.items() for edit in edits]
+    right = [(file, "", edits[0][1], edits[0][1]) for file, edits in CHECKERS.items()]
+    return common.side_by_side(lambda it: (it[1], is_proved(out, it[0], *it[2:])), right + edits)
 
 
 def unsplit(tried):

@@ -10,7 +10,7 @@ let below_2_64 text = (* decimal digits alone *)
   try Int64.of_string ("0u" ^ text) with Failure _ -> raise (Bad "number")
 
 let whole = function
-  | `Int i -> below_2_64 (string_of_int i)
+  | `Int i when i >= 0 -> Int64.of_int i
   | `Intlit t -> below_2_64 t
   | _ -> raise (Bad "number")
 
@@ -81,13 +81,16 @@ let answer line =
     let c = certificate (m "certificate") in
     let l = if listed then bytes (m "list") else [] in
     let read = Sys.time () in
-    let r = if listed then check_list s l portal staged c else check s portal staged c in
+    let r = if listed then quick_check_list s l portal staged c else quick_check s portal staged c in
     if timed then Printf.eprintf "reading %.3f s, checking %.3f s\n%!" (read -. began) (Sys.time () -. read);
     match r with Some cost -> "{\"cost\":" ^ Num.text cost ^ "}" | None -> "refused"
-  with Bad why -> "refused " ^ why | Yojson.Json_error _ -> "refused json"
+  with
+  | Bad why -> "refused " ^ why
+  | Yojson.Json_error _ -> "refused json"
+  | Stack_overflow -> "refused stack" (* several times the most pieces *)
 
-(* Most values live until the line is answered, so a large young heap saves a third of the time. *)
-let () = Gc.set { (Gc.get ()) with Gc.minor_heap_size = 4 lsl 20 }
+(* Most values live until the line is answered: a large young heap and few collections of the old one halve the time. *)
+let () = Gc.set { (Gc.get ()) with Gc.minor_heap_size = 4 lsl 20; Gc.space_overhead = 1000 }
 
 let () =
   try

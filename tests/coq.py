@@ -4,18 +4,20 @@
 
 statements: each theorem of coq/theories/Headline.v rests on no axiom. examples, generated: both judges accept what
 `dsa` accepts, with its cost, and refuse what it refuses. lists: beside a list the judge accepts its own plan alone.
-runs: the definitions leave each byte that `dsa` leaves. definitions, checkers: wrong ones are seen. Without Coq nothing
-is tried."""
+large: 65,536 pieces take it little time and memory. runs: the definitions leave each byte that `dsa` leaves.
+definitions, checkers: wrong ones are seen. Without Coq nothing is tried."""
 
 import json
 import os
 import random
+import resource
 import shutil
 import subprocess
 import tempfile
 from glob import glob
 from pathlib import Path
 
+import bench
 import common
 import coq_wrong
 from campaign import Case
@@ -27,6 +29,8 @@ JOBS = int(os.environ.get("JOBS", "500"))
 SEED = os.environ.get("SEED", "1")
 # Of how many jobs one is a run.
 RUN = 10
+# What the judge may take for the most pieces: processor seconds, several times what it takes, and bytes.
+MOST_TIME, MOST_MEMORY = 8, 500_000_000
 
 
 class Tried:
@@ -56,6 +60,11 @@ def lines_of(program, jobs):
     return lines if len(lines) == len(jobs) else [f"no line: {ran.stderr[:200]}"] * len(jobs)
 
 
+def limited():
+    for kind, most in ((resource.RLIMIT_CPU, MOST_TIME), (resource.RLIMIT_AS, MOST_MEMORY)):
+        resource.setrlimit(kind, (most, most))
+
+
 def agree(theirs, ours):
     """Whether a judge accepts with the cost of dsa, or refuses what dsa refuses."""
     return theirs == ours if theirs.startswith("{") else ours.startswith("refused")
@@ -64,7 +73,7 @@ def agree(theirs, ours):
 def statements(tried):
     text = (COQ / "theories/Headline.v").read_text()
     theorems = [line.split()[1] for line in text.splitlines() if line.startswith("Theorem ")]
-    expect(len(theorems) >= 7, f"Headline.v has {len(theorems)} theorems")
+    expect(len(theorems) >= 16, f"Headline.v has {len(theorems)} theorems")
     asked = [it for it in theorems if f"Print Assumptions {it}." in text]
     expect(asked == theorems, f"Headline.v prints what {len(asked)} of {len(theorems)} theorems rest on")
     closed = tried.said.count("Closed under the global context")
@@ -181,6 +190,18 @@ def lists(tried):
         expect(line.startswith(begins), f"{name}: the judge says {line}")
 
 
+def large(tried):
+    """The plans of 65,536 moves and fills among 64 buffers, in small batches and in the greatest, and by size."""
+    pieces = bench.crowded()
+    for batch, more in ((32, {}), (1024, {}), (1024, {"version": 2, "batch": [14] * 1023})):
+        job = bench.job_of("plan", pieces, batch)
+        job["settings"].update(more)
+        check = json.dumps(bench.check_of(job, tried.dsa))
+        how = {"capture_output": True, "text": True, "preexec_fn": limited}
+        ran = subprocess.run([tried.out / "fast/judge"], input=check, **how)
+        expect(ran.stdout == tried.asked([check])[0] + "\n", f"batches of {batch}: {ran.stdout} {ran.stderr[:200]}")
+
+
 def emitted(answer):
     return {name: answer[name] for name in ("portal", "staging")}
 
@@ -217,7 +238,7 @@ def checkers(tried):
         expect(is_proved == (not name), f"a wrong checker is proved: {name}" if name else "a right one is not proved")
 
 
-PARTS = [statements, examples, generated, lists, runs, definitions, checkers]
+PARTS = [statements, examples, generated, lists, large, runs, definitions, checkers]
 
 
 def main(words):

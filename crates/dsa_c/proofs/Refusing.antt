@@ -11,8 +11,8 @@ use Rattle.dsa_calls.specs.declared.fault.PlanFault.TheVariants.{Memory}
 use Rattle.dsa_calls.specs.Planned.{Submission, Plans}
 use Rattle.dsa_calls.specs.Fenced.{IsFencedLeast, PlansFenced}
 use Rattle.dsa_calls.specs.Checked.{Checks}
-use Rattle.dsa_calls.specs.declared.fenced_checking.FencedFault.{FencedFault}
-use Rattle.dsa_calls.specs.declared.fenced_checking.FencedFault.TheVariants.{Call}
+use Rattle.dsa_calls.specs.declared.checking.FencedFault.{FencedFault}
+use Rattle.dsa_calls.specs.declared.checking.FencedFault.TheVariants.{Call}
 use Rattle.dsa_calls.specs.FencedChecked.{ChecksFenced, IsLeastEmission}
 use Rattle.dsa_c.specs.declared.settings.RawSettings.{RawSettings}
 use Rattle.dsa_c.specs.declared.refusal.RawRefusal.{RawRefusal}

@@ -18,17 +18,18 @@ use Rattle.dsa_plan.specs.Plan.{Plan, Group, piece_count}
 use Rattle.dsa_plan.specs.Settings.{Limits}
 use Rattle.dsa_plan.specs.Legal.{IsLegal}
 use Rattle.dsa_plan.specs.Emission.{is_batch, batched, batch_count, batched_count, CanBeEmitted, portal_bytes, staging_bytes}
-use Rattle.dsa_plan.specs.EmissionFaults.{unfenced}
+use Rattle.dsa_descriptor.specs.Fences.{unfenced}
 use Rattle.dsa_plan.specs.EmissionLaws.{StandsAtPlaces}
 use Rattle.dsa_emission.proofs.AtPlaces.{emission_at_places}
 use Rattle.dsa_emission.proofs.Places.{batch_yes, groups_within}
 use Rattle.dsa_splitter.specs.Pieces.{all_pieces}
 use Rattle.dsa_splitter.specs.Rules.{piece_total, IsSplit}
 use Rattle.dsa_splitter.proofs.Walks.{length_all}
-use Rattle.dsa_calls.specs.Fenced.{fences_of, unfenced_list, PiecesConflict, PlansFenced}
+use Rattle.dsa_descriptor.specs.Fences.{barriers_of, unfenced_list}
+use Rattle.dsa_calls.specs.Fenced.{PiecesConflict, PlansFenced}
 use Rattle.dsa_calls.specs.Lists.{IsListOf}
 use Rattle.dsa_calls.specs.Planned.{Submission, Plans, CanBePlanned}
-use Rattle.dsa_calls.proofs.FencedLists.{entries_unfenced}
+use Rattle.dsa_descriptor.proofs.Seen.{entries_unfenced}
 use Rattle.dsa_calls.proofs.FencedPlans.{fenced_plan_is_least}
 use Rattle.dsa_calls.proofs.Submissions.{pieces_can, can_emit, planned_is_least_and_shown}
 use Rattle.dsa_c.specs.Counting.{pieces_of, HasRoom}
@@ -149,4 +150,4 @@ fenced_has_room list s p (inl (fault, not, first, bad)) = absurd (cc)
 fenced_has_room list s p (inr (ds, listed, of)) =
     let can = (fenced_counted list s p (inr (ds, listed, of))).can in
     let least = fenced_plan_is_least list s p (inr (ds, listed, of)) in
-    emission_has_room (PiecesConflict s (map fields least.operations) (fences_of list) (map fields p.pieces)) s p can least.least.legal of.of_pieces.portal_is of.of_pieces.staging_is
+    emission_has_room (PiecesConflict s (map fields least.operations) (barriers_of list) (map fields p.pieces)) s p can least.least.legal of.of_pieces.portal_is of.of_pieces.staging_is

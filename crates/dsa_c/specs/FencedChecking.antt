@@ -2,8 +2,8 @@
 use Rattle.std.specs.Prelude.{◌≡◌, ◌⊎◌, ℕ, List, Ok, Err}
 use Rattle.dsa_plan.specs.Certificate.{Contents}
 use Rattle.dsa_calls.specs.declared.fault.PlanFault.TheVariants.{Memory}
-use Rattle.dsa_calls.specs.declared.fenced_checking.FencedFault.{FencedFault}
-use Rattle.dsa_calls.specs.declared.fenced_checking.FencedFault.TheVariants.{Call, OtherPiece}
+use Rattle.dsa_calls.specs.declared.checking.FencedFault.{FencedFault}
+use Rattle.dsa_calls.specs.declared.checking.FencedFault.TheVariants.{Call, OtherPiece}
 use Rattle.dsa_calls.specs.FencedChecked.{ChecksFenced, IsLeastEmission}
 use Rattle.dsa_c.specs.declared.settings.RawSettings.{RawSettings}
 use Rattle.dsa_c.specs.declared.refusal.RawRefusal.{RawRefusal}

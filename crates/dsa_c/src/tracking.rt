@@ -72,7 +72,7 @@ fn split_pieces(
         return Err(settings_refusal(settings));
     };
     match fenced_pieces(alloc, list, &checked) {
-        Ok(found) => Ok(found.pieces),
+        Ok(found) => Ok(found.descriptors),
         Err(fault) => Err(refusal(fault)),
     }
 }

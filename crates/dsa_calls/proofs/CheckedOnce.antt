@@ -1,10 +1,11 @@
 -- Checking has one outcome.
-use Rattle.std.proofs.Common.{◌≡◌, inl, inr, if◌then◌else◌, Bool, true, false, ℕ, List, length, map, Result, Ok, Err, IsOk, refl, sym, ap, subst, ◌∙◌}
+use Rattle.std.proofs.Common.{◌≡◌, inl, inr, if◌then◌else◌, Bool, true, false, ℕ, List, [], length, map, Result, Ok, Err, IsOk, refl, sym, ap, subst, ◌∙◌}
 use Rattle.std.proofs.lemmas.List.{length-map}
 use Rattle.dsa_descriptor.specs.declared.descriptor.Descriptor.{Descriptor}
 use Rattle.dsa_descriptor.specs.Fields.{Fields}
 use Rattle.dsa_descriptor.specs.Descriptors.{fields}
 use Rattle.dsa_ranges.specs.Ranges.{ConflictAt}
+use Rattle.dsa_plan.specs.Barriers.{WithBarriers}
 use Rattle.dsa_plan.specs.Settings.{Limits, tariff_of, version_of}
 use Rattle.dsa_plan.specs.Plan.{Plan, plan_cost}
 use Rattle.dsa_plan.specs.Legal.{IsLegal, IsLeast}
@@ -54,6 +55,11 @@ module _ (C : ℕ → ℕ → Type 0) (s : Limits) (n : ℕ) (plan : Plan) (c : 
 
 pub one_plan_checked : (s : Limits) (fs : List Fields) (plan : Plan) (c : Contents) (o p : Result ℕ PlanFault) → ChecksPlan s fs plan c o → ChecksPlan s fs plan c p → o ≡ p
 one_plan_checked s fs plan c o p h k = one_checked_by (ConflictAt fs) s (length fs) plan c o p h k
+
+-- pieces with no marks are checked as pieces without barriers
+pub plain_checked : (s : Limits) (ds : List Descriptor) (plan : Plan) (c : Contents) (o : Result ℕ PlanFault) → ChecksPlanBy (WithBarriers (ConflictAt (map fields ds)) []) s (length ds) plan c o → ChecksPlan s (map fields ds) plan c o
+unfolding WithBarriers
+plain_checked s ds plan c o checks = subst (λ (n : ℕ). ChecksPlanBy (ConflictAt (map fields ds)) s n plan c o) (sym (length-map ds fields)) checks
 
 -- bytes are the emission of one plan and its pieces
 pub same_emission : (s : Limits) (portal staging : List ℕ) (plan plan' : Plan) (ds ds' : List Descriptor) → IsEmission s portal staging plan ds → IsEmission s portal staging plan' ds'

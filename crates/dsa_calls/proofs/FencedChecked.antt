@@ -23,12 +23,13 @@ use Rattle.dsa_splitter.proofs.OneFault.{split_no_fault}
 use Rattle.dsa_search.proofs.Choosing.{chosen_is_good, chosen_is_least}
 use Rattle.dsa_calls.specs.declared.fault.PlanFault.{PlanFault}
 use Rattle.dsa_calls.specs.declared.fault.PlanFault.TheVariants.{Emission, Memory}
-use Rattle.dsa_calls.specs.declared.fenced_checking.FencedFault.{FencedFault}
-use Rattle.dsa_calls.specs.declared.fenced_checking.FencedFault.TheVariants.{Call, OtherPiece}
+use Rattle.dsa_calls.specs.declared.checking.FencedFault.{FencedFault}
+use Rattle.dsa_calls.specs.declared.checking.FencedFault.TheVariants.{Call, OtherPiece}
 use Rattle.dsa_calls.specs.Fault.{emission_cause}
 use Rattle.dsa_calls.specs.Lists.{IsListOf}
 use Rattle.dsa_calls.specs.Checked.{ChecksPlanBy, IsShownLeastBy}
-use Rattle.dsa_calls.specs.Fenced.{fences_of, unfenced_list, AreFencedPieces, PiecesConflict, PlansFenced}
+use Rattle.dsa_descriptor.specs.Fences.{barriers_of, unfenced_list}
+use Rattle.dsa_calls.specs.Fenced.{AreFencedPieces, PiecesConflict, PlansFenced}
 use Rattle.dsa_calls.specs.FencedChecked.{IsFirstOther, in_call, ChecksPieces, ChecksFenced, IsLeastEmission, OneFencedCheck, FencedPlanIsChecked}
 use Rattle.dsa_calls.specs.Planned.{Submission, IsSubmissionOfPiecesBy}
 use Rattle.dsa_calls.proofs.CheckedOnce.{one_checked_by, same_emission}
@@ -117,8 +118,8 @@ one_fenced_check bytes portal staging s c o p (inl (f, refused, is)) (inr (ops, 
 one_fenced_check bytes portal staging s c o p (inr (ops, list, split, checks)) (inl (g, refused, is)) = absurd (split_not_refused bytes s ops g list split refused)
 one_fenced_check bytes portal staging s c o p (inr (ops, list, split, checks)) (inr (ops', list', split', checks')) =
     let same : ops' ≡ ops = one_list (unfenced_list bytes) ops ops' list list' in
-    let here = subst (λ (xs : List Descriptor). ChecksPieces (PiecesConflict s (map fields xs) (fences_of bytes) (PiecesOf s xs)) s (PiecesOf s xs) portal staging c p) same checks' in
-    one_pieces (PiecesConflict s (map fields ops) (fences_of bytes) (PiecesOf s ops)) s (PiecesOf s ops) portal staging c o p checks here
+    let here = subst (λ (xs : List Descriptor). ChecksPieces (PiecesConflict s (map fields xs) (barriers_of bytes) (PiecesOf s xs)) s (PiecesOf s xs) portal staging c p) same checks' in
+    one_pieces (PiecesConflict s (map fields ops) (barriers_of bytes) (PiecesOf s ops)) s (PiecesOf s ops) portal staging c o p checks here
 
 -- ---- what planning answers
 
@@ -136,7 +137,7 @@ shown_by C s p sub =
 pub fenced_plan_is_checked : FencedPlanIsChecked
 fenced_plan_is_checked bytes s p (inl (fault, other, first, is)) = cc
 fenced_plan_is_checked bytes s p (inr (ds, list, sub)) =
-    let C : List Fields → ℕ → ℕ → Type 0 = PiecesConflict s (map fields ds) (fences_of bytes) in
+    let C : List Fields → ℕ → ℕ → Type 0 = PiecesConflict s (map fields ds) (barriers_of bytes) in
     let shown = shown_by (C (map fields p.pieces)) s p sub.of_pieces in
     let legal = subst (λ (n : ℕ). IsLegal (C (map fields p.pieces)) s.greatest_batch n p.plan) (sym (length-map p.pieces fields)) shown.legal in
     let can = can_emit (C (map fields p.pieces)) s (map fields p.pieces) p.plan (pieces_can s (map fields ds) (map fields p.pieces) list.owner sub.split sub.pieces_are) legal in
@@ -153,7 +154,7 @@ pub pieces_checked : (bytes portal staging : List ℕ) (s : Limits) (c : Content
 pieces_checked bytes portal staging s c pieces barriers r are (inl memory) = inl memory
 pieces_checked bytes portal staging s c pieces barriers r are (inr checks) =
     let marked = subst (λ (marks : List Bool). ChecksPieces (WithBarriers (ConflictAt (map fields pieces)) marks) s (map fields pieces) portal staging c r) are.barriers_are checks in
-    let named = subst (λ (es : List Fields). ChecksPieces (PiecesConflict s (map fields are.operations) (fences_of bytes) es) s es portal staging c r) are.pieces_are marked in
+    let named = subst (λ (es : List Fields). ChecksPieces (PiecesConflict s (map fields are.operations) (barriers_of bytes) es) s es portal staging c r) are.pieces_are marked in
     inr (inr (are.operations, are.listed, are.split, named))
 
 pub least_emission : (bytes portal staging : List ℕ) (s : Limits) (c : Contents) (cost : ℕ) → ChecksFenced bytes portal staging s c (Ok cost) → IsLeastEmission bytes portal staging s cost
@@ -163,7 +164,7 @@ least_emission bytes portal staging s c cost (inr (ops, list, split, inr (inl (i
 least_emission bytes portal staging s c cost (inr (ops, list, split, inr (inr (Err fault, plan, ds, emission, are, checks, is)))) = cc
 least_emission bytes portal staging s c cost (inr (ops, list, split, inr (inr (Ok total, plan, ds, emission, are, shown, is)))) =
     let same : cost ≡ total = cc in
-    let C : List Fields → ℕ → ℕ → Type 0 = PiecesConflict s (map fields ops) (fences_of bytes) in
+    let C : List Fields → ℕ → ℕ → Type 0 = PiecesConflict s (map fields ops) (barriers_of bytes) in
     let least = yes_means_least (C (PiecesOf s ops)) s.greatest_batch (tariff_of s) (length (PiecesOf s ops)) plan c.prices c.pairs total shown.legal shown.good shown.is_cost in
     let named = subst (λ (es : List Fields). IsLeast (C es) s.greatest_batch (tariff_of s) (length es) plan) (sym are) least in
     record {

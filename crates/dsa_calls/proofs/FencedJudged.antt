@@ -1,8 +1,7 @@
 -- Judging a plan for a list with fences has one outcome.
-use Rattle.std.proofs.Common.{◌≡◌, ◌⊎◌, inr, ℕ, Bool, List, map, Result, Ok, Err, subst}
+use Rattle.std.proofs.Common.{◌≡◌, inr, ℕ, Bool, List, map, Result, Ok, Err, subst}
 use Rattle.dsa_descriptor.specs.declared.descriptor.Descriptor.{Descriptor}
 use Rattle.dsa_descriptor.specs.declared.fault.ListFault.{ListFault}
-use Rattle.dsa_descriptor.specs.declared.fault.ListFault.TheVariants.{Memory as ListMemory}
 use Rattle.dsa_descriptor.specs.Descriptors.{fields}
 use Rattle.dsa_descriptor.specs.Lists.{IsFirstListFault}
 use Rattle.dsa_ranges.specs.Ranges.{ConflictAt}
@@ -13,22 +12,22 @@ use Rattle.dsa_calls.specs.declared.fault.PlanFault.{PlanFault}
 use Rattle.dsa_calls.specs.Fault.{list_cause}
 use Rattle.dsa_calls.specs.Lists.{IsListOf, OrMemory, IsOrMemory}
 use Rattle.dsa_calls.specs.Judge.{JudgesPiecesBy}
-use Rattle.dsa_calls.specs.Fenced.{fences_of, unfenced_list, JudgesFenced}
-use Rattle.dsa_calls.proofs.Over.{one_over_list, only_outcome}
+use Rattle.dsa_descriptor.specs.Fences.{barriers_of, unfenced_list}
+use Rattle.dsa_calls.specs.Fenced.{JudgesFenced}
+use Rattle.dsa_calls.proofs.Over.{list_refused, one_over_list, only_outcome}
 use Rattle.dsa_calls.proofs.JudgedOnce.{one_judged_by}
-use Rattle.dsa_calls.proofs.FencedPlans.{refused_by}
 
 one_judged_fenced : (bytes : List ℕ) (plan : Plan) (s : Limits) (o p : Result ℕ PlanFault) → JudgesFenced bytes plan s o → JudgesFenced bytes plan s p → o ≡ p
 one_judged_fenced bytes plan s =
-    one_over_list (λ fs o. JudgesPiecesBy (WithBarriers (ConflictAt fs) (fences_of bytes)) fs plan s o)
-    (λ fs o p. one_judged_by (WithBarriers (ConflictAt fs) (fences_of bytes)) fs plan s o p) (unfenced_list bytes)
+    one_over_list (λ fs o. JudgesPiecesBy (WithBarriers (ConflictAt fs) (barriers_of bytes)) fs plan s o)
+    (λ fs o p. one_judged_by (WithBarriers (ConflictAt fs) (barriers_of bytes)) fs plan s o p) (unfenced_list bytes)
 
-pub judged_refused : (bytes : List ℕ) (plan : Plan) (s : Limits) (cause : ListFault) (fault : PlanFault) → fault ≡ list_cause cause → (cause ≡ ListMemory) ⊎ IsFirstListFault (unfenced_list bytes) cause
+pub judged_refused : (bytes : List ℕ) (plan : Plan) (s : Limits) (cause : ListFault) (fault : PlanFault) → fault ≡ list_cause cause → IsFirstListFault (unfenced_list bytes) cause
     → OrMemory {X = ℕ} {Y = ℕ} (λ cost. cost) (JudgesFenced bytes plan s) (Err fault)
-judged_refused bytes plan s cause fault is h =
-    refused_by (λ cost. cost) (λ fs o. JudgesPiecesBy (WithBarriers (ConflictAt fs) (fences_of bytes)) fs plan s o) bytes cause fault is h
+judged_refused bytes plan s cause fault is first =
+    list_refused (λ cost. cost) (λ fs o. JudgesPiecesBy (WithBarriers (ConflictAt fs) (barriers_of bytes)) fs plan s o) (unfenced_list bytes) cause fault is first
 
-pub judged_answer : (bytes : List ℕ) (plan : Plan) (s : Limits) (ds : List Descriptor) (barriers : List Bool) (r : Result ℕ PlanFault) → IsListOf (unfenced_list bytes) ds → barriers ≡ fences_of bytes
+pub judged_answer : (bytes : List ℕ) (plan : Plan) (s : Limits) (ds : List Descriptor) (barriers : List Bool) (r : Result ℕ PlanFault) → IsListOf (unfenced_list bytes) ds → barriers ≡ barriers_of bytes
     → JudgesPiecesBy (WithBarriers (ConflictAt (map fields ds)) barriers) (map fields ds) plan s r → OrMemory (λ cost. cost) (JudgesFenced bytes plan s) r
 judged_answer bytes plan s ds barriers r listed is judges =
     go r (inr (ds, listed, subst (λ (marks : List Bool). JudgesPiecesBy (WithBarriers (ConflictAt (map fields ds)) marks) (map fields ds) plan s r) is judges))

@@ -3,7 +3,6 @@ use Rattle.std.proofs.Common.{◌≡◌, ◌⊎◌, inl, inr, ℕ, Bool, List, l
 use Rattle.std.specs.Prelude.{IfOk}
 use Rattle.dsa_descriptor.specs.declared.descriptor.Descriptor.{Descriptor}
 use Rattle.dsa_descriptor.specs.declared.fault.ListFault.{ListFault}
-use Rattle.dsa_descriptor.specs.declared.fault.ListFault.TheVariants.{Memory as ListMemory}
 use Rattle.dsa_descriptor.specs.Fields.{Fields}
 use Rattle.dsa_descriptor.specs.Descriptors.{fields}
 use Rattle.dsa_descriptor.specs.Lists.{IsFirstListFault}
@@ -19,9 +18,10 @@ use Rattle.dsa_calls.specs.declared.fault.PlanFault.{PlanFault}
 use Rattle.dsa_calls.specs.declared.fault.PlanFault.TheVariants.{Memory as NoMemory}
 use Rattle.dsa_calls.specs.declared.planning.Planned.{Planned}
 use Rattle.dsa_calls.specs.Fault.{list_cause, split_cause}
-use Rattle.dsa_calls.specs.Lists.{IsListOf, OverList, OrMemory, IsOrMemory}
+use Rattle.dsa_calls.specs.Lists.{IsListOf, OrMemory, IsOrMemory}
 use Rattle.dsa_calls.specs.Planned.{Submission, IsSubmissionOfPiecesBy, submission_of}
-use Rattle.dsa_calls.specs.Fenced.{fences_of, unfenced_list, AreFencedPieces, PiecesConflict, IsSubmissionWith, PlansWith, PlansFenced, IsFencedLeast, OneFencedPlan, FencedPlanIsLeast}
+use Rattle.dsa_descriptor.specs.Fences.{barriers_of, unfenced_list}
+use Rattle.dsa_calls.specs.Fenced.{AreFencedPieces, PiecesConflict, IsSubmissionWith, PlansWith, PlansFenced, IsFencedLeast, OneFencedPlan, FencedPlanIsLeast}
 use Rattle.dsa_calls.proofs.Over.{list_refused, one_over_list, only_outcome}
 use Rattle.dsa_calls.proofs.Submissions.{one_of_pieces, one_operations, operations_refused}
 
@@ -38,14 +38,14 @@ one_with barriers s fs (Err fault) (Ok q) (cause, other, first, is) k = absurd (
 one_with barriers s fs (Err fault) (Err fault') h k = one_operations s fs (Err fault) (Err fault') h k
 
 pub one_fenced_plan : OneFencedPlan
-one_fenced_plan bytes s = one_over_list (λ fs o. PlansWith (fences_of bytes) s fs o) (λ fs o p. one_with (fences_of bytes) s fs o p) (unfenced_list bytes)
+one_fenced_plan bytes s = one_over_list (λ fs o. PlansWith (barriers_of bytes) s fs o) (λ fs o p. one_with (barriers_of bytes) s fs o p) (unfenced_list bytes)
 
 -- ---- least
 
 pub fenced_plan_is_least : FencedPlanIsLeast
 fenced_plan_is_least bytes s p (inl (fault, other, first, is)) = cc
 fenced_plan_is_least bytes s p (inr (ds, list, sub)) =
-    let C = PiecesConflict s (map fields ds) (fences_of bytes) (map fields p.pieces) in
+    let C = PiecesConflict s (map fields ds) (barriers_of bytes) (map fields p.pieces) in
     let chosen = sub.of_pieces.chosen in
     let least = chosen_is_least C s.greatest_batch (tariff_of s) (length p.pieces) p.certificate.prices p.certificate.pairs p.plan chosen in
     let good = chosen_is_good C s.greatest_batch (tariff_of s) (length p.pieces) p.certificate.prices p.certificate.pairs chosen.has_costs chosen.has_pairs in
@@ -58,15 +58,10 @@ fenced_plan_is_least bytes s p (inr (ds, list, sub)) =
 
 -- ---- what the call answers
 
--- the bytes without their fences were refused, whatever is asked of the operations
-pub refused_by : {X Y : Type 0} (shown : X → Y) (Says : List Fields → Result Y PlanFault → Type 0) (bytes : List ℕ) (cause : ListFault) (fault : PlanFault) → fault ≡ list_cause cause
-    → (cause ≡ ListMemory) ⊎ IsFirstListFault (unfenced_list bytes) cause → OrMemory shown (OverList Says (unfenced_list bytes)) (Err fault)
-refused_by shown Says bytes cause fault is (inl memory) = inl (is ∙ ap list_cause memory)
-refused_by shown Says bytes cause fault is (inr first) = list_refused shown Says (unfenced_list bytes) cause fault is first
-
-pub refused_list : (bytes : List ℕ) (s : Limits) (cause : ListFault) (fault : PlanFault) → fault ≡ list_cause cause → (cause ≡ ListMemory) ⊎ IsFirstListFault (unfenced_list bytes) cause
+-- the bytes without their fences were refused
+pub refused_list : (bytes : List ℕ) (s : Limits) (cause : ListFault) (fault : PlanFault) → fault ≡ list_cause cause → IsFirstListFault (unfenced_list bytes) cause
     → OrMemory submission_of (PlansFenced bytes s) (Err fault)
-refused_list bytes s cause fault is h = refused_by submission_of (λ fs o. PlansWith (fences_of bytes) s fs o) bytes cause fault is h
+refused_list bytes s cause fault is first = list_refused submission_of (λ fs o. PlansWith (barriers_of bytes) s fs o) (unfenced_list bytes) cause fault is first
 
 -- splitting the operations was refused
 pub split_refused_list : (bytes : List ℕ) (s : Limits) (ds : List Descriptor) (cause : SplitFault) (fault : PlanFault) → IsListOf (unfenced_list bytes) ds → fault ≡ split_cause cause

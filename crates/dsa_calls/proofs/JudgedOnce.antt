@@ -1,10 +1,11 @@
 -- Judging has one outcome.
-use Rattle.std.proofs.Common.{◌≡◌, inl, inr, ℕ, List, length, map, Result, Ok, Err, sym, ap, subst, ◌∙◌, arith}
+use Rattle.std.proofs.Common.{◌≡◌, inl, inr, ℕ, List, [], length, map, Result, Ok, Err, sym, ap, subst, ◌∙◌, arith}
 use Rattle.std.proofs.lemmas.Bool.{cases_lt}
 use Rattle.dsa_descriptor.specs.declared.descriptor.Descriptor.{Descriptor}
 use Rattle.dsa_descriptor.specs.Fields.{Fields}
 use Rattle.dsa_descriptor.specs.Descriptors.{fields}
 use Rattle.dsa_ranges.specs.Ranges.{ConflictAt}
+use Rattle.dsa_plan.specs.Barriers.{WithBarriers}
 use Rattle.dsa_plan.specs.Settings.{Limits}
 use Rattle.dsa_plan.specs.Plan.{Plan}
 use Rattle.dsa_settings.proofs.Judged.{legal_no_fault, one_fault}
@@ -63,6 +64,11 @@ one_judged_pieces fs plan s o p h k = one_judged_by (ConflictAt fs) fs plan s o 
 
 pub one_judged : OneJudged
 one_judged bytes plan s = one_over_list (λ fs o. JudgesPieces fs plan s o) (λ fs o p. one_judged_pieces fs plan s o p) bytes
+
+-- pieces with no marks are judged as pieces without barriers
+pub plain_judged : (fs : List Fields) (plan : Plan) (s : Limits) (o : Result ℕ PlanFault) → JudgesPiecesBy (WithBarriers (ConflictAt fs) []) fs plan s o → JudgesPieces fs plan s o
+unfolding WithBarriers
+plain_judged fs plan s o judges = judges
 
 -- the pieces were judged
 pub list_judged : (bytes : List ℕ) (plan : Plan) (s : Limits) (ds shown : List Descriptor) (outcome : Result ℕ PlanFault) → IsListOf bytes ds → shown ≡ ds

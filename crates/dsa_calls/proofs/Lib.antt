@@ -3,7 +3,6 @@ pub mod Over
 pub mod JudgedOnce
 pub mod CheckedOnce
 pub mod Submissions
-pub mod FencedLists
 pub mod FencedPlans
 pub mod FencedJudged
 pub mod SameChoice

@@ -4,9 +4,7 @@ use Rattle.std.specs.Prelude.{slice_index, min}
 use Rattle.dsa_plan.specs.Plan.{Tariff, Group, Plan, start_of}
 use Rattle.dsa_plan.specs.Legal.{ConflictsWithin, IsLegalGroup, IsLegal, IsLeastCost, IsLeastGroupCost}
 use Rattle.dsa_plan.specs.Chain.{Pairs, IsPairOf}
-use Rattle.dsa_plan.specs.Settings.{Limits, tariff_of}
 use Rattle.dsa_search.specs.Chosen.{MakesCost, IsChosen}
-use Rattle.dsa_calls.specs.Planned.{Submission, IsSubmissionOfPiecesBy}
 
 -- the first relation is within the second
 abbrev pub Within : (ℕ → ℕ → Type 0) → (ℕ → ℕ → Type 0) → Type 0
@@ -69,15 +67,4 @@ chosen_goes C D to back greatest_batch tariff n costs pairs plan h =
               fences = g.fences;
             };
       };
-    }
-
--- so is what is submitted
-pub submission_goes : (C D : ℕ → ℕ → Type 0) → Within C D → Within D C → (s : Limits) (p : Submission) → IsSubmissionOfPiecesBy C s p → IsSubmissionOfPiecesBy D s p
-submission_goes C D to back s p h =
-    record {
-      chosen = chosen_goes C D to back s.greatest_batch (tariff_of s) (length p.pieces) p.certificate.prices p.certificate.pairs p.plan h.chosen;
-      version_is = h.version_is;
-      cost_is = h.cost_is;
-      portal_is = h.portal_is;
-      staging_is = h.staging_is;
     }

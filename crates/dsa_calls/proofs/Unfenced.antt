@@ -1,29 +1,22 @@
 -- A list whose fences say nothing is planned as without them.
-use Rattle.std.proofs.Common.{◌≡◌, ◌≢◌, ℕ, zero, suc, ◌+◌, ◌-◌, ◌*◌, ◌/◌, ◌%◌, ◌<◌, ◌↔◌, inl, inr, Bool, true, false, List, [], ◌∷◌, ◌++◌, length, take, drop, get_or, map, replicate, Result, Ok, Err, Some, slice_get, refl, sym, ap, subst, ◌∙◌, append_assoc, arith}
-use Rattle.std.specs.List.{flat_map}
+use Rattle.std.proofs.Common.{◌≡◌, ℕ, zero, suc, ◌*◌, ◌/◌, ◌<◌, ◌↔◌, inl, inr, Bool, true, false, List, [], ◌∷◌, ◌++◌, length, take, drop, map, Result, Ok, Err, Some, slice_get, refl, sym, ap, subst, ◌∙◌, append_assoc, arith}
+use Rattle.std.specs.List.{flat_map, list_any}
 use Rattle.std.specs.Simd.{first_chunks}
-use Rattle.std.proofs.lemmas.Bool.{cases_Bool, eqb-false}
-use Rattle.std.proofs.lemmas.List.{set-get_or, take-append-drop, take_at, drop_at, drop-drop}
+use Rattle.std.proofs.lemmas.List.{take-append-drop, take_at, drop_at, drop-drop}
 use Rattle.std.proofs.lemmas.Option.{same_Some}
 use Rattle.dsa_descriptor.specs.declared.descriptor.Descriptor.{Descriptor}
 use Rattle.dsa_descriptor.specs.Lists.{list_spelling}
 use Rattle.dsa_descriptor.specs.Spelling.{spelling}
 use Rattle.dsa_descriptor.proofs.Entries.{length-list_spelling, length-spelling}
-use Rattle.dsa_emission.specs.Emission.{with_fence}
-use Rattle.dsa_emission.proofs.Spelt.{told_piece}
+use Rattle.dsa_descriptor.proofs.Seen.{cond_false, plain_entry, unfenced_spelling}
 use Rattle.dsa_descriptor.specs.Fields.{Fields}
 use Rattle.dsa_descriptor.specs.Descriptors.{fields}
-use Rattle.dsa_ranges.specs.Ranges.{ConflictAt}
 use Rattle.dsa_plan.specs.Barriers.{IsBarrier, WithBarriers}
-use Rattle.dsa_plan.specs.EmissionFaults.{is_fenced, unfenced}
-use Rattle.dsa_plan.specs.Settings.{Limits}
-use Rattle.dsa_settings.proofs.Barriers.{parted_by, by_conflict}
-use Rattle.dsa_splitter.specs.Pieces.{piece_barriers, piece_count}
 use Rattle.dsa_calls.specs.declared.fault.PlanFault.{PlanFault}
 use Rattle.dsa_calls.specs.Lists.{IsListOf, OverList}
-use Rattle.dsa_calls.specs.Planned.{Submission, Plans, PlansOperations}
-use Rattle.dsa_calls.specs.Fenced.{fences_of, unfenced_list, PlansWith, PlansFenced, NoBarriersPlanAlike, NoFencesPlanAlike}
-use Rattle.dsa_calls.proofs.SameChoice.{Within, submission_goes}
+use Rattle.dsa_calls.specs.Planned.{Plans, PlansOperations}
+use Rattle.dsa_descriptor.specs.Fences.{is_fenced, unfenced, fences_of, unfenced_list, after_first, barriers_of}
+use Rattle.dsa_calls.specs.Fenced.{PlansWith, PlansFenced, NoMarksPlanAlike, NoBarriersPlanAlike, NoFencesPlanAlike}
 use Rattle.dsa_calls.proofs.Submissions.{of_pieces, submission_of_operations}
 
 -- ---- marks that are not set
@@ -35,64 +28,27 @@ AreUnset marks = (k : ℕ) → IsBarrier marks k → ⊥
 abbrev AreUnsetLater : List Bool → Type 0
 AreUnsetLater marks = (k : ℕ) → 0 < k → IsBarrier marks k → ⊥
 
-later_marks : (marks : List Bool) → AreUnsetLater marks → AreUnset (drop 1 marks)
-later_marks [] none k is = cc
-later_marks (mark ∷ marks) none k is = none (suc k) (omega arith) is
+none_set : (marks : List Bool) → AreUnset marks → list_any (λ mark. mark) marks ≡ false
+none_set [] none = refl
+none_set (true ∷ marks) none = absurd (none 0 refl)
+none_set (false ∷ marks) none = none_set marks (λ k is. none (suc k) is)
 
-without_first : (marks : List Bool) → AreUnset marks → AreUnset (drop 1 marks)
-without_first [] none k is = cc
-without_first (mark ∷ marks) none k is = none (suc k) is
+none_after_first : (marks : List Bool) → AreUnsetLater marks → list_any (λ mark. mark) (after_first marks) ≡ false
+none_after_first [] none = refl
+none_after_first (mark ∷ marks) none = none_set marks (λ k is. none (suc k) (omega arith) is)
 
-unset_front : (n : ℕ) (marks : List Bool) → AreUnset marks → AreUnset (replicate n false ++ marks)
-unset_front zero marks none k is = none k is
-unset_front (suc n) marks none zero is = cc
-unset_front (suc n) marks none (suc k) is = unset_front n marks none k is
-
-first_mark : (marks : List Bool) → ◌≡◌ {A = Bool} (get_or marks 0 false) true → IsBarrier marks 0
-first_mark [] is = cc
-first_mark (mark ∷ marks) is = ap Some is
-
-unset_pieces : (g : ℕ) (fs : List Fields) (marks : List Bool) → AreUnset marks → AreUnset (piece_barriers g fs marks)
-unset_pieces g [] marks none k is = cc
-unset_pieces g (f ∷ fs) marks none zero is = none 0 (first_mark marks cc)
-unset_pieces g (f ∷ fs) marks none (suc k) is =
-    unset_front (piece_count f g - 1) (piece_barriers g fs (drop 1 marks)) (unset_pieces g fs (drop 1 marks) (without_first marks none)) k is
-
-unset_later_pieces : (g : ℕ) (fs : List Fields) (marks : List Bool) → AreUnsetLater marks → AreUnsetLater (piece_barriers g fs marks)
-unset_later_pieces g [] marks none k some is = cc
-unset_later_pieces g (f ∷ fs) marks none zero some is = absurd (omega (arith, some))
-unset_later_pieces g (f ∷ fs) marks none (suc k) some is =
-    unset_front (piece_count f g - 1) (piece_barriers g fs (drop 1 marks)) (unset_pieces g fs (drop 1 marks) (later_marks marks none)) k is
-
--- then what has a barrier between conflicts
-unparted : (C : ℕ → ℕ → Type 0) (marks : List Bool) → AreUnsetLater marks → Within (WithBarriers C marks) C
-unparted C marks none a b h =
-    elim (parted_by C marks a b h) [
-      | inl conflict ↦ conflict
-      | inr pair ↦ absurd (none b (omega (arith, pair.next)) pair.barrier)
-    ]
+-- then there are no barriers
+no_barriers : (bytes : List ℕ) → AreUnsetLater (fences_of bytes) → barriers_of bytes ≡ []
+no_barriers bytes none =
+    cond_false (list_any (λ mark. mark) (after_first (fences_of bytes))) (after_first (fences_of bytes)) (none_after_first (fences_of bytes) none)
 
 -- ---- planning
 
-module _ (marks : List Bool) (s : Limits) (none : AreUnsetLater marks) where
-  plans_alike : (fs : List Fields) (o : Result Submission PlanFault) → PlansWith marks s fs o → PlansOperations s fs o
-  plans_alike fs (Ok p) h =
-      let C = ConflictAt (map fields p.pieces) in
-      let of = piece_barriers s.greatest_transfer fs marks in
-      submission_of_operations s fs p h.split h.pieces_are
-      (submission_goes (WithBarriers C of) C (unparted C of (unset_later_pieces s.greatest_transfer fs marks none)) (by_conflict C of) s p h.of_pieces)
-  plans_alike fs (Err fault) h = h
-
-  plans_back : (fs : List Fields) (o : Result Submission PlanFault) → PlansOperations s fs o → PlansWith marks s fs o
-  plans_back fs (Ok p) h =
-      let C = ConflictAt (map fields p.pieces) in
-      let of = piece_barriers s.greatest_transfer fs marks in
-      record {
-        split = h.split;
-        pieces_are = h.pieces_are;
-        of_pieces = submission_goes C (WithBarriers C of) (by_conflict C of) (unparted C of (unset_later_pieces s.greatest_transfer fs marks none)) s p (of_pieces s fs p h);
-      }
-  plans_back fs (Err fault) h = h
+-- planning operations without barriers says what planning operations says
+pub no_marks_plan_alike : NoMarksPlanAlike
+unfolding WithBarriers
+no_marks_plan_alike s fs (Ok p) = (λ h. submission_of_operations s fs p h.split h.pieces_are h.of_pieces, λ h. record { split = h.split; pieces_are = h.pieces_are; of_pieces = of_pieces s fs p h })
+no_marks_plan_alike s fs (Err fault) = (λ h. h, λ h. h)
 
 over_goes : {X : Type 0} (Says Tells : List Fields → Result X PlanFault → Type 0) → ((fs : List Fields) (o : Result X PlanFault) → Says fs o → Tells fs o) → (bytes : List ℕ) (o : Result X PlanFault)
     → OverList Says bytes o → OverList Tells bytes o
@@ -100,25 +56,13 @@ over_goes Says Tells to bytes o (inl refused) = inl refused
 over_goes Says Tells to bytes o (inr (ds, list, says)) = inr (ds, list, to (map fields ds) o says)
 
 pub no_barriers_plan_alike : NoBarriersPlanAlike
-no_barriers_plan_alike bytes s outcome none = (
-  over_goes (PlansWith (fences_of bytes) s) (PlansOperations s) (plans_alike (fences_of bytes) s none) (unfenced_list bytes) outcome,
-  over_goes (PlansOperations s) (PlansWith (fences_of bytes) s) (plans_back (fences_of bytes) s none) (unfenced_list bytes) outcome,
-)
+no_barriers_plan_alike bytes s outcome none =
+    subst (λ (marks : List Bool). OverList (PlansWith marks s) (unfenced_list bytes) outcome ↔ Plans (unfenced_list bytes) s outcome) (sym (no_barriers bytes none)) (
+      over_goes (PlansWith [] s) (PlansOperations s) (λ fs o. (no_marks_plan_alike s fs o).0) (unfenced_list bytes) outcome,
+      over_goes (PlansOperations s) (PlansWith [] s) (λ fs o. (no_marks_plan_alike s fs o).1) (unfenced_list bytes) outcome,
+    )
 
 -- ---- bytes with no flag
-
-no_fence : (f : Fields) → with_fence false f ≡ f
-no_fence f = let same : f.flags + 0 ≡ f.flags = omega arith in λ i. record f { flags = same i }
-
-pub plain_entry : (entry : List ℕ) → (is_fenced entry ≡ true → ⊥) → unfenced entry ≡ entry
-plain_entry entry none =
-    elim (cases_Bool (is_fenced entry)) [
-      | inl set ↦ absurd (none set)
-      | inr clear ↦
-          let odd : get_or entry 4 0 % 2 ≢ 1 = eqb-false (get_or entry 4 0 % 2) 1 clear in
-          let same : get_or entry 4 0 - get_or entry 4 0 % 2 ≡ get_or entry 4 0 = omega (arith, odd) in
-          rw same (set-get_or entry 4 0)
-    ]
 
 plain_joined : (n : ℕ) (bytes : List ℕ) → AreUnset (map is_fenced (first_chunks 64 n bytes)) → flat_map unfenced (first_chunks 64 n bytes) ++ drop (64 * n) bytes ≡ bytes
 plain_joined zero bytes none = refl
@@ -141,11 +85,7 @@ spelled_unset : (ds : List Descriptor) → AreUnset (map is_fenced (first_chunks
 spelled_unset [] k is = cc
 spelled_unset (d ∷ ds) zero is =
     let front : take 64 (spelling (fields d) ++ list_spelling (map fields ds)) ≡ spelling (fields d) = take_at (spelling (fields d)) (list_spelling (map fields ds)) 64 (length-spelling d) in
-    let plain : is_fenced (spelling (with_fence false (fields d))) ≡ false = (told_piece (spelling (with_fence false (fields d))) false d refl).0 in
-    let same : with_fence false (fields d) ≡ fields d = no_fence (fields d) in
-    let told : is_fenced (spelling (fields d)) ≡ false = ap (λ (f : Fields). is_fenced (spelling f)) (sym same) ∙ plain in
-    let set : is_fenced (spelling (fields d)) ≡ true = ap is_fenced (sym front) ∙ same_Some _ true is in
-    absurd (cc (told, set))
+    unfenced_spelling d (ap is_fenced (sym front) ∙ same_Some _ true is)
 spelled_unset (d ∷ ds) (suc k) is =
     let back : drop 64 (spelling (fields d) ++ list_spelling (map fields ds)) ≡ list_spelling (map fields ds) = drop_at (spelling (fields d)) (list_spelling (map fields ds)) 64 (length-spelling d) in
     spelled_unset ds k (subst (λ (rest : List ℕ). slice_get (map is_fenced (first_chunks 64 (length ds) rest)) k ≡ Some true) back is)

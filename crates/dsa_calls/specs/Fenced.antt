@@ -1,12 +1,11 @@
 -- Lists in which a fence is a barrier, and what planning says of their bytes.
-use Rattle.std.specs.Prelude.{◌≡◌, ℕ, ◌*◌, ◌/◌, ◌<◌, ◌↔◌, Bool, List, ◌++◌, drop, length, map, flat_map, Result, Ok, Err}
+use Rattle.std.specs.Prelude.{◌≡◌, ℕ, ◌<◌, ◌↔◌, Bool, List, [], length, map, Result, Ok, Err}
 use Rattle.dsa_descriptor.specs.declared.descriptor.Descriptor.{Descriptor}
 use Rattle.dsa_descriptor.specs.Fields.{Fields}
 use Rattle.dsa_descriptor.specs.Descriptors.{fields}
-use Rattle.dsa_descriptor.specs.Lists.{entries}
+use Rattle.dsa_descriptor.specs.Fences.{barriers_of, fences_of, unfenced_list}
 use Rattle.dsa_ranges.specs.Ranges.{ConflictAt}
 use Rattle.dsa_plan.specs.Barriers.{IsBarrier, WithBarriers}
-use Rattle.dsa_plan.specs.EmissionFaults.{is_fenced, unfenced}
 use Rattle.dsa_plan.specs.Plan.{Plan}
 use Rattle.dsa_plan.specs.Settings.{Limits, tariff_of}
 use Rattle.dsa_plan.specs.Legal.{IsLeast}
@@ -18,15 +17,6 @@ use Rattle.dsa_calls.specs.Lists.{IsListOf, OverList}
 use Rattle.dsa_calls.specs.Judge.{JudgesPiecesBy}
 use Rattle.dsa_calls.specs.Planned.{Submission, IsSubmissionOfPiecesBy, Plans, PlansOperations}
 
--- whether each entry of 64 bytes has the flag 0x0001, fence (specification 341204); in a list the flag is a barrier before
--- the operation (this project's choice)
-abbrev pub fences_of : List ℕ → List Bool
-fences_of bytes = map is_fenced (entries bytes)
-
--- the bytes with that flag cleared in each entry, and what follows the last entry
-abbrev pub unfenced_list : List ℕ → List ℕ
-unfenced_list bytes = flat_map unfenced (entries bytes) ++ drop (64 * (length bytes / 64)) bytes
-
 -- the pieces of these operations conflict, or a barrier of the operations is between them
 abbrev pub PiecesConflict : Limits → List Fields → List Bool → List Fields → ℕ → ℕ → Type 0
 PiecesConflict s operations barriers pieces a b = WithBarriers (ConflictAt pieces) (piece_barriers s.greatest_transfer operations barriers) a b
@@ -37,7 +27,7 @@ pub record AreFencedPieces (bytes : List ℕ) (s : Limits) (pieces : List Descri
   pub listed : IsListOf (unfenced_list bytes) operations
   pub split : IsSplit s.greatest_transfer s.staging (map fields operations)
   pub pieces_are : map fields pieces ≡ all_pieces (map fields operations) s.greatest_transfer
-  pub barriers_are : barriers ≡ piece_barriers s.greatest_transfer (map fields operations) (fences_of bytes)
+  pub barriers_are : barriers ≡ piece_barriers s.greatest_transfer (map fields operations) (barriers_of bytes)
 
 -- The submission of these operations and their barriers: the pieces that they are split into, and the chosen plan of these
 -- with the barriers, its prices and pairs, the version of the settings, the plan's cost, and its emission.
@@ -54,24 +44,24 @@ PlansWith barriers s operations (Err fault) = PlansOperations s operations (Err 
 -- the outcome of planning these bytes: the first fault of the bytes without their fences as a list, or the outcome of
 -- planning the operations that those spell, with the fences as barriers
 abbrev pub PlansFenced : List ℕ → Limits → Result Submission PlanFault → Type 0
-PlansFenced bytes s outcome = OverList (λ operations o. PlansWith (fences_of bytes) s operations o) (unfenced_list bytes) outcome
+PlansFenced bytes s outcome = OverList (λ operations o. PlansWith (barriers_of bytes) s operations o) (unfenced_list bytes) outcome
 
 -- the plan is legal with the barriers of the list, no such plan of the pieces costs less, and the certificate checks
 pub record IsFencedLeast (bytes : List ℕ) (s : Limits) (p : Submission) : Type 0 where
   pub operations : List Descriptor
   pub listed : IsListOf (unfenced_list bytes) operations
   pub least :
-      IsLeast (PiecesConflict s (map fields operations) (fences_of bytes) (map fields p.pieces))
+      IsLeast (PiecesConflict s (map fields operations) (barriers_of bytes) (map fields p.pieces))
       s.greatest_batch (tariff_of s) (length p.pieces) p.plan
   pub good :
-      IsGood (PiecesConflict s (map fields operations) (fences_of bytes) (map fields p.pieces))
+      IsGood (PiecesConflict s (map fields operations) (barriers_of bytes) (map fields p.pieces))
       s.greatest_batch (tariff_of s) (length p.pieces) p.certificate.prices p.certificate.pairs p.cost
 
 -- the outcome of judging a plan for these bytes: the first fault of the bytes without their fences as a list, or the
 -- outcome of judging the pieces that those spell, with the fences as barriers
 abbrev pub JudgesFenced : List ℕ → Plan → Limits → Result ℕ PlanFault → Type 0
 JudgesFenced bytes plan s outcome =
-    OverList (λ pieces o. JudgesPiecesBy (WithBarriers (ConflictAt pieces) (fences_of bytes)) pieces plan s o) (unfenced_list bytes) outcome
+    OverList (λ pieces o. JudgesPiecesBy (WithBarriers (ConflictAt pieces) (barriers_of bytes)) pieces plan s o) (unfenced_list bytes) outcome
 
 -- planning with fences has at most one outcome for bytes and settings
 abbrev pub OneFencedPlan : Type 0
@@ -81,6 +71,10 @@ OneFencedPlan = (bytes : List ℕ) (s : Limits) (outcome other : Result Submissi
 -- if planning with fences answers, its plan is least
 abbrev pub FencedPlanIsLeast : Type 0
 FencedPlanIsLeast = (bytes : List ℕ) (s : Limits) (p : Submission) → PlansFenced bytes s (Ok p) → IsFencedLeast bytes s p
+
+-- planning operations without barriers says what planning operations says
+abbrev pub NoMarksPlanAlike : Type 0
+NoMarksPlanAlike = (s : Limits) (fs : List Fields) (outcome : Result Submission PlanFault) → PlansWith [] s fs outcome ↔ PlansOperations s fs outcome
 
 -- no descriptor after the first has the flag, so no barrier is between two
 abbrev pub HasNoBarriers : List ℕ → Type 0

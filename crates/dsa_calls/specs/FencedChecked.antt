@@ -14,10 +14,11 @@ use Rattle.dsa_splitter.specs.Pieces.{all_pieces}
 use Rattle.dsa_splitter.specs.Rules.{IsSplit}
 use Rattle.dsa_calls.specs.declared.fault.PlanFault.{PlanFault}
 use Rattle.dsa_calls.specs.declared.fault.PlanFault.TheVariants.{Emission}
-use Rattle.dsa_calls.specs.declared.fenced_checking.FencedFault.{FencedFault}
-use Rattle.dsa_calls.specs.declared.fenced_checking.FencedFault.TheVariants.{Call, OtherPiece}
+use Rattle.dsa_calls.specs.declared.checking.FencedFault.{FencedFault}
+use Rattle.dsa_calls.specs.declared.checking.FencedFault.TheVariants.{Call, OtherPiece}
 use Rattle.dsa_calls.specs.Checked.{ChecksPlanBy}
-use Rattle.dsa_calls.specs.Fenced.{fences_of, unfenced_list, PiecesConflict, PlansFenced}
+use Rattle.dsa_descriptor.specs.Fences.{barriers_of, unfenced_list}
+use Rattle.dsa_calls.specs.Fenced.{PiecesConflict, PlansFenced}
 use Rattle.dsa_calls.specs.Lists.{IsListOf}
 use Rattle.dsa_calls.specs.Planned.{Submission}
 
@@ -47,7 +48,7 @@ abbrev pub ChecksFenced : List ℕ → List ℕ → List ℕ → Limits → Cont
 ChecksFenced bytes portal staging s c outcome =
     ((fault : PlanFault) × PlansFenced bytes s (Err fault) × (outcome ≡ Err (Call fault)))
     ⊎ ((operations : List Descriptor) × IsListOf (unfenced_list bytes) operations × IsSplit s.greatest_transfer s.staging (map fields operations)
-    × ChecksPieces (PiecesConflict s (map fields operations) (fences_of bytes) (all_pieces (map fields operations) s.greatest_transfer))
+    × ChecksPieces (PiecesConflict s (map fields operations) (barriers_of bytes) (all_pieces (map fields operations) s.greatest_transfer))
     s (all_pieces (map fields operations) s.greatest_transfer) portal staging c outcome)
 
 -- the bytes submit a plan of this cost for the pieces of the list; it keeps each barrier, and no legal plan that does costs
@@ -60,7 +61,7 @@ pub record IsLeastEmission (bytes portal staging : List ℕ) (s : Limits) (cost 
   pub emission : IsEmission s portal staging plan pieces
   pub pieces_are : map fields pieces ≡ all_pieces (map fields operations) s.greatest_transfer
   pub least :
-      IsLeast (PiecesConflict s (map fields operations) (fences_of bytes) (map fields pieces))
+      IsLeast (PiecesConflict s (map fields operations) (barriers_of bytes) (map fields pieces))
       s.greatest_batch (tariff_of s) (length pieces) plan
   pub is_cost : cost ≡ plan_cost (tariff_of s) plan
 

@@ -1,6 +1,6 @@
 //! Checking the bytes that submit a plan.
 
-ghost use Rattle.std.specs.Prelude.{◌≤◌, length, map, ℕ, IsOk, List, Result};
+ghost use Rattle.std.specs.Prelude.{◌≡◌, ◌⊎◌, ◌≤◌, length, map, ℕ, Err, IfOk, IsOk, List, MatchOption, Result};
 ghost use Rattle.dsa_descriptor.specs.declared.descriptor.Descriptor.{Descriptor};
 ghost use Rattle.dsa_descriptor.specs.Descriptors.{fields};
 ghost use Rattle.dsa_descriptor.specs.Pieces.{most_pieces};
@@ -12,12 +12,18 @@ ghost use Rattle.dsa_plan.specs.Plan.{Plan};
 ghost use Rattle.dsa_plan.specs.Settings.{tariff_of};
 ghost use Rattle.dsa_plan.specs.Certificate.{contents};
 ghost use Rattle.dsa_calls.specs.declared.fault.PlanFault.{PlanFault};
+ghost use Rattle.dsa_calls.specs.declared.fault.PlanFault.TheVariants.{Memory};
+ghost use Rattle.dsa_calls.specs.declared.checking.FencedFault.{FencedFault};
+ghost use Rattle.dsa_calls.specs.declared.checking.FencedFault.TheVariants.{Call};
 ghost use Rattle.dsa_calls.specs.Lists.{OrMemory, IsOrMemory};
-ghost use Rattle.dsa_calls.specs.Checked.{Checks, ChecksPlan, ChecksPlanBy};
+ghost use Rattle.dsa_calls.specs.Checked.{Checks, ChecksPlanBy};
+ghost use Rattle.dsa_calls.specs.FencedChecked.{ChecksFenced, ChecksPieces, IsFirstOther, IsLeastEmission};
 
 use crate::fault::PlanFault;
+use crate::planning::fenced_pieces;
 use dsa_checker::check_with;
 use dsa_descriptor::Descriptor;
+use dsa_image::same_descriptor;
 use dsa_plan::{Certificate, Plan, Settings, read_emission};
 use std::alloc::Global;
 
@@ -47,34 +53,18 @@ pub fn check_bytes(
         settings.now.greatest_batch (tariff_of settings.now) (length ds) plan }
 {
     let (plan, pieces) = read_emission(alloc, portal, staging, settings)?;
-    check_plan(&pieces, settings, &plan, certificate)
+    check_plan(&pieces, &[], settings, &plan, certificate)
 }
 
-/// The cost of the plan of these pieces, if it is legal and the certificate proves that none costs less, as
-/// [`check_bytes`] checks the plan that bytes submit: for callers that have read them already. Reading them tests what
-/// is not tested here: that the pieces have one owner, fit the greatest transfer, and do not meet the staging area.
+/// The cost of the plan of these pieces and their barriers, if it is legal and keeps the barriers, and the certificate
+/// proves that no such plan costs less, as [`check_bytes`] checks the plan that bytes submit: for callers that have
+/// read them already. The mark of a piece says whether it begins after a barrier; without marks there are none. Reading
+/// them tests what is not tested here: that the pieces have one owner, fit the greatest transfer, and do not meet the
+/// staging area.
 ///
 /// # Errors
 /// The first fault of the plan or the certificate, as [`check_with`] reports it.
 pub fn check_plan(
-    pieces: &[Descriptor],
-    settings: &Settings,
-    plan: &Plan,
-    certificate: &Certificate,
-) -> Result<u64, PlanFault>
-    requires { length pieces.now ≤ most_pieces }
-    ensures { ChecksPlan settings.now
-        (map fields pieces.now) plan.now (contents certificate.now) result }
-{
-    check_plan_with(pieces, &[], settings, plan, certificate)
-}
-
-/// The cost of the plan of these pieces and their barriers, if it is legal and keeps the barriers, and the certificate
-/// proves that no such plan costs less. The mark of a piece says whether it begins after a barrier.
-///
-/// # Errors
-/// The first fault of the plan or the certificate, as [`check_with`] reports it.
-pub fn check_plan_with(
     pieces: &[Descriptor],
     barriers: &[bool],
     settings: &Settings,
@@ -89,4 +79,104 @@ pub fn check_plan_with(
         Ok(cost) => Ok(cost),
         Err(fault) => Err(PlanFault::Check(fault)),
     }
+}
+
+/// Why bytes are refused as an emission of least cost for a list in which a fence is a barrier.
+#[derive(Clone, Copy)]
+pub enum FencedFault {
+    /// What planning the list, reading the emission, or checking its plan refuses.
+    Call(PlanFault),
+    /// The submitted piece of this index is not the list's, or one of the two has no piece there.
+    OtherPiece(usize),
+}
+
+/// The index of the first piece that is not the same in both lists.
+fn first_other(submitted: &[Descriptor], listed: &[Descriptor]) -> Option<usize>
+    ensures { MatchOption result (map fields submitted.now ≡ map fields listed.now)
+        (IsFirstOther (map fields submitted.now) (map fields listed.now)) }
+{
+    let both = submitted.len().min(listed.len());
+    for index in 0..both {
+        if !same_descriptor(&submitted[index], &listed[index]) {
+            return Some(index);
+        }
+    }
+    if submitted.len() == listed.len() {
+        None
+    } else {
+        Some(both)
+    }
+}
+
+/// The cost of the plan that the bytes submit for these pieces and their barriers.
+fn check_pieces(
+    alloc: Global,
+    pieces: &[Descriptor],
+    barriers: &[bool],
+    portal: &[u8],
+    staging: &[u8],
+    settings: &Settings,
+    certificate: &Certificate,
+) -> Result<u64, FencedFault>
+    requires { length pieces.now ≤ most_pieces }
+    ensures { (result ≡ Err (Call Memory)) ⊎
+        ChecksPieces (WithBarriers (ConflictAt (map fields pieces.now)) barriers.now)
+        settings.now (map fields pieces.now) portal.now staging.now
+        (contents certificate.now) result }
+{
+    let (plan, submitted) = match read_emission(alloc, portal, staging, settings) {
+        Ok(read) => read,
+        Err(fault) => return Err(FencedFault::Call(PlanFault::from(fault))),
+    };
+    if let Some(index) = first_other(&submitted, pieces) {
+        return Err(FencedFault::OtherPiece(index));
+    }
+    match check_plan(pieces, barriers, settings, &plan, certificate) {
+        Ok(total) => Ok(total),
+        Err(fault) => Err(FencedFault::Call(fault)),
+    }
+}
+
+/// The cost of the plan that the bytes of a portal and a staging area submit for a list, as
+/// [`plan_fenced_list`](crate::plan_fenced_list) reads it: the plan is legal for the pieces of the list and keeps its
+/// barriers, and the certificate proves that no such plan costs less. The list says where barriers are: a submitted
+/// fence need not be one.
+///
+/// # Errors
+/// What planning the list refuses, as [`plan_fenced_list`](crate::plan_fenced_list) reports it; else the first fault of
+/// the bytes as an emission, as [`read_emission`] does; else [`FencedFault::OtherPiece`] with the least index; else the
+/// first fault of the plan or the certificate, as [`check_plan`] does; [`PlanFault::Memory`] if an allocation
+/// fails.
+pub fn check_fenced_list(
+    alloc: Global,
+    list: &[u8],
+    portal: &[u8],
+    staging: &[u8],
+    settings: &Settings,
+    certificate: &Certificate,
+) -> Result<u64, FencedFault>
+    ensures answer { (result ≡ Err (Call Memory)) ⊎
+        ChecksFenced list.now portal.now staging.now settings.now
+        (contents certificate.now) result }
+    // What it answers is the one outcome, but for an allocation failure.
+    ensures only { (outcome : Result ℕ FencedFault) →
+        ChecksFenced list.now portal.now staging.now settings.now
+        (contents certificate.now) outcome → (result ≡ Err (Call Memory)) ⊎ (result ≡ outcome) }
+    // The bytes submit the list's pieces, by a plan that keeps the barriers; no such plan costs less, whoever wrote the
+    // certificate.
+    ensures least { IfOk result (IsLeastEmission list.now portal.now staging.now settings.now) }
+{
+    let marked = match fenced_pieces(alloc, list, settings) {
+        Ok(marked) => marked,
+        Err(fault) => return Err(FencedFault::Call(fault)),
+    };
+    check_pieces(
+        alloc,
+        &marked.descriptors,
+        &marked.barriers,
+        portal,
+        staging,
+        settings,
+        certificate,
+    )
 }

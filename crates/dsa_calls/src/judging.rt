@@ -5,11 +5,12 @@ ghost use Rattle.dsa_calls.specs.declared.fault.PlanFault.{PlanFault};
 ghost use Rattle.dsa_descriptor.specs.Descriptors.{fields};
 ghost use Rattle.dsa_ranges.specs.Ranges.{ConflictAt};
 ghost use Rattle.dsa_plan.specs.Barriers.{WithBarriers};
-ghost use Rattle.dsa_calls.specs.Judge.{Judges, JudgesPieces, JudgesPiecesBy, FindsOver};
+ghost use Rattle.dsa_calls.specs.Fenced.{JudgesFenced};
+ghost use Rattle.dsa_calls.specs.Judge.{Judges, JudgesPiecesBy, FindsOver};
 ghost use Rattle.dsa_calls.specs.Lists.{OrMemory, IsOrMemory};
 
 use crate::fault::PlanFault;
-use dsa_descriptor::{Descriptor, MOST_PIECES, read_list};
+use dsa_descriptor::{Descriptor, MOST_PIECES, read_descriptor_list, read_list};
 use dsa_plan::{Plan, Settings, cost, is_legal_with};
 use dsa_splitter::SplitFault;
 use std::alloc::Global;
@@ -29,24 +30,37 @@ pub fn judge_bytes(
         Judges list.now plan.now settings.now outcome → IsOrMemory (λ cost. cost) outcome result }
 {
     let pieces = read_list(alloc, list)?;
-    judge_pieces(&pieces, plan, settings)
+    judge_pieces(&pieces, &[], plan, settings)
 }
 
-/// The cost of the plan for the pieces, or the first cause to refuse it, as [`judge_bytes`] judges those that bytes
-/// spell: for callers that have read a list already, and know that its pieces have one owner.
-pub fn judge_pieces(
-    pieces: &[Descriptor],
+/// The cost of the plan for the pieces that the bytes spell, as [`judge_bytes`] judges them. A
+/// piece with the flag 0x0001, fence, begins after a barrier, which the plan has to keep. A fence on the first piece
+/// says nothing.
+///
+/// # Errors
+/// The first fault of the bytes without their fences as a list; else the first cause to refuse the plan for the pieces
+/// and their barriers, as [`judge_pieces`] reports it; [`PlanFault::Memory`] if an allocation fails.
+pub fn judge_fenced_list(
+    alloc: Global,
+    list: &[u8],
     plan: &Plan,
     settings: &Settings,
 ) -> Result<u64, PlanFault>
-    ensures { JudgesPieces (map fields pieces.now) plan.now settings.now result }
+    ensures answer { OrMemory (λ cost. cost)
+        (JudgesFenced list.now plan.now settings.now) result }
+    // What it answers is the one outcome, but for an allocation failure.
+    ensures only { (outcome : Result ℕ PlanFault) →
+        JudgesFenced list.now plan.now settings.now outcome →
+        IsOrMemory (λ cost. cost) outcome result }
 {
-    judge_pieces_with(pieces, &[], plan, settings)
+    let read = read_descriptor_list(alloc, list)?;
+    judge_pieces(&read.descriptors, &read.barriers, plan, settings)
 }
 
-/// The cost of the plan for the pieces and their barriers, or the first cause to refuse it, as [`judge_pieces`] judges
-/// pieces without barriers. The mark of a piece says whether it begins after a barrier.
-pub fn judge_pieces_with(
+/// The cost of the plan for the pieces and their barriers, or the first cause to refuse it, as [`judge_bytes`] judges
+/// those that bytes spell: for callers that have read a list already, and know that its pieces have one owner. The mark
+/// of a piece says whether it begins after a barrier; without marks there are none.
+pub fn judge_pieces(
     pieces: &[Descriptor],
     barriers: &[bool],
     plan: &Plan,

@@ -1,7 +1,7 @@
 //! What the outcomes of the calls promise of each other. Each function is a law: its body is empty, and its clause is
 //! what the proof shows.
 
-ghost use Rattle.dsa_calls.specs.Fenced.{OneFencedPlan, FencedPlanIsLeast, NoBarriersPlanAlike, NoFencesPlanAlike};
+ghost use Rattle.dsa_calls.specs.Fenced.{OneFencedPlan, FencedPlanIsLeast, NoMarksPlanAlike, NoBarriersPlanAlike, NoFencesPlanAlike};
 ghost use Rattle.dsa_calls.specs.FencedChecked.{FencedPlanIsChecked, OneFencedCheck};
 ghost use Rattle.dsa_calls.specs.Laws.{OneJudged, OnePlanned, OneChecked, OneReplayed, OneRun, PlannedIsLeastAndShown, PlannedRunsLeaveWhole, ReplaysFollowPlans, RunsFollowPlans};
 
@@ -26,9 +26,11 @@ pub fn fenced_plan_is_least()
     ensures { FencedPlanIsLeast }
 {}
 
-/// A list in which no operation but the first has the fence flag is planned as without that flag, and a list in which
-/// none has it is planned as by [`plan_list`](crate::plan_list).
+/// Operations without barriers are planned as those of [`plan_list`](crate::plan_list). A list in which no operation
+/// but the first has the fence flag is planned as without that flag, and a list in which none has it is planned as by
+/// [`plan_list`](crate::plan_list).
 pub fn plans_without_barriers()
+    ensures operations { NoMarksPlanAlike }
     ensures first { NoBarriersPlanAlike }
     ensures none { NoFencesPlanAlike }
 {}

@@ -17,7 +17,7 @@ ghost use Rattle.dsa_calls.specs.Runs.{BeginsWith, CanBegin, IsReady, Left, Leav
 use crate::fault::PlanFault;
 use crate::planning::pieces_of;
 use dsa_core::{CoreFault, Event, Outcome, events_within, replay};
-use dsa_descriptor::Descriptor;
+use dsa_descriptor::{Descriptor, DescriptorList};
 use dsa_image::{Image, ImageFault};
 use dsa_plan::{Plan, Settings};
 use dsa_search::{Found, search};
@@ -89,7 +89,10 @@ pub(crate) fn prepare(
 {
     // Its clause says that the settings are within their limits.
     let _greatest = settings.greatest_batch();
-    let pieces = pieces_of(alloc, list, settings)?;
+    let DescriptorList {
+        descriptors: pieces,
+        barriers: _,
+    } = pieces_of(alloc, list, settings)?;
     let engines = begin(image, &pieces, engines)?;
     let plan = chosen_plan(alloc, &pieces, settings)?;
     Ok(Ready {

@@ -16,7 +16,8 @@ use Rattle.dsa_emission.specs.declared.emission_fault.EmissionFault.{EmissionFau
 use Rattle.dsa_emission.specs.declared.emission_fault.EmissionFault.TheVariants.{PortalLength, StagingLength, BatchFields, EntryFence, Entry, RecordBytes, Memory}
 use Rattle.dsa_settings.specs.Plan.{Plan}
 use Rattle.dsa_settings.specs.Settings.{Limits}
-use Rattle.dsa_emission.specs.EmissionFaults.{entry_size, place_before, piece_bytes, demands_of, is_fenced, unfenced, Spells, IsOwned, IsFirstEntryFault, IsSoundPiece, IsFirstPieceFault, IsFirstGroupFault, IsFirstPortalFault, IsEmission, IsFirstEmissionFault}
+use Rattle.dsa_emission.specs.EmissionFaults.{entry_size, place_before, piece_bytes, demands_of, Spells, IsOwned, IsFirstEntryFault, IsSoundPiece, IsFirstPieceFault, IsFirstGroupFault, IsFirstPortalFault, IsEmission, IsFirstEmissionFault}
+use Rattle.dsa_descriptor.specs.Fences.{is_fenced, unfenced}
 use Rattle.dsa_emission.proofs.NoFault.{no_entry_fault, no_portal_fault, memory_alone, emission_is_sound}
 
 -- ---- one piece

@@ -11,7 +11,8 @@ use Rattle.dsa_descriptor.specs.Fields.{Fields}
 use Rattle.dsa_emission.specs.declared.demands.Demands.{Demands}
 use Rattle.dsa_emission.specs.declared.place.Place.{Place}
 use Rattle.dsa_settings.specs.Plan.{Group, Plan}
-use Rattle.dsa_emission.specs.EmissionFaults.{entry_size, place_before, piece_bytes, is_fenced, Spells, IsFit, IsSoundPiece, IsSoundGroup, IsGroupRead, IsRead}
+use Rattle.dsa_emission.specs.EmissionFaults.{entry_size, place_before, piece_bytes, Spells, IsFit, IsSoundPiece, IsSoundGroup, IsGroupRead, IsRead}
+use Rattle.dsa_descriptor.specs.Fences.{is_fenced}
 use Rattle.dsa_emission.proofs.Shapes.{place_before-next, start_before}
 use Rattle.dsa_emission.proofs.Told.{some_at}
 

@@ -11,7 +11,8 @@ use Rattle.dsa_descriptor.specs.Profile.{IsListed}
 use Rattle.dsa_descriptor.specs.Spelling.{owner_word, spelling}
 use Rattle.dsa_descriptor.proofs.Entries.{length-spelling}
 use Rattle.dsa_emission.specs.Emission.{with_fence}
-use Rattle.dsa_emission.specs.EmissionFaults.{owner_at, is_fenced, unfenced, Spells}
+use Rattle.dsa_emission.specs.EmissionFaults.{owner_at, Spells}
+use Rattle.dsa_descriptor.specs.Fences.{is_fenced, unfenced}
 use Rattle.dsa_emission.proofs.Emitted.{or_one, fenced_spelling_set}
 use Rattle.dsa_emission.proofs.Told.{fence_told, unfenced_again, unfenced_same}
 

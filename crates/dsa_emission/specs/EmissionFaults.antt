@@ -3,6 +3,7 @@ use Rattle.std.specs.Prelude.{ℕ, ◌≡◌, ◌≢◌, ◌+◌, ◌-◌, ◌*�
 use Rattle.dsa_descriptor.specs.declared.descriptor.Descriptor.{Descriptor}
 use Rattle.dsa_descriptor.specs.Descriptors.{fields}
 use Rattle.dsa_descriptor.specs.Faults.{AreZero, IsFirstFault}
+use Rattle.dsa_descriptor.specs.Fences.{is_fenced, unfenced}
 use Rattle.dsa_descriptor.specs.Fields.{Fields}
 use Rattle.dsa_descriptor.specs.Lists.{entries}
 use Rattle.dsa_descriptor.specs.Places.{u32_at, pasid_at, privileged_at}
@@ -79,14 +80,6 @@ demands_of s es staged =
     }
 
 -- ---- one piece
-
--- the flag 0x0001 is set (specification 341204, fence)
-abbrev pub is_fenced : List ℕ → Bool
-is_fenced bytes = slice_index bytes 4 % 2 == 1
-
--- the bytes with that flag cleared
-abbrev pub unfenced : List ℕ → List ℕ
-unfenced bytes = slice_set bytes 4 (slice_index bytes 4 - slice_index bytes 4 % 2)
 
 -- without the fence, the bytes are the descriptor's
 abbrev pub Spells : List ℕ → Descriptor → Type 0

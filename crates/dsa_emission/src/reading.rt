@@ -8,7 +8,7 @@ ghost use Rattle.dsa_descriptor.specs.Pieces.{most_pieces};
 ghost use Rattle.dsa_ranges.specs.Ranges.{Touches};
 ghost use Rattle.dsa_emission.specs.declared.emission_fault.EmissionFault.{EmissionFault};
 ghost use Rattle.dsa_emission.specs.declared.emission_fault.EmissionFault.TheVariants.{Memory};
-ghost use Rattle.dsa_emission.specs.EmissionFaults.{is_batch_entry, entry_size, bytes_at, is_fenced, unfenced, Spells, IsOwned, IsFit, IsFirstEntryFault, IsFirstGroupFault, IsFirstPortalFault, IsGroupRead, IsRead, place_at_end, IsEmission, IsFirstEmissionFault};
+ghost use Rattle.dsa_emission.specs.EmissionFaults.{is_batch_entry, entry_size, bytes_at, Spells, IsOwned, IsFit, IsFirstEntryFault, IsFirstGroupFault, IsFirstPortalFault, IsGroupRead, IsRead, place_at_end, IsEmission, IsFirstEmissionFault};
 
 use crate::demands::Demands;
 use crate::emission_fault::{EmissionFault, EntryFault};
@@ -16,26 +16,10 @@ use crate::place::Place;
 use crate::portal::{
     after_entry, end_of_portal, entry_size, first_owner, is_batch_entry, wrong_batch, wrong_record,
 };
-use dsa_descriptor::{Descriptor, Span};
+use dsa_descriptor::{Descriptor, Span, is_fenced, unfenced};
 use dsa_ranges::{meets_some, touched};
 use dsa_settings::{Group, Plan, STAGED_LEN, Settings};
 use std::alloc::Global;
-
-/// Whether the entry has the flag 0x0001, fence.
-pub fn is_fenced(bytes: &[u8; 64]) -> bool
-    ensures { result ≡ is_fenced bytes.now }
-{
-    bytes[4] % 2 == 1
-}
-
-/// The entry without that flag.
-pub fn unfenced(bytes: &[u8; 64]) -> [u8; 64]
-    ensures { result ≡ unfenced bytes.now }
-{
-    let mut plain = *bytes;
-    plain[4] -= bytes[4] % 2;
-    plain
-}
 
 /// Whether the descriptor has the PASID and the privilege of these bytes.
 #[tactic(auto, unfolding(dsa_descriptor::specs::Places::u32_at))]

@@ -1,9 +1,9 @@
 -- The barriers of a text, and lists with barriers.
-use Rattle.std.proofs.Common.{◌≡◌, ℕ, zero, suc, ◌+◌, ◌<◌, Bool, true, false, Some, List, [], ◌∷◌, ◌++◌, length, take, drop, get_or, map, refl, sym, ap, ◌∙◌, append_assoc, length-append, arith}
+use Rattle.std.proofs.Common.{◌≡◌, ◌≢◌, ℕ, zero, suc, ◌+◌, ◌<◌, Bool, true, false, Some, List, [], ◌∷◌, ◌++◌, length, take, drop, get_or, map, refl, sym, ap, ◌∙◌, append_assoc, length-append, arith}
 use Rattle.std.specs.Prelude.{codes, slice_get, if◌then◌else◌}
 use Rattle.std.specs.List.{AllByRecursion}
 use Rattle.std.specs.Str.{bytes_eq}
-use Rattle.std.proofs.lemmas.List.{append-nil}
+use Rattle.std.proofs.lemmas.List.{append-nil, length-map}
 use Rattle.std.proofs.lemmas.Option.{same_Some}
 use Rattle.dsa_descriptor.specs.declared.descriptor.Descriptor.{Descriptor}
 use Rattle.dsa_descriptor.specs.Descriptors.{fields}
@@ -11,6 +11,7 @@ use Rattle.dsa_descriptor.specs.Fields.{Fields}
 use Rattle.dsa_descriptor.specs.Lists.{list_spelling, HaveOneOwner}
 use Rattle.dsa_descriptor.specs.Profile.{IsListed}
 use Rattle.dsa_descriptor.specs.Spelling.{spelling}
+use Rattle.dsa_descriptor.proofs.Seen.{barriers_count}
 use Rattle.dsa_emission.specs.Emission.{with_fence}
 use Rattle.dsa_emission.proofs.Told.{length-fenced_one, one_fenced}
 use Rattle.dsa_lines.specs.declared.barriers.LineKind.{LineKind}
@@ -162,6 +163,14 @@ lines_count keep pending (line ∷ lines) fs e =
 
 pub one_mark_each : OneMarkEach
 one_mark_each keep text fs e = lines_count keep false (lines_of text) fs e
+
+-- the barriers of a text are none, or there is a mark for each operation
+pub marks_count : (keep : Bool) (text : List ℕ) (ds : List Descriptor) (barriers : List Bool) → IsListing (lines_of text) (list_spelling (map fields ds)) → barriers ≡ barriers_of keep (lines_of text)
+    → barriers ≢ [] → length barriers ≡ length ds
+marks_count keep text ds barriers listing is =
+    let same : map fields listing.operations ≡ map fields ds = spelled_list (lines_of text) (map fields listing.operations) ds listing.spelled (sym listing.bytes_are) in
+    let count : length (marks_from keep false (lines_of text)) ≡ length ds = one_mark_each keep text (map fields listing.operations) listing.spelled ∙ ap length same ∙ length-map ds fields in
+    barriers_count barriers (marks_from keep false (lines_of text)) (length ds) is count
 
 -- ---- the canonical text of a list with barriers
 

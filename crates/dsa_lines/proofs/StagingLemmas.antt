@@ -16,7 +16,7 @@ use Rattle.dsa_descriptor.specs.Spelling.{spelling}
 use Rattle.dsa_descriptor.proofs.Rules.{first_is_one}
 use Rattle.dsa_descriptor.proofs.Same.{fault_only}
 use Rattle.dsa_emission.specs.Emission.{with_fence}
-use Rattle.dsa_emission.specs.EmissionFaults.{unfenced}
+use Rattle.dsa_descriptor.specs.Fences.{unfenced}
 use Rattle.dsa_emission.proofs.Emitted.{fenced_spelling_set}
 use Rattle.dsa_emission.proofs.Spelt.{told_piece}
 use Rattle.dsa_emission.proofs.Told.{length-fenced_one, one_fenced, unfenced_same}

@@ -2,10 +2,11 @@
 -- in its line. In bytes the operation after a barrier has the flag 0x0001, fence (specification 341204). That lists have
 -- barriers is this project's choice.
 use Rattle.std.specs.Prelude.{◌≡◌, ℕ, ◌||◌, Bool, true, false, List, [], ◌∷◌, ◌++◌, drop, length, map, slice_index_or, codes, Some, Result, Ok, Err, if◌then◌else◌}
-use Rattle.std.specs.List.{AllByRecursion, list_any}
+use Rattle.std.specs.List.{AllByRecursion}
 use Rattle.std.specs.Str.{bytes_eq}
 use Rattle.dsa_descriptor.specs.declared.descriptor.Descriptor.{Descriptor}
 use Rattle.dsa_descriptor.specs.Descriptors.{fields}
+use Rattle.dsa_descriptor.specs.Fences.{after_first, set_marks}
 use Rattle.dsa_descriptor.specs.Fields.{Fields}
 use Rattle.dsa_descriptor.specs.Lists.{HaveOneOwner}
 use Rattle.dsa_descriptor.specs.Profile.{IsListed}
@@ -45,15 +46,6 @@ unfoldable pub marks_from : Bool → Bool → List (List ℕ) → List Bool
 marks_from keep pending [] = []
 marks_from keep pending (line ∷ lines) =
     line_marks keep pending (line_kind (words_of line)) ++ marks_from keep (pending_after pending (line_kind (words_of line))) lines
-
--- a barrier before the first operation says nothing
-abbrev pub after_first : List Bool → List Bool
-after_first [] = []
-after_first (mark ∷ marks) = false ∷ marks
-
--- the marks, if one of them is set; else none
-abbrev pub set_marks : List Bool → List Bool
-set_marks marks = if list_any (λ mark. mark) marks then marks else []
 
 -- the barriers of lines: a mark for each operation, if there is a barrier
 abbrev pub barriers_of : Bool → List (List ℕ) → List Bool

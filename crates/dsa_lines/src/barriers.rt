@@ -1,13 +1,13 @@
 //! The barriers of a list, from its text.
 
 ghost use Rattle.std.specs.Prelude.{◌≡◌, ◌++◌, false, IfOk, OnOk};
-ghost use Rattle.std.specs.List.{list_any};
 ghost use Rattle.dsa_lines.specs.Words.{words_of};
 ghost use Rattle.dsa_lines.specs.Texts.{lines_of};
-ghost use Rattle.dsa_lines.specs.Barriers.{after_first, barriers_of, line_kind, line_marks, marks_from, pending_after};
+ghost use Rattle.dsa_lines.specs.Barriers.{barriers_of, line_kind, line_marks, marks_from, pending_after};
 
 use crate::lines::line_len;
 use crate::words::next_word;
+use dsa_descriptor::kept_marks;
 use std::alloc::{AllocError, Global};
 
 /// What a line of a list has.
@@ -92,33 +92,12 @@ fn marks_of(alloc: Global, text: &[u8], keep_fences: bool) -> Result<Vec<bool>, 
     }
 }
 
-/// Whether a mark is set.
-fn is_some_set(marks: &[bool]) -> bool
-    ensures { result ≡ list_any (λ mark. mark) marks.now }
-{
-    marks.iter().any(|mark| *mark)
-}
-
-/// Clears the mark of the first operation.
-fn clear_first(marks: &mut Vec<bool>)
-    ensures { marks.new.items ≡ after_first marks.old.items }
-{
-    if !marks.is_empty() {
-        marks[0] = false;
-    }
-}
-
 /// For each operation of a text whether a barrier is before it: a line `barrier` after the
 /// operation before it, or, if fences are kept, `fence` in its own line. One before the first
 /// operation says nothing. There are no marks if there is no barrier.
 pub fn text_barriers(alloc: Global, text: &[u8], keep_fences: bool) -> Result<Vec<bool>, AllocError>
     ensures { IfOk result (λ marks. marks.items ≡ barriers_of keep_fences (lines_of text.now)) }
 {
-    let mut marks = marks_of(alloc, text, keep_fences)?;
-    clear_first(&mut marks);
-    if is_some_set(&marks) {
-        Ok(marks)
-    } else {
-        Ok(Vec::new(alloc))
-    }
+    let marks = marks_of(alloc, text, keep_fences)?;
+    Ok(kept_marks(alloc, marks))
 }

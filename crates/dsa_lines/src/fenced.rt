@@ -2,16 +2,18 @@
 
 ghost use Rattle.std.specs.Prelude.{◌≡◌, ◌++◌, false, slice_index_or, map, string_bytes, IfOk, OnOk};
 ghost use Rattle.dsa_descriptor.specs.Descriptors.{fields};
+ghost use Rattle.dsa_descriptor.specs.Lists.{list_spelling};
 ghost use Rattle.dsa_descriptor.specs.Spelling.{spelling};
 ghost use Rattle.dsa_emission.specs.Emission.{with_fence};
 ghost use Rattle.dsa_lines.specs.Texts.{lines_of, text_line};
-ghost use Rattle.dsa_lines.specs.Barriers.{AssemblesMarked, MarkedTextSpells, OneMarkEach, OneMarkedSpelling, barrier_line, marked_spelling, marked_text};
+ghost use Rattle.dsa_lines.specs.Assembled.{Assembles};
+ghost use Rattle.dsa_lines.specs.Barriers.{AssemblesMarked, MarkedTextSpells, OneMarkEach, OneMarkedSpelling, barrier_line, barriers_of, marked_spelling, marked_text};
 
 use crate::assembling::parse_operations;
 use crate::barriers::text_barriers;
 use crate::disassembling::push_line;
 use crate::fault::TextFault;
-use dsa_descriptor::Descriptor;
+use dsa_descriptor::{Descriptor, DescriptorList};
 use std::alloc::{AllocError, Global};
 
 /// The mark of an operation; an operation without a mark has no barrier.
@@ -49,6 +51,31 @@ fn marked_bytes(
     Ok(bytes)
 }
 
+/// The operations that a text spells, as [`parse_operations`] returns them, and their barriers, as [`text_barriers`]
+/// does.
+///
+/// # Errors
+/// Those of [`parse_operations`].
+pub fn parse_list(
+    alloc: Global,
+    text: &[u8],
+    keep_fences: bool,
+) -> Result<DescriptorList, TextFault>
+    ensures answer { Assembles (λ list. list_spelling (map fields list.descriptors.items))
+        (lines_of text.now) result }
+    ensures barriers { IfOk result
+        (λ list. list.barriers.items ≡ barriers_of keep_fences (lines_of text.now)) }
+{
+    let descriptors = parse_operations(alloc, text)?;
+    let Ok(barriers) = text_barriers(alloc, text, keep_fences) else {
+        return Err(TextFault::Memory);
+    };
+    Ok(DescriptorList {
+        descriptors,
+        barriers,
+    })
+}
+
 /// The bytes of the list that a text spells, as [`assemble`](crate::assemble) returns them, but
 /// each operation after a barrier has the flag 0x0001, fence. `fence` before an operation is
 /// a barrier if fences are kept; else it is passed over.
@@ -58,11 +85,8 @@ fn marked_bytes(
 pub fn assemble_fenced(alloc: Global, text: &[u8], keep_fences: bool) -> Result<Vec<u8>, TextFault>
     ensures { AssemblesMarked (λ bytes. bytes.items) keep_fences (lines_of text.now) result }
 {
-    let operations = parse_operations(alloc, text)?;
-    let Ok(marks) = text_barriers(alloc, text, keep_fences) else {
-        return Err(TextFault::Memory);
-    };
-    match marked_bytes(alloc, &operations, &marks) {
+    let list = parse_list(alloc, text, keep_fences)?;
+    match marked_bytes(alloc, &list.descriptors, &list.barriers) {
         Ok(bytes) => Ok(bytes),
         Err(_) => Err(TextFault::Memory),
     }

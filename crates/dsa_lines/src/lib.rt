@@ -30,7 +30,8 @@ pub use disassembling::disassemble;
 pub use emitted_laws::emissions_have_texts;
 pub use fault::{EmittedFault, Expected, LineFault, TextFault};
 pub use fenced::{
-    assemble_fenced, marked_text_spells, one_mark_each, one_marked_spelling, text_with_barriers,
+    assemble_fenced, marked_text_spells, one_mark_each, one_marked_spelling, parse_list,
+    text_with_barriers,
 };
 pub use laws::{
     canonical_line_spells, canonical_text_spells, one_line_no_newline, one_line_one_descriptor,

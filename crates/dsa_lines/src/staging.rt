@@ -2,7 +2,6 @@
 
 ghost use Rattle.std.specs.Prelude.{◌≡◌, ◌≢◌, ℕ, ◌*◌, ◌%◌, ◌^◌, ◌≤◌, ◌⊎◌, ◌↔◌, ◌++◌, ◌∷◌, [], List, drop, length, IfOk, IfErr, IsTrue, MatchResult, OnOk, string_bytes};
 ghost use Rattle.dsa_descriptor.specs.Faults.{AreZero};
-ghost use Rattle.dsa_emission.specs.EmissionFaults.{is_fenced, unfenced};
 ghost use Rattle.dsa_lines.specs.declared.fault.EmittedFault.{EmittedFault};
 ghost use Rattle.dsa_lines.specs.declared.fault.EmittedFault.TheVariants.{Memory};
 ghost use Rattle.dsa_lines.specs.Stagings.{StagedEntry, AreEntries, BeginsRecord, IsFirstStagingFault, IsStaging, Shows, entry_text, entries_text, piece_text, staging_text};
@@ -11,7 +10,7 @@ use crate::fault::EmittedFault;
 use crate::portal::{other_text, push_line};
 use crate::staged_record::push_records;
 use crate::writing::line_of;
-use dsa_descriptor::Descriptor;
+use dsa_descriptor::{Descriptor, is_fenced, unfenced};
 use dsa_emission::EmissionFault;
 use std::alloc::{AllocError, Global};
 
@@ -27,22 +26,6 @@ fn begins_record(entry: &[u8; 64]) -> bool
     ensures { IsTrue result ↔ BeginsRecord entry.now }
 {
     entry[7] == 0 && (entry[0] != 0 || are_zero(&entry[8..32]))
-}
-
-/// Whether the entry has the fence.
-fn is_fenced(entry: &[u8; 64]) -> bool
-    ensures { result ≡ is_fenced entry.now }
-{
-    entry[4] % 2 == 1
-}
-
-/// The entry without the fence.
-fn unfenced(entry: &[u8; 64]) -> [u8; 64]
-    ensures { result ≡ unfenced entry.now }
-{
-    let mut plain = *entry;
-    plain[4] -= entry[4] % 2;
-    plain
 }
 
 /// The line of a piece.

@@ -1,5 +1,5 @@
 -- What is filled of a prepared list with barriers is what planning the list on the new buffers answers.
-use Rattle.std.proofs.Common.{◌≡◌, ℕ, ◌-◌, ◌<◌, inl, inr, Bool, false, List, [], ◌∷◌, ◌++◌, drop, get_or, length, map, replicate, refl, sym, ap, subst, ◌∙◌, arith}
+use Rattle.std.proofs.Common.{◌≡◌, ℕ, ◌-◌, ◌<◌, inl, inr, Bool, false, List, [], ◌∷◌, ◌++◌, length, map, replicate, refl, sym, ap, subst, ◌∙◌, arith}
 use Rattle.std.specs.Prelude.{Ok}
 use Rattle.std.proofs.lemmas.List.{length-map}
 use Rattle.dsa_descriptor.specs.declared.descriptor.Descriptor.{Descriptor}
@@ -13,7 +13,8 @@ use Rattle.dsa_plan.specs.Settings.{Limits, tariff_of}
 use Rattle.dsa_settings.proofs.Barriers.{parted_by, by_conflict, by_barrier}
 use Rattle.dsa_splitter.specs.Pieces.{piece_barriers, piece_count}
 use Rattle.dsa_search.specs.Chosen.{IsChosen}
-use Rattle.dsa_calls.specs.Fenced.{fences_of, IsSubmissionWith, PlansFenced}
+use Rattle.dsa_descriptor.specs.Fences.{after_first, barriers_of, set_marks}
+use Rattle.dsa_calls.specs.Fenced.{IsSubmissionWith, PlansFenced}
 use Rattle.dsa_calls.specs.Planned.{Submission}
 use Rattle.dsa_calls.proofs.SameChoice.{Within, chosen_goes}
 use Rattle.dsa_prepared.specs.Relocated.{relocated_fields}
@@ -32,9 +33,10 @@ use Rattle.dsa_prepared.proofs.Submissions.{split_moves}
 -- ---- barriers at the new addresses
 
 marks_stay : (to : ℕ → ℕ) (g : ℕ) (fs : List Fields) (marks : List Bool) → piece_barriers g (map (relocated_fields to) fs) marks ≡ piece_barriers g fs marks
-marks_stay to g [] marks = refl
-marks_stay to g (f ∷ fs) marks =
-    ap (λ (ms : List Bool). (get_or marks 0 false ∷ replicate (piece_count f g - 1) false) ++ ms) (marks_stay to g fs (drop 1 marks))
+marks_stay to g fs [] = refl
+marks_stay to g [] (mark ∷ marks) = refl
+marks_stay to g (f ∷ fs) (mark ∷ marks) =
+    ap (λ (ms : List Bool). (mark ∷ replicate (piece_count f g - 1) false) ++ ms) (marks_stay to g fs marks)
 
 with_within : (C D : ℕ → ℕ → Type 0) (marks : List Bool) → Within C D → Within (WithBarriers C marks) (WithBarriers D marks)
 with_within C D marks to a b h =
@@ -93,15 +95,15 @@ of_template list s rs ds t bases staging h count can =
     let to : Fields → Fields = relocated_fields (relocated (relocation rs bases)) in
     let m = moves rs bases staging s ds p.pieces p.plan least (record { split = h.planned.split; pieces_are = h.planned.pieces_are }) h.regions h.lie count can in
     let q : Submission = with_pieces (staged_at staging s) m.moved p in
-    let sub = submission_relocates (relocation rs bases) staging s (map fields ds) (fences_of list) p m.moved (omega (arith, least)) m.may h.planned m.moved_are in
-    let named = subst (λ (fs : List Fields). IsSubmissionWith (fences_of list) (staged_at staging s) fs q) (sym m.operations_are) sub in
+    let sub = submission_relocates (relocation rs bases) staging s (map fields ds) (barriers_of list) p m.moved (omega (arith, least)) m.may h.planned m.moved_are in
+    let named = subst (λ (fs : List Fields). IsSubmissionWith (barriers_of list) (staged_at staging s) fs q) (sym m.operations_are) sub in
     let owner : HaveOneOwner (map fields m.operations) =
     subst (λ (fs : List Fields). HaveOneOwner fs) (sym m.operations_are) (one_owner (relocated (relocation rs bases)) (map fields ds) h.listed.owner) in (
       q,
       (λ bytes b. inr (
         m.operations,
         record { spelled = b.operations ∙ ap list_spelling (sym m.operations_are); owner = owner },
-        subst (λ (marks : List Bool). IsSubmissionWith marks (staged_at staging s) (map fields m.operations) q) (sym b.fences) named,
+        subst (λ (marks : List Bool). IsSubmissionWith marks (staged_at staging s) (map fields m.operations) q) (sym (ap (λ (marks : List Bool). set_marks (after_first marks)) b.fences)) named,
       )),
       m.portal_is,
       m.staging_is,

@@ -16,7 +16,8 @@ use Rattle.dsa_splitter.proofs.Walks.{length_all}
 use Rattle.dsa_search.proofs.Choosing.{chosen_is_least}
 use Rattle.dsa_calls.specs.declared.fault.PlanFault.{PlanFault}
 use Rattle.dsa_calls.specs.declared.fault.PlanFault.TheVariants.{Memory}
-use Rattle.dsa_calls.specs.Fenced.{fences_of, unfenced_list, IsSubmissionWith, PlansFenced}
+use Rattle.dsa_descriptor.specs.Fences.{barriers_of, unfenced_list}
+use Rattle.dsa_calls.specs.Fenced.{IsSubmissionWith, PlansFenced}
 use Rattle.dsa_calls.specs.Lists.{IsListOf}
 use Rattle.dsa_calls.specs.Planned.{Submission, IsSubmissionOf, IsSubmissionOfPiecesBy, Plans}
 use Rattle.dsa_calls.proofs.FencedPlans.{one_fenced_plan}
@@ -192,7 +193,7 @@ costed_of list s rs ds p t cost listed planned h = (
   h.0,
 )
 
-pub fenced_costed_of : (list : List ℕ) (s : Limits) (rs : List Span) (ds : List Descriptor) (marks : List Bool) (p : Submission) (t : Template) (cost : ℕ) → IsListOf (unfenced_list list) ds → marks ≡ fences_of list →
+pub fenced_costed_of : (list : List ℕ) (s : Limits) (rs : List Span) (ds : List Descriptor) (marks : List Bool) (p : Submission) (t : Template) (cost : ℕ) → IsListOf (unfenced_list list) ds → marks ≡ barriers_of list →
     IsSubmissionWith marks s (map fields ds) p → (cost ≡ p.cost) × IsKept s rs ds p t → IsFencedCostedOf list s rs ds t cost
 fenced_costed_of list s rs ds marks p t cost listed is planned h = (
   record {

@@ -7,7 +7,8 @@ use Rattle.dsa_descriptor.specs.Descriptors.{fields}
 use Rattle.dsa_plan.specs.Plan.{Plan}
 use Rattle.dsa_plan.specs.Settings.{Limits}
 use Rattle.dsa_plan.specs.Emission.{portal_bytes, staging_bytes}
-use Rattle.dsa_calls.specs.Fenced.{fences_of, unfenced_list, PlansFenced}
+use Rattle.dsa_descriptor.specs.Fences.{fences_of, unfenced_list}
+use Rattle.dsa_calls.specs.Fenced.{PlansFenced}
 use Rattle.dsa_calls.specs.Planned.{Submission, Plans}
 use Rattle.dsa_prepared.specs.Relocated.{relocated_fields}
 use Rattle.dsa_prepared.specs.Regions.{relocated, AllLieInOne}

@@ -10,7 +10,8 @@ use Rattle.dsa_plan.specs.Settings.{Limits, AreInLimits}
 use Rattle.dsa_splitter.specs.Pieces.{all_pieces}
 use Rattle.dsa_splitter.specs.Rules.{IsSplit}
 use Rattle.dsa_calls.specs.declared.fault.PlanFault.{PlanFault}
-use Rattle.dsa_calls.specs.Fenced.{fences_of, unfenced_list, IsSubmissionWith, PlansFenced}
+use Rattle.dsa_descriptor.specs.Fences.{barriers_of, unfenced_list}
+use Rattle.dsa_calls.specs.Fenced.{IsSubmissionWith, PlansFenced}
 use Rattle.dsa_calls.specs.Lists.{IsListOf}
 use Rattle.dsa_calls.specs.Planned.{Submission, IsSubmissionOf, Plans}
 use Rattle.dsa_prepared.specs.Regions.{Region, LiesWhole}
@@ -64,7 +65,7 @@ pub record IsFencedPreparedOf (list : List ℕ) (s : Limits) (rs : List Span) (d
   pub limits : AreInLimits s
   pub listed : IsListOf (unfenced_list list) ds
   pub submission : Submission
-  pub planned : IsSubmissionWith (fences_of list) s (map fields ds) submission
+  pub planned : IsSubmissionWith (barriers_of list) s (map fields ds) submission
   pub regions : AreRegions rs
   pub lie : AllByRecursion (LiesWhole rs s.greatest_transfer) (map fields ds)
   pub template : t ≡ template_of rs (map fields ds) submission.plan (map fields submission.pieces)

@@ -1,11 +1,9 @@
 //! Preparing a list: planning it, and keeping its submission with each address as a region and an offset.
 
-ghost use Rattle.std.specs.Prelude.{◌≡◌, ◌⊎◌, List, IfErr, IfOk, Err, length, map, ℕ};
+ghost use Rattle.std.specs.Prelude.{◌≡◌, ◌⊎◌, [], List, IfErr, IfOk, Err, length, ℕ};
 ghost use Rattle.dsa_descriptor.specs.declared.descriptor.Descriptor.{Descriptor};
-ghost use Rattle.dsa_descriptor.specs.Descriptors.{fields};
-ghost use Rattle.dsa_descriptor.specs.Lists.{HaveOneOwner};
 ghost use Rattle.dsa_plan.specs.Plan.{piece_count};
-ghost use Rattle.dsa_calls.specs.Fenced.{fences_of, unfenced_list};
+ghost use Rattle.dsa_descriptor.specs.Fences.{barriers_of, unfenced_list};
 ghost use Rattle.dsa_calls.specs.Lists.{IsListOf};
 ghost use Rattle.dsa_calls.specs.Planned.{submission_of};
 ghost use Rattle.dsa_calls.specs.declared.fault.PlanFault.TheVariants.{Memory};
@@ -18,8 +16,8 @@ use crate::fault::PrepareFault;
 use crate::places::{first_outside, region_fault};
 use crate::prepared::Prepared;
 use crate::template::template_of;
-use dsa_calls::{PlanFault, Planned, plan_operations, plan_operations_with, read_fenced_list};
-use dsa_descriptor::{Descriptor, Span, read_list};
+use dsa_calls::{PlanFault, Planned, plan_operations};
+use dsa_descriptor::{Descriptor, DescriptorList, Span, read_descriptor_list, read_list};
 use dsa_plan::Settings;
 use std::alloc::Global;
 
@@ -63,44 +61,31 @@ fn keep(
     }
 }
 
-/// Plans operations of one owner, and keeps their submission.
+/// Plans operations that keep their barriers, and keeps their submission.
 fn prepare_operations(
     alloc: Global,
-    operations: &[Descriptor],
+    operations: &DescriptorList,
     settings: &Settings,
     regions: &[Span],
 ) -> Result<Costed, PrepareFault>
-    requires { HaveOneOwner (map fields operations.now) }
-    ensures prepared { (list : List ℕ) → IsListOf list operations.now → IfOk result
-        (λ x. IsCostedOf list settings.now regions.now operations.now x.prepared x.cost) }
-    ensures fault { (list : List ℕ) → IsListOf list operations.now →
-        IfErr result (λ fault. (fault ≡ Plan Memory) ⊎
+    ensures prepared { (list : List ℕ) → IsListOf list operations.now.descriptors.items →
+        operations.now.barriers.items ≡ [] → IfOk result (λ x. IsCostedOf list
+        settings.now regions.now operations.now.descriptors.items x.prepared x.cost) }
+    ensures fault { (list : List ℕ) → IsListOf list operations.now.descriptors.items →
+        operations.now.barriers.items ≡ [] → IfErr result (λ fault. (fault ≡ Plan Memory) ⊎
         IsFirstPrepareFault list settings.now regions.now fault) }
-{
-    match plan_operations(alloc, operations, settings) {
-        Ok(planned) => keep(alloc, operations, &planned, settings, regions),
-        Err(fault) => Err(PrepareFault::Plan(fault)),
-    }
-}
-
-/// Plans operations of one owner and their barriers, and keeps their submission.
-fn prepare_operations_with(
-    alloc: Global,
-    operations: &[Descriptor],
-    barriers: &[bool],
-    settings: &Settings,
-    regions: &[Span],
-) -> Result<Costed, PrepareFault>
-    requires { HaveOneOwner (map fields operations.now) }
-    ensures prepared { (list : List ℕ) → IsListOf (unfenced_list list) operations.now →
-        barriers.now ≡ fences_of list → IfOk result
-        (λ x. IsFencedCostedOf list settings.now regions.now operations.now x.prepared x.cost) }
-    ensures fault { (list : List ℕ) → IsListOf (unfenced_list list) operations.now →
-        barriers.now ≡ fences_of list → IfErr result (λ fault. (fault ≡ Plan Memory) ⊎
+    ensures fenced { (list : List ℕ) →
+        IsListOf (unfenced_list list) operations.now.descriptors.items →
+        operations.now.barriers.items ≡ barriers_of list → IfOk result (λ x. IsFencedCostedOf list
+        settings.now regions.now operations.now.descriptors.items x.prepared x.cost) }
+    ensures fenced_fault { (list : List ℕ) →
+        IsListOf (unfenced_list list) operations.now.descriptors.items →
+        operations.now.barriers.items ≡ barriers_of list →
+        IfErr result (λ fault. (fault ≡ Plan Memory) ⊎
         IsFirstFencedFault list settings.now regions.now fault) }
 {
-    match plan_operations_with(alloc, operations, barriers, settings) {
-        Ok(planned) => keep(alloc, operations, &planned, settings, regions),
+    match plan_operations(alloc, operations, settings) {
+        Ok(planned) => keep(alloc, &operations.descriptors, &planned, settings, regions),
         Err(fault) => Err(PrepareFault::Plan(fault)),
     }
 }
@@ -127,7 +112,10 @@ pub fn prepare_costed(
         (result ≡ Err fault) ⊎ (result ≡ Err (Plan Memory)) }
 {
     match read_list(alloc, list) {
-        Ok(operations) => prepare_operations(alloc, &operations, settings, regions),
+        Ok(operations) => {
+            let plain = DescriptorList::without_barriers(alloc, operations);
+            prepare_operations(alloc, &plain, settings, regions)
+        }
         Err(fault) => Err(PrepareFault::Plan(PlanFault::from(fault))),
     }
 }
@@ -185,14 +173,8 @@ pub fn prepare_fenced(
         IsFirstFencedFault list.now settings.now regions.now fault →
         (result ≡ Err fault) ⊎ (result ≡ Err (Plan Memory)) }
 {
-    match read_fenced_list(alloc, list) {
-        Ok(read) => prepare_operations_with(
-            alloc,
-            &read.operations,
-            &read.fences,
-            settings,
-            regions,
-        ),
+    match read_descriptor_list(alloc, list) {
+        Ok(operations) => prepare_operations(alloc, &operations, settings, regions),
         Err(fault) => Err(PrepareFault::Plan(PlanFault::from(fault))),
     }
 }

@@ -1,5 +1,5 @@
 -- What is left of a planned list can be planned.
-use Rattle.std.proofs.Common.{◌≡◌, ◌≢◌, ◌⊎◌, inl, inr, ℕ, zero, suc, ◌+◌, ◌*◌, ◌<◌, ◌≤◌, Bool, true, false, List, [], ◌∷◌, ◌++◌, length, get_or, map, Result, Err, refl, sym, ap, ◌∙◌, subst, arith}
+use Rattle.std.proofs.Common.{◌≡◌, inl, inr, ℕ, zero, suc, ◌*◌, ◌<◌, ◌≤◌, Bool, true, false, List, [], ◌∷◌, ◌++◌, length, get_or, map, Err, refl, sym, ap, ◌∙◌, subst, arith}
 use Rattle.std.specs.Prelude.{Some, slice_get, option_map}
 use Rattle.std.specs.List.{All}
 use Rattle.std.proofs.lemmas.Bool.{cases_order}
@@ -12,20 +12,20 @@ use Rattle.dsa_descriptor.specs.Lists.{HaveOneOwner, list_spelling}
 use Rattle.dsa_descriptor.specs.Spans.{InSpan, span}
 use Rattle.dsa_ranges.specs.Ranges.{Touches}
 use Rattle.dsa_plan.specs.Settings.{Limits}
-use Rattle.dsa_splitter.specs.Rules.{AreWhole, IsClear, IsSplit, MeetsArea}
+use Rattle.dsa_splitter.specs.Rules.{AreWhole, IsClear, IsSplit}
 use Rattle.dsa_splitter.proofs.AsTheyStand.{whole_split}
 use Rattle.dsa_splitter.proofs.OneFault.{split_no_fault}
 use Rattle.dsa_splitter.proofs.OnePiece.{whole_pieces}
 use Rattle.dsa_calls.specs.declared.fault.PlanFault.{PlanFault}
 use Rattle.dsa_calls.specs.Lists.{IsListOf}
-use Rattle.dsa_calls.specs.Planned.{CanBePlanned, Plans, PlansOperations}
+use Rattle.dsa_calls.specs.Planned.{CanBePlanned, PlansOperations}
 use Rattle.dsa_calls.proofs.Over.{said_of_list}
 use Rattle.dsa_resume.specs.declared.status.Ended.{Ended}
 use Rattle.dsa_resume.specs.declared.left.LeftOrder.{LeftOrder}
 use Rattle.dsa_resume.specs.declared.left.LeftOrder.TheVariants.{AsListed, FailedFirst}
 use Rattle.dsa_resume.specs.Ended.{ended_of, is_left, has_failed, is_waiting}
 use Rattle.dsa_resume.specs.Left.{those, left_of}
-use Rattle.dsa_resume.specs.Resumed.{CanBePlannedAgain, completions_of, left_bytes}
+use Rattle.dsa_resume.specs.Resumed.{CanBePlannedAgain}
 use Rattle.dsa_resume.proofs.Short.{few_left}
 
 -- ---- what is left are pieces of the list

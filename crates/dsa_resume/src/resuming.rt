@@ -3,18 +3,15 @@
 ghost use Rattle.std.specs.Prelude.{◌≡◌, IfOk, length, map};
 ghost use Rattle.dsa_descriptor.specs.Descriptors.{fields};
 ghost use Rattle.dsa_descriptor.specs.Lists.{list_spelling};
-ghost use Rattle.dsa_calls.specs.Lists.{OrMemory};
-ghost use Rattle.dsa_calls.specs.Planned.{CanBePlanned, SplitsList};
 ghost use Rattle.dsa_resume.specs.Left.{left_of};
 ghost use Rattle.dsa_resume.specs.Resumed.{AnswersResume, CanBePlannedAgain};
 
 use crate::fault::ResumeFault;
 use crate::left::{LeftOrder, left_pieces};
 use crate::shared::first_shared;
-use dsa_calls::PlanFault;
-use dsa_descriptor::{Descriptor, read_list};
+use dsa_calls::{PlanFault, pieces_of};
+use dsa_descriptor::Descriptor;
 use dsa_settings::Settings;
-use dsa_splitter::into_pieces;
 use std::alloc::{AllocError, Global};
 
 /// What is left to submit of a list that was planned with these settings and submitted, by the completion records of
@@ -43,30 +40,20 @@ pub fn resume_list(
         Ok(pieces) => pieces,
         Err(fault) => return Err(ResumeFault::Plan(fault)),
     };
-    if records.len() != 32 * pieces.len() {
+    if records.len() != 32 * pieces.descriptors.len() {
         return Err(ResumeFault::Records);
     }
     // no piece touches the staging area, so its first byte is in no record
-    match first_shared(alloc, &pieces, settings.staging()) {
+    match first_shared(alloc, &pieces.descriptors, settings.staging()) {
         Ok(Some((i, j))) => return Err(ResumeFault::SharedRecord(i, j)),
         Ok(None) => {}
         Err(_) => return Err(ResumeFault::Plan(PlanFault::Memory)),
     }
     let (completions, _) = records.as_chunks::<32>();
-    match left_bytes(alloc, &pieces, completions, order) {
+    match left_bytes(alloc, &pieces.descriptors, completions, order) {
         Ok(bytes) => Ok(bytes),
         Err(_) => Err(ResumeFault::Plan(PlanFault::Memory)),
     }
-}
-
-// The pieces of the operations that the bytes spell.
-fn pieces_of(alloc: Global, list: &[u8], settings: &Settings) -> Result<Vec<Descriptor>, PlanFault>
-    ensures split { OrMemory (λ pieces. pieces.items) (SplitsList settings.now list.now) result }
-    ensures can { IfOk result (λ pieces. CanBePlanned settings.now (map fields pieces.items)) }
-{
-    let operations = read_list(alloc, list)?;
-    let pieces = into_pieces(alloc, operations, settings)?;
-    Ok(pieces)
 }
 
 // The bytes of what is left of the pieces.

@@ -1,7 +1,5 @@
 -- What explaining answers, by what the calls answer.
 use Rattle.std.proofs.Common.{◌≡◌, ◌⊎◌, ◌∙◌, inl, inr, ℕ, Bool, true, false, List, [], ◌∷◌, length, refl, ap, map, Result, Option, Some, Ok, Err, IfOk, codes, string_bytes, sym, subst, None, arith}
-use Rattle.std.specs.Prelude.{◌==◌}
-use Rattle.std.proofs.lemmas.Bool.{eqb-true}
 use Rattle.std.proofs.lemmas.Result.{IfOk-weaker}
 use Rattle.dsa_descriptor.specs.declared.descriptor.Descriptor.{Descriptor}
 use Rattle.dsa_descriptor.specs.Descriptors.{fields}
@@ -16,15 +14,14 @@ use Rattle.dsa_calls.specs.declared.fault.PlanFault.{PlanFault}
 use Rattle.dsa_calls.specs.declared.fault.PlanFault.TheVariants.{Memory}
 use Rattle.dsa_calls.specs.Lists.{IsListOf, IsOrMemory, OrMemory}
 use Rattle.dsa_splitter.specs.Pieces.{piece_barriers}
-use Rattle.dsa_calls.specs.declared.planning.Planned.{Planned}
 use Rattle.dsa_calls.specs.Fenced.{PlansWith}
-use Rattle.dsa_calls.specs.Planned.{Submission, submission_of, PlansOperations}
+use Rattle.dsa_calls.specs.Planned.{Submission}
 use Rattle.dsa_explain.specs.declared.fences.Detail.{Detail}
 use Rattle.dsa_explain.specs.declared.explanation.ExplainFault.{ExplainFault}
 use Rattle.dsa_explain.specs.Explained.{Explains}
 use Rattle.dsa_text.specs.declared.answer.Answer.{Answer}
 use Rattle.dsa_text.specs.Refusals.{IsRefusal, NamesCause, explain_cause}
-use Rattle.dsa_text.specs.Explained.{AnswersJudged, ExplainsList, PlansMarked, TellsJudged, labels_of, marks_of_pieces, is_drawn, is_planned, is_refused_list, is_spelled, is_told, is_untold, is_waiting}
+use Rattle.dsa_text.specs.Explained.{AnswersJudged, ExplainsList, TellsJudged, labels_of, is_drawn, is_planned, is_refused_list, is_spelled, is_told, is_untold, is_waiting}
 use Rattle.dsa_text.specs.declared.form.Form.{Form}
 use Rattle.dsa_text.specs.declared.shown.Subject.{Subject}
 use Rattle.dsa_text.specs.Shown.{AnswersPlan, AnswersSubject, ShowsPlan, TellsPlan, form_of, is_shown, is_too_large, is_unfit, is_untracked, unlabelled}
@@ -120,34 +117,16 @@ judged_beside s plan ds cost form a b status text (is_untold detail told fault e
 
 -- of planned operations, for a list that spells them
 pub operations_planned : {E : Type 0} (list : List ℕ) (bs : List Bool) (names : List (List ℕ)) (s : Limits) (form : Form) (ds : List Descriptor) (p : Submission) (r : Result Answer E) → IsListOf list ds
-    → PlansMarked bs s (map fields ds) (Ok p)
-    → IfOk r (AnswersPlan s p.plan p.pieces (marks_of_pieces s (map fields ds) bs) (labels_of s (map fields ds) names) (Some p.cost) form) → IfOk r (ExplainsList list bs names s form)
-operations_planned list bs names s form ds p r listed says answers = IfOk-weaker r _ _ (λ a shown. is_planned ds p listed says shown) answers
-
--- barriers change no refusal
-refused_alike : (bs : List Bool) (s : Limits) (fs : List Fields) (fault : PlanFault) → PlansMarked bs s fs (Err fault) → PlansOperations s fs (Err fault)
-refused_alike [] s fs fault says = says
-refused_alike (b ∷ bs) s fs fault says = says
+    → PlansWith bs s (map fields ds) (Ok p) → (ms : List Bool) → ms ≡ piece_barriers s.greatest_transfer (map fields ds) bs
+    → IfOk r (AnswersPlan s p.plan p.pieces ms (labels_of s (map fields ds) names) (Some p.cost) form) → IfOk r (ExplainsList list bs names s form)
+operations_planned list bs names s form ds p r listed says ms are answers =
+    IfOk-weaker r _ _ (λ a shown. is_planned ds p listed says (subst (λ (marks : List Bool). AnswersPlan s p.plan p.pieces marks (labels_of s (map fields ds) names) (Some p.cost) form a) are shown)) answers
 
 pub operations_refused : {E : Type 0} (list : List ℕ) (bs : List Bool) (names : List (List ℕ)) (s : Limits) (form : Form) (ds : List Descriptor) (fault : PlanFault) (r : Result Answer E) → IsListOf list ds
-    → OrMemory {X = Submission} {Y = Submission} (λ p. p) (PlansMarked bs s (map fields ds)) (Err fault) → IfOk r (IsRefusal fault) → IfOk r (ExplainsList list bs names s form)
+    → OrMemory {X = Submission} {Y = Submission} (λ p. p) (PlansWith bs s (map fields ds)) (Err fault) → IfOk r (IsRefusal fault) → IfOk r (ExplainsList list bs names s form)
 operations_refused list bs names s form ds fault r listed (inl is) h = IfOk-weaker r _ _ (λ a x. is_refused_list fault (inl is) x) h
 operations_refused list bs names s form ds fault r listed (inr says) h =
-    IfOk-weaker r _ _ (λ a x. is_refused_list fault (inr (inr (ds, listed, refused_alike bs s (map fields ds) fault says))) x) h
-
--- operations with no marks, and with some
-pub no_marks : (bs : List Bool) → (length bs == 0) ≡ true → bs ≡ []
-no_marks [] e = refl
-no_marks (b ∷ bs) e = absurd (let none : length (b ∷ bs) ≡ 0 = eqb-true _ _ e in omega arith)
-
-pub planned_with : (bs : List Bool) (s : Limits) (fs : List Fields) (r : Result Planned PlanFault) → (length bs == 0) ≡ false
-    → OrMemory submission_of (PlansWith bs s fs) r → OrMemory submission_of (PlansMarked bs s fs) r
-planned_with [] s fs r e says = absurd cc
-planned_with (b ∷ bs) s fs r e says = says
-
-pub marked_pieces : (bs : List Bool) (s : Limits) (fs : List Fields) → (length bs == 0) ≡ false → piece_barriers s.greatest_transfer fs bs ≡ marks_of_pieces s fs bs
-marked_pieces [] s fs e = absurd cc
-marked_pieces (b ∷ bs) s fs e = refl
+    IfOk-weaker r _ _ (λ a x. is_refused_list fault (inr (inr (ds, listed, says))) x) h
 
 -- the one cause is the one that is told
 pub same_cause : {E : Type 0} (r : Result Answer E) (told fault : PlanFault) (o p : Result ℕ PlanFault) → o ≡ p → o ≡ Err told → p ≡ Err fault → IfOk r (IsRefusal told) → IfOk r (IsRefusal fault)

@@ -5,7 +5,7 @@ use Rattle.dsa_descriptor.specs.declared.fault.ListFault.{ListFault}
 use Rattle.dsa_descriptor.specs.Lists.{IsFirstListFault}
 use Rattle.dsa_calls.specs.declared.fault.PlanFault.{PlanFault}
 use Rattle.dsa_calls.specs.Fault.{list_cause}
-use Rattle.dsa_calls.specs.Fenced.{unfenced_list}
+use Rattle.dsa_descriptor.specs.Fences.{unfenced_list}
 use Rattle.dsa_text.specs.declared.answer.Answer.{Answer}
 use Rattle.dsa_text.specs.Refusals.{IsRefusal}
 use Rattle.dsa_text.specs.Disassembled.{DisassemblesFenced, is_refused}

@@ -6,7 +6,7 @@ use Rattle.dsa_descriptor.specs.Descriptors.{fields}
 use Rattle.dsa_descriptor.specs.Lists.{IsFirstListFault}
 use Rattle.dsa_lines.specs.Barriers.{marked_text}
 use Rattle.dsa_calls.specs.Fault.{list_cause}
-use Rattle.dsa_calls.specs.Fenced.{fences_of, unfenced_list}
+use Rattle.dsa_descriptor.specs.Fences.{fences_of, unfenced_list}
 use Rattle.dsa_calls.specs.Lists.{IsListOf}
 use Rattle.dsa_text.specs.declared.answer.Answer.{Answer}
 use Rattle.dsa_text.specs.Refusals.{IsRefusal}

@@ -37,16 +37,6 @@ MemoryOr Cause fault = (fault ≡ Memory) ⊎ Cause fault
 
 -- ---- the plan of least cost
 
--- the outcome of planning operations, with their barriers if they have any
-abbrev pub PlansMarked : List Bool → Limits → List Fields → Result Submission PlanFault → Type 0
-PlansMarked [] s fs outcome = PlansOperations s fs outcome
-PlansMarked (mark ∷ marks) s fs outcome = PlansWith (mark ∷ marks) s fs outcome
-
--- the barriers of their pieces, if they have any
-abbrev pub marks_of_pieces : Limits → List Fields → List Bool → List Bool
-marks_of_pieces s fs [] = []
-marks_of_pieces s fs (mark ∷ marks) = piece_barriers s.greatest_transfer fs (mark ∷ marks)
-
 -- the labels of the pieces of operations with these names
 abbrev pub labels_of : Limits → List Fields → List (List ℕ) → Labelling
 labels_of s fs names = record { origins = origins_from s.greatest_transfer 0 fs; names = names }
@@ -55,8 +45,8 @@ labels_of s fs names = record { origins = origins_from s.greatest_transfer 0 fs;
 -- that each piece is of, and these names of the operations
 pub data ExplainsList (list : List ℕ) (barriers : List Bool) (names : List (List ℕ)) (s : Limits) (form : Form) (a : Answer) : Type 0 where
   is_refused_list : (fault : PlanFault) → MemoryOr (λ f. Plans list s (Err f)) fault → IsRefusal fault a → ExplainsList list barriers names s form a
-  is_planned : (ds : List Descriptor) (p : Submission) → IsListOf list ds → PlansMarked barriers s (map fields ds) (Ok p)
-      → AnswersPlan s p.plan p.pieces (marks_of_pieces s (map fields ds) barriers) (labels_of s (map fields ds) names) (Some p.cost) form a
+  is_planned : (ds : List Descriptor) (p : Submission) → IsListOf list ds → PlansWith barriers s (map fields ds) (Ok p)
+      → AnswersPlan s p.plan p.pieces (piece_barriers s.greatest_transfer (map fields ds) barriers) (labels_of s (map fields ds) names) (Some p.cost) form a
       → ExplainsList list barriers names s form a
 
 -- refused if the text spells no list; else the answer for the list and the barriers that it spells, with the comments of

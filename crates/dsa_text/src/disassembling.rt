@@ -1,14 +1,14 @@
 //! `disassemble`: the text of a list, a portal or a staging area.
 
 ghost use Rattle.std.specs.Prelude.{◌≡◌, IfOk};
-ghost use Rattle.dsa_calls.specs.Fenced.{fences_of, unfenced_list};
+ghost use Rattle.dsa_descriptor.specs.Fences.{fences_of, unfenced_list};
 ghost use Rattle.dsa_text.specs.Disassembled.{DisassemblesFenced};
 
 use crate::answer::Answer;
 use dsa_calls::PlanFault;
-use dsa_descriptor::read_list;
+use dsa_descriptor::{is_fenced, read_list, unfenced};
 use dsa_lines::{EmittedFault, text_with_barriers};
-use dsa_plan::{Setting, is_fenced, unfenced};
+use dsa_plan::Setting;
 use std::alloc::{AllocError, Global};
 
 /// The text of a list.

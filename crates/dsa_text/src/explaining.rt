@@ -2,17 +2,16 @@
 
 ghost use Rattle.std.specs.Prelude.{◌≡◌, ◌⊎◌, ◌≤◌, [], IfOk, List, Some, Err, length, map, ℕ};
 ghost use Rattle.dsa_descriptor.specs.Descriptors.{fields};
-ghost use Rattle.dsa_descriptor.specs.Lists.{HaveOneOwner};
 ghost use Rattle.dsa_descriptor.specs.Pieces.{most_pieces};
 ghost use Rattle.dsa_plan.specs.EmissionFaults.{IsEmission};
 ghost use Rattle.dsa_plan.specs.Certificate.{contents};
 ghost use Rattle.dsa_calls.specs.declared.fault.PlanFault.{PlanFault};
 ghost use Rattle.dsa_calls.specs.declared.fault.PlanFault.TheVariants.{Memory};
 ghost use Rattle.dsa_calls.specs.Checked.{Checks, ChecksPlan};
-ghost use Rattle.dsa_calls.specs.Lists.{IsListOf, OrMemory};
-ghost use Rattle.dsa_calls.specs.Planned.{submission_of};
+ghost use Rattle.dsa_calls.specs.Lists.{IsListOf};
+ghost use Rattle.dsa_explain.specs.Runs.{labelling};
 ghost use Rattle.dsa_text.specs.Comments.{names_from};
-ghost use Rattle.dsa_text.specs.Explained.{ExplainsChecked, ExplainsList, ExplainsText, PlansMarked, labels_of, marks_of_pieces};
+ghost use Rattle.dsa_text.specs.Explained.{ExplainsChecked, ExplainsList, ExplainsText, labels_of};
 ghost use Rattle.dsa_text.specs.Refusals.{IsRefusal};
 ghost use Rattle.dsa_text.specs.Shown.{AnswersPlan};
 
@@ -28,78 +27,53 @@ use crate::overwritten::overwritten_notes;
 use crate::rows::warnings_of;
 use crate::shown::{Subject, answer_plan, plain};
 use crate::unplanned::{Source, unplanned};
-use dsa_calls::{PlanFault, Planned, check_plan, plan_operations, plan_operations_with};
-use dsa_descriptor::{Descriptor, read_list};
-use dsa_explain::Labels;
-use dsa_lines::{parse_operations, text_barriers};
+use dsa_calls::{PlanFault, Planned, check_plan, plan_operations};
+use dsa_descriptor::{Descriptor, DescriptorList, read_list};
+use dsa_explain::{Buffer, Labels};
+use dsa_lines::parse_list;
 use dsa_plan::{Certificate, Plan, Settings, read_emission};
-use dsa_splitter::piece_barriers;
 use std::alloc::{AllocError, Global};
 
-/// The plan of least cost of these operations, with their barriers if they have any.
-fn plan_marked(
-    alloc: Global,
-    operations: &[Descriptor],
-    marks: &[bool],
-    settings: &Settings,
-) -> Result<Planned, PlanFault>
-    requires { HaveOneOwner (map fields operations.now) }
-    ensures { OrMemory submission_of
-        (PlansMarked marks.now settings.now (map fields operations.now)) result }
+/// What was planned, to be shown.
+fn subject_of<'a>(planned: &'a Planned, labels: Labels<'a>, buffers: &'a [Buffer]) -> Subject<'a>
+    ensures plan { result.plan.now ≡ planned.now.plan }
+    ensures pieces { result.pieces.now ≡ planned.now.pieces.items }
+    ensures barriers { result.barriers.now ≡ planned.now.barriers.items }
+    ensures labels { labelling result.labels ≡ labelling labels.entry }
+    ensures least { result.least ≡ Some planned.now.cost }
 {
-    if marks.is_empty() {
-        plan_operations(alloc, operations, settings)
-    } else {
-        plan_operations_with(alloc, operations, marks, settings)
+    Subject {
+        plan: &planned.plan,
+        pieces: &planned.pieces,
+        barriers: &planned.barriers,
+        labels,
+        buffers,
+        least: Some(planned.cost),
     }
 }
 
-/// The barriers of the pieces of these operations, if they have any.
-fn marks_of_pieces(
-    alloc: Global,
-    operations: &[Descriptor],
-    marks: &[bool],
-    settings: &Settings,
-) -> Result<Vec<bool>, AllocError>
-    ensures { IfOk result (λ found. found.items ≡
-        marks_of_pieces settings.now (map fields operations.now) marks.now) }
-{
-    if marks.is_empty() {
-        return Ok(Vec::new(alloc));
-    }
-    piece_barriers(alloc, operations, marks, settings)
-}
-
-/// The answer for planned operations with these barriers.
+/// The answer for planned operations.
 fn answer_planned(
     alloc: Global,
-    operations: &[Descriptor],
-    marks: &[bool],
+    operations: &DescriptorList,
     planned: &Planned,
     settings: &Settings,
     form: Form,
     source: Source<'_>,
 ) -> Result<Answer, AllocError>
     ensures { IfOk result (AnswersPlan settings.now planned.now.plan planned.now.pieces.items
-        (marks_of_pieces settings.now (map fields operations.now) marks.now)
-        (labels_of settings.now (map fields operations.now) (names_from source.entry))
+        planned.now.barriers.items
+        (labels_of settings.now (map fields operations.now.descriptors.items)
+        (names_from source.entry))
         (Some planned.now.cost) form) }
 {
-    let barriers = marks_of_pieces(alloc, operations, marks, settings)?;
-    let origins = origins_of(alloc, operations, settings)?;
+    let origins = origins_of(alloc, &operations.descriptors, settings)?;
     let comments = comments_in(alloc, source, matches!(form, Form::Picture))?;
     let labels = Labels {
         origins: &origins,
         names: &comments.names,
     };
-    let subject = Subject {
-        plan: &planned.plan,
-        pieces: &planned.pieces,
-        barriers: &barriers,
-        labels,
-        buffers: &comments.buffers,
-        least: Some(planned.cost),
-    };
+    let subject = subject_of(planned, labels, &comments.buffers);
     answer_plan(alloc, &subject, settings, form)
 }
 
@@ -119,19 +93,20 @@ pub(crate) fn operation_notes(
 /// not keep, about barriers that a tracker does not see, and about the text.
 fn answer_with_warnings(
     alloc: Global,
-    operations: &[Descriptor],
-    marks: &[bool],
+    list: &DescriptorList,
     planned: &Planned,
     settings: &Settings,
     form: Form,
     source: Source<'_>,
 ) -> Result<Answer, AllocError>
     ensures { IfOk result (AnswersPlan settings.now planned.now.plan planned.now.pieces.items
-        (marks_of_pieces settings.now (map fields operations.now) marks.now)
-        (labels_of settings.now (map fields operations.now) (names_from source.entry))
+        planned.now.barriers.items
+        (labels_of settings.now (map fields list.now.descriptors.items)
+        (names_from source.entry))
         (Some planned.now.cost) form) }
 {
-    let answer = answer_planned(alloc, operations, marks, planned, settings, form, source)?;
+    let answer = answer_planned(alloc, list, planned, settings, form, source)?;
+    let (operations, marks) = (list.descriptors.as_slice(), list.barriers.as_slice());
     let barriers = barrier_notes(alloc, source, marks, form)?;
     let fences = unkept_notes(alloc, source, operations, &planned.plan, settings)?;
     let of_barriers = joined(barriers, fences)?;
@@ -145,21 +120,18 @@ fn answer_with_warnings(
 /// What the plan of least cost of these operations and barriers does and why.
 fn explain_operations(
     alloc: Global,
-    operations: &[Descriptor],
-    marks: &[bool],
+    operations: &DescriptorList,
     settings: &Settings,
     form: Form,
     source: Source<'_>,
 ) -> Result<Answer, AllocError>
-    requires { HaveOneOwner (map fields operations.now) }
-    ensures { (list : List ℕ) → IsListOf list operations.now →
-        IfOk result (ExplainsList list marks.now (names_from source.entry) settings.now form) }
+    ensures { (list : List ℕ) → IsListOf list operations.now.descriptors.items →
+        IfOk result (ExplainsList list operations.now.barriers.items
+        (names_from source.entry) settings.now form) }
 {
-    match plan_marked(alloc, operations, marks, settings) {
-        Ok(planned) => {
-            answer_with_warnings(alloc, operations, marks, &planned, settings, form, source)
-        }
-        Err(fault) => unplanned(alloc, operations, settings, source, fault),
+    match plan_operations(alloc, operations, settings) {
+        Ok(planned) => answer_with_warnings(alloc, operations, &planned, settings, form, source),
+        Err(fault) => unplanned(alloc, &operations.descriptors, settings, source, fault),
     }
 }
 
@@ -174,8 +146,8 @@ pub fn explain_list(
 {
     match read_list(alloc, list) {
         Ok(operations) => {
-            let none = [].as_slice();
-            explain_operations(alloc, &operations, none, settings, form, Source::Job)
+            let plain = DescriptorList::without_barriers(alloc, operations);
+            explain_operations(alloc, &plain, settings, form, Source::Job)
         }
         Err(fault) => Answer::fault(alloc, PlanFault::from(fault)),
     }
@@ -191,17 +163,9 @@ pub fn explain_text(
 ) -> Result<Answer, AllocError>
     ensures { IfOk result (ExplainsText text.now keep_fences settings.now form) }
 {
-    match parse_operations(alloc, text) {
+    match parse_list(alloc, text, keep_fences) {
         Ok(operations) => {
-            let marks = text_barriers(alloc, text, keep_fences)?;
-            explain_operations(
-                alloc,
-                &operations,
-                &marks,
-                settings,
-                form,
-                Source::Text(text),
-            )
+            explain_operations(alloc, &operations, settings, form, Source::Text(text))
         }
         Err(fault) => Answer::text_fault(alloc, text, fault),
     }
@@ -225,7 +189,7 @@ fn explain_emission(
         (map fields pieces.now) plan.now (contents certificate.now) (Err fault) →
         IfOk result (IsRefusal fault) }
 {
-    match check_plan(pieces, settings, plan, certificate) {
+    match check_plan(pieces, &[], settings, plan, certificate) {
         Ok(cost) => answer_plan(alloc, &plain(plan, pieces, Some(cost)), settings, form),
         Err(fault) => Answer::fault(alloc, fault),
     }

@@ -1,8 +1,7 @@
 //! `explain` of a given plan.
 
-ghost use Rattle.std.specs.Prelude.{◌≡◌, ◌⊎◌, IfOk, List, Some, Err, map, string_bytes, ℕ};
+ghost use Rattle.std.specs.Prelude.{◌≡◌, ◌⊎◌, [], IfOk, List, Some, Err, map, string_bytes, ℕ};
 ghost use Rattle.dsa_descriptor.specs.Descriptors.{fields};
-ghost use Rattle.dsa_descriptor.specs.Lists.{HaveOneOwner};
 ghost use Rattle.dsa_calls.specs.declared.fault.PlanFault.{PlanFault};
 ghost use Rattle.dsa_calls.specs.declared.fault.PlanFault.TheVariants.{Memory};
 ghost use Rattle.dsa_calls.specs.Judge.{Judges, JudgesPieces};
@@ -17,7 +16,7 @@ use crate::form::Form;
 use crate::judged::missing_message;
 use crate::shown::{answer_plan, plain, plan_words};
 use dsa_calls::{PlanFault, judge_pieces, plan_operations};
-use dsa_descriptor::{Descriptor, read_list};
+use dsa_descriptor::{Descriptor, DescriptorList, read_list};
 use dsa_explain::Detail;
 use dsa_plan::{LegalFault, Plan, Settings};
 use std::alloc::{AllocError, Global};
@@ -26,13 +25,13 @@ use std::alloc::{AllocError, Global};
 /// settings may not have.
 fn least_cost(
     alloc: Global,
-    pieces: &[Descriptor],
+    list: &DescriptorList,
     settings: &Settings,
 ) -> Result<Option<u64>, AllocError>
-    requires { HaveOneOwner (map fields pieces.now) }
-    ensures { IfOk result (IsLeastCost settings.now (map fields pieces.now)) }
+    requires { list.now.barriers.items ≡ [] }
+    ensures { IfOk result (IsLeastCost settings.now (map fields list.now.descriptors.items)) }
 {
-    match plan_operations(alloc, pieces, settings) {
+    match plan_operations(alloc, list, settings) {
         Ok(planned) => Ok(Some(planned.cost)),
         Err(fault) if fault == PlanFault::Memory => Err(AllocError),
         Err(_) => Ok(None),
@@ -72,20 +71,25 @@ fn least_text(alloc: Global, cost: u64, least: Option<u64>) -> Result<String, Al
 fn judged_words(
     alloc: Global,
     plan: &Plan,
-    pieces: &[Descriptor],
+    list: &DescriptorList,
     settings: &Settings,
     cost: u64,
     detail: Detail,
 ) -> Result<Answer, AllocError>
-    requires { HaveOneOwner (map fields pieces.now) }
+    requires { list.now.barriers.items ≡ [] }
     ensures { IfOk result
-        (AnswersJudged settings.now plan.now pieces.now cost (Words detail)) }
+        (AnswersJudged settings.now plan.now list.now.descriptors.items cost (Words detail)) }
 {
-    let mut text = match plan_words(alloc, &plain(plan, pieces, None), settings, detail) {
+    let mut text = match plan_words(
+        alloc,
+        &plain(plan, &list.descriptors, None),
+        settings,
+        detail,
+    ) {
         Ok(text) => text,
         Err(fault) => return Answer::explain_fault(alloc, fault),
     };
-    let least = least_cost(alloc, pieces, settings)?;
+    let least = least_cost(alloc, list, settings)?;
     text.push_str(&least_text(alloc, cost, least)?)?;
     Ok(Answer::done(text))
 }
@@ -94,62 +98,77 @@ fn judged_words(
 fn judged_picture(
     alloc: Global,
     plan: &Plan,
-    pieces: &[Descriptor],
+    list: &DescriptorList,
     settings: &Settings,
     cost: u64,
 ) -> Result<Answer, AllocError>
-    requires { HaveOneOwner (map fields pieces.now) }
-    ensures { IfOk result (AnswersJudged settings.now plan.now pieces.now cost Picture) }
+    requires { list.now.barriers.items ≡ [] }
+    ensures { IfOk result (AnswersJudged settings.now plan.now list.now.descriptors.items cost Picture) }
 {
-    let least = least_cost(alloc, pieces, settings)?;
-    answer_plan(alloc, &plain(plan, pieces, least), settings, Form::Picture)
+    let least = least_cost(alloc, list, settings)?;
+    answer_plan(
+        alloc,
+        &plain(plan, &list.descriptors, least),
+        settings,
+        Form::Picture,
+    )
 }
 
 /// A judged plan as JSON, with what a least plan costs.
 fn judged_json(
     alloc: Global,
     plan: &Plan,
-    pieces: &[Descriptor],
+    list: &DescriptorList,
     settings: &Settings,
     cost: u64,
 ) -> Result<Answer, AllocError>
-    requires { HaveOneOwner (map fields pieces.now) }
-    ensures { IfOk result (AnswersJudged settings.now plan.now pieces.now cost Json) }
+    requires { list.now.barriers.items ≡ [] }
+    ensures { IfOk result (AnswersJudged settings.now plan.now list.now.descriptors.items cost Json) }
 {
-    let least = least_cost(alloc, pieces, settings)?;
-    answer_plan(alloc, &plain(plan, pieces, least), settings, Form::Json)
+    let least = least_cost(alloc, list, settings)?;
+    answer_plan(
+        alloc,
+        &plain(plan, &list.descriptors, least),
+        settings,
+        Form::Json,
+    )
 }
 
 /// A judged plan by what its groups wait for.
 fn judged_waits(
     alloc: Global,
     plan: &Plan,
-    pieces: &[Descriptor],
+    list: &DescriptorList,
     settings: &Settings,
     cost: u64,
 ) -> Result<Answer, AllocError>
-    ensures { IfOk result (AnswersJudged settings.now plan.now pieces.now cost Waits) }
+    ensures { IfOk result (AnswersJudged settings.now plan.now list.now.descriptors.items cost Waits) }
 {
-    answer_plan(alloc, &plain(plan, pieces, None), settings, Form::Waits)
+    answer_plan(
+        alloc,
+        &plain(plan, &list.descriptors, None),
+        settings,
+        Form::Waits,
+    )
 }
 
 /// The answer of a judged plan in a form.
 fn judged_in_form(
     alloc: Global,
     plan: &Plan,
-    pieces: &[Descriptor],
+    list: &DescriptorList,
     settings: &Settings,
     cost: u64,
     form: Form,
 ) -> Result<Answer, AllocError>
-    requires { HaveOneOwner (map fields pieces.now) }
-    ensures { IfOk result (AnswersJudged settings.now plan.now pieces.now cost form) }
+    requires { list.now.barriers.items ≡ [] }
+    ensures { IfOk result (AnswersJudged settings.now plan.now list.now.descriptors.items cost form) }
 {
     match form {
-        Form::Words(detail) => judged_words(alloc, plan, pieces, settings, cost, detail),
-        Form::Picture => judged_picture(alloc, plan, pieces, settings, cost),
-        Form::Json => judged_json(alloc, plan, pieces, settings, cost),
-        Form::Waits => judged_waits(alloc, plan, pieces, settings, cost),
+        Form::Words(detail) => judged_words(alloc, plan, list, settings, cost, detail),
+        Form::Picture => judged_picture(alloc, plan, list, settings, cost),
+        Form::Json => judged_json(alloc, plan, list, settings, cost),
+        Form::Waits => judged_waits(alloc, plan, list, settings, cost),
     }
 }
 
@@ -157,16 +176,16 @@ fn judged_in_form(
 fn answer_judged(
     alloc: Global,
     plan: &Plan,
-    pieces: &[Descriptor],
+    list: &DescriptorList,
     settings: &Settings,
     cost: u64,
     form: Form,
 ) -> Result<Answer, AllocError>
-    requires { HaveOneOwner (map fields pieces.now) }
-    ensures { IfOk result (AnswersJudged settings.now plan.now pieces.now cost form) }
+    requires { list.now.barriers.items ≡ [] }
+    ensures { IfOk result (AnswersJudged settings.now plan.now list.now.descriptors.items cost form) }
 {
-    let answer = judged_in_form(alloc, plan, pieces, settings, cost, form)?;
-    Ok(answer.with_warnings(operation_notes(alloc, pieces, settings)?))
+    let answer = judged_in_form(alloc, plan, list, settings, cost, form)?;
+    Ok(answer.with_warnings(operation_notes(alloc, &list.descriptors, settings)?))
 }
 
 /// The refusal of a given plan. If the plan lacks fences, the refusal lists each of them.
@@ -193,21 +212,21 @@ fn is_unfenced(fault: PlanFault) -> bool {
 /// What a plan of these pieces does and why, if it may be submitted, and what a least plan costs.
 fn explain_pieces(
     alloc: Global,
-    pieces: &[Descriptor],
+    list: &DescriptorList,
     plan: &Plan,
     settings: &Settings,
     form: Form,
 ) -> Result<Answer, AllocError>
-    requires { HaveOneOwner (map fields pieces.now) }
-    ensures answer { (list : List ℕ) → IsListOf list pieces.now →
-        IfOk result (ExplainsJudged list plan.now settings.now form) }
+    requires { list.now.barriers.items ≡ [] }
+    ensures answer { (bytes : List ℕ) → IsListOf bytes list.now.descriptors.items →
+        IfOk result (ExplainsJudged bytes plan.now settings.now form) }
     ensures refused { (fault : PlanFault) →
-        JudgesPieces (map fields pieces.now) plan.now settings.now (Err fault) →
+        JudgesPieces (map fields list.now.descriptors.items) plan.now settings.now (Err fault) →
         IfOk result (IsRefusal fault) }
 {
-    match judge_pieces(pieces, plan, settings) {
-        Ok(cost) => answer_judged(alloc, plan, pieces, settings, cost, form),
-        Err(fault) => refuse_judged(alloc, pieces, plan, fault),
+    match judge_pieces(&list.descriptors, &[], plan, settings) {
+        Ok(cost) => answer_judged(alloc, plan, list, settings, cost, form),
+        Err(fault) => refuse_judged(alloc, &list.descriptors, plan, fault),
     }
 }
 
@@ -227,7 +246,10 @@ pub fn explain_judged(
         IfOk result (λ a. IsRefusal Memory a ⊎ IsRefusal fault a) }
 {
     match read_list(alloc, list) {
-        Ok(pieces) => explain_pieces(alloc, &pieces, plan, settings, form),
+        Ok(pieces) => {
+            let plain = DescriptorList::without_barriers(alloc, pieces);
+            explain_pieces(alloc, &plain, plan, settings, form)
+        }
         Err(fault) => Answer::fault(alloc, PlanFault::from(fault)),
     }
 }

@@ -1,16 +1,12 @@
 //! Notes and warnings about a list and the completion records that are to be resumed.
 
-ghost use Rattle.std.specs.Prelude.{map};
-ghost use Rattle.dsa_descriptor.specs.Descriptors.{fields};
-ghost use Rattle.dsa_descriptor.specs.Lists.{HaveOneOwner};
-
 use crate::kept::{cuts_of, joined};
 use crate::origins::count_of;
 use crate::overwritten::overwritten_notes;
 use crate::rows::warnings_of;
 use dsa_calls::{PlanFault, plan_operations};
-use dsa_descriptor::Descriptor;
-use dsa_lines::{TextFault, parse_operations, text_barriers};
+use dsa_descriptor::{Descriptor, DescriptorList};
+use dsa_lines::{TextFault, parse_list};
 use dsa_plan::Settings;
 use std::alloc::{AllocError, Global};
 
@@ -83,12 +79,10 @@ fn piece_total(operations: &[Descriptor], settings: &Settings) -> usize {
 /// The warning about records that submitting the groups of the list's plan in turn does not leave.
 fn early_note(
     alloc: Global,
-    operations: &[Descriptor],
+    operations: &DescriptorList,
     settings: &Settings,
     records: &[u8],
-) -> Result<Option<String>, AllocError>
-    requires { HaveOneOwner (map fields operations.now) }
-{
+) -> Result<Option<String>, AllocError> {
     let planned = match plan_operations(alloc, operations, settings) {
         Ok(planned) => planned,
         Err(fault) if fault == PlanFault::Memory => return Err(AllocError),
@@ -115,15 +109,16 @@ pub(crate) fn resume_notes(
     settings: &Settings,
     records: &[u8],
 ) -> Result<Option<String>, AllocError> {
-    let operations = match parse_operations(alloc, text) {
-        Ok(operations) => operations,
+    let list = match parse_list(alloc, text, false) {
+        Ok(list) => list,
         Err(TextFault::Memory) => return Err(AllocError),
         Err(TextFault::Grammar(..) | TextFault::List(..)) => return Ok(None),
     };
-    if !text_barriers(alloc, text, false)?.is_empty() {
+    if !list.barriers.is_empty() {
         return Ok(Some(String::from_str(alloc, BARRIERS)?));
     }
-    let (pieces, given) = (piece_total(&operations, settings), records.len());
+    let operations = list.descriptors.as_slice();
+    let (pieces, given) = (piece_total(operations, settings), records.len());
     let needed = pieces.saturating_mul(32);
     if given != needed {
         return Ok(Some(format!(in alloc;
@@ -131,8 +126,8 @@ pub(crate) fn resume_notes(
         )?));
     }
     let shared = joined(
-        warnings_of(alloc, &operations, settings)?,
-        overwritten_notes(alloc, &operations, settings)?,
+        warnings_of(alloc, operations, settings)?,
+        overwritten_notes(alloc, operations, settings)?,
     )?;
-    joined(shared, early_note(alloc, &operations, settings, records)?)
+    joined(shared, early_note(alloc, &list, settings, records)?)
 }

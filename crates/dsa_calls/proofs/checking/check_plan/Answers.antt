@@ -1,14 +1,10 @@
-use Rattle.std.proofs.Common.{ℕ, map, sym, subst}
-use Rattle.std.proofs.lemmas.List.{length-map}
-use Rattle.dsa_descriptor.specs.Descriptors.{fields}
-use Rattle.dsa_ranges.specs.Ranges.{ConflictAt}
-use Rattle.dsa_plan.specs.Barriers.{WithBarriers}
-use Rattle.dsa_plan.specs.Certificate.{contents}
-use Rattle.dsa_calls.specs.Checked.{ChecksPlanBy}
+use Rattle.std.proofs.Common.{refl}
 use Rattle.dsa_calls.proofs.checking.check_plan.Goals as goal
 
-pub returns : goal.returns
-unfolding WithBarriers
-returns c =
-    subst (λ (n : ℕ). ChecksPlanBy (ConflictAt (map fields c.args.pieces.now)) c.args.settings.now n c.args.plan.now (contents c.args.certificate.now) c.check_plan_with.result)
-    (sym (length-map c.args.pieces.now fields)) c.check_plan_with.ensures
+pub returns-in-Ok : goal.returns-in-Ok
+returns-in-Ok c =
+    let h = (c.in-Ok.ensures.certificate_good c.in-Ok.cost).0 refl in
+    record { legal = h.0; version = h.1; good = h.2; is_cost = h.3 }
+
+pub returns-in-Err : goal.returns-in-Err
+returns-in-Err c = (c.in-Err.fault, refl, (c.in-Err.ensures.fault c.in-Err.fault).0 refl)

@@ -1,10 +1,12 @@
-use Rattle.std.proofs.Common.{List, Ok, Err, sym, subst}
+use Rattle.std.proofs.Common.{Bool, List, Ok, Err, map, sym, subst, ◌∙◌}
 use Rattle.std.proofs.lemmas.Result.{err_from_is_err_and}
 use Rattle.dsa_descriptor.specs.declared.descriptor.Descriptor.{Descriptor}
+use Rattle.dsa_descriptor.specs.Descriptors.{fields}
+use Rattle.dsa_ranges.specs.Ranges.{ConflictAt}
 use Rattle.dsa_calls.specs.declared.fault.PlanFault.{PlanFault}
 use Rattle.dsa_plan.specs.Barriers.{WithBarriers}
 use Rattle.dsa_calls.specs.Lists.{OrMemory}
-use Rattle.dsa_calls.specs.Planned.{Plans, ArePiecesOf, submission_of}
+use Rattle.dsa_calls.specs.Planned.{Plans, ArePiecesOf, IsSubmissionOfPiecesBy, submission_of}
 use Rattle.dsa_calls.proofs.Over.{only_outcome}
 use Rattle.dsa_calls.proofs.Submissions.{one_planned, whole_submission, planned_is_least_and_shown}
 use Rattle.dsa_calls.proofs.planning.plan_list.Goals as goal
@@ -18,8 +20,11 @@ returns-in_err-pieces-clause-only c =
 plans : (c : goal.In_ok-planned) → Plans c.args.list.now c.args.settings.now (Ok (submission_of c.in_ok-planned.planned))
 unfolding WithBarriers
 plans c =
-    let pieces = subst (λ (ds : List Descriptor). ArePiecesOf c.args.settings.now c.args.list.now ds) (sym c.in_ok-planned.ensures.same) c.in_ok-pieces.ensures.split in
-    whole_submission c.args.list.now c.args.settings.now (submission_of c.in_ok-planned.planned) pieces c.in_ok-planned.ensures.planned
+    let s = c.args.settings.now in
+    let p = submission_of c.in_ok-planned.planned in
+    let pieces = subst (λ (ds : List Descriptor). ArePiecesOf s c.args.list.now ds) (sym c.in_ok-planned.ensures.same) c.in_ok-pieces.ensures.split in
+    let plain = subst (λ (marks : List Bool). IsSubmissionOfPiecesBy (WithBarriers (ConflictAt (map fields p.pieces)) marks) s p) c.in_ok-pieces.ensures.none c.in_ok-planned.ensures.planned in
+    whole_submission c.args.list.now s p pieces plain
 
 pub returns-clause-only : goal.returns-clause-only
 returns-clause-only c o says = one_planned c.args.list.now c.args.settings.now o (Ok (submission_of c.in_ok-planned.planned)) says (plans c)
@@ -35,3 +40,6 @@ returns-clause-certificate_good c = (planned_is_least_and_shown c.args.list.now 
 
 pub returns-clause-answer : goal.returns-clause-answer
 returns-clause-answer c = plans c
+
+pub returns-clause-none : goal.returns-clause-none
+returns-clause-none c = c.in_ok-planned.ensures.barriers ∙ c.in_ok-pieces.ensures.none

@@ -16,7 +16,7 @@ pub returns-in_err-engines-clause-answer : goal.returns-in_err-engines-clause-an
 returns-in_err-engines-clause-answer c =
     let p = err_from_is_err_and c.from_residual-in_err-engines.result c.from_residual-in_err-engines.ensures.1 in
     let m = c.args.image.now in
-    let pieces = c.in_ok-pieces.pieces.items in
+    let pieces = c.in_ok-pieces.field-0.descriptors.items in
     let first = subst (λ (ds : List Descriptor). IsFirstBeginFault m c.args.engines (map fields ds) c.in_err-engines.field-0.0) c.deref.ensures.value c.in_err-engines.ensures in
     rw p.1 (inr (inr (pieces, c.in_ok-pieces.ensures.split, subst (λ (f : PlanFault). IsFirstBeginFault m c.args.engines (map fields pieces) f) (sym p.2) first)))
 
@@ -25,7 +25,7 @@ returns-clause-answer c =
     let s = c.args.settings.now in
     let plan = c.in_ok-plan.plan in
     record {
-      planned = found_submission c.args.list.now s c.in_ok-pieces.pieces.items plan c.in_ok-pieces.ensures.split
+      planned = found_submission c.args.list.now s c.in_ok-pieces.field-0.descriptors.items plan c.in_ok-pieces.ensures.split
           (subst (λ (ds : List Descriptor). IsPlanOf s ds plan) c.deref-2.ensures.value c.in_ok-plan.ensures.chosen);
       number_is = c.in_ok-engines.ensures.0;
       can = subst (λ (ds : List Descriptor). CanBegin c.args.image.now c.args.engines (map fields ds)) c.deref.ensures.value c.in_ok-engines.ensures.1;
@@ -33,7 +33,7 @@ returns-clause-answer c =
 
 pub returns-clause-runnable : goal.returns-clause-runnable
 returns-clause-runnable c =
-    let pieces = c.in_ok-pieces.pieces.items in
+    let pieces = c.in_ok-pieces.field-0.descriptors.items in
     let can = subst (λ (ds : List Descriptor). CanBegin c.args.image.now c.args.engines (map fields ds)) c.deref.ensures.value c.in_ok-engines.ensures.1 in
     let number = c.in_ok-engines.ensures.0 in
     let some = can.are_engines.some in

@@ -2,7 +2,8 @@ use Rattle.std.proofs.Common.{ℕ, ◌≡◌, ◌+◌, ◌++◌, inr, false, Lis
 use Rattle.std.proofs.lemmas.List.{append-nil}
 use Rattle.dsa_descriptor.specs.declared.descriptor.Descriptor.{Descriptor}
 use Rattle.dsa_settings.specs.Plan.{Group}
-use Rattle.dsa_emission.specs.EmissionFaults.{entry_size, bytes_at, is_fenced, Spells, IsFirstEntryFault, IsGroupRead}
+use Rattle.dsa_emission.specs.EmissionFaults.{entry_size, bytes_at, Spells, IsFirstEntryFault, IsGroupRead}
+use Rattle.dsa_descriptor.specs.Fences.{is_fenced}
 use Rattle.dsa_emission.proofs.ReadBack.{group_none, group_more, sound_pieces}
 use Rattle.dsa_emission.proofs.reading.read_group.Goals as goal
 

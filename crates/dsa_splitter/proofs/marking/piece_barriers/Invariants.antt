@@ -5,4 +5,4 @@ use Rattle.dsa_splitter.proofs.marking.piece_barriers.Given as goal
 
 -- the marks of the operations so far
 abbrev pub invariant-loop-index : goal.invariant-loop-index
-invariant-loop-index l = l.found.items ≡ piece_barriers l.greatest (take l.index (map fields l.list)) l.barriers
+invariant-loop-index l = l.found.items ≡ piece_barriers l.greatest (map fields l.list.descriptors.items) (take l.index l.list.barriers.items)

@@ -1,5 +1,5 @@
 use Rattle.std.proofs.Common.{◌≡◌, map, take}
-use Rattle.dsa_plan.specs.EmissionFaults.{is_fenced}
+use Rattle.dsa_descriptor.specs.Fences.{is_fenced}
 use Rattle.dsa_text.proofs.disassembling.fences_of.Given as goal
 
 -- the fences of the entries so far

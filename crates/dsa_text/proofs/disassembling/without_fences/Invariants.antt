@@ -1,6 +1,6 @@
 use Rattle.std.proofs.Common.{◌≡◌, take}
 use Rattle.std.specs.List.{flat_map}
-use Rattle.dsa_plan.specs.EmissionFaults.{unfenced}
+use Rattle.dsa_descriptor.specs.Fences.{unfenced}
 use Rattle.dsa_text.proofs.disassembling.without_fences.Given as goal
 
 -- the entries so far, without their fences

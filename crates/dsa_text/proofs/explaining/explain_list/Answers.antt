@@ -1,22 +1,18 @@
-use Rattle.std.proofs.Common.{Bool, IfOk, List, [], map, sym, subst}
+use Rattle.std.proofs.Common.{Bool, IfOk, List, [], sym, subst}
 use Rattle.std.proofs.lemmas.Result.{IfOk-weaker}
 use Rattle.dsa_descriptor.specs.declared.descriptor.Descriptor.{Descriptor}
-use Rattle.dsa_descriptor.specs.Descriptors.{fields}
-use Rattle.dsa_descriptor.specs.Lists.{HaveOneOwner}
 use Rattle.dsa_calls.specs.Lists.{IsListOf}
 use Rattle.dsa_calls.specs.Planned.{PlansOperations, Submission}
 use Rattle.dsa_calls.proofs.Over.{list_refused}
 use Rattle.dsa_text.specs.Explained.{ExplainsList, is_refused_list}
 use Rattle.dsa_text.proofs.explaining.explain_list.Goals as goal
 
-pub explain_operations-requires : goal.explain_operations-requires
-explain_operations-requires c = subst (λ (ds : List Descriptor). HaveOneOwner (map fields ds)) (sym c.deref.ensures.value) c.in-Ok.ensures.found.1
-
 pub returns-in-Ok : goal.returns-in-Ok
 returns-in-Ok c =
     let found = c.in-Ok.ensures.found in
-    let listed = subst (λ (ds : List Descriptor). IsListOf c.args.list.now ds) (sym c.deref.ensures.value) (record { spelled = found.0; owner = found.1 }) in
-    subst (λ (bs : List Bool). IfOk c.explain_operations.result (ExplainsList c.args.list.now bs [] c.args.settings.now c.args.form)) c.as_slice-none.ensures
+    let plain = c.without_barriers-plain.ensures in
+    let listed = subst (λ (ds : List Descriptor). IsListOf c.args.list.now ds) (sym plain.same) (record { spelled = found.0; owner = found.1 }) in
+    subst (λ (bs : List Bool). IfOk c.explain_operations.result (ExplainsList c.args.list.now bs [] c.args.settings.now c.args.form)) plain.none
     (c.explain_operations.ensures c.args.list.now listed)
 
 pub returns-in-Err : goal.returns-in-Err

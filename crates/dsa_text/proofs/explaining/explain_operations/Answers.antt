@@ -5,8 +5,11 @@ use Rattle.dsa_text.proofs.explaining.explain_operations.Goals as goal
 
 pub returns-in-Ok : goal.returns-in-Ok
 returns-in-Ok c = λ list listed.
-    operations_planned list c.args.marks.now (names_from c.args.source) c.args.settings.now c.args.form c.args.operations.now (submission_of c.in-Ok.planned) c.answer_with_warnings.result listed c.in-Ok.ensures c.answer_with_warnings.ensures
+    let operations = c.args.operations.now in
+    operations_planned list operations.barriers.items (names_from c.args.source) c.args.settings.now c.args.form operations.descriptors.items (submission_of c.in-Ok.planned) c.answer_with_warnings.result listed
+    c.in-Ok.ensures.answer c.in-Ok.planned.barriers.items c.in-Ok.ensures.barriers c.answer_with_warnings.ensures
 
 pub returns-in-Err : goal.returns-in-Err
 returns-in-Err c = λ list listed.
-    operations_refused list c.args.marks.now (names_from c.args.source) c.args.settings.now c.args.form c.args.operations.now c.in-Err.fault c.unplanned.result listed c.in-Err.ensures c.unplanned.ensures
+    let operations = c.args.operations.now in
+    operations_refused list operations.barriers.items (names_from c.args.source) c.args.settings.now c.args.form operations.descriptors.items c.in-Err.fault c.unplanned.result listed c.in-Err.ensures.answer c.unplanned.ensures

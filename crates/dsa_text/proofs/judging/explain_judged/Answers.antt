@@ -1,8 +1,6 @@
-use Rattle.std.proofs.Common.{inr, List, Err, map, sym, subst}
+use Rattle.std.proofs.Common.{inr, List, Err, sym, subst}
 use Rattle.std.proofs.lemmas.Result.{IfOk-weaker}
 use Rattle.dsa_descriptor.specs.declared.descriptor.Descriptor.{Descriptor}
-use Rattle.dsa_descriptor.specs.Descriptors.{fields}
-use Rattle.dsa_descriptor.specs.Lists.{HaveOneOwner}
 use Rattle.dsa_calls.specs.Judge.{Judges, JudgesPieces}
 use Rattle.dsa_calls.specs.Lists.{IsListOf}
 use Rattle.dsa_calls.proofs.Over.{list_refused, only_outcome, said_of_list}
@@ -11,20 +9,17 @@ use Rattle.dsa_text.specs.Explained.{is_refused_judge}
 use Rattle.dsa_text.proofs.Answered.{told_cause}
 use Rattle.dsa_text.proofs.judging.explain_judged.Goals as goal
 
-pub explain_pieces-requires : goal.explain_pieces-requires
-explain_pieces-requires c = subst (λ (ds : List Descriptor). HaveOneOwner (map fields ds)) (sym c.deref.ensures.value) c.in-Ok.ensures.found.1
-
 pub returns-in-Ok-clause-answer : goal.returns-in-Ok-clause-answer
 returns-in-Ok-clause-answer c =
     let found = c.in-Ok.ensures.found in
-    let listed = subst (λ (ds : List Descriptor). IsListOf c.args.list.now ds) (sym c.deref.ensures.value) (record { spelled = found.0; owner = found.1 }) in
+    let listed = subst (λ (ds : List Descriptor). IsListOf c.args.list.now ds) (sym c.without_barriers-plain.ensures.same) (record { spelled = found.0; owner = found.1 }) in
     c.explain_pieces.ensures.answer c.args.list.now listed
 
 pub returns-in-Ok-clause-refused : goal.returns-in-Ok-clause-refused
 returns-in-Ok-clause-refused c = λ fault judges.
     let found = c.in-Ok.ensures.found in
-    let listed = subst (λ (ds : List Descriptor). IsListOf c.args.list.now ds) (sym c.deref.ensures.value) (record { spelled = found.0; owner = found.1 }) in
-    let said = said_of_list (λ fs o. JudgesPieces fs c.args.plan.now c.args.settings.now o) c.args.list.now c.deref.result.now (Err fault) listed judges in
+    let listed = subst (λ (ds : List Descriptor). IsListOf c.args.list.now ds) (sym c.without_barriers-plain.ensures.same) (record { spelled = found.0; owner = found.1 }) in
+    let said = said_of_list (λ fs o. JudgesPieces fs c.args.plan.now c.args.settings.now o) c.args.list.now c.without_barriers-plain.result.descriptors.items (Err fault) listed judges in
     IfOk-weaker c.explain_pieces.result _ _ (λ a h. inr h) (c.explain_pieces.ensures.refused fault said)
 
 pub returns-in-Err-clause-answer : goal.returns-in-Err-clause-answer

@@ -1,4 +1,4 @@
-use Rattle.std.proofs.Common.{[], None, refl}
+use Rattle.std.proofs.Common.{◌∙◌, [], None, refl}
 use Rattle.std.proofs.lemmas.Result.{IfOk-weaker}
 use Rattle.dsa_text.specs.declared.form.Form.TheVariants.{Waits}
 use Rattle.dsa_text.specs.Explained.{is_waiting}
@@ -9,5 +9,5 @@ use Rattle.dsa_text.proofs.judging.judged_waits.Goals as goal
 pub returns : goal.returns
 returns c =
     IfOk-weaker c.answer_plan.result _ _ (λ a h. is_waiting refl h)
-    (subject_answered c.answer_plan.result c.args.settings.now c.plain.result c.args.plan.now c.args.pieces.now [] unlabelled None Waits
-    c.plain.ensures.plan c.plain.ensures.pieces c.plain.ensures.barriers c.plain.ensures.labels c.plain.ensures.least c.answer_plan.ensures)
+    (subject_answered c.answer_plan.result c.args.settings.now c.plain.result c.args.plan.now c.args.list.now.descriptors.items [] unlabelled None Waits
+    c.plain.ensures.plan (c.plain.ensures.pieces ∙ c.deref.ensures.value) c.plain.ensures.barriers c.plain.ensures.labels c.plain.ensures.least c.answer_plan.ensures)

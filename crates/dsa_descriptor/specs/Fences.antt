@@ -1,0 +1,44 @@
+-- The flag 0x0001, fence, of the entries of a list: an entry may be read without it, and it is a barrier before the operation.
+use Rattle.std.specs.Prelude.{ℕ, ◌*◌, ◌/◌, ◌-◌, ◌%◌, ◌==◌, Bool, false, List, [], ◌∷◌, ◌++◌, drop, length, map, slice_index, slice_set, if◌then◌else◌}
+use Rattle.std.specs.List.{flat_map, list_any}
+use Rattle.dsa_descriptor.specs.Lists.{entries}
+
+-- the flag 0x0001 is set (specification 341204, fence)
+abbrev pub is_fenced : List ℕ → Bool
+is_fenced bytes = slice_index bytes 4 % 2 == 1
+
+-- the bytes with that flag cleared
+abbrev pub unfenced : List ℕ → List ℕ
+unfenced bytes = slice_set bytes 4 (slice_index bytes 4 - slice_index bytes 4 % 2)
+
+-- whether each entry of 64 bytes has the flag
+abbrev pub fences_of : List ℕ → List Bool
+fences_of bytes = map is_fenced (entries bytes)
+
+-- the bytes with that flag cleared in each entry, and what follows the last entry
+abbrev pub unfenced_list : List ℕ → List ℕ
+unfenced_list bytes = flat_map unfenced (entries bytes) ++ drop (64 * (length bytes / 64)) bytes
+
+-- a barrier before the first operation says nothing
+abbrev pub after_first : List Bool → List Bool
+after_first [] = []
+after_first (mark ∷ marks) = false ∷ marks
+
+-- the marks, if one of them is set; else none
+abbrev pub set_marks : List Bool → List Bool
+set_marks marks = if list_any (λ mark. mark) marks then marks else []
+
+-- the barriers of the operations that the bytes spell, if there is one: the flag of an entry after the first is one before
+-- its operation (this project's choice)
+abbrev pub barriers_of : List ℕ → List Bool
+barriers_of bytes = set_marks (after_first (fences_of bytes))
+
+-- ---- for private clauses
+
+-- the entry as it is read: with its flag, or without
+abbrev pub seen_entry : Bool → List ℕ → List ℕ
+seen_entry as_barriers bytes = if as_barriers then unfenced bytes else bytes
+
+-- the bytes as they are read
+abbrev pub seen_list : Bool → List ℕ → List ℕ
+seen_list as_barriers bytes = if as_barriers then unfenced_list bytes else bytes

@@ -11,30 +11,31 @@ use Rattle.dsa_audit.specs.declared.needless.FenceUse.{FenceUse}
 use Rattle.dsa_audit.specs.declared.repeats.Action.{Action}
 use Rattle.dsa_audit.specs.Members.{PossibleConflict}
 use Rattle.dsa_audit.specs.Repeats.{OrderMatters}
+use Rattle.dsa_audit.specs.Accepted.{IsLeft}
 use Rattle.dsa_audit.specs.Audits.{HasFence, IsMissing, PlaceHolds, CanFail, Shows, IsCorrected, IsReduced, Separates}
 use Rattle.dsa_audit.specs.Laws.{IsBetween, AllCanFail, Starts, Holds}
 use Rattle.dsa_audit.proofs.Flags.{fence_within}
 
-spare : (ms : List Member) (bs vs : List Bool) (T : ℕ → ℕ → Type 0) (h k : Group) (uses : List FenceUse) → ((i j : ℕ) → T i j → PossibleConflict ms i j)
-    → IsReduced (PossibleConflict ms) bs vs h uses k → Separates T h → Separates T k
-spare ms bs vs T h k uses may reduced separates a b ordered within conflict =
+spare : (ms : List Member) (bs vs ks : List Bool) (T : ℕ → ℕ → Type 0) (h k : Group) (uses : List FenceUse) → ((i j : ℕ) → T i j → PossibleConflict ms i j)
+    → IsReduced (PossibleConflict ms) bs vs ks h uses k → Separates T h → Separates T k
+spare ms bs vs ks T h k uses may reduced separates a b ordered within conflict =
     let inside : b < length h = omega (arith, reduced.less.same_length) in
     reduced.separates a b ordered inside (may a b conflict) (separates a b ordered inside conflict)
 
-given_at : (K : ℕ → ℕ → Type 0) (ms : List Member) (bs vs : List Bool) (g h k : Group) (uses : List FenceUse) (m : ℕ) (place : FencePlace) → ((i j : ℕ) → K i j → PossibleConflict ms i j)
-    → length h ≡ length g → m < length g → IsReduced (PossibleConflict ms) bs vs h uses k → HasFence h m → ¬ HasFence k m → PlaceHolds K g h m place → HasFence g m
-given_at K ms bs vs g h k uses m NoFence can same within reduced here gone is = absurd (is.1 here)
-given_at K ms bs vs g h k uses m Given can same within reduced here gone is = is.0
-given_at K ms bs vs g h k uses m (Missing i) can same within reduced here gone is =
+given_at : (K : ℕ → ℕ → Type 0) (ms : List Member) (bs vs ks : List Bool) (g h k : Group) (uses : List FenceUse) (m : ℕ) (place : FencePlace) → ((i j : ℕ) → K i j → PossibleConflict ms i j)
+    → length h ≡ length g → m < length g → IsReduced (PossibleConflict ms) bs vs ks h uses k → HasFence h m → ¬ HasFence k m → PlaceHolds K g h m place → HasFence g m
+given_at K ms bs vs ks g h k uses m NoFence can same within reduced here gone is = absurd (is.1 here)
+given_at K ms bs vs ks g h k uses m Given can same within reduced here gone is = is.0
+given_at K ms bs vs ks g h k uses m (Missing i) can same within reduced here gone is =
     let p = reduced.separates i m is.before (omega arith) (can i m is.conflict) (record { at = m; behind = is.before; up_to = omega arith; fence = here }) in
     elim (cases_lt p.at m) [
       | inl before ↦ absurd (is.alone p.at p.behind before (reduced.less.fences p.at p.fence))
       | inr from ↦ let e : p.at ≡ m = omega (arith, p.up_to) in absurd (gone (subst (HasFence k) e p.fence))
     ]
 
-same_starts : (ms : List Member) (bs vs : List Bool) (h k : Group) (uses : List FenceUse) (failed : ℕ → Bool) (b : ℕ) → IsReduced (PossibleConflict ms) bs vs h uses k
+same_starts : (ms : List Member) (bs vs ks : List Bool) (h k : Group) (uses : List FenceUse) (failed : ℕ → Bool) (b : ℕ) → IsReduced (PossibleConflict ms) bs vs ks h uses k
     → AllCanFail bs failed → Starts failed h b ↔ Starts failed k b
-same_starts ms bs vs h k uses failed b reduced can = (
+same_starts ms bs vs ks h k uses failed b reduced can = (
   (λ starts a fails p. starts a fails (record { at = p.at; behind = p.behind; up_to = p.up_to; fence = reduced.less.fences p.at p.fence })),
   (λ starts a fails p.
       let up_to : p.at ≤ p.at = omega arith in
@@ -42,21 +43,21 @@ same_starts ms bs vs h k uses failed b reduced can = (
       starts a fails (record { at = q.at; behind = q.behind; up_to = omega (arith, q.up_to, p.up_to); fence = q.fence })),
 )
 
-pub held : (acts : List Action) (ds ms : List Member) (bs vs : List Bool) (T : ℕ → ℕ → Type 0) (g h k : Group) (places : List FencePlace) (uses : List FenceUse)
-    → IsBetween acts ds ms T → IsCorrected (OrderMatters acts ds) g places h → IsReduced (PossibleConflict ms) bs vs h uses k → Holds T acts ds bs vs g h k places
-held acts ds ms bs vs T g h k places uses between corrected reduced =
-    let K : ℕ → ℕ → Type 0 = OrderMatters acts ds in
-    let can : (i j : ℕ) → K i j → PossibleConflict ms i j = λ i j c. between.possible i j (between.known i j c) in
+pub held : (acts : List Action) (ds ms : List Member) (bs vs ks : List Bool) (T A : ℕ → ℕ → Type 0) (g h k : Group) (places : List FencePlace) (uses : List FenceUse)
+    → IsBetween acts ds ms T → IsCorrected (IsLeft (OrderMatters acts ds) A g) g places h → IsReduced (PossibleConflict ms) bs vs ks h uses k → Holds T A acts ds bs vs g h k places
+held acts ds ms bs vs ks T A g h k places uses between corrected reduced =
+    let K : ℕ → ℕ → Type 0 = IsLeft (OrderMatters acts ds) A g in
+    let can : (i j : ℕ) → K i j → PossibleConflict ms i j = λ i j c. between.possible i j (between.known i j c.0) in
     record {
       missing = λ i m within is.
           let found : IsMissing K g h i m = subst (PlaceHolds K g h m) is (corrected.each m within) in
-          (found.before, between.known i m found.conflict, found.unseparated);
-      spared = spare ms bs vs T h k uses between.possible reduced;
+          (found.before, between.known i m found.conflict.0, found.unseparated, λ lists. found.conflict.1 (found.unseparated, lists));
+      spared = spare ms bs vs ks T h k uses between.possible reduced;
       given = λ m here gone.
           let w : m < length g = omega (arith, fence_within h m here, corrected.more.same_length) in
-          given_at K ms bs vs g h k uses m (get_or places m NoFence) can corrected.more.same_length w reduced here gone (corrected.each m w);
-      legal = spare ms bs vs K h k uses can reduced corrected.separates;
-      starts = λ failed b can. same_starts ms bs vs h k uses failed b reduced can;
+          given_at K ms bs vs ks g h k uses m (get_or places m NoFence) can corrected.more.same_length w reduced here gone (corrected.each m w);
+      legal = spare ms bs vs ks K h k uses can reduced corrected.separates;
+      starts = λ failed b can. same_starts ms bs vs ks h k uses failed b reduced can;
       shows = λ a b shows within. (
         reduced.signals a b shows (omega (arith, within, corrected.more.same_length)),
         (λ p. record { at = p.at; behind = p.behind; up_to = p.up_to; fence = reduced.less.fences p.at p.fence }),
@@ -67,12 +68,12 @@ held acts ds ms bs vs T g h k places uses between corrected reduced =
     }
 
 -- what keeps more is one of the groups among which the least is
-pub freed : (C : ℕ → ℕ → Type 0) (bs vs bs' vs' : List Bool) (h k k' : Group) (uses uses' : List FenceUse)
+pub freed : (C : ℕ → ℕ → Type 0) (bs vs bs' vs' ks : List Bool) (h k k' : Group) (uses uses' : List FenceUse)
     → ((m : ℕ) → CanFail bs' m → CanFail bs m) → ((m : ℕ) → Shows vs' m → Shows vs m)
-    → IsReduced C bs vs h uses k → IsReduced C bs' vs' h uses' k' → fence_count k' ≤ fence_count k
-freed C bs vs bs' vs' h k k' uses uses' fewer_fail fewer_show reduced other =
+    → IsReduced C bs vs ks h uses k → IsReduced C bs' vs' ks h uses' k' → fence_count k' ≤ fence_count k
+freed C bs vs bs' vs' ks h k k' uses uses' fewer_fail fewer_show reduced other =
     other.least k reduced.less reduced.separates (λ m b fails. reduced.guards m b (fewer_fail m fails))
-    (λ a b shows. reduced.signals a b (fewer_show b shows))
+    (λ a b shows. reduced.signals a b (fewer_show b shows)) reduced.holds
 
 pub separates : (C : ℕ → ℕ → Type 0) (start : ℕ) (g : Group) → Separates (λ a b. C (start + a) (start + b)) g → SeparatesConflicts C start g
 separates C start g apart a b pair =

@@ -1,18 +1,20 @@
 -- Last conflicts of the members of a batch.
-use Rattle.std.proofs.Common.{◌≡◌, ℕ, ◌+◌, ◌<◌, ◌≤◌, ◌⊎◌, inl, inr, List, [], ◌∷◌, ◌++◌, length, get_or, Option, Some, None, refl, sym, ap, subst, ◌∙◌, arith}
-use Rattle.std.specs.Prelude.{slice_get, MatchOption}
-use Rattle.std.proofs.lemmas.Bool.{cases_eq, cases_lt}
-use Rattle.std.proofs.lemmas.Option.{slice_get-get_or, slice_get_within}
+use Rattle.std.proofs.Common.{◌≡◌, ℕ, zero, suc, ◌+◌, ◌<◌, ◌≤◌, ◌⊎◌, inl, inr, List, [], ◌∷◌, ◌++◌, length, get_or, Option, Some, None, refl, sym, ap, subst, ◌∙◌, arith}
+use Rattle.std.specs.Prelude.{slice_get}
+use Rattle.std.proofs.lemmas.Bool.{cases_eq}
+use Rattle.std.proofs.lemmas.Option.{same_Some, slice_get-get_or, slice_get_within}
 use Rattle.dsa_ranges.specs.declared.span.Touched.{Touched}
 use Rattle.dsa_ranges.specs.Ranges.{SpansConflict}
 use Rattle.dsa_conflicts.specs.Access.{IsGreatest, later}
 use Rattle.dsa_conflicts.proofs.Greatest.{greatest_either, greatest_same}
-use Rattle.dsa_conflicts.proofs.Lasts.{ConflictsAt, each_more}
+use Rattle.dsa_conflicts.specs.Sweep.{Segment, SpansStandAgainst}
+use Rattle.dsa_conflicts.proofs.Lasts.{AreSwept, ConflictsAt, each_more, found_before}
+use Rattle.dsa_audit.specs.declared.looks.Look.{Look}
 use Rattle.dsa_audit.specs.declared.member.Member.{Member}
 use Rattle.dsa_audit.specs.declared.member.Member.TheVariants.{Known, Unknown}
 use Rattle.dsa_audit.specs.declared.member.Unseen.{Unseen}
 use Rattle.dsa_audit.specs.Members.{AreKnownToConflict, CanConflict, IsUnknownAt, KnownConflict, PossibleConflict, reads_of, writes_of}
-use Rattle.dsa_audit.specs.Steps.{AreLasts, IsLastFrom, NoneFrom}
+use Rattle.dsa_audit.specs.Steps.{AreLasts, AreLooks, IsLastFrom, IsLastOf, NoneFrom}
 
 -- ---- one more last conflict
 
@@ -23,34 +25,20 @@ more_lasts C lasts k o count have here =
 pub no_lasts : (C : ℕ → ℕ → Type 0) → AreLasts C []
 no_lasts C b last at = absurd cc
 
--- ---- a last conflict as one of a part
+-- ---- the one that a member has in a list, as one of a part
 
-pub none_from : (C : ℕ → ℕ → Type 0) (from before b : ℕ) → before ≤ b → IsGreatest (λ a. (a < b) × C a b) None → NoneFrom C from before b
-none_from C from before b le none = λ i begun ends conflict. none i (omega (arith, ends, le), conflict)
+pub none_of : (lasts : List (Option ℕ)) (epoch at later : ℕ) → slice_get lasts later ≡ Some None → NoneFrom (IsLastOf lasts) epoch at later
+none_of lasts epoch at later here i begun ends last = cc
 
-pub none_behind : (C : ℕ → ℕ → Type 0) (from before b last : ℕ) → before ≤ b → last < from → IsGreatest (λ a. (a < b) × C a b) (Some last) → NoneFrom C from before b
-none_behind C from before b last le low greatest = λ i begun ends conflict. omega (arith, low, begun, greatest.1 i (omega (arith, ends, le), conflict))
+pub early_of : (lasts : List (Option ℕ)) (epoch at later l : ℕ) → slice_get lasts later ≡ Some (Some l) → l < epoch → NoneFrom (IsLastOf lasts) epoch at later
+early_of lasts epoch at later l here low i begun ends last = let same : l ≡ i = cc in omega (arith, low, begun, same)
 
-pub last_inside : (C : ℕ → ℕ → Type 0) (from before b last : ℕ) → before ≤ b → from ≤ last → last < before → IsGreatest (λ a. (a < b) × C a b) (Some last) → IsLastFrom C from before b last
-last_inside C from before b last le begun ends greatest =
-    record {
-      begun = begun;
-      ends = ends;
-      conflict = greatest.0.1;
-      last = λ k behind up_to conflict. omega (arith, behind, greatest.1 k (omega (arith, up_to, le), conflict));
-    }
+pub late_of : (lasts : List (Option ℕ)) (epoch at later l : ℕ) → slice_get lasts later ≡ Some (Some l) → at ≤ l → NoneFrom (IsLastOf lasts) epoch at later
+late_of lasts epoch at later l here high i begun ends last = let same : l ≡ i = cc in omega (arith, high, ends, same)
 
--- the last conflict from the first member on is the last of all
-pub greatest_of : (C : ℕ → ℕ → Type 0) (k : ℕ) (o : Option ℕ) → MatchOption o (NoneFrom C 0 k k) (λ i. IsLastFrom C 0 k k i) → IsGreatest (λ a. (a < k) × C a k) o
-greatest_of C k None none = λ i (lt, conflict). none i (omega arith) lt conflict
-greatest_of C k (Some i) is = (
-  (is.ends, is.conflict),
-  λ other (lt, conflict).
-      elim (cases_lt i other) [
-        | inl later ↦ absurd (is.last other later lt conflict)
-        | inr le ↦ le
-      ],
-)
+pub one_of : (lasts : List (Option ℕ)) (epoch at later l : ℕ) → slice_get lasts later ≡ Some (Some l) → epoch ≤ l → l < at → IsLastFrom (IsLastOf lasts) epoch at later l
+one_of lasts epoch at later l here begun ends =
+    record { begun = begun; ends = ends; conflict = here; last = λ k behind up_to last. let same : l ≡ k = cc in omega (arith, behind, same) }
 
 -- ---- known conflicts are those of the spans that are known
 
@@ -71,12 +59,35 @@ spans_of_conflict (Known t) (Unknown why) h = absurd h
 spans_of_conflict (Unknown why) (Known u) h = absurd h
 spans_of_conflict (Unknown why) (Unknown other) h = absurd h
 
-pub known_last : (ms : List Member) (k : ℕ) (o : Option ℕ) → IsGreatest (λ a. (a < k) × ConflictsAt reads_of writes_of ms a k) o → IsGreatest (λ a. (a < k) × KnownConflict ms a k) o
-known_last ms k o h =
-    greatest_same (λ a. (a < k) × ConflictsAt reads_of writes_of ms a k) (λ a. (a < k) × KnownConflict ms a k) o
+pub known_before : (ms : List Member) (x k : ℕ) (o : Option ℕ) → IsGreatest (λ a. (a < x) × ConflictsAt reads_of writes_of ms a k) o → IsGreatest (λ a. (a < x) × KnownConflict ms a k) o
+known_before ms x k o h =
+    greatest_same (λ a. (a < x) × ConflictsAt reads_of writes_of ms a k) (λ a. (a < x) × KnownConflict ms a k) o
     (λ a (lt, (m, n, at_m, at_n, c)). (lt, (m, n, at_m, at_n, conflict_of m n c)))
     (λ a (lt, (m, n, at_m, at_n, c)). (lt, (m, n, at_m, at_n, spans_of_conflict m n c)))
     h
+
+-- ---- what is looked for
+
+pub look_more : (P : Look → Type 0) (xs : List Look) (x : Look) → ((k : ℕ) (y : Look) → slice_get xs k ≡ Some y → P y) → P x → (k : ℕ) (y : Look) → slice_get (xs ++ x ∷ []) k ≡ Some y → P y
+look_more P [] x each here zero y e = subst P (same_Some x y e) here
+look_more P [] x each here (suc k) y e = cc
+look_more P (z ∷ xs) x each here zero y e = each zero y e
+look_more P (z ∷ xs) x each here (suc k) y e = look_more P xs x (λ j w f. each (suc j) w f) here k y e
+
+pub no_looks : (ms : List Member) → AreLooks ms []
+no_looks ms j l at = absurd cc
+
+pub look_there : (ls : List Look) (k : ℕ) (l : Look) → k < length ls → l ≡ get_or ls k l → slice_get ls k ≡ Some l
+look_there ls k l lt read = slice_get-get_or ls k l lt ∙ ap Some (sym read)
+
+pub look_of : (ms : List Member) (l : Look) (before later : ℕ) → l.before ≡ before → l.later ≡ later → IsGreatest (λ a. (a < l.before) × KnownConflict ms a l.later) l.last
+    → IsGreatest (λ a. (a < before) × KnownConflict ms a later) l.last
+look_of ms l before later e f h =
+    subst (λ (n : ℕ). IsGreatest (λ a. (a < n) × KnownConflict ms a later) l.last) e (subst (λ (n : ℕ). IsGreatest (λ a. (a < l.before) × KnownConflict ms a n) l.last) f h)
+
+pub look_found : (ms : List Member) (x k : ℕ) (m : Member) (segments : List Segment) (o : Option ℕ) → slice_get ms k ≡ Some m → AreSwept reads_of writes_of ms x segments
+    → IsGreatest (SpansStandAgainst (reads_of m) (writes_of m) segments) o → IsGreatest (λ a. (a < x) × KnownConflict ms a k) o
+look_found ms x k m segments o at swept found = known_before ms x k o (found_before reads_of writes_of ms x k m at segments swept o found)
 
 -- ---- conflicts that are not ruled out
 
@@ -97,10 +108,10 @@ unknown_can m n (inl h) = known_can m n h
 unknown_can m (Known u) (inr (why, is)) = subst (λ (x : Member). CanConflict x (Known u)) (sym is) tt
 unknown_can m (Unknown other) (inr (why, is)) = subst (λ (x : Member). CanConflict x (Unknown other)) (sym is) tt
 
-pub last_of_known : (ms : List Member) (k : ℕ) (n : Member) (unknown known : Option ℕ) → slice_get ms k ≡ Some n → (IsUnknownAt ms k → ⊥) →
-    IsGreatest (λ a. (a < k) × IsUnknownAt ms a) unknown → IsGreatest (λ a. (a < k) × KnownConflict ms a k) known → IsGreatest (λ a. (a < k) × PossibleConflict ms a k) (later unknown known)
-last_of_known ms k n unknown known at_k seen by_unknown by_known =
-    greatest_same (λ a. ((a < k) × IsUnknownAt ms a) ⊎ ((a < k) × KnownConflict ms a k)) (λ a. (a < k) × PossibleConflict ms a k) (later unknown known)
+pub last_of_known : (ms : List Member) (end k : ℕ) (n : Member) (unknown known : Option ℕ) → slice_get ms k ≡ Some n → (IsUnknownAt ms k → ⊥) →
+    IsGreatest (λ a. (a < end) × IsUnknownAt ms a) unknown → IsGreatest (λ a. (a < end) × KnownConflict ms a k) known → IsGreatest (λ a. (a < end) × PossibleConflict ms a k) (later unknown known)
+last_of_known ms end k n unknown known at_k seen by_unknown by_known =
+    greatest_same (λ a. ((a < end) × IsUnknownAt ms a) ⊎ ((a < end) × KnownConflict ms a k)) (λ a. (a < end) × PossibleConflict ms a k) (later unknown known)
     (λ a h. elim h [
       | inl (lt, (why, at)) ↦ (lt, (Unknown why, n, at, at_k, unknown_can (Unknown why) n (inr (why, refl))))
       | inr (lt, (m, o, at_m, at_o, c)) ↦ (lt, (m, o, at_m, at_o, known_can m o c))
@@ -109,19 +120,19 @@ last_of_known ms k n unknown known at_k seen by_unknown by_known =
       | inl why ↦ inl (lt, why)
       | inr conflict ↦ inr (lt, conflict)
     ])
-    (greatest_either (λ a. (a < k) × IsUnknownAt ms a) (λ a. (a < k) × KnownConflict ms a k) unknown known by_unknown by_known)
+    (greatest_either (λ a. (a < end) × IsUnknownAt ms a) (λ a. (a < end) × KnownConflict ms a k) unknown known by_unknown by_known)
 
 can_unknown : (m : Member) (why : Unseen) → CanConflict m (Unknown why)
 can_unknown (Known t) why = tt
 can_unknown (Unknown other) why = tt
 
 -- one of which nothing is known can conflict with each before it
-pub last_of_unknown : (ms : List Member) (k : ℕ) (why : Unseen) (o : Option ℕ) → slice_get ms k ≡ Some (Unknown why) → IsGreatest (λ a. a < k) o → IsGreatest (λ a. (a < k) × PossibleConflict ms a k) o
-last_of_unknown ms k why o at_k h =
-    greatest_same (λ a. a < k) (λ a. (a < k) × PossibleConflict ms a k) o
+pub last_of_unknown : (ms : List Member) (end k : ℕ) (why : Unseen) (o : Option ℕ) → end ≤ k → slice_get ms k ≡ Some (Unknown why) → IsGreatest (λ a. a < end) o → IsGreatest (λ a. (a < end) × PossibleConflict ms a k) o
+last_of_unknown ms end k why o le at_k h =
+    greatest_same (λ a. a < end) (λ a. (a < end) × PossibleConflict ms a k) o
     (λ a lt.
     let m : Member = get_or ms a (Unknown why) in
-    let there : slice_get ms a ≡ Some m = slice_get-get_or ms a (Unknown why) (omega (arith, lt, slice_get_within ms k (Unknown why) at_k)) in
+    let there : slice_get ms a ≡ Some m = slice_get-get_or ms a (Unknown why) (omega (arith, lt, le, slice_get_within ms k (Unknown why) at_k)) in
     (lt, (m, Unknown why, there, at_k, can_unknown m why)))
     (λ a (lt, rest). lt)
     h

@@ -3,5 +3,7 @@ pub mod Scanned
 pub mod Guards
 pub mod Reducing
 pub mod Held
+pub mod OuterLasts
+pub mod Accepting
 pub mod LastConflicts
 pub mod Repeated

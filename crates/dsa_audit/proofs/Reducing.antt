@@ -6,7 +6,7 @@ use Rattle.std.proofs.lemmas.Bool.{true≢false, cases_lt}
 use Rattle.dsa_settings.specs.Plan.{Group, fence_count}
 use Rattle.dsa_audit.specs.declared.needless.FenceUse.{FenceUse}
 use Rattle.dsa_audit.specs.declared.needless.FenceUse.TheVariants as fence_use
-use Rattle.dsa_audit.specs.Audits.{HasFence, IsSeparated, SeparatesAsMuch, HasFencesOf, KeepsGuards, KeepsSignals, IsGuard, IsSignal, IsFirstGuard, IsFirstSignal, GuardsNone, SignalsNone, IsSpared, UseHolds, IsReduced}
+use Rattle.dsa_audit.specs.Audits.{HasFence, IsSeparated, SeparatesAsMuch, HasFencesOf, KeepsGuards, KeepsHeld, KeepsSignals, IsGuard, IsHeld, IsSignal, IsFirstGuard, IsFirstSignal, GuardsNone, SignalsNone, IsSpared, UseHolds, IsReduced}
 use Rattle.dsa_audit.specs.Steps.{IsNextUse, IsSpare, IsWitness, is_kept, epoch_kept, given_after}
 use Rattle.dsa_audit.proofs.Flags.{fence_within, pushed_before, pushed_back, pushed_last, pushed_old, separated_pushed, count_more, count_all, count_true, count_false}
 use Rattle.dsa_audit.proofs.Scanned.{IsCounted, IsMore}
@@ -19,7 +19,7 @@ pub record IsLater (g : Group) (at b : ℕ) : Type 0 where
   pub up_to : place ≤ b
   pub fence : HasFence g place
 
-pub record Reducing (C : ℕ → ℕ → Type 0) (bs vs : List Bool) (g : Group) (at last epoch : ℕ) (us : List FenceUse) (h : Group) : Type 0 where
+pub record Reducing (C : ℕ → ℕ → Type 0) (bs vs ks : List Bool) (g : Group) (at last epoch : ℕ) (us : List FenceUse) (h : Group) : Type 0 where
   pub count : length h ≡ at
   pub uses : length us ≡ at
   pub behind : epoch ≤ at
@@ -30,8 +30,9 @@ pub record Reducing (C : ℕ → ℕ → Type 0) (bs vs : List Bool) (g : Group)
   pub begins : IsLastGiven g at last
   pub guards : (m k : ℕ) → k < at → IsGuard bs g k m → HasFence g k → HasFence h k
   pub signals : (k j : ℕ) → k < at → IsSignal vs g k j → HasFence g k → HasFence h k
-  pub least : (other : Group) → HasFencesOf other g → SeparatesAsMuch C g other → KeepsGuards bs g other → KeepsSignals vs g other → IsCounted h at epoch other
-  pub each : (k : ℕ) → k < at → UseHolds C bs vs g h k (get_or us k fence_use.NoFence)
+  pub holds : (k : ℕ) → k < at → IsHeld ks k → HasFence g k → HasFence h k
+  pub least : (other : Group) → HasFencesOf other g → SeparatesAsMuch C g other → KeepsGuards bs g other → KeepsSignals vs g other → KeepsHeld ks g other → IsCounted h at epoch other
+  pub each : (k : ℕ) → k < at → UseHolds C bs vs ks g h k (get_or us k fence_use.NoFence)
 
 spared_pushed : (C : ℕ → ℕ → Type 0) (g h : Group) (x : Bool) (k : ℕ) → IsSpared C g h k → IsSpared C g (h ++ x ∷ []) k
 spared_pushed C g h x k is =
@@ -45,13 +46,14 @@ spared_pushed C g h x k is =
           ];
     }
 
-use_pushed : (C : ℕ → ℕ → Type 0) (bs vs : List Bool) (g h : Group) (x : Bool) (k : ℕ) (u : FenceUse) → k < length h → UseHolds C bs vs g h k u → UseHolds C bs vs g (h ++ x ∷ []) k u
-use_pushed C bs vs g h x k fence_use.NoFence lt (given, none) = (given, λ f. none (pushed_old h x k lt f))
-use_pushed C bs vs g h x k fence_use.Needless lt (given, none, safe, mute) = (given, (λ f. none (pushed_old h x k lt f)), safe, mute)
-use_pushed C bs vs g h x k (fence_use.Guarding m) lt (is, first, mute) = (spared_pushed C g h x k is, first, mute)
-use_pushed C bs vs g h x k (fence_use.Signalling j) lt (is, safe, first) = (spared_pushed C g h x k is, safe, first)
-use_pushed C bs vs g h x k (fence_use.GuardingAndSignalling m j) lt (is, guards, signals) = (spared_pushed C g h x k is, guards, signals)
-use_pushed C bs vs g h x k (fence_use.Needed i j) lt is =
+use_pushed : (C : ℕ → ℕ → Type 0) (bs vs ks : List Bool) (g h : Group) (x : Bool) (k : ℕ) (u : FenceUse) → k < length h → UseHolds C bs vs ks g h k u → UseHolds C bs vs ks g (h ++ x ∷ []) k u
+use_pushed C bs vs ks g h x k fence_use.NoFence lt (given, none) = (given, λ f. none (pushed_old h x k lt f))
+use_pushed C bs vs ks g h x k fence_use.Needless lt (given, none, safe, mute, loose) = (given, (λ f. none (pushed_old h x k lt f)), safe, mute, loose)
+use_pushed C bs vs ks g h x k fence_use.Held lt (is, safe, mute, held) = (spared_pushed C g h x k is, safe, mute, held)
+use_pushed C bs vs ks g h x k (fence_use.Guarding m) lt (is, first, mute) = (spared_pushed C g h x k is, first, mute)
+use_pushed C bs vs ks g h x k (fence_use.Signalling j) lt (is, safe, first) = (spared_pushed C g h x k is, safe, first)
+use_pushed C bs vs ks g h x k (fence_use.GuardingAndSignalling m j) lt (is, guards, signals) = (spared_pushed C g h x k is, guards, signals)
+use_pushed C bs vs ks g h x k (fence_use.Needed i j) lt is =
     record {
       before = is.before;
       behind = is.behind;
@@ -63,20 +65,20 @@ use_pushed C bs vs g h x k (fence_use.Needed i j) lt is =
       alone_after = is.alone_after;
     }
 
-each_pushed : (C : ℕ → ℕ → Type 0) (bs vs : List Bool) (g h : Group) (x : Bool) (at : ℕ) (us : List FenceUse) (u : FenceUse) → length h ≡ at → length us ≡ at
-    → ((k : ℕ) → k < at → UseHolds C bs vs g h k (get_or us k fence_use.NoFence)) → UseHolds C bs vs g (h ++ x ∷ []) at u
-    → (k : ℕ) → k < at + 1 → UseHolds C bs vs g (h ++ x ∷ []) k (get_or (us ++ u ∷ []) k fence_use.NoFence)
-each_pushed C bs vs g h x at us u count uses each last k lt =
+each_pushed : (C : ℕ → ℕ → Type 0) (bs vs ks : List Bool) (g h : Group) (x : Bool) (at : ℕ) (us : List FenceUse) (u : FenceUse) → length h ≡ at → length us ≡ at
+    → ((k : ℕ) → k < at → UseHolds C bs vs ks g h k (get_or us k fence_use.NoFence)) → UseHolds C bs vs ks g (h ++ x ∷ []) at u
+    → (k : ℕ) → k < at + 1 → UseHolds C bs vs ks g (h ++ x ∷ []) k (get_or (us ++ u ∷ []) k fence_use.NoFence)
+each_pushed C bs vs ks g h x at us u count uses each last k lt =
     elim (cases_lt k at) [
       | inl below ↦
-          subst (UseHolds C bs vs g (h ++ x ∷ []) k) (sym (get_or-append us (u ∷ []) fence_use.NoFence k (omega arith)))
-          (use_pushed C bs vs g h x k (get_or us k fence_use.NoFence) (omega arith) (each k below))
+          subst (UseHolds C bs vs ks g (h ++ x ∷ []) k) (sym (get_or-append us (u ∷ []) fence_use.NoFence k (omega arith)))
+          (use_pushed C bs vs ks g h x k (get_or us k fence_use.NoFence) (omega arith) (each k below))
       | inr above ↦
           let e : length us ≡ k = omega arith in
           let here : get_or (us ++ u ∷ []) k fence_use.NoFence ≡ u =
           subst (λ (z : ℕ). get_or (us ++ u ∷ []) z fence_use.NoFence ≡ u) e (get_or-append_seam us u [] fence_use.NoFence) in
           let same : at ≡ k = omega arith in
-          subst (UseHolds C bs vs g (h ++ x ∷ []) k) (sym here) (subst (λ (z : ℕ). UseHolds C bs vs g (h ++ x ∷ []) z u) same last)
+          subst (UseHolds C bs vs ks g (h ++ x ∷ []) k) (sym here) (subst (λ (z : ℕ). UseHolds C bs vs ks g (h ++ x ∷ []) z u) same last)
     ]
 
 not_last : (h : Group) (at : ℕ) → length h ≡ at → ¬ HasFence (h ++ false ∷ []) at
@@ -87,12 +89,12 @@ not_last h at count f =
     ]
 
 -- no fence stays at `at`; where there is one, what it separates is separated without it
-dropped_next : (C : ℕ → ℕ → Type 0) (bs vs : List Bool) (g : Group) (at last next epoch : ℕ) (us : List FenceUse) (h : Group) (u : FenceUse) → Reducing C bs vs g at last epoch us h
-    → UseHolds C bs vs g (h ++ false ∷ []) at u
+dropped_next : (C : ℕ → ℕ → Type 0) (bs vs ks : List Bool) (g : Group) (at last next epoch : ℕ) (us : List FenceUse) (h : Group) (u : FenceUse) → Reducing C bs vs ks g at last epoch us h
+    → UseHolds C bs vs ks g (h ++ false ∷ []) at u
     → ((a b : ℕ) → b < length g → C a b → a < at → at ≤ b → HasFence g at → IsSeparated (h ++ false ∷ []) a b ⊎ IsLater g (at + 1) b)
-    → ((m : ℕ) → IsGuard bs g at m → HasFence g at → ⊥) → ((j : ℕ) → IsSignal vs g at j → HasFence g at → ⊥) → IsLastGiven g (at + 1) next
-    → Reducing C bs vs g (at + 1) next epoch (us ++ u ∷ []) (h ++ false ∷ [])
-dropped_next C bs vs g at last next epoch us h u s is spare safe mute begins =
+    → ((m : ℕ) → IsGuard bs g at m → HasFence g at → ⊥) → ((j : ℕ) → IsSignal vs g at j → HasFence g at → ⊥) → (IsHeld ks at → HasFence g at → ⊥) → IsLastGiven g (at + 1) next
+    → Reducing C bs vs ks g (at + 1) next epoch (us ++ u ∷ []) (h ++ false ∷ [])
+dropped_next C bs vs ks g at last next epoch us h u s is spare safe mute loose begins =
     record {
       count = omega (arith, s.count, length-append h (false ∷ []));
       uses = omega (arith, s.uses, length-append us (u ∷ []));
@@ -134,23 +136,28 @@ dropped_next C bs vs g at last next epoch us h u s is spare safe mute begins =
             | inl less ↦ pushed_before h false k (s.signals k j less signal f)
             | inr more ↦ let e : k ≡ at = omega arith in absurd (mute j (subst (λ (z : ℕ). IsSignal vs g z j) e signal) (subst (HasFence g) e f))
           ];
-      least = λ other less separates keeps shows.
-          let l = s.least other less separates keeps shows in
+      holds = λ k below is_held f.
+          elim (cases_lt k at) [
+            | inl less ↦ pushed_before h false k (s.holds k less is_held f)
+            | inr more ↦ let e : k ≡ at = omega arith in absurd (loose (subst (IsHeld ks) e is_held) (subst (HasFence g) e f))
+          ];
+      least = λ other less separates keeps shows holds.
+          let l = s.least other less separates keeps shows holds in
           record {
             end = l.end;
             within = omega (arith, l.within);
             up_to = l.up_to;
             counted = omega (arith, l.counted, count_false h);
           };
-      each = each_pushed C bs vs g h false at us u s.count s.uses s.each is;
+      each = each_pushed C bs vs ks g h false at us u s.count s.uses s.each is;
     }
 
 -- the fence at `at` stays, and whatever separates as much and keeps guards has one for it
-kept_next : (C : ℕ → ℕ → Type 0) (bs vs : List Bool) (g : Group) (at last epoch : ℕ) (us : List FenceUse) (h : Group) (u : FenceUse) → Reducing C bs vs g at last epoch us h
-    → HasFence g at → UseHolds C bs vs g (h ++ true ∷ []) at u
-    → ((other : Group) → HasFencesOf other g → SeparatesAsMuch C g other → KeepsGuards bs g other → KeepsSignals vs g other → IsMore at epoch other)
-    → Reducing C bs vs g (at + 1) at at (us ++ u ∷ []) (h ++ true ∷ [])
-kept_next C bs vs g at last epoch us h u s fenced is more_of =
+kept_next : (C : ℕ → ℕ → Type 0) (bs vs ks : List Bool) (g : Group) (at last epoch : ℕ) (us : List FenceUse) (h : Group) (u : FenceUse) → Reducing C bs vs ks g at last epoch us h
+    → HasFence g at → UseHolds C bs vs ks g (h ++ true ∷ []) at u
+    → ((other : Group) → HasFencesOf other g → SeparatesAsMuch C g other → KeepsGuards bs g other → KeepsSignals vs g other → KeepsHeld ks g other → IsMore at epoch other)
+    → Reducing C bs vs ks g (at + 1) at at (us ++ u ∷ []) (h ++ true ∷ [])
+kept_next C bs vs ks g at last epoch us h u s fenced is more_of =
     record {
       count = omega (arith, s.count, length-append h (true ∷ []));
       uses = omega (arith, s.uses, length-append us (u ∷ []));
@@ -186,9 +193,14 @@ kept_next C bs vs g at last epoch us h u s fenced is more_of =
             | inl less ↦ pushed_before h true k (s.signals k j less signal f)
             | inr more ↦ pushed_last h k (omega (arith, s.count))
           ];
-      least = λ other less separates keeps shows.
-          let l = s.least other less separates keeps shows in
-          let p = more_of other less separates keeps shows in
+      holds = λ k below is_held f.
+          elim (cases_lt k at) [
+            | inl less ↦ pushed_before h true k (s.holds k less is_held f)
+            | inr more ↦ pushed_last h k (omega (arith, s.count))
+          ];
+      least = λ other less separates keeps shows holds.
+          let l = s.least other less separates keeps shows holds in
+          let p = more_of other less separates keeps shows holds in
           let c : fence_count (take l.end other) + 1 ≤ fence_count (take (at + 1) other) =
           count_more other l.end p.place (at + 1) (p.behind l.end l.within l.up_to) (omega (arith, p.up_to)) p.fence in
           record {
@@ -197,13 +209,13 @@ kept_next C bs vs g at last epoch us h u s fenced is more_of =
             up_to = omega arith;
             counted = omega (arith, l.counted, count_true h);
           };
-      each = each_pushed C bs vs g h true at us u s.count s.uses s.each is;
+      each = each_pushed C bs vs ks g h true at us u s.count s.uses s.each is;
     }
 
-needed_next : (C : ℕ → ℕ → Type 0) (bs vs : List Bool) (g : Group) (at last epoch : ℕ) (us : List FenceUse) (h : Group) (i j : ℕ) → Reducing C bs vs g at last epoch us h
-    → HasFence g at → IsWitness C g epoch at i j → Reducing C bs vs g (at + 1) at at (us ++ fence_use.Needed i j ∷ []) (h ++ true ∷ [])
-needed_next C bs vs g at last epoch us h i j s fenced witness =
-    kept_next C bs vs g at last epoch us h (fence_use.Needed i j) s fenced
+needed_next : (C : ℕ → ℕ → Type 0) (bs vs ks : List Bool) (g : Group) (at last epoch : ℕ) (us : List FenceUse) (h : Group) (i j : ℕ) → Reducing C bs vs ks g at last epoch us h
+    → HasFence g at → IsWitness C g epoch at i j → Reducing C bs vs ks g (at + 1) at at (us ++ fence_use.Needed i j ∷ []) (h ++ true ∷ [])
+needed_next C bs vs ks g at last epoch us h i j s fenced witness =
+    kept_next C bs vs ks g at last epoch us h (fence_use.Needed i j) s fenced
     (record {
       before = witness.before;
       behind = witness.behind;
@@ -214,7 +226,7 @@ needed_next C bs vs g at last epoch us h i j s fenced witness =
       alone_before = λ m after up_to f. s.opened m (omega (arith, witness.begun)) (pushed_old h true m (omega (arith, s.count)) f);
       alone_after = witness.open_after;
     })
-    (λ other less separates keeps shows.
+    (λ other less separates keeps shows holds.
     let p = separates i j (omega (arith, witness.before, witness.behind)) witness.within witness.conflict (record { at = at; behind = witness.before; up_to = witness.behind; fence = fenced }) in
     elim (cases_lt at p.at) [
       | inl after ↦ absurd (witness.open_after p.at after p.up_to (less.fences p.at p.fence))
@@ -228,9 +240,9 @@ needed_next C bs vs g at last epoch us h i j s fenced witness =
     ])
 
 -- a fence at `at` that no conflict needs, once it stays
-spared_here : (C : ℕ → ℕ → Type 0) (bs vs : List Bool) (g : Group) (at last epoch : ℕ) (us : List FenceUse) (h : Group) → Reducing C bs vs g at last epoch us h
+spared_here : (C : ℕ → ℕ → Type 0) (bs vs ks : List Bool) (g : Group) (at last epoch : ℕ) (us : List FenceUse) (h : Group) → Reducing C bs vs ks g at last epoch us h
     → HasFence g at → IsSpare C g epoch at → IsSpared C g (h ++ true ∷ []) at
-spared_here C bs vs g at last epoch us h s fenced spare =
+spared_here C bs vs ks g at last epoch us h s fenced spare =
     record {
       given = fenced;
       stays = pushed_last h at s.count;
@@ -257,28 +269,29 @@ spared_here C bs vs g at last epoch us h s fenced spare =
 more_at : (at epoch : ℕ) (other : Group) → HasFence other at → IsMore at epoch other
 more_at at epoch other fence = record { place = at; behind = λ e within up_to. within; up_to = omega arith; fence = fence }
 
-guards_more : (C : ℕ → ℕ → Type 0) (bs vs : List Bool) (g : Group) (at epoch m : ℕ) → HasFence g at → IsFirstGuard bs g at m
-    → (other : Group) → HasFencesOf other g → SeparatesAsMuch C g other → KeepsGuards bs g other → KeepsSignals vs g other → IsMore at epoch other
-guards_more C bs vs g at epoch m fenced first other less separates keeps shows =
+guards_more : (C : ℕ → ℕ → Type 0) (bs vs ks : List Bool) (g : Group) (at epoch m : ℕ) → HasFence g at → IsFirstGuard bs g at m
+    → (other : Group) → HasFencesOf other g → SeparatesAsMuch C g other → KeepsGuards bs g other → KeepsSignals vs g other → KeepsHeld ks g other → IsMore at epoch other
+guards_more C bs vs ks g at epoch m fenced first other less separates keeps shows holds =
     let up_to : at ≤ at = omega arith in
     let p = keeps m at first.guard.fails (fence_within g at fenced) (record { at = at; behind = first.guard.before; up_to = up_to; fence = fenced }) in
     more_at at epoch other (guard_stays bs g other at m less.fences fenced first.guard p)
 
-signals_more : (C : ℕ → ℕ → Type 0) (bs vs : List Bool) (g : Group) (at epoch j : ℕ) → HasFence g at → IsFirstSignal vs g at j
-    → (other : Group) → HasFencesOf other g → SeparatesAsMuch C g other → KeepsGuards bs g other → KeepsSignals vs g other → IsMore at epoch other
-signals_more C bs vs g at epoch j fenced first other less separates keeps shows =
+signals_more : (C : ℕ → ℕ → Type 0) (bs vs ks : List Bool) (g : Group) (at epoch j : ℕ) → HasFence g at → IsFirstSignal vs g at j
+    → (other : Group) → HasFencesOf other g → SeparatesAsMuch C g other → KeepsGuards bs g other → KeepsSignals vs g other → KeepsHeld ks g other → IsMore at epoch other
+signals_more C bs vs ks g at epoch j fenced first other less separates keeps shows holds =
     more_at at epoch other (signal_stays vs g other at j less.fences fenced first.signal shows)
 
-pub reducing_next : (C : ℕ → ℕ → Type 0) (bs vs : List Bool) (g : Group) (at last epoch : ℕ) (us : List FenceUse) (h : Group) (u : FenceUse)
-    → Reducing C bs vs g at last epoch us h → IsNextUse C bs vs g last epoch at u
-    → Reducing C bs vs g (at + 1) (given_after u last at) (epoch_kept u epoch at) (us ++ u ∷ []) (h ++ is_kept u ∷ [])
-reducing_next C bs vs g at last epoch us h fence_use.NoFence s is =
-    dropped_next C bs vs g at last last epoch us h fence_use.NoFence s (is, not_last h at s.count) (λ a b within conflict before behind f. absurd (is f))
-    (λ m guard f. is f) (λ j signal f. is f) (given_before g at last s.begins is)
-reducing_next C bs vs g at last epoch us h fence_use.Needless s is =
+pub reducing_next : (C : ℕ → ℕ → Type 0) (bs vs ks : List Bool) (g : Group) (at last epoch : ℕ) (us : List FenceUse) (h : Group) (u : FenceUse)
+    → Reducing C bs vs ks g at last epoch us h → IsNextUse C bs vs ks g last epoch at u
+    → Reducing C bs vs ks g (at + 1) (given_after u last at) (epoch_kept u epoch at) (us ++ u ∷ []) (h ++ is_kept u ∷ [])
+reducing_next C bs vs ks g at last epoch us h fence_use.NoFence s is =
+    dropped_next C bs vs ks g at last last epoch us h fence_use.NoFence s (is, not_last h at s.count) (λ a b within conflict before behind f. absurd (is f))
+    (λ m guard f. is f) (λ j signal f. is f) (λ is_held f. is f) (given_before g at last s.begins is)
+reducing_next C bs vs ks g at last epoch us h fence_use.Needless s is =
     let safe : GuardsNone bs g at = none_guards bs g at last s.begins is.is.0 in
     let mute : SignalsNone vs g at = none_signals vs g at is.end is.next is.is.1 in
-    dropped_next C bs vs g at last at epoch us h fence_use.Needless s (is.fenced, not_last h at s.count, safe, mute)
+    let loose : IsHeld ks at → ⊥ = is.is.2 in
+    dropped_next C bs vs ks g at last at epoch us h fence_use.Needless s (is.fenced, not_last h at s.count, safe, mute, loose)
     (λ a b within conflict before behind f.
     elim (cases_lt a epoch) [
       | inl early ↦
@@ -292,27 +305,33 @@ reducing_next C bs vs g at last epoch us h fence_use.Needless s is =
           let p = is.spare a b from before behind within conflict in
           inr (record { place = p.at; from = omega (arith, p.behind); up_to = p.up_to; fence = p.fence })
     ])
-    (λ m guard f. safe m guard) (λ j signal f. mute j signal) (given_here g at is.fenced)
-reducing_next C bs vs g at last epoch us h (fence_use.Guarding m) s is =
+    (λ m guard f. safe m guard) (λ j signal f. mute j signal) (λ is_held f. loose is_held) (given_here g at is.fenced)
+reducing_next C bs vs ks g at last epoch us h fence_use.Held s is =
+    let safe : GuardsNone bs g at = none_guards bs g at last s.begins is.is.0 in
+    let mute : SignalsNone vs g at = none_signals vs g at is.end is.next is.is.1 in
+    kept_next C bs vs ks g at last epoch us h fence_use.Held s is.fenced
+    (spared_here C bs vs ks g at last epoch us h s is.fenced is.spare, safe, mute, is.is.2)
+    (λ other less separates keeps shows holds. more_at at epoch other (holds at is.is.2 is.fenced))
+reducing_next C bs vs ks g at last epoch us h (fence_use.Guarding m) s is =
     let first : IsFirstGuard bs g at m = first_guards bs g at last m s.begins is.is.0 in
-    kept_next C bs vs g at last epoch us h (fence_use.Guarding m) s is.fenced
-    (spared_here C bs vs g at last epoch us h s is.fenced is.spare, first, none_signals vs g at is.end is.next is.is.1)
-    (guards_more C bs vs g at epoch m is.fenced first)
-reducing_next C bs vs g at last epoch us h (fence_use.Signalling j) s is =
+    kept_next C bs vs ks g at last epoch us h (fence_use.Guarding m) s is.fenced
+    (spared_here C bs vs ks g at last epoch us h s is.fenced is.spare, first, none_signals vs g at is.end is.next is.is.1)
+    (guards_more C bs vs ks g at epoch m is.fenced first)
+reducing_next C bs vs ks g at last epoch us h (fence_use.Signalling j) s is =
     let first : IsFirstSignal vs g at j = first_signals vs g at is.end j is.next is.is.1 in
-    kept_next C bs vs g at last epoch us h (fence_use.Signalling j) s is.fenced
-    (spared_here C bs vs g at last epoch us h s is.fenced is.spare, none_guards bs g at last s.begins is.is.0, first)
-    (signals_more C bs vs g at epoch j is.fenced first)
-reducing_next C bs vs g at last epoch us h (fence_use.GuardingAndSignalling m j) s is =
+    kept_next C bs vs ks g at last epoch us h (fence_use.Signalling j) s is.fenced
+    (spared_here C bs vs ks g at last epoch us h s is.fenced is.spare, none_guards bs g at last s.begins is.is.0, first)
+    (signals_more C bs vs ks g at epoch j is.fenced first)
+reducing_next C bs vs ks g at last epoch us h (fence_use.GuardingAndSignalling m j) s is =
     let guards : IsFirstGuard bs g at m = first_guards bs g at last m s.begins is.is.0 in
     let signals : IsFirstSignal vs g at j = first_signals vs g at is.end j is.next is.is.1 in
-    kept_next C bs vs g at last epoch us h (fence_use.GuardingAndSignalling m j) s is.fenced
-    (spared_here C bs vs g at last epoch us h s is.fenced is.spare, guards, signals)
-    (guards_more C bs vs g at epoch m is.fenced guards)
-reducing_next C bs vs g at last epoch us h (fence_use.Needed i j) s (fenced, witness) = needed_next C bs vs g at last epoch us h i j s fenced witness
+    kept_next C bs vs ks g at last epoch us h (fence_use.GuardingAndSignalling m j) s is.fenced
+    (spared_here C bs vs ks g at last epoch us h s is.fenced is.spare, guards, signals)
+    (guards_more C bs vs ks g at epoch m is.fenced guards)
+reducing_next C bs vs ks g at last epoch us h (fence_use.Needed i j) s (fenced, witness) = needed_next C bs vs ks g at last epoch us h i j s fenced witness
 
-pub reducing_none : (C : ℕ → ℕ → Type 0) (bs vs : List Bool) (g : Group) → Reducing C bs vs g 0 0 0 [] []
-reducing_none C bs vs g =
+pub reducing_none : (C : ℕ → ℕ → Type 0) (bs vs ks : List Bool) (g : Group) → Reducing C bs vs ks g 0 0 0 [] []
+reducing_none C bs vs ks g =
     record {
       count = refl;
       uses = refl;
@@ -324,12 +343,13 @@ reducing_none C bs vs g =
       begins = given_none g;
       guards = λ m k below guard f. absurd (omega arith);
       signals = λ k j below signal f. absurd (omega arith);
-      least = λ other less separates keeps shows. record { end = 0; within = omega arith; up_to = omega arith; counted = omega arith };
+      holds = λ k below is_held f. absurd (omega arith);
+      least = λ other less separates keeps shows holds. record { end = 0; within = omega arith; up_to = omega arith; counted = omega arith };
       each = λ k below. absurd (omega arith);
     }
 
-pub reducing_all : (C : ℕ → ℕ → Type 0) (bs vs : List Bool) (g : Group) (at last epoch : ℕ) (us : List FenceUse) (h : Group) → Reducing C bs vs g at last epoch us h → length g ≡ at → IsReduced C bs vs g us h
-reducing_all C bs vs g at last epoch us h s all =
+pub reducing_all : (C : ℕ → ℕ → Type 0) (bs vs ks : List Bool) (g : Group) (at last epoch : ℕ) (us : List FenceUse) (h : Group) → Reducing C bs vs ks g at last epoch us h → length g ≡ at → IsReduced C bs vs ks g us h
+reducing_all C bs vs ks g at last epoch us h s all =
     record {
       less = record { same_length = omega (arith, s.count); fences = s.given };
       separates = λ a b ordered within conflict separated.
@@ -339,8 +359,9 @@ reducing_all C bs vs g at last epoch us h s all =
           ];
       guards = keeps_guards bs g h (λ m k within guard f. s.guards m k (omega arith) guard f);
       signals = keeps_signals vs g h (λ k j within signal f. s.signals k j (omega arith) signal f);
-      least = λ other less separates keeps shows.
-          let l = s.least other less separates keeps shows in
+      holds = λ k is_held f. let w : k < length g = fence_within g k f in s.holds k (omega arith) is_held f;
+      least = λ other less separates keeps shows holds.
+          let l = s.least other less separates keeps shows holds in
           omega (arith, l.counted, count_all other l.end);
       count = omega (arith, s.uses);
       each = λ k below. s.each k (omega arith);

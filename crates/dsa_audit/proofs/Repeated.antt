@@ -75,26 +75,33 @@ matters_less : (acts : List Action) (ms : List Member) (i l k : ℕ) → IsRepea
 matters_less acts ms i l k r (conflict, unlike) =
     (known_moves ms i k l r.second r.first r.here r.there (sym r.reads) (sym r.writes) conflict, λ q. unlike (repeat_of acts ms i l k r q))
 
--- what matters to member k is before the member that it repeats
-before_repeated : (acts : List Action) (ms : List Member) (i l k : ℕ) → IsLastKnown ms k (Some l) → IsRepeated acts ms l k → i < k → OrderMatters acts ms i k → i < l
-before_repeated acts ms i l k last r lt (conflict, unlike) =
+-- what matters to member k is before the last one that conflicts with it, if it repeats that
+before_repeated : (acts : List Action) (ms : List Member) (i l end k : ℕ) → IsGreatest (λ a. (a < end) × KnownConflict ms a k) (Some l) → IsRepeated acts ms l k → i < end → OrderMatters acts ms i k → i < l
+before_repeated acts ms i l end k last r lt (conflict, unlike) =
     elim (cases_eq i l) [
       | inl same ↦ absurd (unlike (subst (λ x. IsRepeated acts ms x k) (sym same) r))
       | inr apart ↦ omega (arith, apart, last.1 i (lt, conflict))
     ]
 
-pub last_of_repeat : (acts : List Action) (ms : List Member) (l k : ℕ) (o : Option ℕ) → IsLastKnown ms k (Some l) → IsRepeated acts ms l k
-    → IsGreatest (λ a. (a < l) × OrderMatters acts ms a l) o → IsGreatest (λ a. (a < k) × OrderMatters acts ms a k) o
-last_of_repeat acts ms l k None last r none = λ i (lt, matters).
-    none i (before_repeated acts ms i l k last r lt matters, matters_less acts ms i l k r matters)
-last_of_repeat acts ms l k (Some i) last r is = (
+pub last_of_repeat : (acts : List Action) (ms : List Member) (l end k : ℕ) (o : Option ℕ) → IsGreatest (λ a. (a < end) × KnownConflict ms a k) (Some l) → IsRepeated acts ms l k
+    → IsGreatest (λ a. (a < l) × OrderMatters acts ms a l) o → IsGreatest (λ a. (a < end) × OrderMatters acts ms a k) o
+last_of_repeat acts ms l end k None last r none = λ i (lt, matters).
+    none i (before_repeated acts ms i l end k last r lt matters, matters_less acts ms i l k r matters)
+last_of_repeat acts ms l end k (Some i) last r is = (
   (omega (arith, is.0.0, last.0.0), matters_more acts ms i l k r is.0.1),
-  λ other (lt, matters). is.1 other (before_repeated acts ms other l k last r lt matters, matters_less acts ms other l k r matters),
+  λ other (lt, matters). is.1 other (before_repeated acts ms other l end k last r lt matters, matters_less acts ms other l k r matters),
 )
 
+pub last_of_none : (acts : List Action) (ms : List Member) (end k : ℕ) → IsGreatest (λ a. (a < end) × KnownConflict ms a k) None → IsGreatest (λ a. (a < end) × OrderMatters acts ms a k) None
+last_of_none acts ms end k none = λ i (lt, matters). none i (lt, matters.0)
+
+pub last_of_unlike : (acts : List Action) (ms : List Member) (l end k : ℕ) → IsGreatest (λ a. (a < end) × KnownConflict ms a k) (Some l) → (IsRepeated acts ms l k → ⊥)
+    → IsGreatest (λ a. (a < end) × OrderMatters acts ms a k) (Some l)
+last_of_unlike acts ms l end k last unlike = ((last.0.0, (last.0.1, unlike)), λ other (lt, matters). last.1 other (lt, matters.0))
+
 pub last_of_other : (acts : List Action) (ms : List Member) (k : ℕ) (o : Option ℕ) → IsLastKnown ms k o → RepeatsLast acts ms k None → IsGreatest (λ a. (a < k) × OrderMatters acts ms a k) o
-last_of_other acts ms k None none unlike = λ i (lt, matters). none i (lt, matters.0)
-last_of_other acts ms k (Some i) last unlike = ((last.0.0, (last.0.1, unlike i last)), λ other (lt, matters). last.1 other (lt, matters.0))
+last_of_other acts ms k None none unlike = last_of_none acts ms k k none
+last_of_other acts ms k (Some i) last unlike = last_of_unlike acts ms i k k last (unlike i last)
 
 -- what is_repeated tests, where both members are known
 pub tested : (acts : List Action) (ms : List Member) (i j : ℕ) (t u : Touched) → slice_get ms i ≡ Some (Known t) → slice_get ms j ≡ Some (Known u) → IsRepeated acts ms i j

@@ -84,6 +84,14 @@ abbrev pub KeepsSignals : List Bool → Group → Group → Type 0
 KeepsSignals visible g h =
     (a b : ℕ) → Shows visible b → b < length g → IsSeparated g a b → IsSeparated h a b
 
+-- the fence before member k is held: it stays in any case
+abbrev pub IsHeld : List Bool → ℕ → Type 0
+IsHeld held k = get_or held k false ≡ true
+
+-- h has each fence of g that is held
+abbrev pub KeepsHeld : List Bool → Group → Group → Type 0
+KeepsHeld held g h = (k : ℕ) → IsHeld held k → HasFence g k → HasFence h k
+
 -- member m can fail, and is in the epoch that ends before member k: a fence there is the first after m
 pub record IsGuard (fallible : List Bool) (g : Group) (k m : ℕ) : Type 0 where
   pub before : m < k
@@ -137,30 +145,33 @@ GuardsNone fallible g k = (m : ℕ) → ¬ IsGuard fallible g k m
 abbrev pub SignalsNone : List Bool → Group → ℕ → Type 0
 SignalsNone visible g k = (j : ℕ) → ¬ IsSignal visible g k j
 
--- what is said of member k holds: there is no fence in g or h; there is one in g alone, which guards against nothing and
--- signals nothing; one that no conflict needs guards, signals, or does both, and the first member of each is named; or it
--- is needed
-abbrev pub UseHolds : (ℕ → ℕ → Type 0) → List Bool → List Bool → Group → Group → ℕ → FenceUse → Type 0
-UseHolds C fallible visible g h k fence_use.NoFence = (¬ HasFence g k) × (¬ HasFence h k)
-UseHolds C fallible visible g h k fence_use.Needless =
-    HasFence g k × (¬ HasFence h k) × GuardsNone fallible g k × SignalsNone visible g k
-UseHolds C fallible visible g h k (fence_use.Guarding m) =
+-- what is said of member k holds: there is no fence in g or h; there is one in g alone, which guards against nothing,
+-- signals nothing, and is not held; one that no conflict needs guards, signals, or does both, and the first member of each
+-- is named, or it is only held; or it is needed
+abbrev pub UseHolds : (ℕ → ℕ → Type 0) → List Bool → List Bool → List Bool → Group → Group → ℕ → FenceUse → Type 0
+UseHolds C fallible visible held g h k fence_use.NoFence = (¬ HasFence g k) × (¬ HasFence h k)
+UseHolds C fallible visible held g h k fence_use.Needless =
+    HasFence g k × (¬ HasFence h k) × GuardsNone fallible g k × SignalsNone visible g k × (¬ IsHeld held k)
+UseHolds C fallible visible held g h k fence_use.Held =
+    IsSpared C g h k × GuardsNone fallible g k × SignalsNone visible g k × IsHeld held k
+UseHolds C fallible visible held g h k (fence_use.Guarding m) =
     IsSpared C g h k × IsFirstGuard fallible g k m × SignalsNone visible g k
-UseHolds C fallible visible g h k (fence_use.Signalling j) =
+UseHolds C fallible visible held g h k (fence_use.Signalling j) =
     IsSpared C g h k × GuardsNone fallible g k × IsFirstSignal visible g k j
-UseHolds C fallible visible g h k (fence_use.GuardingAndSignalling m j) =
+UseHolds C fallible visible held g h k (fence_use.GuardingAndSignalling m j) =
     IsSpared C g h k × IsFirstGuard fallible g k m × IsFirstSignal visible g k j
-UseHolds C fallible visible g h k (fence_use.Needed i j) = IsNeeded C g h k i j
+UseHolds C fallible visible held g h k (fence_use.Needed i j) = IsNeeded C g h k i j
 
--- h is g without the needless fences: it separates all conflicts that g separates, the same members are abandoned, and
--- members that show wait for the same ones; whatever does all that with fences of g alone has no fewer; and what is said
--- of each member holds
-pub record IsReduced (C : ℕ → ℕ → Type 0) (fallible visible : List Bool) (g : Group) (uses : List FenceUse) (h : Group) : Type 0 where
+-- h is g without the needless fences: it separates all conflicts that g separates, the same members are abandoned,
+-- members that show wait for the same ones, and fences that are held are there; whatever does all that with fences of g
+-- alone has no fewer; and what is said of each member holds
+pub record IsReduced (C : ℕ → ℕ → Type 0) (fallible visible held : List Bool) (g : Group) (uses : List FenceUse) (h : Group) : Type 0 where
   pub less : HasFencesOf h g
   pub separates : SeparatesAsMuch C g h
   pub guards : KeepsGuards fallible g h
   pub signals : KeepsSignals visible g h
+  pub holds : KeepsHeld held g h
   pub least : (other : Group) → HasFencesOf other g → SeparatesAsMuch C g other → KeepsGuards fallible g other →
-      KeepsSignals visible g other → fence_count h ≤ fence_count other
+      KeepsSignals visible g other → KeepsHeld held g other → fence_count h ≤ fence_count other
   pub count : length uses ≡ length g
-  pub each : (k : ℕ) → k < length g → UseHolds C fallible visible g h k (get_or uses k fence_use.NoFence)
+  pub each : (k : ℕ) → k < length g → UseHolds C fallible visible held g h k (get_or uses k fence_use.NoFence)

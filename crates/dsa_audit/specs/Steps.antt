@@ -6,12 +6,36 @@ use Rattle.dsa_audit.specs.declared.missing.FencePlace.{FencePlace}
 use Rattle.dsa_audit.specs.declared.missing.FencePlace.TheVariants as fence_place
 use Rattle.dsa_audit.specs.declared.needless.FenceUse.{FenceUse}
 use Rattle.dsa_audit.specs.declared.needless.FenceUse.TheVariants as fence_use
-use Rattle.dsa_audit.specs.Audits.{HasFence, IsSeparated, ShareEpoch}
+use Rattle.dsa_audit.specs.declared.looks.Look.{Look}
+use Rattle.dsa_audit.specs.declared.member.Member.{Member}
+use Rattle.dsa_audit.specs.Audits.{HasFence, IsHeld, IsSeparated, ShareEpoch}
+use Rattle.dsa_audit.specs.Members.{KnownConflict}
 
 -- for each of the first members, the last one before it that conflicts with it, or none
 abbrev pub AreLasts : (ℕ → ℕ → Type 0) → List (Option ℕ) → Type 0
 AreLasts C lasts =
     (b : ℕ) (last : Option ℕ) → slice_get lasts b ≡ Some last → IsGreatest (λ a. (a < b) × C a b) last
+
+-- the list says that member a is the last that conflicts with b
+abbrev pub IsLastOf : List (Option ℕ) → ℕ → ℕ → Type 0
+IsLastOf lasts a b = slice_get lasts b ≡ Some (Some a)
+
+-- of each that was looked for, the last member before `before` that is known to conflict with `later`
+abbrev pub AreLooks : List Member → List Look → Type 0
+AreLooks ms looks =
+    (j : ℕ) (l : Look) → slice_get looks j ≡ Some l → IsGreatest (λ a. (a < l.before) × KnownConflict ms a l.later) l.last
+
+-- a conflict of two members that the group separates
+abbrev pub IsOuterConflict : (ℕ → ℕ → Type 0) → Group → ℕ → ℕ → Type 0
+IsOuterConflict C g a b = C a b × IsSeparated g a b
+
+-- a conflict that is not listed
+abbrev pub IsUnlisted : (C A : ℕ → ℕ → Type 0) → ℕ → ℕ → Type 0
+IsUnlisted C A a b = C a b × (¬ A a b)
+
+-- one in an epoch of the group
+abbrev pub IsLeftWithin : (C A : ℕ → ℕ → Type 0) → Group → ℕ → ℕ → Type 0
+IsLeftWithin C A g a b = IsUnlisted C A a b × ShareEpoch g a b
 
 -- no member from `from` on and below `before` conflicts with `later`; member i is the last such one
 abbrev pub NoneFrom : (ℕ → ℕ → Type 0) → ℕ → ℕ → ℕ → Type 0
@@ -102,44 +126,60 @@ NoneShown visible at end = 0 < at → NoneSet visible at end
 abbrev pub IsFirstShown : List Bool → ℕ → ℕ → ℕ → Type 0
 IsFirstShown visible at end j = (0 < at) × IsFirstSet visible at end j
 
+-- a fence that is for nothing else is held, or needless
+abbrev pub IsIdleUse : List Bool → ℕ → FenceUse → Type 0
+IsIdleUse held at fence_use.NoFence = ⊥
+IsIdleUse held at fence_use.Needless = ¬ IsHeld held at
+IsIdleUse held at fence_use.Held = IsHeld held at
+IsIdleUse held at (fence_use.Guarding m) = ⊥
+IsIdleUse held at (fence_use.Signalling j) = ⊥
+IsIdleUse held at (fence_use.GuardingAndSignalling m j) = ⊥
+IsIdleUse held at (fence_use.Needed i j) = ⊥
+
 -- what a fence before `at` is for that no conflict needs, where the last one of the batch before it is at `given`, and the
 -- next one at `end`
-abbrev pub IsSpareUse : List Bool → List Bool → ℕ → ℕ → ℕ → FenceUse → Type 0
-IsSpareUse fallible visible given at end fence_use.NoFence = ⊥
-IsSpareUse fallible visible given at end fence_use.Needless = NoneSet fallible given at × NoneShown visible at end
-IsSpareUse fallible visible given at end (fence_use.Guarding m) =
+abbrev pub IsSpareUse : List Bool → List Bool → List Bool → ℕ → ℕ → ℕ → FenceUse → Type 0
+IsSpareUse fallible visible held given at end fence_use.NoFence = ⊥
+IsSpareUse fallible visible held given at end fence_use.Needless =
+    NoneSet fallible given at × NoneShown visible at end × (¬ IsHeld held at)
+IsSpareUse fallible visible held given at end fence_use.Held =
+    NoneSet fallible given at × NoneShown visible at end × IsHeld held at
+IsSpareUse fallible visible held given at end (fence_use.Guarding m) =
     IsFirstSet fallible given at m × NoneShown visible at end
-IsSpareUse fallible visible given at end (fence_use.Signalling j) =
+IsSpareUse fallible visible held given at end (fence_use.Signalling j) =
     NoneSet fallible given at × IsFirstShown visible at end j
-IsSpareUse fallible visible given at end (fence_use.GuardingAndSignalling m j) =
+IsSpareUse fallible visible held given at end (fence_use.GuardingAndSignalling m j) =
     IsFirstSet fallible given at m × IsFirstShown visible at end j
-IsSpareUse fallible visible given at end (fence_use.Needed i j) = ⊥
+IsSpareUse fallible visible held given at end (fence_use.Needed i j) = ⊥
 
 -- a fence before `at` that no conflict needs is for this
-pub record IsSpareFence (C : ℕ → ℕ → Type 0) (fallible visible : List Bool) (g : Group) (given epoch at : ℕ) (u : FenceUse) : Type 0 where
+pub record IsSpareFence (C : ℕ → ℕ → Type 0) (fallible visible held : List Bool) (g : Group) (given epoch at : ℕ) (u : FenceUse) : Type 0 where
   pub fenced : HasFence g at
   pub spare : IsSpare C g epoch at
   pub end : ℕ
   pub next : IsNextFence g at end
-  pub is : IsSpareUse fallible visible given at end u
+  pub is : IsSpareUse fallible visible held given at end u
 
 -- what the fence before a member is for
-abbrev pub IsNextUse : (ℕ → ℕ → Type 0) → List Bool → List Bool → Group → ℕ → ℕ → ℕ → FenceUse → Type 0
-IsNextUse C fallible visible g given epoch at fence_use.NoFence = ¬ HasFence g at
-IsNextUse C fallible visible g given epoch at fence_use.Needless =
-    IsSpareFence C fallible visible g given epoch at fence_use.Needless
-IsNextUse C fallible visible g given epoch at (fence_use.Guarding m) =
-    IsSpareFence C fallible visible g given epoch at (fence_use.Guarding m)
-IsNextUse C fallible visible g given epoch at (fence_use.Signalling j) =
-    IsSpareFence C fallible visible g given epoch at (fence_use.Signalling j)
-IsNextUse C fallible visible g given epoch at (fence_use.GuardingAndSignalling m j) =
-    IsSpareFence C fallible visible g given epoch at (fence_use.GuardingAndSignalling m j)
-IsNextUse C fallible visible g given epoch at (fence_use.Needed i j) = HasFence g at × IsWitness C g epoch at i j
+abbrev pub IsNextUse : (ℕ → ℕ → Type 0) → List Bool → List Bool → List Bool → Group → ℕ → ℕ → ℕ → FenceUse → Type 0
+IsNextUse C fallible visible held g given epoch at fence_use.NoFence = ¬ HasFence g at
+IsNextUse C fallible visible held g given epoch at fence_use.Needless =
+    IsSpareFence C fallible visible held g given epoch at fence_use.Needless
+IsNextUse C fallible visible held g given epoch at fence_use.Held =
+    IsSpareFence C fallible visible held g given epoch at fence_use.Held
+IsNextUse C fallible visible held g given epoch at (fence_use.Guarding m) =
+    IsSpareFence C fallible visible held g given epoch at (fence_use.Guarding m)
+IsNextUse C fallible visible held g given epoch at (fence_use.Signalling j) =
+    IsSpareFence C fallible visible held g given epoch at (fence_use.Signalling j)
+IsNextUse C fallible visible held g given epoch at (fence_use.GuardingAndSignalling m j) =
+    IsSpareFence C fallible visible held g given epoch at (fence_use.GuardingAndSignalling m j)
+IsNextUse C fallible visible held g given epoch at (fence_use.Needed i j) = HasFence g at × IsWitness C g epoch at i j
 
 -- a fence with this use stays
 abbrev pub is_kept : FenceUse → Bool
 is_kept fence_use.NoFence = false
 is_kept fence_use.Needless = false
+is_kept fence_use.Held = true
 is_kept (fence_use.Guarding m) = true
 is_kept (fence_use.Signalling j) = true
 is_kept (fence_use.GuardingAndSignalling m j) = true
@@ -149,6 +189,7 @@ is_kept (fence_use.Needed i j) = true
 abbrev pub epoch_kept : FenceUse → ℕ → ℕ → ℕ
 epoch_kept fence_use.NoFence epoch at = epoch
 epoch_kept fence_use.Needless epoch at = epoch
+epoch_kept fence_use.Held epoch at = at
 epoch_kept (fence_use.Guarding m) epoch at = at
 epoch_kept (fence_use.Signalling j) epoch at = at
 epoch_kept (fence_use.GuardingAndSignalling m j) epoch at = at
@@ -158,6 +199,7 @@ epoch_kept (fence_use.Needed i j) epoch at = at
 abbrev pub given_after : FenceUse → ℕ → ℕ → ℕ
 given_after fence_use.NoFence given at = given
 given_after fence_use.Needless given at = at
+given_after fence_use.Held given at = at
 given_after (fence_use.Guarding m) given at = at
 given_after (fence_use.Signalling j) given at = at
 given_after (fence_use.GuardingAndSignalling m j) given at = at

@@ -1,7 +1,7 @@
 //! What is known of the members of a batch.
 
 ghost use Rattle.std.specs.Prelude.{◌↔◌, IsTrue};
-ghost use Rattle.dsa_audit.specs.Members.{AreKnownToConflict, CanConflict};
+ghost use Rattle.dsa_audit.specs.Members.{AreKnownToConflict};
 
 use dsa_ranges::{Touched, in_conflict};
 
@@ -40,17 +40,5 @@ pub fn are_known_to_conflict(first: &Member, second: &Member) -> bool
         (Member::Known(_), Member::Unknown(_))
         | (Member::Unknown(_), Member::Known(_))
         | (Member::Unknown(_), Member::Unknown(_)) => false,
-    }
-}
-
-/// Whether what is known of two members does not rule out that they conflict.
-pub fn can_conflict(first: &Member, second: &Member) -> bool
-    ensures { IsTrue result ↔ CanConflict first.now second.now }
-{
-    match (first, second) {
-        (Member::Known(first), Member::Known(second)) => in_conflict(first, second),
-        (Member::Known(_), Member::Unknown(_))
-        | (Member::Unknown(_), Member::Known(_))
-        | (Member::Unknown(_), Member::Unknown(_)) => true,
     }
 }

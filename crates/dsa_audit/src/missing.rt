@@ -1,10 +1,9 @@
 //! The fences that are missing in a batch.
 
-ghost use Rattle.std.specs.Prelude.{◌≡◌, ◌<◌, length, IfOk};
+ghost use Rattle.std.specs.Prelude.{◌≡◌, ◌<◌, ℕ, length, IfOk};
 ghost use Rattle.dsa_audit.specs.Audits.{IsCorrected};
-ghost use Rattle.dsa_audit.specs.Steps.{AreLasts, IsNextPlace, has_fence, epoch_after};
+ghost use Rattle.dsa_audit.specs.Steps.{IsLastOf, IsNextPlace, has_fence, epoch_after};
 
-use crate::relation::{Relation, last_conflict};
 use std::alloc::{AllocError, Global};
 
 /// What is before a member of a batch, and what has to.
@@ -47,46 +46,43 @@ pub struct Corrected {
 }
 
 /// What is before the member, where the epoch so far begins with the member `epoch`.
-fn place_of<R: Relation>(
-    fences: &[bool],
-    relation: &R,
-    lasts: &[Option<usize>],
-    epoch: usize,
-    at: usize,
-) -> FencePlace
-    requires lasts { AreLasts (R.conflict relation.now) lasts.now }
-    requires known { length fences.now ≡ R.count relation.now }
-    requires within { at < length fences.now }
-    ensures { IsNextPlace (R.conflict relation.now) fences.now epoch at result }
+fn place_of(fences: &[bool], lasts: &[Option<usize>], epoch: usize, at: usize) -> FencePlace
+    requires fenced { at < length fences.now }
+    requires within { at < length lasts.now }
+    requires before { (a : ℕ) → IsLastOf lasts.now a at → a < at }
+    ensures { IsNextPlace (IsLastOf lasts.now) fences.now epoch at result }
 {
     if fences[at] {
         return FencePlace::Given;
     }
-    match last_conflict(relation, lasts, epoch, at, at) {
-        Some(earlier) => FencePlace::Missing(earlier),
+    match lasts[at] {
+        Some(earlier) => {
+            if earlier < epoch {
+                return FencePlace::NoFence;
+            }
+            FencePlace::Missing(earlier)
+        }
         None => FencePlace::NoFence,
     }
 }
 
-/// The fewest fences that have to be added so that no two members of an epoch conflict, each with a conflict that it
-/// separates. `lasts` has the last conflicts of the first members, as [`known_lasts`](crate::known_lasts) finds them; it may
-/// be empty, and the time then grows with the square of an epoch.
-pub fn add_missing<R: Relation>(
+/// The fewest fences that have to be added so that each member is in another epoch than the one before it that it has
+/// in `lasts`.
+pub(crate) fn add_missing(
     alloc: Global,
     fences: &[bool],
-    relation: &R,
     lasts: &[Option<usize>],
 ) -> Result<Corrected, AllocError>
-    requires lasts { AreLasts (R.conflict relation.now) lasts.now }
-    requires known { length fences.now ≡ R.count relation.now }
+    requires count { length lasts.now ≡ length fences.now }
+    requires before { (a b : ℕ) → IsLastOf lasts.now a b → a < b }
     ensures { IfOk result
-        (λ m. IsCorrected (R.conflict relation.now) fences.now m.places.items m.fences.items) }
+        (λ m. IsCorrected (IsLastOf lasts.now) fences.now m.places.items m.fences.items) }
 {
     let mut places = Vec::with_capacity(alloc, fences.len())?;
     let mut corrected = Vec::with_capacity(alloc, fences.len())?;
     let mut epoch = 0;
     for at in 0..fences.len() {
-        let place = place_of(fences, relation, lasts, epoch, at);
+        let place = place_of(fences, lasts, epoch, at);
         places.push(place)?;
         corrected.push(place.is_fenced())?;
         epoch = place.epoch(epoch, at);

@@ -2,9 +2,8 @@
 
 ghost use Rattle.std.specs.Prelude.{◌≡◌, ◌<◌, ◌≤◌, ℕ, length, IfOk, MatchOption};
 ghost use Rattle.dsa_audit.specs.Audits.{HasFence, IsReduced};
-ghost use Rattle.dsa_audit.specs.Steps.{AreLasts, IsNextUse, IsSpareUse, NoneAcross, IsAcross, NoneSet, IsFirstSet, IsNextFence, IsUnfencedUpTo, is_kept, epoch_kept, given_after};
+ghost use Rattle.dsa_audit.specs.Steps.{IsLastOf, IsLastFrom, IsNextUse, IsIdleUse, IsSpareUse, NoneAcross, NoneFrom, IsAcross, NoneSet, IsFirstSet, IsNextFence, IsUnfencedUpTo, is_kept, epoch_kept, given_after};
 
-use crate::relation::{Relation, last_conflict};
 use std::alloc::{AllocError, Global};
 
 /// What a fence is for.
@@ -14,25 +13,29 @@ pub enum FenceUse {
     NoFence,
     /// It is needed: of all fences that stay it alone separates these two members, which conflict.
     Needed(usize, usize),
-    /// No conflict needs it by itself, but it is the first after this member, which can fail: it then stops the rest. Of
-    /// more such members this is the first.
+    /// No conflict needs it by itself, but it is the first after this member, which can fail: it then stops the rest.
+    /// Of more such members this is the first.
     Guarding(usize),
     /// No conflict needs it by itself, but this member waits for it, and software can see that the member has ended. Of
     /// more such members up to the next fence this is the first.
     Signalling(usize),
     /// Both: the first member that it guards against, and the first that waits for it and can be seen to have ended.
     GuardingAndSignalling(usize, usize),
+    /// Nothing needs it, but it is held.
+    Held,
     /// It may go.
     Needless,
 }
 
-/// What members can do beside reading and writing memory.
+/// Why fences stay that no conflict needs.
 #[derive(Clone, Copy)]
-pub struct Effects<'a> {
+pub(crate) struct Reasons<'a> {
     /// Whether each member can fail, so that the next fence stops the rest of its batch.
     pub fallible: &'a [bool],
     /// Whether software can see of each member that it has ended.
     pub visible: &'a [bool],
+    /// Whether the fence before each member is held: it stays in any case.
+    pub held: &'a [bool],
 }
 
 impl FenceUse {
@@ -44,7 +47,8 @@ impl FenceUse {
             FenceUse::Needed(_, _)
             | FenceUse::Guarding(_)
             | FenceUse::Signalling(_)
-            | FenceUse::GuardingAndSignalling(_, _) => true,
+            | FenceUse::GuardingAndSignalling(_, _)
+            | FenceUse::Held => true,
             FenceUse::NoFence | FenceUse::Needless => false,
         }
     }
@@ -66,6 +70,7 @@ impl FenceUse {
             | FenceUse::Guarding(_)
             | FenceUse::Signalling(_)
             | FenceUse::GuardingAndSignalling(_, _)
+            | FenceUse::Held
             | FenceUse::Needless => at,
         }
     }
@@ -93,21 +98,33 @@ fn next_fence(fences: &[bool], at: usize) -> usize
     fences.len()
 }
 
-/// Two members that conflict, the earlier from `epoch` on and before `at`, the later from there on and before `end`.
-fn across<R: Relation>(
-    relation: &R,
-    lasts: &[Option<usize>],
-    epoch: usize,
-    at: usize,
-    end: usize,
-) -> Option<(usize, usize)>
-    requires lasts { AreLasts (R.conflict relation.now) lasts.now }
-    requires within { end ≤ R.count relation.now }
-    ensures { MatchOption result (NoneAcross (R.conflict relation.now) epoch at end)
-        (λ p. IsAcross (R.conflict relation.now) epoch at end p.0 p.1) }
+/// The member that this one has in `lasts`, if that is from `epoch` on and before `at`.
+fn last_within(lasts: &[Option<usize>], epoch: usize, at: usize, later: usize) -> Option<usize>
+    requires within { later < length lasts.now }
+    ensures { MatchOption result (NoneFrom (IsLastOf lasts.now) epoch at later)
+        (λ i. IsLastFrom (IsLastOf lasts.now) epoch at later i) }
+{
+    let Some(last) = lasts[later] else {
+        return None;
+    };
+    if last < epoch {
+        return None;
+    }
+    if last >= at {
+        return None;
+    }
+    Some(last)
+}
+
+/// Two members that conflict, the earlier from `epoch` on and before `at`, the later from there on and before `end`, if
+/// a member has in `lasts` the one that it conflicts with.
+fn across(lasts: &[Option<usize>], epoch: usize, at: usize, end: usize) -> Option<(usize, usize)>
+    requires within { end ≤ length lasts.now }
+    ensures { MatchOption result (NoneAcross (IsLastOf lasts.now) epoch at end)
+        (λ p. IsAcross (IsLastOf lasts.now) epoch at end p.0 p.1) }
 {
     for later in at..end {
-        if let Some(earlier) = last_conflict(relation, lasts, epoch, at, later) {
+        if let Some(earlier) = last_within(lasts, epoch, at, later) {
             return Some((earlier, later));
         }
     }
@@ -127,71 +144,78 @@ fn first_set(flags: &[bool], from: usize, before: usize) -> Option<usize>
     None
 }
 
-/// What a fence before the member is for that no conflict needs, between the fences of the batch at `given` and `end`. One
-/// before the first member orders nothing.
-fn spare_use(effects: Effects, given: usize, at: usize, end: usize) -> FenceUse
+/// What a fence before the member is for, if it is for nothing else.
+fn idle_use(held: &[bool], at: usize) -> FenceUse
+    ensures { IsIdleUse held.now at result }
+{
+    if at < held.len() && held[at] {
+        FenceUse::Held
+    } else {
+        FenceUse::Needless
+    }
+}
+
+/// What a fence before the member is for that no conflict needs, between the fences of the batch at `given` and `end`.
+/// One before the first member orders nothing.
+fn spare_use(reasons: Reasons, given: usize, at: usize, end: usize) -> FenceUse
     requires { given ≤ at }
-    ensures { IsSpareUse effects.entry.fallible.now effects.entry.visible.now
-        given at end result }
+    ensures { IsSpareUse reasons.entry.fallible.now reasons.entry.visible.now
+        reasons.entry.held.now given at end result }
 {
     if at == 0 {
-        return FenceUse::Needless;
+        return idle_use(reasons.held, at);
     }
-    let guarded = first_set(effects.fallible, given, at);
-    let shown = first_set(effects.visible, at, end);
+    let guarded = first_set(reasons.fallible, given, at);
+    let shown = first_set(reasons.visible, at, end);
     match (guarded, shown) {
         (Some(m), Some(j)) => FenceUse::GuardingAndSignalling(m, j),
         (Some(m), None) => FenceUse::Guarding(m),
         (None, Some(j)) => FenceUse::Signalling(j),
-        (None, None) => FenceUse::Needless,
+        (None, None) => idle_use(reasons.held, at),
     }
 }
 
 /// What the fence before the member is for, where the last fence of the batch is at `given`, and the last that stays at
 /// `epoch`.
-fn use_of<R: Relation>(
+fn use_of(
     fences: &[bool],
-    relation: &R,
     lasts: &[Option<usize>],
-    effects: Effects,
+    reasons: Reasons,
     given: usize,
     epoch: usize,
     at: usize,
 ) -> FenceUse
-    requires lasts { AreLasts (R.conflict relation.now) lasts.now }
-    requires known { length fences.now ≡ R.count relation.now }
+    requires count { length lasts.now ≡ length fences.now }
     requires within { at < length fences.now }
     requires given { given ≤ at }
-    ensures { IsNextUse (R.conflict relation.now)
-        effects.entry.fallible.now effects.entry.visible.now
+    ensures { IsNextUse (IsLastOf lasts.now)
+        reasons.entry.fallible.now reasons.entry.visible.now reasons.entry.held.now
         fences.now given epoch at result }
 {
     if !fences[at] {
         return FenceUse::NoFence;
     }
     let end = next_fence(fences, at);
-    match across(relation, lasts, epoch, at, end) {
+    match across(lasts, epoch, at, end) {
         Some((earlier, later)) => FenceUse::Needed(earlier, later),
-        None => spare_use(effects, given, at, end),
+        None => spare_use(reasons, given, at, end),
     }
 }
 
-/// The fewest fences of a batch that separate all conflicts that its fences separate, that stop the same members,
-/// whichever fail of those that can, and that each member which can be seen to have ended waits for as before: each with a
-/// conflict that needs it, or with the first member that can fail of the epoch before it, the first that can be seen of
-/// the epoch after it, or both. The others may go, all at once. `lasts` is as of [`add_missing`](crate::add_missing).
-pub fn drop_needless<R: Relation>(
+/// The fewest fences of a batch that separate each member from the one that it has in `lasts`, where its fences do,
+/// that stop the same members, whichever fail of those that can, that each member which can be seen to have ended waits
+/// for as before, and those that are held: each with a conflict that needs it, or with the first member that can fail
+/// of the epoch before it, the first that can be seen of the epoch after it, or both. The others may go, all at once.
+pub(crate) fn drop_needless(
     alloc: Global,
     fences: &[bool],
-    relation: &R,
     lasts: &[Option<usize>],
-    effects: Effects,
+    reasons: Reasons,
 ) -> Result<Reduced, AllocError>
-    requires lasts { AreLasts (R.conflict relation.now) lasts.now }
-    requires known { length fences.now ≡ R.count relation.now }
+    requires { length lasts.now ≡ length fences.now }
     ensures { IfOk result
-        (λ t. IsReduced (R.conflict relation.now)
-        effects.entry.fallible.now effects.entry.visible.now
+        (λ t. IsReduced (IsLastOf lasts.now)
+        reasons.entry.fallible.now reasons.entry.visible.now reasons.entry.held.now
         fences.now t.uses.items t.fences.items) }
 {
     let mut uses = Vec::with_capacity(alloc, fences.len())?;
@@ -199,7 +223,7 @@ pub fn drop_needless<R: Relation>(
     let mut epoch = 0;
     let mut given = 0;
     for at in 0..fences.len() {
-        let fence = use_of(fences, relation, lasts, effects, given, epoch, at);
+        let fence = use_of(fences, lasts, reasons, given, epoch, at);
         uses.push(fence)?;
         kept.push(fence.is_kept())?;
         epoch = fence.epoch(epoch, at);

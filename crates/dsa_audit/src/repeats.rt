@@ -60,7 +60,12 @@ fn is_whole_at(actions: &[Action], k: usize) -> bool
 }
 
 /// Whether the later member does what the earlier one does, and neither reads what the other writes.
-fn is_repeated(actions: &[Action], members: &[Member], earlier: usize, later: usize) -> bool
+pub(crate) fn is_repeated(
+    actions: &[Action],
+    members: &[Member],
+    earlier: usize,
+    later: usize,
+) -> bool
     requires ordered { earlier < later }
     requires within { later < length members.now }
     ensures { IsTrue result ↔ IsRepeated actions.now members.now earlier later }
@@ -156,7 +161,8 @@ pub(crate) fn ordered_lasts(
     requires count { length lasts.now ≡ length members.now }
     requires lasts { AreLasts (KnownConflict members.now) lasts.now }
     requires repeated { AreRepeats actions.now members.now repeated.now }
-    ensures { IfOk result
+    ensures count { IfOk result (λ ordered. length ordered.items ≡ length lasts.now) }
+    ensures lasts { IfOk result
         (λ ordered. AreLasts (OrderMatters actions.now members.now) ordered.items) }
 {
     let mut ordered: Vec<Option<usize>> = Vec::with_capacity(alloc, lasts.len())?;

@@ -1,14 +1,15 @@
 use Rattle.std.proofs.Common.{arith}
+use Rattle.dsa_audit.specs.Steps.{IsLastOf}
 use Rattle.dsa_audit.proofs.Scanned.{scanned_next, scanned_all}
 use Rattle.dsa_audit.proofs.missing.add_missing.Goals as goal
 
 pub loop-at-preserved : goal.loop-at-preserved
-loop-at-preserved g c =
+loop-at-preserved c =
     rw (c.epoch-epoch.ensures, c.in_ok-push.ensures.items, c.in_ok-push-2.ensures.items, c.is_fenced.ensures)
-    (scanned_next (g.R.Relation.conflict c.args.relation.now) c.args.fences.now c.loop-at.at c.loop-at.epoch c.loop-at.places.items c.loop-at.corrected.items
+    (scanned_next (IsLastOf c.args.lasts.now) c.args.fences.now c.loop-at.at c.loop-at.epoch c.loop-at.places.items c.loop-at.corrected.items
     c.place_of-place.result c.loop-at.invariant c.loop-at-test.true c.place_of-place.ensures)
 
 pub returns : goal.returns
-returns g c =
-    scanned_all (g.R.Relation.conflict c.args.relation.now) c.args.fences.now c.loop-at.at c.loop-at.epoch c.loop-at.places.items c.loop-at.corrected.items
+returns c =
+    scanned_all (IsLastOf c.args.lasts.now) c.args.fences.now c.loop-at.at c.loop-at.epoch c.loop-at.places.items c.loop-at.corrected.items
     c.loop-at.invariant (omega (arith, c.loop-at-test.false))

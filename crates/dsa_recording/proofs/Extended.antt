@@ -8,7 +8,7 @@ use Rattle.dsa_descriptor.specs.Lists.{entries}
 use Rattle.dsa_descriptor.specs.Places.{u32_at, code_at}
 use Rattle.dsa_audit.specs.declared.member.Member.{Member as KnownMember}
 use Rattle.dsa_recording.specs.declared.answer.AuditOptions.{AuditOptions}
-use Rattle.dsa_recording.specs.declared.assumptions.Assumptions.{Assumptions}
+use Rattle.dsa_recording.specs.Pairs.{Terms, terms}
 use Rattle.dsa_recording.specs.declared.findings.Finding.{Finding}
 use Rattle.dsa_recording.specs.declared.stream.Submission.{Submission}
 use Rattle.dsa_recording.specs.declared.submission.Audited.{Audited}
@@ -56,7 +56,7 @@ record IsHeld (es : List (List ℕ)) (r : Reported) (f : Finding) : Type 0 where
   pub room : s.first + length ms ≤ length es
   pub moves : Moves s
 
-held_from : (assumed : Assumptions) (es : List (List ℕ)) (r : Reported) → AllByRecursion Moves r.submissions
+held_from : (assumed : Terms) (es : List (List ℕ)) (r : Reported) → AllByRecursion Moves r.submissions
     → (f : Finding) → IsFrom assumed es 0 r.submissions r.audits f → IsHeld es r f
 unfolding from_report
 held_from assumed es r move f from =
@@ -76,7 +76,7 @@ held_from assumed es r move f from =
       moves = all_at Moves r.submissions from.at s move from.submission_is;
     }
 
-all_held : (assumed : Assumptions) (bytes : List ℕ) (r : Reported) → IsReport assumed bytes r → AllByRecursion (IsHeld (entries bytes) r) r.findings
+all_held : (assumed : Terms) (bytes : List ℕ) (r : Reported) → IsReport assumed bytes r → AllByRecursion (IsHeld (entries bytes) r) r.findings
 all_held assumed bytes r is =
     let es : List (List ℕ) = entries bytes in
     let within = each_within es 0 (length es) r.submissions is.submissions.all in
@@ -151,7 +151,7 @@ map_renumbered (f ∷ fs) =
     let same : 0 + f.submission ≡ f.submission = omega arith in
     ap (λ (k : ℕ). record { submission = k; place = f.place; kind = f.kind } ∷ map (renumbered 0) fs) same ∙ ap (λ (l : List Finding). f ∷ l) (map_renumbered fs)
 
-same_count : (assumed : Assumptions) (es : List (List ℕ)) (ss : List Submission) (audits : List Audited) → AreAudited assumed es ss audits → length ss ≡ length audits
+same_count : (assumed : Terms) (es : List (List ℕ)) (ss : List Submission) (audits : List Audited) → AreAudited assumed es ss audits → length ss ≡ length audits
 same_count assumed es [] [] all = refl
 same_count assumed es (s ∷ ss) (a ∷ audits) (first, all) = ap suc (same_count assumed es ss audits all)
 same_count assumed es [] (a ∷ audits) all = absurd all
@@ -194,7 +194,7 @@ both_reports n r q = record {
   findings = recording_findings 0 (r.audits ++ q.audits);
 }
 
-report_joined : (assumed : Assumptions) (a b : List ℕ) (r q : Reported) → IsReport assumed a r → IsReport assumed b q
+report_joined : (assumed : Terms) (a b : List ℕ) (r q : Reported) → IsReport assumed a r → IsReport assumed b q
     → IsReport assumed (a ++ b) (both_reports (length (entries a)) r q)
 report_joined assumed a b r q first second =
     let es : List (List ℕ) = entries a in
@@ -220,7 +220,7 @@ all_split P (x ∷ xs) ys (here, all) =
     let rest = all_split P xs ys all in
     ((here, rest.0), rest.1)
 
-module _ (options : AuditOptions) (a b : List ℕ) (r q : Reported) (first : IsReport options.assumptions a r) (second : IsReport options.assumptions b q) where
+module _ (options : AuditOptions) (a b : List ℕ) (r q : Reported) (first : IsReport (terms options.accepted.now options.assumptions) a r) (second : IsReport (terms options.accepted.now options.assumptions) b q) where
   whole : Reported
   whole = both_reports (length (entries a)) r q
 
@@ -246,7 +246,7 @@ module _ (options : AuditOptions) (a b : List ℕ) (r q : Reported) (first : IsR
     audited_behind = [];
     submissions = ap (λ (l : List Submission). r.submissions ++ l) (sym (append-nil (map (moved (length (entries a))) q.submissions)));
     audits = ap (λ (l : List Audited). r.audits ++ l) (sym (append-nil q.audits));
-    count = same_count options.assumptions (entries a) r.submissions r.audits first.audits;
+    count = same_count (terms options.accepted.now options.assumptions) (entries a) r.submissions r.audits first.audits;
     audited_count = refl;
   }
 
@@ -263,10 +263,10 @@ module _ (options : AuditOptions) (a b : List ℕ) (r q : Reported) (first : IsR
       let fs : List (List ℕ) = entries b in
       let left : AllByRecursion (IsNoError options (es ++ fs) whole) r.findings =
       subst (AllByRecursion (IsNoError options (es ++ fs) whole)) (map_renumbered r.findings)
-      (errors_there options [] es fs 0 r whole first_part r.findings (all_held options.assumptions a r first) one) in
+      (errors_there options [] es fs 0 r whole first_part r.findings (all_held (terms options.accepted.now options.assumptions) a r first) one) in
       let right : AllByRecursion (IsNoError options (es ++ fs) whole) (map (renumbered (length r.audits)) q.findings) =
       subst (λ (l : List (List ℕ)). AllByRecursion (IsNoError options (es ++ l) whole) (map (renumbered (length r.audits)) q.findings)) (append-nil fs)
-      (errors_there options es fs [] (length r.audits) q whole second_part q.findings (all_held options.assumptions b q second) two) in
+      (errors_there options es fs [] (length r.audits) q whole second_part q.findings (all_held (terms options.accepted.now options.assumptions) b q second) two) in
       subst (λ (l : List (List ℕ)). AreNoErrors options l whole) (sym (entries_joined a b first.submissions.whole))
       (subst (AllByRecursion (IsNoError options (es ++ fs) whole)) (sym findings_are) (all_append (IsNoError options (es ++ fs) whole) r.findings (map (renumbered (length r.audits)) q.findings) left right))
 
@@ -278,9 +278,9 @@ module _ (options : AuditOptions) (a b : List ℕ) (r q : Reported) (first : IsR
       subst (AllByRecursion (IsNoError options (es ++ fs) whole)) findings_are
       (subst (λ (l : List (List ℕ)). AreNoErrors options l whole) (entries_joined a b first.submissions.whole) all) in
       let two = all_split (IsNoError options (es ++ fs) whole) r.findings (map (renumbered (length r.audits)) q.findings) there in (
-        errors_here options [] es fs 0 r whole first_part r.findings (all_held options.assumptions a r first)
+        errors_here options [] es fs 0 r whole first_part r.findings (all_held (terms options.accepted.now options.assumptions) a r first)
             (subst (AllByRecursion (IsNoError options (es ++ fs) whole)) (sym (map_renumbered r.findings)) two.0),
-        errors_here options es fs [] (length r.audits) q whole second_part q.findings (all_held options.assumptions b q second)
+        errors_here options es fs [] (length r.audits) q whole second_part q.findings (all_held (terms options.accepted.now options.assumptions) b q second)
             (subst (λ (l : List (List ℕ)). AllByRecursion (IsNoError options (es ++ l) whole) (map (renumbered (length r.audits)) q.findings)) (sym (append-nil fs)) two.1),
       )
 
@@ -295,7 +295,7 @@ pub status_joined : (options : AuditOptions) (a b : List ℕ) (s t : ℕ) → Ha
 unfolding whole
 status_joined options a b s t first second = record {
   report = whole options a b first.report second.report first.is_report second.is_report;
-  is_report = report_joined options.assumptions a b first.report second.report first.is_report second.is_report;
+  is_report = report_joined (terms options.accepted.now options.assumptions) a b first.report second.report first.is_report second.is_report;
   is_status = status_of_both options a b first.report second.report first.is_report second.is_report s t first.is_status second.is_status;
 }
 

@@ -15,9 +15,10 @@ use Rattle.dsa_audit.specs.declared.needless.FenceUse.TheVariants as fence_use
 use Rattle.dsa_audit.specs.declared.repeats.Action.{Action}
 use Rattle.dsa_audit.specs.Members.{KnownConflict, PossibleConflict}
 use Rattle.dsa_audit.specs.Repeats.{AreRepeats, OrderMatters}
+use Rattle.dsa_audit.specs.Accepted.{IsAcceptedAt, IsLeft}
 use Rattle.dsa_audit.specs.Audits.{PlaceHolds, UseHolds}
 use Rattle.dsa_audit.specs.Steps.{AreLasts}
-use Rattle.dsa_recording.specs.declared.assumptions.Assumptions.{Assumptions}
+use Rattle.dsa_recording.specs.Pairs.{IsListedPair, Terms}
 use Rattle.dsa_recording.specs.declared.stream.Submission.{Submission}
 use Rattle.dsa_recording.specs.declared.submission.Audited.{Audited}
 use Rattle.dsa_recording.specs.declared.findings.Finding.{Finding}
@@ -30,7 +31,7 @@ use Rattle.dsa_recording.specs.declared.findings.Flaw.TheVariants.{OverwritesBat
 use Rattle.dsa_recording.specs.declared.findings.Place.{Place}
 use Rattle.dsa_recording.specs.declared.findings.Place.TheVariants.{Head, Member}
 use Rattle.dsa_recording.specs.Flaws.{no_flaws}
-use Rattle.dsa_recording.specs.Findings.{unseen_kind, missing_kind, use_kind, shared_kind, repeated_kind, flaw_kind, head_kinds, member_kinds, all_found, head_findings, findings_upto, submission_findings, recording_findings}
+use Rattle.dsa_recording.specs.Findings.{unseen_kind, accepted_kind, missing_kind, use_kind, shared_kind, repeated_kind, flaw_kind, head_kinds, member_kinds, all_found, head_findings, findings_upto, submission_findings, recording_findings}
 use Rattle.dsa_recording.specs.Details.{IsOf, IsPlaceOf, IsPlaced, entry_at}
 use Rattle.dsa_recording.specs.Reports.{IsReport, Reported}
 use Rattle.dsa_recording.proofs.Within.{each_within, has_all}
@@ -74,25 +75,34 @@ fits_flaw : (ms : List KnownMember) (place : Place) (flaw : Flaw) (is_there : Bo
 fits_flaw ms place flaw true fits = fits
 fits_flaw ms place flaw false fits = tt
 
-fits_missing : (k : ℕ) (actions : List Action) (ms : List KnownMember) (g h : List _) (p : FencePlace) → k < length ms → PlaceHolds (OrderMatters actions ms) g h k p
+fits_missing : (k : ℕ) (ms : List KnownMember) (C : ℕ → ℕ → Type 0) (g h : List _) (p : FencePlace) → ((i : ℕ) → C i k → KnownConflict ms i k) → k < length ms → PlaceHolds C g h k p
     → Fits ms (Member k) (missing_kind p)
-fits_missing k actions ms g h fence_place.NoFence lt holds = tt
-fits_missing k actions ms g h fence_place.Given lt holds = tt
-fits_missing k actions ms g h (fence_place.Missing i) lt holds = (holds.before, lt, holds.conflict.0)
+fits_missing k ms C g h fence_place.NoFence known lt holds = tt
+fits_missing k ms C g h fence_place.Given known lt holds = tt
+fits_missing k ms C g h (fence_place.Missing i) known lt holds = (holds.before, lt, known i holds.conflict)
+
+fits_accepted : (k : ℕ) (ms : List KnownMember) (C A : ℕ → ℕ → Type 0) (g h : List _) (p : FencePlace) (o : Option ℕ) → ((i : ℕ) → C i k → KnownConflict ms i k) → k < length ms
+    → PlaceHolds C g h k p → IsAcceptedAt A k p o → Fits ms (Member k) (accepted_kind o)
+fits_accepted k ms C A g h p None known lt holds is = tt
+fits_accepted k ms C A g h fence_place.NoFence (Some j) known lt holds is = absurd cc
+fits_accepted k ms C A g h fence_place.Given (Some j) known lt holds is = absurd cc
+fits_accepted k ms C A g h (fence_place.Missing i) (Some j) known lt holds (same, listed) =
+    subst (λ (z : ℕ). Fits ms (Member k) (accepted_kind (Some z))) (sym same) (holds.before, lt, known i holds.conflict)
 
 fits_needless : (ms : List KnownMember) (k : ℕ) (is_batch : Bool) → Fits ms (Member k) (use_kind is_batch fence_use.Needless)
 fits_needless ms k true = tt
 fits_needless ms k false = tt
 
-fits_use : (k : ℕ) (is_batch : Bool) (ms : List KnownMember) (C : ℕ → ℕ → Type 0) (bs vs g h : List _) (u : FenceUse) → length ms ≡ length g → UseHolds C bs vs g h k u
+fits_use : (k : ℕ) (is_batch : Bool) (ms : List KnownMember) (C : ℕ → ℕ → Type 0) (bs vs ks g h : List _) (u : FenceUse) → length ms ≡ length g → UseHolds C bs vs ks g h k u
     → Fits ms (Member k) (use_kind is_batch u)
-fits_use k is_batch ms C bs vs g h fence_use.NoFence count holds = tt
-fits_use k is_batch ms C bs vs g h (fence_use.Guarding m) count (spared, first, mute) = first.guard.before
-fits_use k is_batch ms C bs vs g h (fence_use.Signalling j) count (spared, safe, first) = (first.signal.from, omega (arith, count, first.signal.within))
-fits_use k is_batch ms C bs vs g h (fence_use.GuardingAndSignalling m j) count (spared, guards, signals) =
+fits_use k is_batch ms C bs vs ks g h fence_use.NoFence count holds = tt
+fits_use k is_batch ms C bs vs ks g h (fence_use.Guarding m) count (spared, first, mute) = first.guard.before
+fits_use k is_batch ms C bs vs ks g h (fence_use.Signalling j) count (spared, safe, first) = (first.signal.from, omega (arith, count, first.signal.within))
+fits_use k is_batch ms C bs vs ks g h (fence_use.GuardingAndSignalling m j) count (spared, guards, signals) =
     (guards.guard.before, signals.signal.from, omega (arith, count, signals.signal.within))
-fits_use k is_batch ms C bs vs g h fence_use.Needless count holds = fits_needless ms k is_batch
-fits_use k is_batch ms C bs vs g h (fence_use.Needed i j) count holds = tt
+fits_use k is_batch ms C bs vs ks g h fence_use.Needless count holds = fits_needless ms k is_batch
+fits_use k is_batch ms C bs vs ks g h (fence_use.Needed i j) count holds = tt
+fits_use k is_batch ms C bs vs ks g h fence_use.Held count holds = tt
 
 -- the last conflict of a member is an earlier one
 fits_shared : (k : ℕ) (ms : List KnownMember) (C : ℕ → ℕ → Type 0) (shared : List (Option ℕ)) (o : Option ℕ) → AreLasts C shared → slice_get shared k ≡ Some o
@@ -106,7 +116,7 @@ fits_repeated : (k : ℕ) (actions : List Action) (ms : List KnownMember) (repea
 fits_repeated k actions ms repeated None are at = tt
 fits_repeated k actions ms repeated (Some i) are at = (are.each k (Some i) at).0.0.0
 
-found_upto : (assumed : Assumptions) (es : List (List ℕ)) (s : Submission) (number : ℕ) (a : Audited) (k : ℕ) → IsAudited assumed es s a → k ≤ length a.members.items
+found_upto : (assumed : Terms) (es : List (List ℕ)) (s : Submission) (number : ℕ) (a : Audited) (k : ℕ) → IsAudited assumed es s a → k ≤ length a.members.items
     → AllByRecursion (IsAt number a.operands.items) (findings_upto number a k)
 found_upto assumed es s number a zero is le = tt
 found_upto assumed es s number a (suc k) is le =
@@ -121,7 +131,11 @@ found_upto assumed es s number a (suc k) is le =
     let within : k < length a.fences.items = omega (arith, le, has.places, places) in
     let holds = is.audit.corrected.each k within in
     let more : length a.audit.corrected.fences.items ≡ length a.fences.items = is.audit.corrected.more.same_length in
-    let used = is.audit.reduced.each k (omega (arith, within, more)) in
+    let used = is.audit.reduced.reduced.each k (omega (arith, within, more)) in
+    let before : length a.audit.unaccepted.places.items ≡ length a.fences.items = is.audit.unaccepted.count in
+    let accepted : length a.audit.accepted.items ≡ length a.audit.unaccepted.places.items = is.audit.accepted.count in
+    let named : Option ℕ = get_or a.audit.accepted.items k None in
+    let named_at : slice_get a.audit.accepted.items k ≡ Some named = slice_get-get_or a.audit.accepted.items k None (omega (arith, within, before, accepted)) in
     let o : Option ℕ = get_or a.shared.items k None in
     let there : slice_get a.shared.items k ≡ Some o = slice_get-get_or a.shared.items k None (omega (arith, le, has.shared)) in
     let r : Option ℕ = get_or a.audit.repeated.items k None in
@@ -139,11 +153,16 @@ found_upto assumed es s number a (suc k) is le =
               (
                 fits_repeated k a.actions.items ms a.audit.repeated.items r is.audit.repeated repeats,
                 (
-                  fits_missing k a.actions.items ms a.fences.items a.audit.corrected.fences.items p lt holds,
+                  fits_accepted k ms (OrderMatters a.actions.items ms) (IsListedPair assumed.accepted (members_in es s) ms) a.fences.items a.audit.unaccepted.fences.items
+                      (get_or a.audit.unaccepted.places.items k fence_place.NoFence) named (λ i c. c.0) lt (is.audit.unaccepted.each k within) (is.audit.accepted.each k named named_at),
                   (
-                    fits_use k a.is_batch ms (PossibleConflict a.members.items) a.fallible.items a.visible.items a.audit.corrected.fences.items a.audit.reduced.fences.items u
-                        (omega (arith, members, operands, has.places, places, more)) used,
-                    tt,
+                    fits_missing k ms (IsLeft (OrderMatters a.actions.items ms) (IsListedPair assumed.accepted (members_in es s) ms) a.fences.items) a.fences.items a.audit.corrected.fences.items p
+                        (λ i c. c.0.0) lt holds,
+                    (
+                      fits_use k a.is_batch ms (PossibleConflict a.members.items) a.fallible.items a.visible.items is.audit.reduced.held a.audit.corrected.fences.items a.audit.reduced.fences.items u
+                          (omega (arith, members, operands, has.places, places, more)) used,
+                      tt,
+                    ),
                   ),
                 ),
               ),
@@ -166,7 +185,7 @@ found_head true number ms a =
     )
 found_head false number ms a = tt
 
-found_in : (assumed : Assumptions) (es : List (List ℕ)) (s : Submission) (number : ℕ) (a : Audited) → IsAudited assumed es s a
+found_in : (assumed : Terms) (es : List (List ℕ)) (s : Submission) (number : ℕ) (a : Audited) → IsAudited assumed es s a
     → AllByRecursion (IsAt number a.operands.items) (submission_findings number a)
 found_in assumed es s number a is =
     all_append (IsAt number a.operands.items) (head_findings number a) (findings_upto number a (length a.members.items))
@@ -174,7 +193,7 @@ found_in assumed es s number a is =
 
 -- ---- in submissions, of which the first has this number
 
-pub record IsFrom (assumed : Assumptions) (es : List (List ℕ)) (number : ℕ) (ss : List Submission) (audits : List Audited) (f : Finding) : Type 0 where
+pub record IsFrom (assumed : Terms) (es : List (List ℕ)) (number : ℕ) (ss : List Submission) (audits : List Audited) (f : Finding) : Type 0 where
   pub at : ℕ
   pub submission : Submission
   pub audited : Audited
@@ -185,7 +204,7 @@ pub record IsFrom (assumed : Assumptions) (es : List (List ℕ)) (number : ℕ) 
   pub is_audited : IsAudited assumed es submission audited
   pub is_at : IsAt f.submission audited.operands.items f
 
-from_first : (assumed : Assumptions) (es : List (List ℕ)) (number : ℕ) (s : Submission) (ss : List Submission) (a : Audited) (audits : List Audited) → IsWithin es s → IsAudited assumed es s a
+from_first : (assumed : Terms) (es : List (List ℕ)) (number : ℕ) (s : Submission) (ss : List Submission) (a : Audited) (audits : List Audited) → IsWithin es s → IsAudited assumed es s a
     → (f : Finding) → IsAt number a.operands.items f → IsFrom assumed es number (s ∷ ss) (a ∷ audits) f
 from_first assumed es number s ss a audits within is f at = record {
   at = 0;
@@ -199,7 +218,7 @@ from_first assumed es number s ss a audits within is f at = record {
   is_at = record { number_is = refl; place = at.place; kind = at.kind };
 }
 
-from_next : (assumed : Assumptions) (es : List (List ℕ)) (number : ℕ) (s : Submission) (ss : List Submission) (a : Audited) (audits : List Audited)
+from_next : (assumed : Terms) (es : List (List ℕ)) (number : ℕ) (s : Submission) (ss : List Submission) (a : Audited) (audits : List Audited)
     → (f : Finding) → IsFrom assumed es (suc number) ss audits f → IsFrom assumed es number (s ∷ ss) (a ∷ audits) f
 from_next assumed es number s ss a audits f there = record {
   at = suc there.at;
@@ -213,7 +232,7 @@ from_next assumed es number s ss a audits f there = record {
   is_at = there.is_at;
 }
 
-pub found_from : (assumed : Assumptions) (es : List (List ℕ)) (number : ℕ) (ss : List Submission) (audits : List Audited) → AllByRecursion (IsWithin es) ss → AreAudited assumed es ss audits
+pub found_from : (assumed : Terms) (es : List (List ℕ)) (number : ℕ) (ss : List Submission) (audits : List Audited) → AllByRecursion (IsWithin es) ss → AreAudited assumed es ss audits
     → AllByRecursion (IsFrom assumed es number ss audits) (recording_findings number audits)
 found_from assumed es number [] [] within all = tt
 found_from assumed es number (s ∷ ss) (a ∷ audits) (inside, within) (is, all) =
@@ -227,7 +246,7 @@ found_from assumed es number (s ∷ ss) [] within all = absurd all
 
 -- ---- in a report
 
-pub entry_within : (assumed : Assumptions) (es : List (List ℕ)) (s : Submission) (a : Audited) (k : ℕ) → IsWithin es s → IsAudited assumed es s a → k < length a.members.items → (k < s.size) × (s.first + k < length es)
+pub entry_within : (assumed : Terms) (es : List (List ℕ)) (s : Submission) (a : Audited) (k : ℕ) → IsWithin es s → IsAudited assumed es s a → k < length a.members.items → (k < s.size) × (s.first + k < length es)
 entry_within assumed es s a k within is lt =
     let rest : length (drop s.first es) ≡ length es - s.first = length-drop s.first es in
     let size : length (members_in es s) ≡ min (end_of s - s.first) (length (drop s.first es)) = length-take (end_of s - s.first) (drop s.first es) in
@@ -236,7 +255,7 @@ entry_within assumed es s a k within is lt =
     (omega (arith, count, size, lt), omega (arith, count, rest, size, lt, ends))
 
 -- the place is one of the submission, and an entry
-pub place_within : (assumed : Assumptions) (es : List (List ℕ)) (s : Submission) (a : Audited) (place : Place) → IsWithin es s → IsAudited assumed es s a → IsInside (length a.operands.items) place
+pub place_within : (assumed : Terms) (es : List (List ℕ)) (s : Submission) (a : Audited) (place : Place) → IsWithin es s → IsAudited assumed es s a → IsInside (length a.operands.items) place
     → IsPlaceOf s place × (entry_at s place < length es)
 place_within assumed es s a Head within is inside = (tt, within.head)
 place_within assumed es s a (Member k) within is inside =
@@ -246,7 +265,7 @@ place_within assumed es s a (Member k) within is inside =
     let both = entry_within assumed es s a k within is (omega (arith, lt, members, operands)) in
     (both.0, both.1)
 
-unfoldable pub from_report : (assumed : Assumptions) (es : List (List ℕ)) (r : Reported) (f : Finding) → IsFrom assumed es 0 r.submissions r.audits f → IsPlaced es r f
+unfoldable pub from_report : (assumed : Terms) (es : List (List ℕ)) (r : Reported) (f : Finding) → IsFrom assumed es 0 r.submissions r.audits f → IsPlaced es r f
 from_report assumed es r f there =
     let number : f.submission ≡ there.at = there.number_is ∙ (omega arith) in
     let inside = place_within assumed es there.submission there.audited f.place there.is_within there.is_audited there.is_at.place in
@@ -258,7 +277,7 @@ from_report assumed es r f there =
       record { place = inside.0; within = inside.1; head = there.is_within.head; kind = there.is_at.kind },
     )
 
-pub report_placed : (assumed : Assumptions) (bytes : List ℕ) (r : Reported) → IsReport assumed bytes r → AllByRecursion (IsPlaced (entries bytes) r) r.findings
+pub report_placed : (assumed : Terms) (bytes : List ℕ) (r : Reported) → IsReport assumed bytes r → AllByRecursion (IsPlaced (entries bytes) r) r.findings
 report_placed assumed bytes r is =
     let within = each_within (entries bytes) 0 (length (entries bytes)) r.submissions is.submissions.all in
     let all = found_from assumed (entries bytes) 0 r.submissions r.audits within is.audits in

@@ -18,10 +18,12 @@ use Rattle.dsa_recording.specs.declared.findings.Place.{Place}
 use Rattle.dsa_recording.specs.declared.findings.Place.TheVariants.{Head, Member}
 use Rattle.dsa_recording.specs.declared.stream.Submission.{Submission}
 use Rattle.dsa_recording.specs.declared.submission.Audited.{Audited}
-use Rattle.dsa_recording.specs.Accepted.{IsAccepted, has_key}
+use Rattle.dsa_recording.specs.Accepted.{IsAccepted}
+use Rattle.dsa_recording.specs.Pairs.{has_key}
 use Rattle.dsa_recording.specs.Details.{Describes, HasEntry, IsCause, IsIn, IsOf, cause_record, entry_at, flaw_record, is_in_record, kind_of, named_by, shared_at, shared_records}
 use Rattle.dsa_recording.specs.Findings.{all_found, findings_upto, head_findings, head_kinds, member_kinds, recording_findings, submission_findings}
-use Rattle.dsa_recording.specs.Keys.{batch_key, cause_key, entry_key, key_words, member_key, other_key, others_key, place_key}
+use Rattle.dsa_recording.specs.EntryKeys.{batch_key, entry_key, member_key}
+use Rattle.dsa_recording.specs.Keys.{cause_key, key_words, other_key, others_key, place_key}
 use Rattle.dsa_recording.specs.Reports.{Reported}
 use Rattle.dsa_recording.specs.Submissions.{head_at}
 use Rattle.dsa_recording.proofs.Middle.{get_middle, moved, nth_middle}

@@ -21,7 +21,8 @@ use Rattle.dsa_recording.specs.Reports.{Reported}
 use Rattle.dsa_recording.specs.declared.stream.Submission.{Submission}
 use Rattle.dsa_recording.specs.declared.submission.Audited.{Audited}
 use Rattle.dsa_recording.specs.Details.{entry_at, HasHazard, IsCause, IsDetail, IsOfHead, kind_of, named_by, named_by_flaw}
-use Rattle.dsa_recording.specs.Keys.{cause_key, flaw_key, hazard_key, key_words, others_key, place_key}
+use Rattle.dsa_recording.specs.EntryKeys.{hazard_key}
+use Rattle.dsa_recording.specs.Keys.{cause_key, flaw_key, key_words, others_key, place_key}
 use Rattle.dsa_recording.specs.Words.{unseen_words}
 
 -- two members conflict in one way

@@ -25,4 +25,5 @@ pub mod StreamOf
 pub mod ListingLines
 pub mod StandIns
 pub mod ListingRead
+pub mod FenceKeys
 mod Flawed

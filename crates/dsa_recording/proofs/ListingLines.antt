@@ -3,7 +3,7 @@ use Rattle.std.proofs.Common.{◌≡◌, ℕ, zero, suc, ◌+◌, ◌<◌, ◌�
 use Rattle.std.proofs.lemmas.List.{append_assoc, append-nil}
 use Rattle.std.specs.List.{AllByRecursion}
 use Rattle.dsa_descriptor.specs.Lists.{entries}
-use Rattle.dsa_recording.specs.declared.assumptions.Assumptions.{Assumptions}
+use Rattle.dsa_recording.specs.Pairs.{Terms}
 use Rattle.dsa_recording.specs.declared.stream.Submission.{Submission}
 use Rattle.dsa_recording.specs.declared.submission.Audited.{Audited}
 use Rattle.dsa_recording.specs.declared.report.Report.{Report}
@@ -78,7 +78,7 @@ listing_more es (t ∷ ss) [] k s a all lt = absurd all
 
 -- ---- of a report
 
-inside : (assumed : Assumptions) (es : List (List ℕ)) (s : Submission) (a : Audited) → IsWithin es s → IsAudited assumed es s a → (n : ℕ) → length a.members.items ≡ n → s.first + n ≤ length es
+inside : (assumed : Terms) (es : List (List ℕ)) (s : Submission) (a : Audited) → IsWithin es s → IsAudited assumed es s a → (n : ℕ) → length a.members.items ≡ n → s.first + n ≤ length es
 inside assumed es s a within is zero count =
     let ends : s.first + s.size ≤ length es = within.members in
     omega (arith, ends)
@@ -86,14 +86,14 @@ inside assumed es s a within is (suc n) count =
     let last = entry_within assumed es s a n within is (omega (arith, count)) in
     omega (arith, last.1)
 
-each_inside : (assumed : Assumptions) (es : List (List ℕ)) (ss : List Submission) (audits : List Audited) → AllByRecursion (IsWithin es) ss → AreAudited assumed es ss audits → AreEntries es ss audits
+each_inside : (assumed : Terms) (es : List (List ℕ)) (ss : List Submission) (audits : List Audited) → AllByRecursion (IsWithin es) ss → AreAudited assumed es ss audits → AreEntries es ss audits
 each_inside assumed es [] [] within all = tt
 each_inside assumed es (s ∷ ss) (a ∷ audits) (first, within) (is, all) =
     (inside assumed es s a first is (length a.members.items) refl, each_inside assumed es ss audits within all)
 each_inside assumed es [] (a ∷ audits) within all = absurd all
 each_inside assumed es (s ∷ ss) [] within all = absurd all
 
-pub report_entries : (assumed : Assumptions) (bytes : List ℕ) (es : List (List ℕ)) (r : Report) → es ≡ entries bytes → IsReport assumed bytes (reported_by r) → AreEntries es r.submissions.items r.audits.items
+pub report_entries : (assumed : Terms) (bytes : List ℕ) (es : List (List ℕ)) (r : Report) → es ≡ entries bytes → IsReport assumed bytes (reported_by r) → AreEntries es r.submissions.items r.audits.items
 report_entries assumed bytes es r same is =
     let within = each_within (entries bytes) 0 (length (entries bytes)) r.submissions.items is.submissions.all in
     subst (λ (z : List (List ℕ)). AreEntries z r.submissions.items r.audits.items) (sym same)

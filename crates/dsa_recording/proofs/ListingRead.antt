@@ -6,7 +6,7 @@ use Rattle.std.specs.List.{AllByRecursion}
 use Rattle.dsa_audit.specs.declared.member.Member.{Member}
 use Rattle.dsa_audit.specs.declared.member.Member.TheVariants.{Known, Unknown}
 use Rattle.dsa_audit.specs.declared.needless.FenceUse.{FenceUse}
-use Rattle.dsa_audit.specs.declared.needless.FenceUse.TheVariants.{NoFence, Needed, Guarding, Signalling, GuardingAndSignalling, Needless}
+use Rattle.dsa_audit.specs.declared.needless.FenceUse.TheVariants.{NoFence, Needed, Held, Guarding, Signalling, GuardingAndSignalling, Needless}
 use Rattle.dsa_audit.specs.declared.member.Unseen.{Unseen}
 use Rattle.dsa_audit.specs.declared.member.Unseen.TheVariants.{Blank, Operation, Nested, Owner, Empty, Wrap}
 use Rattle.dsa_descriptor.specs.declared.descriptor.Descriptor.{Descriptor}
@@ -139,6 +139,7 @@ kind_read kind number rest more e spells =
 fence_reads : (number : ℕ) (used : FenceUse) (rest : List ℕ) (more : List Fields) → TextSpells rest more → TextSpells (fence_line number used ++ rest) more
 fence_reads number NoFence rest more e = e
 fence_reads number (Needed earlier later) rest more e = e
+fence_reads number Held rest more e = kind_read (codes "held") number rest more refl e
 fence_reads number (Guarding earlier) rest more e = kind_read (codes "guarding") number rest more refl e
 fence_reads number (Signalling awaited) rest more e = kind_read (codes "signalling") number rest more refl e
 fence_reads number (GuardingAndSignalling earlier awaited) rest more e = kind_read (codes "guarding and signalling") number rest more refl e

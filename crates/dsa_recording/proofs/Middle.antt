@@ -5,7 +5,8 @@ use Rattle.std.specs.Simd.{first_chunks}
 use Rattle.std.proofs.lemmas.List.{get_or_append_left, get_or-append-add, drop-drop, drop_at, drop-append-le, take-append-le, length-drop}
 use Rattle.dsa_descriptor.specs.Lists.{entries}
 use Rattle.dsa_descriptor.specs.Places.{u32_at, code_at}
-use Rattle.dsa_recording.specs.declared.assumptions.Assumptions.{Assumptions}
+use Rattle.dsa_audit.specs.Laws.{IsAudit}
+use Rattle.dsa_recording.specs.Pairs.{IsListedPair, Terms}
 use Rattle.dsa_recording.specs.declared.stream.Submission.{Submission}
 use Rattle.dsa_recording.specs.declared.submission.Audited.{Audited}
 use Rattle.dsa_recording.specs.Flaws.{AreAllFlaws, HasMisalignedRecord}
@@ -122,7 +123,7 @@ reads_joined es from mid to (s ∷ ss) ts (lt, is, le, rest) q = (lt, is, le, re
 
 -- ---- audits
 
-audited_same : (assumed : Assumptions) (es other : List (List ℕ)) (s t : Submission) (a : Audited) → s.is_batch ≡ t.is_batch
+audited_same : (assumed : Terms) (es other : List (List ℕ)) (s t : Submission) (a : Audited) → s.is_batch ≡ t.is_batch
     → slice_index_or es (head_at s) [] ≡ slice_index_or other (head_at t) [] → members_in es s ≡ members_in other t
     → IsAudited assumed es s a → IsAudited assumed other t a
 audited_same assumed es other s t a batch head members is = record {
@@ -133,10 +134,10 @@ audited_same assumed es other s t a batch head members is = record {
   members =
       subst (λ (h : List ℕ). AreMembers h (members_in other t) a.members.items) head
       (subst (λ (ms : List (List ℕ)). AreMembers (slice_index_or es (head_at s) []) ms a.members.items) members is.members);
-  fallible = subst (λ (ms : List (List ℕ)). AreFallible assumed a.members.items ms a.fallible.items) members is.fallible;
+  fallible = subst (λ (ms : List (List ℕ)). AreFallible assumed.assumptions a.members.items ms a.fallible.items) members is.fallible;
   visible =
-      subst (λ (h : List ℕ). AreVisible assumed h a.members.items (members_in other t) a.visible.items) head
-      (subst (λ (ms : List (List ℕ)). AreVisible assumed (slice_index_or es (head_at s) []) a.members.items ms a.visible.items) members is.visible);
+      subst (λ (h : List ℕ). AreVisible assumed.assumptions h a.members.items (members_in other t) a.visible.items) head
+      (subst (λ (ms : List (List ℕ)). AreVisible assumed.assumptions (slice_index_or es (head_at s) []) a.members.items ms a.visible.items) members is.visible);
   actions = is.actions ∙ ap (map action_of) members;
   operands =
       subst (λ (h : List ℕ). AreOperands h (members_in other t) a.operands.items) head
@@ -148,7 +149,9 @@ audited_same assumed es other s t a batch head members is = record {
       subst (λ (b : Bool). AreAllFlaws b (slice_index_or other (head_at t) []) (members_in other t) a.flaws.items) batch
       (subst (λ (h : List ℕ). AreAllFlaws s.is_batch h (members_in other t) a.flaws.items) head
       (subst (λ (ms : List (List ℕ)). AreAllFlaws s.is_batch (slice_index_or es (head_at s) []) ms a.flaws.items) members is.flaws));
-  audit = is.audit;
+  audit =
+      subst (λ (ms : List (List ℕ)). IsAudit (IsListedPair assumed.accepted ms a.operands.items) a.actions.items a.operands.items a.members.items a.fallible.items a.visible.items a.fences.items a.audit)
+      members is.audit;
 }
 
 -- the head of a submission that was read moves with it
@@ -164,7 +167,7 @@ members_moved pre es post s le =
     ap (slice_range (pre ++ (es ++ post)) (length pre + s.first)) (end_moved (length pre) s)
     ∙ range_middle pre es post s.first (end_of s) (omega arith) le
 
-pub audited_middle : (assumed : Assumptions) (pre es post : List (List ℕ)) (from to : ℕ) (ss : List Submission) (audits : List Audited)
+pub audited_middle : (assumed : Terms) (pre es post : List (List ℕ)) (from to : ℕ) (ss : List Submission) (audits : List Audited)
     → ReadsUpTo es from ss to → AreAudited assumed es ss audits → AreAudited assumed (pre ++ (es ++ post)) (map (moved (length pre)) ss) audits
 audited_middle assumed pre es post from to [] [] r all = tt
 audited_middle assumed pre es post from to (s ∷ ss) (a ∷ audits) (lt, is, le, rest) (first, all) =
@@ -178,7 +181,7 @@ audited_middle assumed pre es post from to (s ∷ ss) (a ∷ audits) (lt, is, le
 audited_middle assumed pre es post from to [] (a ∷ audits) r all = absurd all
 audited_middle assumed pre es post from to (s ∷ ss) [] r all = absurd all
 
-pub audited_joined : (assumed : Assumptions) (es : List (List ℕ)) (ss ts : List Submission) (audits more : List Audited) → AreAudited assumed es ss audits → AreAudited assumed es ts more
+pub audited_joined : (assumed : Terms) (es : List (List ℕ)) (ss ts : List Submission) (audits more : List Audited) → AreAudited assumed es ss audits → AreAudited assumed es ts more
     → AreAudited assumed es (ss ++ ts) (audits ++ more)
 audited_joined assumed es [] ts [] more all rest = rest
 audited_joined assumed es (s ∷ ss) ts (a ∷ audits) more (first, all) rest = (first, audited_joined assumed es ss ts audits more all rest)

@@ -1,7 +1,7 @@
 -- One more audit, and the findings of one more member.
 use Rattle.std.proofs.Common.{◌≡◌, ℕ, zero, suc, ◌+◌, ◌<◌, ◌≤◌, List, [], ◌∷◌, ◌++◌, Option, None, length, get_or, take, sym, ap, subst, ◌∙◌, arith}
 use Rattle.std.proofs.lemmas.List.{take_more, take_all, append_assoc, append-nil}
-use Rattle.dsa_recording.specs.declared.assumptions.Assumptions.{Assumptions}
+use Rattle.dsa_recording.specs.Pairs.{Terms}
 use Rattle.dsa_recording.specs.declared.findings.Finding.{Finding}
 use Rattle.dsa_recording.specs.declared.stream.Submission.{Submission}
 use Rattle.dsa_recording.specs.declared.submission.Audited.{Audited}
@@ -13,20 +13,20 @@ use Rattle.dsa_recording.specs.Findings.{finding_of, all_found, member_kinds, fi
 
 -- ---- audits
 
-one_audited : (assumed : Assumptions) (es : List (List ℕ)) (ss : List Submission) (audits : List Audited) (s : Submission) (a : Audited) → AreAudited assumed es ss audits → IsAudited assumed es s a
+one_audited : (assumed : Terms) (es : List (List ℕ)) (ss : List Submission) (audits : List Audited) (s : Submission) (a : Audited) → AreAudited assumed es ss audits → IsAudited assumed es s a
     → AreAudited assumed es (ss ++ s ∷ []) (audits ++ a ∷ [])
 one_audited assumed es [] [] s a all here = (here, tt)
 one_audited assumed es (t ∷ ss) (b ∷ audits) s a (first, all) here = (first, one_audited assumed es ss audits s a all here)
 one_audited assumed es [] (b ∷ audits) s a all here = absurd all
 one_audited assumed es (t ∷ ss) [] s a all here = absurd all
 
-pub audit_pushed : (assumed : Assumptions) (es : List (List ℕ)) (ss : List Submission) (i : ℕ) (d : Submission) (audits more : List Audited) (a : Audited) → AreAudited assumed es (take i ss) audits
+pub audit_pushed : (assumed : Terms) (es : List (List ℕ)) (ss : List Submission) (i : ℕ) (d : Submission) (audits more : List Audited) (a : Audited) → AreAudited assumed es (take i ss) audits
     → i < length ss → IsAudited assumed es (get_or ss i d) a → more ≡ audits ++ a ∷ [] → AreAudited assumed es (take (i + 1) ss) more
 audit_pushed assumed es ss i d audits more a all lt here e =
     let next : take (i + 1) ss ≡ take i ss ++ get_or ss i d ∷ [] = take_more ss i d lt in
     rw (next, e) (one_audited assumed es (take i ss) audits (get_or ss i d) a all here)
 
-pub all_audited : (assumed : Assumptions) (es : List (List ℕ)) (ss : List Submission) (i : ℕ) (audits : List Audited) → AreAudited assumed es (take i ss) audits → length ss ≤ i → AreAudited assumed es ss audits
+pub all_audited : (assumed : Terms) (es : List (List ℕ)) (ss : List Submission) (i : ℕ) (audits : List Audited) → AreAudited assumed es (take i ss) audits → length ss ≤ i → AreAudited assumed es ss audits
 all_audited assumed es ss i audits all le = subst (λ (z : List Submission). AreAudited assumed es z audits) (take_all i ss le) all
 
 -- ---- findings

@@ -15,7 +15,9 @@ use Rattle.dsa_audit.specs.declared.needless.FenceUse.TheVariants as fence_use
 use Rattle.dsa_audit.specs.declared.needless.Reduced.{Reduced}
 use Rattle.dsa_audit.specs.Audits.{HasFence, IsReduced, UseHolds}
 use Rattle.dsa_settings.specs.Plan.{fence_count}
+use Rattle.dsa_recording.specs.declared.accepted.Accepted.{Accepted}
 use Rattle.dsa_recording.specs.declared.assumptions.Assumptions.{Assumptions}
+use Rattle.dsa_recording.specs.Pairs.{Terms, terms}
 use Rattle.dsa_recording.specs.declared.findings.Finding.{Finding}
 use Rattle.dsa_recording.specs.declared.findings.FindingKind.{FindingKind}
 use Rattle.dsa_recording.specs.declared.findings.Flaw.{Flaw}
@@ -24,7 +26,7 @@ use Rattle.dsa_recording.specs.declared.findings.Place.{Place}
 use Rattle.dsa_recording.specs.declared.findings.Place.TheVariants.{Head, Member}
 use Rattle.dsa_recording.specs.declared.stream.Submission.{Submission}
 use Rattle.dsa_recording.specs.declared.submission.Audited.{Audited}
-use Rattle.dsa_recording.specs.Findings.{HasAll, all_found, finding_of, findings_upto, flaw_kind, head_findings, head_kinds, member_kinds, missing_kind, recording_findings, repeated_kind, shared_kind, submission_findings, unseen_kind, use_kind}
+use Rattle.dsa_recording.specs.Findings.{HasAll, all_found, finding_of, findings_upto, flaw_kind, head_findings, head_kinds, member_kinds, missing_kind, recording_findings, repeated_kind, shared_kind, submission_findings, unseen_kind, use_kind, accepted_kind}
 use Rattle.dsa_recording.specs.Flaws.{no_flaws}
 use Rattle.dsa_recording.specs.Freed.{AreNeedless, HasNeedless, IsReducedUnder, is_needless_use, needless_count, needless_of}
 use Rattle.dsa_recording.specs.Failures.{AreFallible, can_fail}
@@ -39,9 +41,9 @@ use Rattle.dsa_recording.proofs.Within.{has_all}
 -- ---- an audit under other assumptions
 
 -- an audit with the fences reduced under other assumptions is one under these
-pub reaudited : (assumed other : Assumptions) (es : List (List ℕ)) (s : Submission) (a : Audited) (r : Reduced) (n : ℕ) → IsAudited assumed es s a → IsReducedUnder other es s a r
-    → n ≡ needless_of a.is_batch r.uses.items → HasNeedless other es s n
-reaudited assumed other es s a r n is u e = (
+pub reaudited : (accepted : Accepted) (assumed other : Assumptions) (es : List (List ℕ)) (s : Submission) (a : Audited) (r : Reduced) (n : ℕ) → IsAudited (terms accepted assumed) es s a → IsReducedUnder other es s a r
+    → n ≡ needless_of a.is_batch r.uses.items → HasNeedless (terms accepted other) es s n
+reaudited accepted assumed other es s a r n is u e = (
   record a {
     fallible = u.fallible;
     visible = u.visible;
@@ -61,6 +63,8 @@ reaudited assumed other es s a r n is u e = (
     flaws = is.flaws;
     audit = record {
       repeated = is.audit.repeated;
+      unaccepted = is.audit.unaccepted;
+      accepted = is.audit.accepted;
       corrected = is.audit.corrected;
       lasts = is.audit.lasts;
       all = is.audit.all;
@@ -118,6 +122,10 @@ missing_none fence_place.NoFence = refl
 missing_none fence_place.Given = refl
 missing_none (fence_place.Missing i) = refl
 
+accepted_none : (o : Option ℕ) → one_of (accepted_kind o) ≡ 0
+accepted_none None = refl
+accepted_none (Some k) = refl
+
 -- a fence of a batch is a needless one
 abbrev use_of : Bool → FenceUse → ℕ
 use_of is_batch u = if is_batch then (if is_needless_use u then 1 else 0) else 0
@@ -129,12 +137,14 @@ use_one true (fence_use.Guarding m) = refl
 use_one true (fence_use.Signalling j) = refl
 use_one true (fence_use.GuardingAndSignalling m j) = refl
 use_one true (fence_use.Needed i j) = refl
+use_one true fence_use.Held = refl
 use_one false fence_use.NoFence = refl
 use_one false fence_use.Needless = refl
 use_one false (fence_use.Guarding m) = refl
 use_one false (fence_use.Signalling j) = refl
 use_one false (fence_use.GuardingAndSignalling m j) = refl
 use_one false (fence_use.Needed i j) = refl
+use_one false fence_use.Held = refl
 
 member_counted : (number : ℕ) (a : Audited) (k : ℕ) → needless_count (all_found number (Member k) (member_kinds a k)) ≡ use_of a.is_batch (get_or a.audit.reduced.uses.items k fence_use.NoFence)
 member_counted number a k =
@@ -145,10 +155,11 @@ member_counted number a k =
     let second : one_of (flaw_kind DataOverRecord (get_or a.flaws.items k no_flaws).data_over_record) ≡ 0 = flaw_none DataOverRecord (get_or a.flaws.items k no_flaws).data_over_record in
     let third : one_of (flaw_kind MisalignedRecord (get_or a.flaws.items k no_flaws).misaligned_record) ≡ 0 = flaw_none MisalignedRecord (get_or a.flaws.items k no_flaws).misaligned_record in
     let repeated : one_of (repeated_kind (get_or a.audit.repeated.items k None)) ≡ 0 = repeated_none (get_or a.audit.repeated.items k None) in
+    let accepted : one_of (accepted_kind (get_or a.audit.accepted.items k None)) ≡ 0 = accepted_none (get_or a.audit.accepted.items k None) in
     let missing : one_of (missing_kind (get_or a.audit.corrected.places.items k fence_place.NoFence)) ≡ 0 = missing_none (get_or a.audit.corrected.places.items k fence_place.NoFence) in
     let used : one_of (use_kind a.is_batch (get_or a.audit.reduced.uses.items k fence_use.NoFence)) ≡ use_of a.is_batch (get_or a.audit.reduced.uses.items k fence_use.NoFence)
     = use_one a.is_batch (get_or a.audit.reduced.uses.items k fence_use.NoFence) in
-    all ∙ omega (arith, unseen, shared, first, second, third, repeated, missing, used)
+    all ∙ omega (arith, unseen, shared, first, second, third, repeated, accepted, missing, used)
 
 head_counted : (number : ℕ) (a : Audited) (b : Bool) → needless_count (if b then all_found number Head (head_kinds a) else []) ≡ 0
 head_counted number a false = refl
@@ -225,69 +236,80 @@ none_set (false ∷ g) (suc k) none h =
     let more : count_by (λ (x : Bool). x) (false ∷ g) ≡ 0 + count_by (λ (x : Bool). x) g = set_more false g in
     none_set g k (omega (arith, none, more)) h
 
-use_unset : (C : ℕ → ℕ → Type 0) (bs vs bs' vs' : List Bool) (g h : List Bool) (k : ℕ) (u : FenceUse) → ¬ HasFence g k → UseHolds C bs vs g h k u → UseHolds C bs' vs' g h k u × (is_needless_use u ≡ false)
-use_unset C bs vs bs' vs' g h k fence_use.NoFence none is = (is, refl)
-use_unset C bs vs bs' vs' g h k fence_use.Needless none is = absurd (none is.0)
-use_unset C bs vs bs' vs' g h k (fence_use.Guarding m) none is = absurd (none is.0.given)
-use_unset C bs vs bs' vs' g h k (fence_use.Signalling j) none is = absurd (none is.0.given)
-use_unset C bs vs bs' vs' g h k (fence_use.GuardingAndSignalling m j) none is = absurd (none is.0.given)
-use_unset C bs vs bs' vs' g h k (fence_use.Needed i j) none is = absurd (none is.given)
+use_unset : (C : ℕ → ℕ → Type 0) (bs vs bs' vs' ks : List Bool) (g h : List Bool) (k : ℕ) (u : FenceUse) → ¬ HasFence g k → UseHolds C bs vs ks g h k u → UseHolds C bs' vs' ks g h k u × (is_needless_use u ≡ false)
+use_unset C bs vs bs' vs' ks g h k fence_use.NoFence none is = (is, refl)
+use_unset C bs vs bs' vs' ks g h k fence_use.Needless none is = absurd (none is.0)
+use_unset C bs vs bs' vs' ks g h k fence_use.Held none is = absurd (none is.0.given)
+use_unset C bs vs bs' vs' ks g h k (fence_use.Guarding m) none is = absurd (none is.0.given)
+use_unset C bs vs bs' vs' ks g h k (fence_use.Signalling j) none is = absurd (none is.0.given)
+use_unset C bs vs bs' vs' ks g h k (fence_use.GuardingAndSignalling m j) none is = absurd (none is.0.given)
+use_unset C bs vs bs' vs' ks g h k (fence_use.Needed i j) none is = absurd (none is.given)
 
 -- where there is no fence, whatever can fail and shows, there is none to reduce
-reduced_unset : (C : ℕ → ℕ → Type 0) (bs vs bs' vs' : List Bool) (g h : List Bool) (us : List FenceUse) → count_by (λ (b : Bool). b) g ≡ 0 → IsReduced C bs vs g us h → IsReduced C bs' vs' g us h
-reduced_unset C bs vs bs' vs' g h us none is =
+reduced_unset : (C : ℕ → ℕ → Type 0) (bs vs bs' vs' ks : List Bool) (g h : List Bool) (us : List FenceUse) → count_by (λ (b : Bool). b) g ≡ 0 → IsReduced C bs vs ks g us h → IsReduced C bs' vs' ks g us h
+reduced_unset C bs vs bs' vs' ks g h us none is =
     let whole : fence_count h ≤ fence_count g
-    = is.least g (record { same_length = refl; fences = λ k f. f }) (λ a b lt later c sep. sep) (λ m b can lt sep. sep) (λ a b shows lt sep. sep) in
+    = is.least g (record { same_length = refl; fences = λ k f. f }) (λ a b lt later c sep. sep) (λ m b can lt sep. sep) (λ a b shows lt sep. sep) (λ k held f. f) in
     record {
       less = is.less;
       separates = is.separates;
       guards = λ m b can lt sep. absurd (none_set g sep.at none sep.fence);
       signals = λ a b shows lt sep. absurd (none_set g sep.at none sep.fence);
-      least = λ other less sep guards signals. omega (arith, whole, none);
+      holds = is.holds;
+      least = λ other less sep guards signals holds. omega (arith, whole, none);
       count = is.count;
-      each = λ k lt. (use_unset C bs vs bs' vs' g h k (get_or us k fence_use.NoFence) (none_set g k none) (is.each k lt)).0;
+      each = λ k lt. (use_unset C bs vs bs' vs' ks g h k (get_or us k fence_use.NoFence) (none_set g k none) (is.each k lt)).0;
     }
 
-uses_unset : (C : ℕ → ℕ → Type 0) (bs vs g h : List Bool) (us : List FenceUse) → count_by (λ (b : Bool). b) g ≡ 0 → IsReduced C bs vs g us h → (b : Bool) → needless_of b us ≡ 0
-uses_unset C bs vs g h us none is false = refl
-uses_unset C bs vs g h us none is true = ap (count_by is_needless_use) (sym (take_all (length us) us (omega arith))) ∙ upto (length us) (omega arith) where
+uses_unset : (C : ℕ → ℕ → Type 0) (bs vs ks g h : List Bool) (us : List FenceUse) → count_by (λ (b : Bool). b) g ≡ 0 → IsReduced C bs vs ks g us h → (b : Bool) → needless_of b us ≡ 0
+uses_unset C bs vs ks g h us none is false = refl
+uses_unset C bs vs ks g h us none is true = ap (count_by is_needless_use) (sym (take_all (length us) us (omega arith))) ∙ upto (length us) (omega arith) where
   upto : (k : ℕ) → k ≤ length us → count_by is_needless_use (take k us) ≡ 0
   upto zero le = refl
   upto (suc k) le =
       let size : length us ≡ length g = is.count in
-      let here = use_unset C bs vs bs vs g h k (get_or us k fence_use.NoFence) (none_set g k none) (is.each k (omega (arith, size, le))) in
+      let here = use_unset C bs vs bs vs ks g h k (get_or us k fence_use.NoFence) (none_set g k none) (is.each k (omega (arith, size, le))) in
       let same : count_by is_needless_use (take (k + 1) us) ≡ count_by is_needless_use (take k us) = count_by_more_no is_needless_use us k fence_use.NoFence (omega (arith, le)) here.1 in
       let next : suc k ≡ k + 1 = omega arith in
       ap (λ (i : ℕ). count_by is_needless_use (take i us)) next ∙ (same ∙ upto k (omega (arith, le)))
 
--- a submission without fences has no needless one under any assumptions
-pub unfenced : (assumed other : Assumptions) (es : List (List ℕ)) (s : Submission) (a : Audited) → IsAudited assumed es s a → count_by (λ (b : Bool). b) a.audit.corrected.fences.items ≡ 0
-    → HasNeedless other es s 0
-unfenced assumed other es s a is none =
+-- a submission without fences, of which none is missing, has no needless one under any assumptions
+pub unfenced : (accepted : Accepted) (assumed other : Assumptions) (es : List (List ℕ)) (s : Submission) (a : Audited) → IsAudited (terms accepted assumed) es s a
+    → count_by (λ (b : Bool). b) a.audit.unaccepted.fences.items ≡ 0 → count_by (λ (b : Bool). b) a.audit.corrected.fences.items ≡ 0 → HasNeedless (terms accepted other) es s 0
+unfenced accepted assumed other es s a is before none =
     let ms : List KnownMember = a.members.items in
     let own : List (List ℕ) = members_in es s in
     let head : List ℕ = slice_index_or es (head_at s) [] in
+    let u = is.audit.reduced in
     let failing = listed (length own) (λ (k : ℕ). can_fail other (get_or ms k (member.Unknown Operation)) (get_or own k [])) in
     let showing = listed (length own) (λ (k : ℕ). can_show other head (get_or ms k (member.Unknown Operation)) (get_or own k [])) in
     let failing_is : (with_items a.fallible failing.0).items ≡ failing.0 = with_items_is a.fallible failing.0 (omega (arith, failing.1, is.fallible.count, a.fallible.ok.0)) in
     let showing_is : (with_items a.visible showing.0).items ≡ showing.0 = with_items_is a.visible showing.0 (omega (arith, showing.1, is.visible.count, a.visible.ok.0)) in
-    reaudited assumed other es s a a.audit.reduced 0 is (record {
+    reaudited accepted assumed other es s a a.audit.reduced 0 is (record {
       fallible = with_items a.fallible failing.0;
       visible = with_items a.visible showing.0;
       are_fallible = subst (λ (bs : List Bool). AreFallible other ms own bs) (sym failing_is) (record { count = failing.1; each = failing.2 });
       are_visible = subst (λ (bs : List Bool). AreVisible other head ms own bs) (sym showing_is) (record { count = showing.1; each = showing.2 });
-      reduced = reduced_unset (PossibleConflict ms) a.fallible.items a.visible.items (with_items a.fallible failing.0).items (with_items a.visible showing.0).items
-          a.audit.corrected.fences.items a.audit.reduced.fences.items a.audit.reduced.uses.items none is.audit.reduced;
-    }) (sym (uses_unset (PossibleConflict ms) a.fallible.items a.visible.items a.audit.corrected.fences.items a.audit.reduced.fences.items a.audit.reduced.uses.items none is.audit.reduced a.is_batch))
+      reduced = record {
+        uses_before = u.uses_before;
+        stay = u.stay;
+        needed = reduced_unset (PossibleConflict ms) a.fallible.items a.visible.items (with_items a.fallible failing.0).items (with_items a.visible showing.0).items []
+            a.audit.unaccepted.fences.items u.stay u.uses_before before u.needed;
+        held = u.held;
+        are_held = u.are_held;
+        reduced = reduced_unset (PossibleConflict ms) a.fallible.items a.visible.items (with_items a.fallible failing.0).items (with_items a.visible showing.0).items u.held
+            a.audit.corrected.fences.items a.audit.reduced.fences.items a.audit.reduced.uses.items none u.reduced;
+      };
+    }) (sym (uses_unset (PossibleConflict ms) a.fallible.items a.visible.items u.held a.audit.corrected.fences.items a.audit.reduced.fences.items a.audit.reduced.uses.items none u.reduced a.is_batch))
 
 -- ---- submission by submission
 
 -- of no submission there is none
-pub needless_none : (assumed : Assumptions) (es : List (List ℕ)) (ss : List Submission) → AreNeedless assumed es (take 0 ss) 0
+pub needless_none : (assumed : Terms) (es : List (List ℕ)) (ss : List Submission) → AreNeedless assumed es (take 0 ss) 0
 needless_none assumed es ss = ([], tt, refl)
 
 -- with those of one more
-pub needless_next : (assumed : Assumptions) (es : List (List ℕ)) (ss : List Submission) (i n m : ℕ) (d : Submission) → i < length ss → AreNeedless assumed es (take i ss) n
+pub needless_next : (assumed : Terms) (es : List (List ℕ)) (ss : List Submission) (i n m : ℕ) (d : Submission) → i < length ss → AreNeedless assumed es (take i ss) n
     → HasNeedless assumed es (get_or ss i d) m → AreNeedless assumed es (take (i + 1) ss) (n + m)
 needless_next assumed es ss i n m d lt (audits, all, sum) (a, is, more) =
     let next : AreAudited assumed es (take (i + 1) ss) (audits ++ a ∷ []) = audit_pushed assumed es ss i d audits (audits ++ a ∷ []) a all lt is refl in
@@ -302,11 +324,11 @@ needless_next assumed es ss i n m d lt (audits, all, sum) (a, is, more) =
     (audits ++ a ∷ [], next, total ∙ ap needless_count (sym joined))
 
 -- of all
-pub needless_all : (assumed : Assumptions) (es : List (List ℕ)) (ss : List Submission) (i n : ℕ) → length ss ≤ i → AreNeedless assumed es (take i ss) n → AreNeedless assumed es ss n
+pub needless_all : (assumed : Terms) (es : List (List ℕ)) (ss : List Submission) (i n : ℕ) → length ss ≤ i → AreNeedless assumed es (take i ss) n → AreNeedless assumed es ss n
 needless_all assumed es ss i n le all = subst (λ (z : List Submission). AreNeedless assumed es z n) (take_all i ss le) all
 
 -- there is an audit of each submission
-pub as_many : (assumed : Assumptions) (es : List (List ℕ)) (ss : List Submission) (audits : List Audited) → AreAudited assumed es ss audits → length audits ≡ length ss
+pub as_many : (assumed : Terms) (es : List (List ℕ)) (ss : List Submission) (audits : List Audited) → AreAudited assumed es ss audits → length audits ≡ length ss
 as_many assumed es [] [] all = refl
 as_many assumed es (s ∷ ss) (a ∷ audits) (first, all) =
     let rest : length audits ≡ length ss = as_many assumed es ss audits all in
@@ -315,7 +337,7 @@ as_many assumed es [] (a ∷ audits) all = absurd all
 as_many assumed es (s ∷ ss) [] all = absurd all
 
 -- each is of its submission
-pub audit_at : (assumed : Assumptions) (es : List (List ℕ)) (ss : List Submission) (audits : List Audited) (i : ℕ) (d : Submission) (e : Audited) → AreAudited assumed es ss audits → i < length ss
+pub audit_at : (assumed : Terms) (es : List (List ℕ)) (ss : List Submission) (audits : List Audited) (i : ℕ) (d : Submission) (e : Audited) → AreAudited assumed es ss audits → i < length ss
     → IsAudited assumed es (get_or ss i d) (get_or audits i e)
 audit_at assumed es [] [] i d e all lt = absurd (omega (arith, lt))
 audit_at assumed es (s ∷ ss) (a ∷ audits) zero d e (first, all) lt = first

@@ -7,7 +7,7 @@ use Rattle.std.proofs.lemmas.List.Sums.{count_by-le-length, sum_by-append}
 use Rattle.dsa_descriptor.specs.Lists.{entries}
 use Rattle.dsa_descriptor.proofs.Entries.{length-chunks}
 use Rattle.dsa_descriptor.specs.Places.{u32_at, code_at}
-use Rattle.dsa_recording.specs.declared.assumptions.Assumptions.{Assumptions}
+use Rattle.dsa_recording.specs.Pairs.{Terms}
 use Rattle.dsa_recording.specs.declared.stream.Submission.{Submission}
 use Rattle.dsa_recording.specs.declared.submission.Audited.{Audited}
 use Rattle.dsa_recording.specs.declared.report.Report.{Report}
@@ -36,13 +36,13 @@ within_size es s =
     let size : length (members_in es s) ≡ min (end_of s - s.first) (length (drop s.first es)) = length-take (end_of s - s.first) (drop s.first es) in
     omega (arith, size)
 
-few_members : (assumed : Assumptions) (es : List (List ℕ)) (s : Submission) (a : Audited) → IsAudited assumed es s a → member_count a ≤ s.size
+few_members : (assumed : Terms) (es : List (List ℕ)) (s : Submission) (a : Audited) → IsAudited assumed es s a → member_count a ≤ s.size
 few_members assumed es s a is =
     let count : length a.members.items ≡ length (members_in es s) = is.members.count in
     let size = within_size es s in
     omega (arith, count, size)
 
-few_fences : (assumed : Assumptions) (es : List (List ℕ)) (s : Submission) (a : Audited) → IsAudited assumed es s a → set_count a ≤ s.size
+few_fences : (assumed : Terms) (es : List (List ℕ)) (s : Submission) (a : Audited) → IsAudited assumed es s a → set_count a ≤ s.size
 few_fences assumed es s a is =
     let fences : length a.fences.items ≡ length (members_in es s) = ap length is.fences ∙ length-map (members_in es s) is_fenced in
     let size = within_size es s in
@@ -51,7 +51,7 @@ few_fences assumed es s a is =
 
 -- ---- of all, counted by any measure that is within the size of each
 
-sum_within : (assumed : Assumptions) (f : Audited → ℕ) (es : List (List ℕ)) (few : (s : Submission) (a : Audited) → IsAudited assumed es s a → f a ≤ s.size) (from to : ℕ) (ss : List Submission) (audits : List Audited)
+sum_within : (assumed : Terms) (f : Audited → ℕ) (es : List (List ℕ)) (few : (s : Submission) (a : Audited) → IsAudited assumed es s a → f a ≤ s.size) (from to : ℕ) (ss : List Submission) (audits : List Audited)
     → ReadsUpTo es from ss to → AreAudited assumed es ss audits → from + sum_by f audits ≤ to
 sum_within assumed f es few from to [] [] reads all =
     let none : sum_by f [] ≡ 0 = refl in
@@ -66,7 +66,7 @@ sum_within assumed f es few from to (s ∷ ss) (a ∷ audits) (lt, is, le, reads
 sum_within assumed f es few from to [] (a ∷ audits) reads all = absurd all
 sum_within assumed f es few from to (s ∷ ss) [] reads all = absurd all
 
-pub has_sums : (assumed : Assumptions) (bytes : List ℕ) (r : Report) → IsReport assumed bytes (reported_by r) → length bytes < 2 ^ 64 → HasSums r
+pub has_sums : (assumed : Terms) (bytes : List ℕ) (r : Report) → IsReport assumed bytes (reported_by r) → length bytes < 2 ^ 64 → HasSums r
 has_sums assumed bytes r is small =
     let es : List (List ℕ) = entries bytes in
     let count : length es ≡ length bytes / 64 = length-chunks (length bytes / 64) bytes in

@@ -2,7 +2,6 @@
 use Rattle.std.specs.Prelude.{ℕ, ◌≡◌, Bool, true, List}
 use Rattle.std.specs.List.{list_any}
 use Rattle.std.specs.Str.{bytes_eq}
-use Rattle.std.specs.BTreeSet.{contains_text}
 use Rattle.dsa_lines.specs.Texts.{lines_of}
 use Rattle.dsa_recording.specs.declared.accepted.Accepted.{Accepted}
 use Rattle.dsa_recording.specs.declared.detail.Detail.{Detail}
@@ -10,14 +9,11 @@ use Rattle.dsa_recording.specs.declared.findings.Finding.{Finding}
 use Rattle.dsa_recording.specs.Reports.{Reported}
 use Rattle.dsa_recording.specs.Details.{IsDetail}
 use Rattle.dsa_recording.specs.Keys.{key_words}
+use Rattle.dsa_recording.specs.Pairs.{has_key}
 
 -- it is a line of the text
 abbrev pub is_line_of : List ℕ → List ℕ → Bool
 is_line_of line text = list_any (λ other. bytes_eq other line) (lines_of text)
-
--- the key is accepted
-abbrev pub has_key : Accepted → List ℕ → Bool
-has_key accepted key = contains_text accepted.keys key
 
 -- the keys that are accepted are the lines of the text
 abbrev pub AcceptsLines : List ℕ → Accepted → Type 0

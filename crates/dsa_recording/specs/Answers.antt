@@ -11,6 +11,7 @@ use Rattle.dsa_recording.specs.declared.findings.Finding.{Finding}
 use Rattle.dsa_recording.specs.declared.findings.FindingKind.{FindingKind}
 use Rattle.dsa_recording.specs.declared.findings.FindingKind.TheVariants.{NotSeen, MissingFence, GuardingFence, SignallingFence, GuardingAndSignallingFence, NeedlessFence, Repeated, Flawed}
 use Rattle.dsa_recording.specs.declared.report.Report.{Report}
+use Rattle.dsa_recording.specs.Pairs.{terms}
 use Rattle.dsa_recording.specs.Reports.{Reported, IsReport, reported_by}
 use Rattle.dsa_recording.specs.declared.stream.Submission.{Submission}
 use Rattle.dsa_recording.specs.Streams.{ReadsStream}
@@ -74,7 +75,7 @@ AnswersReport options es r answer = AnswersFormat options.format options es r an
 -- the answer of a recording: that of a report on the bytes; or its status is 2, and they are no recording
 abbrev pub AnswersRecording : AuditOptions → List ℕ → AuditAnswer → Type 0
 AnswersRecording options bytes answer =
-    ((r : Reported) × IsReport options.assumptions bytes r × AnswersReport options (entries bytes) r answer)
+    ((r : Reported) × IsReport (terms options.accepted.now options.assumptions) bytes r × AnswersReport options (entries bytes) r answer)
     ⊎ ((answer.status ≡ 2) × ((list : List Submission) → ¬ ReadsStream bytes list))
 
 -- ---- for private clauses

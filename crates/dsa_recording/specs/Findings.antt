@@ -28,6 +28,11 @@ missing_kind fence_place.NoFence = None
 missing_kind fence_place.Given = None
 missing_kind (fence_place.Missing earlier) = Some (MissingFence earlier)
 
+-- whether one is that is accepted
+abbrev pub accepted_kind : Option ℕ → Option FindingKind
+accepted_kind None = None
+accepted_kind (Some earlier) = Some (MissingFence earlier)
+
 -- whether no conflict needs its fence, and what it is for then; that of a lone descriptor has no effect
 abbrev pub use_kind : Bool → FenceUse → Option FindingKind
 use_kind is_batch fence_use.NoFence = None
@@ -35,6 +40,7 @@ use_kind is_batch fence_use.Needless = if is_batch then Some NeedlessFence else 
 use_kind is_batch (fence_use.Guarding earlier) = Some (GuardingFence earlier)
 use_kind is_batch (fence_use.Signalling awaited) = Some (SignallingFence awaited)
 use_kind is_batch (fence_use.GuardingAndSignalling earlier awaited) = Some (GuardingAndSignallingFence earlier awaited)
+use_kind is_batch fence_use.Held = None
 use_kind is_batch (fence_use.Needed earlier later) = None
 
 -- the member shares a record with an earlier one
@@ -70,6 +76,7 @@ member_kinds a k =
     ∷ flaw_kind DataOverRecord (get_or a.flaws.items k no_flaws).data_over_record
     ∷ flaw_kind MisalignedRecord (get_or a.flaws.items k no_flaws).misaligned_record
     ∷ repeated_kind (get_or a.audit.repeated.items k None)
+    ∷ accepted_kind (get_or a.audit.accepted.items k None)
     ∷ missing_kind (get_or a.audit.corrected.places.items k fence_place.NoFence)
     ∷ use_kind a.is_batch (get_or a.audit.reduced.uses.items k fence_use.NoFence) ∷ []
 
@@ -106,5 +113,6 @@ pub record HasAll (a : Audited) : Type 0 where
   pub shared : length a.shared.items ≡ length a.members.items
   pub flaws : length a.flaws.items ≡ length a.members.items
   pub repeated : length a.audit.repeated.items ≡ length a.members.items
+  pub accepted : length a.audit.accepted.items ≡ length a.members.items
   pub places : length a.audit.corrected.places.items ≡ length a.members.items
   pub uses : length a.audit.reduced.uses.items ≡ length a.members.items

@@ -5,8 +5,8 @@ use Rattle.std.specs.List.{count_by}
 use Rattle.dsa_audit.specs.declared.needless.FenceUse.{FenceUse}
 use Rattle.dsa_audit.specs.declared.needless.FenceUse.TheVariants as fence_use
 use Rattle.dsa_audit.specs.declared.needless.Reduced.{Reduced}
-use Rattle.dsa_audit.specs.Audits.{IsReduced}
-use Rattle.dsa_audit.specs.Members.{PossibleConflict}
+use Rattle.dsa_audit.specs.Laws.{IsReducedAccepting}
+use Rattle.dsa_recording.specs.declared.accepted.Accepted.{Accepted}
 use Rattle.dsa_recording.specs.declared.assumptions.Assumptions.{Assumptions}
 use Rattle.dsa_recording.specs.declared.findings.Finding.{Finding}
 use Rattle.dsa_recording.specs.declared.freed.Freed.{Freed}
@@ -15,6 +15,7 @@ use Rattle.dsa_recording.specs.declared.stream.Submission.{Submission}
 use Rattle.dsa_recording.specs.declared.submission.Audited.{Audited}
 use Rattle.dsa_recording.specs.Failures.{AreFallible}
 use Rattle.dsa_recording.specs.Findings.{recording_findings}
+use Rattle.dsa_recording.specs.Pairs.{Terms, terms}
 use Rattle.dsa_recording.specs.Showing.{AreVisible}
 use Rattle.dsa_recording.specs.Submissions.{AreAudited, IsAudited, head_at, members_in}
 use Rattle.dsa_recording.specs.Totals.{is_needless}
@@ -23,15 +24,15 @@ use Rattle.dsa_recording.specs.Totals.{is_needless}
 abbrev pub needless_count : List Finding → ℕ
 needless_count findings = count_by (λ f. is_needless f.kind) findings
 
--- so many fences are needless in an audit of the submissions under these assumptions
-abbrev pub AreNeedless : Assumptions → List (List ℕ) → List Submission → ℕ → Type 0
-AreNeedless assumed es ss n =
-    (audits : List Audited) × AreAudited assumed es ss audits × (n ≡ needless_count (recording_findings 0 audits))
+-- so many fences are needless in an audit of the submissions on these terms
+abbrev pub AreNeedless : Terms → List (List ℕ) → List Submission → ℕ → Type 0
+AreNeedless t es ss n =
+    (audits : List Audited) × AreAudited t es ss audits × (n ≡ needless_count (recording_findings 0 audits))
 
 -- under its assumptions there are so many more than the report has
-abbrev pub IsFreed : List (List ℕ) → Report → Freed → Type 0
-IsFreed es r f =
-    (n : ℕ) × AreNeedless f.assumptions es r.submissions.items n × (f.fences ≡ n - needless_count r.findings.items)
+abbrev pub IsFreed : Accepted → List (List ℕ) → Report → Freed → Type 0
+IsFreed accepted es r f =
+    (n : ℕ) × AreNeedless (terms accepted f.assumptions) es r.submissions.items n × (f.fences ≡ n - needless_count r.findings.items)
 
 -- ---- for private clauses
 
@@ -42,19 +43,28 @@ is_needless_use fence_use.Needless = true
 is_needless_use (fence_use.Guarding earlier) = false
 is_needless_use (fence_use.Signalling awaited) = false
 is_needless_use (fence_use.GuardingAndSignalling earlier awaited) = false
+is_needless_use fence_use.Held = false
 is_needless_use (fence_use.Needed earlier later) = false
 
 -- how many needless fences a submission has, by what its fences are for; a lone descriptor has none
 abbrev pub needless_of : Bool → List FenceUse → ℕ
 needless_of is_batch uses = if is_batch then count_by is_needless_use uses else 0
 
--- it is an audit of the submission, under some assumptions
+-- it is an audit of the submission, on some terms
 abbrev pub IsSomeAudit : List (List ℕ) → Submission → Audited → Type 0
-IsSomeAudit es s a = (assumed : Assumptions) × IsAudited assumed es s a
+IsSomeAudit es s a = (t : Terms) × IsAudited t es s a
 
--- the report has an audit of each of its submissions, under some assumptions
+-- it is one that accepts these keys, under some assumptions
+abbrev pub IsAuditAccepting : Accepted → List (List ℕ) → Submission → Audited → Type 0
+IsAuditAccepting accepted es s a = (assumed : Assumptions) × IsAudited (terms accepted assumed) es s a
+
+-- the report has an audit of each of its submissions, on some terms
 abbrev pub HasAudits : List (List ℕ) → Report → Type 0
-HasAudits es r = (assumed : Assumptions) × AreAudited assumed es r.submissions.items r.audits.items
+HasAudits es r = (t : Terms) × AreAudited t es r.submissions.items r.audits.items
+
+-- it has those that accept these keys, under some assumptions
+abbrev pub HasAuditsAccepting : Accepted → List (List ℕ) → Report → Type 0
+HasAuditsAccepting accepted es r = (assumed : Assumptions) × AreAudited (terms accepted assumed) es r.submissions.items r.audits.items
 
 -- the fences of the audited submission are reduced by what can fail and what shows under these assumptions
 pub record IsReducedUnder (assumed : Assumptions) (es : List (List ℕ)) (s : Submission) (a : Audited) (r : Reduced) : Type 0 where
@@ -62,9 +72,11 @@ pub record IsReducedUnder (assumed : Assumptions) (es : List (List ℕ)) (s : Su
   pub visible : Vec Bool Global
   pub are_fallible : AreFallible assumed a.members.items (members_in es s) fallible.items
   pub are_visible : AreVisible assumed (slice_index_or es (head_at s) []) a.members.items (members_in es s) visible.items
-  pub reduced : IsReduced (PossibleConflict a.members.items) fallible.items visible.items a.audit.corrected.fences.items r.uses.items r.fences.items
+  pub reduced :
+      IsReducedAccepting a.members.items fallible.items visible.items a.fences.items a.audit.unaccepted.fences.items
+      a.audit.corrected.fences.items r.uses.items r.fences.items
 
--- an audit of the submission under these assumptions has so many needless fences
-abbrev pub HasNeedless : Assumptions → List (List ℕ) → Submission → ℕ → Type 0
-HasNeedless assumed es s n =
-    (a : Audited) × IsAudited assumed es s a × (n ≡ needless_of a.is_batch a.audit.reduced.uses.items)
+-- an audit of the submission on these terms has so many needless fences
+abbrev pub HasNeedless : Terms → List (List ℕ) → Submission → ℕ → Type 0
+HasNeedless t es s n =
+    (a : Audited) × IsAudited t es s a × (n ≡ needless_of a.is_batch a.audit.reduced.uses.items)

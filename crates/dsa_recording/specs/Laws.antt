@@ -1,21 +1,31 @@
 -- What a recording says of listed descriptors, and a report of entries.
-use Rattle.std.specs.Prelude.{◌≡◌, ℕ, max, List, ◌++◌}
+use Rattle.std.specs.Prelude.{◌≡◌, ℕ, max, true, List, ◌++◌}
 use Rattle.dsa_descriptor.specs.declared.descriptor.Descriptor.{Descriptor}
 use Rattle.dsa_descriptor.specs.Descriptors.{fields}
 use Rattle.dsa_descriptor.specs.Lists.{AgreeOnOwner}
 use Rattle.dsa_descriptor.specs.Spelling.{spelling}
+use Rattle.dsa_ranges.specs.declared.hazards.Hazard.{Hazard}
 use Rattle.dsa_ranges.specs.declared.span.Touched.{Touched}
+use Rattle.dsa_audit.specs.Members.{IsHazardBetween}
 use Rattle.dsa_ranges.specs.Ranges.{read_spans, written_spans}
 use Rattle.dsa_audit.specs.declared.member.Member.{Member}
 use Rattle.dsa_audit.specs.declared.member.Member.TheVariants.{Known}
 use Rattle.std.specs.List.{AllByRecursion}
 use Rattle.dsa_descriptor.specs.Lists.{entries}
 use Rattle.dsa_recording.specs.declared.answer.AuditOptions.{AuditOptions}
-use Rattle.dsa_recording.specs.declared.assumptions.Assumptions.{Assumptions}
 use Rattle.dsa_recording.specs.Entries.{IsMember}
-use Rattle.dsa_recording.specs.Details.{IsPlaced}
+use Rattle.dsa_recording.specs.declared.detail.Detail.{Detail}
+use Rattle.dsa_recording.specs.declared.findings.Finding.{Finding}
+use Rattle.dsa_recording.specs.declared.findings.FindingKind.TheVariants.{MissingFence}
+use Rattle.dsa_recording.specs.declared.findings.Place.TheVariants.{Member as Of}
+use Rattle.dsa_recording.specs.declared.stream.Submission.{Submission}
+use Rattle.dsa_recording.specs.Details.{Describes, HasEntry, IsPlaced}
+use Rattle.dsa_recording.specs.EntryKeys.{fence_key}
+use Rattle.dsa_recording.specs.Keys.{key_words}
+use Rattle.dsa_recording.specs.Pairs.{Terms}
 use Rattle.dsa_recording.specs.Parts.{HasStatus}
 use Rattle.dsa_recording.specs.Reports.{IsReport, Reported}
+use Rattle.dsa_recording.specs.Submissions.{IsWithin, members_in}
 
 -- the entry of a listed descriptor, in a batch of its owner, is looked at, and what is known of it is what the
 -- descriptor reads and writes
@@ -33,4 +43,11 @@ StatusesJoin =
 -- each finding of a report on a recording is of an entry, and a missing fence has a known conflict
 abbrev pub FindingsArePlaced : Type 0
 FindingsArePlaced =
-    (assumed : Assumptions) (bytes : List ℕ) (r : Reported) → IsReport assumed bytes r → AllByRecursion (IsPlaced (entries bytes) r) r.findings
+    (terms : Terms) (bytes : List ℕ) (r : Reported) → IsReport terms bytes r → AllByRecursion (IsPlaced (entries bytes) r) r.findings
+
+-- the key of a missing fence that is found in a batch is the one by which its two members are accepted
+abbrev pub FenceKeysAgree : Type 0
+FenceKeysAgree =
+    (es : List (List ℕ)) (s : Submission) (ms : List Member) (f : Finding) (d : Detail) (earlier later : ℕ) →
+    s.is_batch ≡ true → IsWithin es s → f.place ≡ Of later → f.kind ≡ MissingFence earlier → HasEntry es s ms f → Describes es s ms f d →
+    (h : Hazard) × IsHazardBetween ms earlier later h × (key_words es d ≡ fence_key (members_in es s) earlier later h.kind)

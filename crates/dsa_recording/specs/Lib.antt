@@ -4,13 +4,15 @@ pub mod Entries
 pub mod Failures
 pub mod Showing
 pub mod Flaws
+pub mod EntryWords
+pub mod EntryKeys
+pub mod Pairs
 pub mod Submissions
 pub mod Findings
 pub mod Reports
 pub mod Overlaps
 pub mod Details
 pub mod Forms
-pub mod EntryWords
 pub mod Words
 pub mod Keys
 pub mod Accepted

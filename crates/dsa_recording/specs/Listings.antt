@@ -101,10 +101,11 @@ member_line count number e (Unknown why) = left_out number (unseen_words why (co
 abbrev pub barrier_for : List ℕ → ℕ → List ℕ
 barrier_for kind number = codes "barrier" ++ (codes " # " ++ (kind ++ (codes " fence of entry " ++ decimal number)))
 
--- a fence that guards or signals is a barrier before the line of its entry, so that a plan of the list keeps it
+-- a fence that guards, signals or is held is a barrier before the line of its entry, so that a plan of the list keeps it
 abbrev pub fence_line : ℕ → FenceUse → List ℕ
 fence_line number fence_use.NoFence = []
 fence_line number (fence_use.Needed earlier later) = []
+fence_line number fence_use.Held = barrier_for (codes "held") number ++ 10 ∷ []
 fence_line number (fence_use.Guarding earlier) = barrier_for (codes "guarding") number ++ 10 ∷ []
 fence_line number (fence_use.Signalling awaited) = barrier_for (codes "signalling") number ++ 10 ∷ []
 fence_line number (fence_use.GuardingAndSignalling earlier awaited) = barrier_for (codes "guarding and signalling") number ++ 10 ∷ []

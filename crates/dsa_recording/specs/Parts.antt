@@ -14,6 +14,7 @@ use Rattle.dsa_recording.specs.Answers.{IsStatusOf}
 use Rattle.dsa_recording.specs.Foreign.{HasOwnMembers, LacksMembers}
 use Rattle.dsa_recording.specs.Forms.{IsText}
 use Rattle.dsa_recording.specs.Inputs.{AnswersInput}
+use Rattle.dsa_recording.specs.Pairs.{terms}
 use Rattle.dsa_recording.specs.Reports.{IsReport, Reported}
 
 -- the most bytes of a recording that is read as a whole, 64 MiB (this project's choice)
@@ -45,7 +46,7 @@ AnswersRead options old new (Err Memory) = Unit
 -- the bytes are a recording, and this is the status of its report
 pub record HasStatus (options : AuditOptions) (bytes : List ℕ) (status : ℕ) : Type 0 where
   pub report : Reported
-  pub is_report : IsReport options.assumptions bytes report
+  pub is_report : IsReport (terms options.accepted.now options.assumptions) bytes report
   pub is_status : IsStatusOf options (entries bytes) report status
 
 -- ---- for private clauses

@@ -5,7 +5,7 @@ use Rattle.dsa_recording.specs.declared.report.Report.{Report}
 use Rattle.dsa_recording.specs.declared.findings.Finding.{Finding}
 use Rattle.dsa_recording.specs.declared.stream.Submission.{Submission}
 use Rattle.dsa_recording.specs.declared.submission.Audited.{Audited}
-use Rattle.dsa_recording.specs.declared.assumptions.Assumptions.{Assumptions}
+use Rattle.dsa_recording.specs.Pairs.{Terms}
 use Rattle.dsa_recording.specs.Streams.{ReadsStream}
 use Rattle.dsa_recording.specs.Submissions.{AreAudited}
 use Rattle.dsa_recording.specs.Findings.{recording_findings}
@@ -20,8 +20,8 @@ pub record Reported : Type 0 where
 abbrev pub reported_by : Report → Reported
 reported_by r = record { submissions = r.submissions.items; audits = r.audits.items; findings = r.findings.items }
 
--- the submissions of the recording, an audit of each under these assumptions, and all that these find
-pub record IsReport (assumed : Assumptions) (bytes : List ℕ) (r : Reported) : Type 0 where
+-- the submissions of the recording, an audit of each on these terms, and all that these find
+pub record IsReport (terms : Terms) (bytes : List ℕ) (r : Reported) : Type 0 where
   pub submissions : ReadsStream bytes r.submissions
-  pub audits : AreAudited assumed (entries bytes) r.submissions r.audits
+  pub audits : AreAudited terms (entries bytes) r.submissions r.audits
   pub findings : r.findings ≡ recording_findings 0 r.audits

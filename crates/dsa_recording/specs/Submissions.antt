@@ -14,7 +14,7 @@ use Rattle.dsa_recording.specs.Entries.{IsMember, IsOperands, IsRecord, IsStatus
 use Rattle.dsa_recording.specs.Flaws.{AreAllFlaws, HasMisalignedRecord}
 use Rattle.dsa_recording.specs.Failures.{AreFallible}
 use Rattle.dsa_recording.specs.Showing.{AreVisible}
-use Rattle.dsa_recording.specs.declared.assumptions.Assumptions.{Assumptions}
+use Rattle.dsa_recording.specs.Pairs.{IsListedPair, Terms}
 
 -- the flag 0x0001 is set (specification 341204, flags)
 abbrev pub is_fenced : List ℕ → Bool
@@ -64,25 +64,27 @@ pub record AreShared (head : List ℕ) (es : List (List ℕ)) (shared : List (Op
   pub lasts : AreLasts (λ a b. KnownConflict records a b ⊎ KnownConflict statuses a b) shared
 
 -- whether it is a batch, the fences of the submission's entries, what is known of them, what they do and with which data, which share
--- records, what else is wrong with each, which can fail and which show under these assumptions, and an audit of these
-pub record IsAudited (assumed : Assumptions) (es : List (List ℕ)) (s : Submission) (a : Audited) : Type 0 where
+-- records, what else is wrong with each, which can fail and which show, and an audit of these, on these terms
+pub record IsAudited (terms : Terms) (es : List (List ℕ)) (s : Submission) (a : Audited) : Type 0 where
   pub is_batch : a.is_batch ≡ s.is_batch
   pub is_head_fenced : a.is_head_fenced ≡ is_fenced (slice_index_or es (head_at s) [])
   pub is_head_misaligned : IsTrue a.is_head_misaligned ↔ HasMisalignedRecord (slice_index_or es (head_at s) [])
   pub fences : a.fences.items ≡ map is_fenced (members_in es s)
   pub members : AreMembers (slice_index_or es (head_at s) []) (members_in es s) a.members.items
-  pub fallible : AreFallible assumed a.members.items (members_in es s) a.fallible.items
+  pub fallible : AreFallible terms.assumptions a.members.items (members_in es s) a.fallible.items
   pub visible :
-      AreVisible assumed (slice_index_or es (head_at s) []) a.members.items (members_in es s) a.visible.items
+      AreVisible terms.assumptions (slice_index_or es (head_at s) []) a.members.items (members_in es s) a.visible.items
   pub actions : a.actions.items ≡ map action_of (members_in es s)
   pub operands : AreOperands (slice_index_or es (head_at s) []) (members_in es s) a.operands.items
   pub shared : AreShared (slice_index_or es (head_at s) []) (members_in es s) a.shared.items
   pub flaws : AreAllFlaws s.is_batch (slice_index_or es (head_at s) []) (members_in es s) a.flaws.items
-  pub audit : IsAudit a.actions.items a.operands.items a.members.items a.fallible.items a.visible.items a.fences.items a.audit
+  pub audit :
+      IsAudit (IsListedPair terms.accepted (members_in es s) a.operands.items) a.actions.items a.operands.items a.members.items
+      a.fallible.items a.visible.items a.fences.items a.audit
 
 -- each submission is audited, in order
-abbrev pub AreAudited : Assumptions → List (List ℕ) → List Submission → List Audited → Type 0
-AreAudited assumed es [] [] = Unit
-AreAudited assumed es (s ∷ ss) (a ∷ audits) = IsAudited assumed es s a × AreAudited assumed es ss audits
-AreAudited assumed es [] (a ∷ audits) = ⊥
-AreAudited assumed es (s ∷ ss) [] = ⊥
+abbrev pub AreAudited : Terms → List (List ℕ) → List Submission → List Audited → Type 0
+AreAudited terms es [] [] = Unit
+AreAudited terms es (s ∷ ss) (a ∷ audits) = IsAudited terms es s a × AreAudited terms es ss audits
+AreAudited terms es [] (a ∷ audits) = ⊥
+AreAudited terms es (s ∷ ss) [] = ⊥

@@ -1,8 +1,9 @@
 //! Findings that are accepted.
 
 ghost use Rattle.std.specs.Prelude.{◌≡◌, ◌↔◌, ℕ, List, false, IfOk, IsTrue};
-ghost use Rattle.dsa_recording.specs.Accepted.{AcceptsLines, IsAccepted, has_key};
+ghost use Rattle.dsa_recording.specs.Accepted.{AcceptsLines, IsAccepted};
 ghost use Rattle.dsa_recording.specs.Details.{IsPlaced};
+ghost use Rattle.dsa_recording.specs.Pairs.{has_key};
 ghost use Rattle.dsa_recording.specs.Reports.{reported_by};
 
 use crate::detail::detail_of;

@@ -4,13 +4,14 @@ ghost use Rattle.dsa_recording.specs.declared.answer.AuditFormat.TheVariants.{Pi
 ghost use Rattle.std.specs.Prelude.{◌≡◌, ◌≢◌, ◌≤◌, ◌^◌, ◌↔◌, All, length, IfOk, IsTrue};
 ghost use Rattle.dsa_recording.specs.declared.stream.StreamFault.TheVariants.{Memory};
 ghost use Rattle.dsa_recording.specs.Answers.{is_harmless, AnswersFormat, AnswersRecording, AnswersReport, AreNoErrors, ArePlaced, IsNoError, IsStatusOf};
-ghost use Rattle.dsa_recording.specs.Accepted.{has_key};
+ghost use Rattle.dsa_recording.specs.Freed.{HasAudits};
 ghost use Rattle.dsa_recording.specs.Details.{IsPlaced};
 ghost use Rattle.dsa_recording.specs.Keys.{key_words};
+ghost use Rattle.dsa_recording.specs.Pairs.{has_key};
 ghost use Rattle.dsa_recording.specs.Reports.{reported_by};
 ghost use Rattle.dsa_recording.specs.Words.{severity_of, severity_with};
 ghost use Rattle.dsa_recording.specs.Listings.{AreEntries};
-ghost use Rattle.dsa_recording.specs.Submissions.{AreAudited, IsWithin};
+ghost use Rattle.dsa_recording.specs.Submissions.{IsWithin};
 ghost use Rattle.dsa_recording.specs.Totals.{HasSums};
 
 use crate::accepted::{Accepted, is_accepted};
@@ -163,8 +164,7 @@ fn report_text(
 ) -> Result<String, AllocError>
     requires sums { HasSums report.now }
     requires within { All (IsWithin all.now) report.now.submissions.items }
-    requires audited { AreAudited options.assumptions all.now
-        report.now.submissions.items report.now.audits.items }
+    requires audited { HasAudits all.now report.now }
 {
     let mut written = Written::new(alloc);
     written.add(alloc, all, report, settings, options)?;
@@ -235,8 +235,7 @@ fn answer_report(
     requires entries { AreEntries all.now report.now.submissions.items report.now.audits.items }
     requires few { length all.now ≤ 2 ^ 58 }
     requires within { All (IsWithin all.now) report.now.submissions.items }
-    requires audited { AreAudited options.assumptions all.now
-        report.now.submissions.items report.now.audits.items }
+    requires audited { HasAudits all.now report.now }
     requires placed { ArePlaced all.now (reported_by report.now) }
     ensures { IfOk result (AnswersReport options.entry all.now (reported_by report.now)) }
 {
@@ -295,7 +294,7 @@ pub(crate) fn audit_bytes(
 ) -> Result<AuditAnswer, AllocError>
     ensures { IfOk result (AnswersRecording options.entry bytes.now) }
 {
-    match audit_recording(alloc, bytes, options.assumptions) {
+    match audit_recording(alloc, bytes, options.accepted, options.assumptions) {
         Ok(report) => {
             let (all, _) = bytes.as_chunks::<64>();
             answer_report(alloc, all, &report, settings, options)

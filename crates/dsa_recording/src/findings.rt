@@ -1,7 +1,7 @@
 //! What an audit of a recording finds.
 
 ghost use Rattle.std.specs.Prelude.{◌≡◌, ◌++◌, ◌<◌, All, IfOk, OnOk, length};
-ghost use Rattle.dsa_recording.specs.Findings.{unseen_kind, missing_kind, use_kind, shared_kind, repeated_kind, flaw_kind, size_kind, head_kinds, member_kinds, finding_of, all_found, findings_upto, submission_findings, recording_findings, HasAll};
+ghost use Rattle.dsa_recording.specs.Findings.{unseen_kind, accepted_kind, missing_kind, use_kind, shared_kind, repeated_kind, flaw_kind, size_kind, head_kinds, member_kinds, finding_of, all_found, findings_upto, submission_findings, recording_findings, HasAll};
 
 use crate::submission::Audited;
 use dsa_audit::{FencePlace, FenceUse, Member, Unseen};
@@ -86,12 +86,22 @@ fn missing_kind(place: FencePlace) -> Option<FindingKind>
     }
 }
 
+/// Whether a missing fence is accepted.
+fn accepted_kind(accepted: Option<usize>) -> Option<FindingKind>
+    ensures { result ≡ accepted_kind accepted }
+{
+    match accepted {
+        Some(earlier) => Some(FindingKind::MissingFence(earlier)),
+        None => None,
+    }
+}
+
 /// Whether a fence is needless, or what it is for though no conflict needs it. That of a lone descriptor has no effect.
 fn use_kind(is_batch: bool, fence: FenceUse) -> Option<FindingKind>
     ensures { result ≡ use_kind is_batch fence }
 {
     match fence {
-        FenceUse::NoFence | FenceUse::Needed(_, _) => None,
+        FenceUse::NoFence | FenceUse::Needed(_, _) | FenceUse::Held => None,
         FenceUse::Guarding(earlier) => Some(FindingKind::GuardingFence(earlier)),
         FenceUse::Signalling(awaited) => Some(FindingKind::SignallingFence(awaited)),
         FenceUse::GuardingAndSignalling(earlier, awaited) => {
@@ -157,7 +167,7 @@ fn head_kinds(audited: &Audited) -> [Option<FindingKind>; 3]
 }
 
 /// What may be found of a member, in this order.
-fn member_kinds(audited: &Audited, k: usize) -> [Option<FindingKind>; 8]
+fn member_kinds(audited: &Audited, k: usize) -> [Option<FindingKind>; 9]
     requires all { HasAll audited.now }
     requires within { k < length audited.now.members.items }
     ensures { result ≡ member_kinds audited.now k }
@@ -170,6 +180,7 @@ fn member_kinds(audited: &Audited, k: usize) -> [Option<FindingKind>; 8]
         flaw_kind(Flaw::DataOverRecord, flaws.data_over_record),
         flaw_kind(Flaw::MisalignedRecord, flaws.misaligned_record),
         repeated_kind(audited.audit.repeated[k]),
+        accepted_kind(audited.audit.accepted[k]),
         missing_kind(audited.audit.corrected.places[k]),
         use_kind(audited.is_batch, audited.audit.reduced.uses[k]),
     ]
@@ -246,8 +257,8 @@ fn push_submission(
 }
 
 /// All that is found in submissions, in order: of the descriptor of a batch and then of each member what is wrong
-/// beside fences, members that are not looked at, repeated operations, missing fences, and fences that no conflict
-/// needs.
+/// beside fences, members that are not looked at, repeated operations, missing fences, first one that is accepted,
+/// and fences that no conflict needs.
 pub fn findings_of(alloc: Global, audits: &[Audited]) -> Result<Vec<Finding>, AllocError>
     requires { All HasAll audits.now }
     ensures { IfOk result (λ findings. findings.items ≡ recording_findings 0 audits.now) }

@@ -2,8 +2,10 @@
 
 ghost use Rattle.std.specs.Prelude.{◌≡◌, All, IfOk};
 ghost use Rattle.std.specs.List.{AllByRecursion, count_by};
-ghost use Rattle.dsa_recording.specs.Freed.{AreNeedless, HasAudits, HasNeedless, IsFreed, IsReducedUnder, IsSomeAudit, is_needless_use, needless_count, needless_of};
-ghost use Rattle.dsa_recording.specs.Submissions.{AreAudited, IsWithin};
+ghost use Rattle.dsa_recording.specs.declared.accepted.Accepted.{Accepted};
+ghost use Rattle.dsa_recording.specs.Freed.{AreNeedless, HasAudits, HasAuditsAccepting, HasNeedless, IsAuditAccepting, IsFreed, IsReducedUnder, IsSomeAudit, is_needless_use, needless_count, needless_of};
+ghost use Rattle.dsa_recording.specs.Pairs.{terms};
+ghost use Rattle.dsa_recording.specs.Submissions.{IsWithin};
 ghost use Rattle.dsa_recording.specs.Totals.{is_needless};
 
 use crate::assumptions::{Assumptions, Await};
@@ -14,7 +16,7 @@ use crate::showing::visible_of;
 use crate::stream::Submission;
 use crate::submission::{Audited, head_at};
 use crate::totals::fences_in;
-use dsa_audit::{Effects, FenceUse, PossibleConflicts, Reduced, drop_needless};
+use dsa_audit::{Effects, FenceUse, Reduced, needed_fences};
 use serde::Serialize;
 use std::alloc::{AllocError, Global};
 
@@ -86,6 +88,7 @@ fn is_needless_use(fence: FenceUse) -> bool
         FenceUse::Needless => true,
         FenceUse::NoFence
         | FenceUse::Needed(_, _)
+        | FenceUse::Held
         | FenceUse::Guarding(_)
         | FenceUse::Signalling(_)
         | FenceUse::GuardingAndSignalling(_, _) => false,
@@ -123,11 +126,13 @@ fn reduced_under(
         fallible: &fallible,
         visible: &visible,
     };
-    let (audit, possible) = (&audited.audit, PossibleConflicts { members });
-    drop_needless(
+    let audit = &audited.audit;
+    needed_fences(
         alloc,
+        &audited.fences,
+        &audit.unaccepted.fences,
         &audit.corrected.fences,
-        &possible,
+        members,
         &audit.lasts,
         effects,
     )
@@ -143,10 +148,13 @@ fn needless_in_submission(
 ) -> Result<usize, AllocError>
     requires within { IsWithin all.now submission }
     requires audited { IsSomeAudit all.now submission audited.now }
-    ensures { IfOk result (HasNeedless assumptions all.now submission) }
+    ensures { (accepted : Accepted) → IsAuditAccepting accepted all.now submission audited.now →
+        IfOk result (HasNeedless (terms accepted assumptions) all.now submission) }
 {
-    if fences_in(&audited.audit.corrected.fences) == 0 {
-        return Ok(0);
+    if fences_in(&audited.audit.unaccepted.fences) == 0 {
+        if fences_in(&audited.audit.corrected.fences) == 0 {
+            return Ok(0);
+        }
     }
     let reduced = reduced_under(alloc, all, assumptions, submission, audited)?;
     Ok(needless_by(audited.is_batch, &reduced.uses))
@@ -161,7 +169,9 @@ fn needless_under(
 ) -> Result<usize, AllocError>
     requires within { All (IsWithin all.now) report.now.submissions.items }
     requires audited { HasAudits all.now report.now }
-    ensures { IfOk result (AreNeedless assumptions all.now report.now.submissions.items) }
+    ensures { (accepted : Accepted) → HasAuditsAccepting accepted all.now report.now →
+        IfOk result (AreNeedless (terms accepted assumptions)
+        all.now report.now.submissions.items) }
 {
     let mut needless: usize = 0;
     for number in 0..report.submissions.len() {
@@ -216,7 +226,8 @@ fn freed_under(
     requires within { All (IsWithin all.now) report.now.submissions.items }
     requires audited { HasAudits all.now report.now }
     requires now { now ≡ needless_count report.now.findings.items }
-    ensures { IfOk result (λ f. IsFreed all.now report.now f) }
+    ensures { (accepted : Accepted) → HasAuditsAccepting accepted all.now report.now →
+        IfOk result (λ f. IsFreed accepted all.now report.now f) }
 {
     let then = needless_under(alloc, all, assumptions, report)?;
     Ok(Freed {
@@ -225,8 +236,27 @@ fn freed_under(
     })
 }
 
-/// How many more fences would be needless with each set of further assumptions, of the report under these. There is none
-/// if no fence guards or signals, since only such fences can become needless.
+/// Whether a fence of the submission is held.
+fn has_held(audited: &Audited) -> bool {
+    let uses = &audited.audit.reduced.uses;
+    uses.iter().any(|fence| is_held(*fence))
+}
+
+/// Whether what is accepted holds the fence.
+fn is_held(fence: FenceUse) -> bool {
+    match fence {
+        FenceUse::Held => true,
+        FenceUse::NoFence
+        | FenceUse::Needed(_, _)
+        | FenceUse::Guarding(_)
+        | FenceUse::Signalling(_)
+        | FenceUse::GuardingAndSignalling(_, _)
+        | FenceUse::Needless => false,
+    }
+}
+
+/// How many more fences would be needless with each set of further assumptions, of the report under these. There is
+/// none if no fence guards, signals or is held, since only such fences can become needless.
 pub(crate) fn freed_by(
     alloc: Global,
     all: &[[u8; 64]],
@@ -234,12 +264,13 @@ pub(crate) fn freed_by(
     assumptions: Assumptions,
 ) -> Result<Vec<Freed>, AllocError>
     requires within { All (IsWithin all.now) report.now.submissions.items }
-    requires audited { AreAudited assumptions all.now
-        report.now.submissions.items report.now.audits.items }
-    ensures { IfOk result (λ freed. AllByRecursion (IsFreed all.now report.now) freed.items) }
+    requires audited { HasAudits all.now report.now }
+    ensures { (accepted : Accepted) → HasAuditsAccepting accepted all.now report.now →
+        IfOk result (λ freed. AllByRecursion (IsFreed accepted all.now report.now) freed.items) }
 {
     let mut freed = Vec::new(alloc);
-    if !report.findings.iter().any(|finding| is_kept(finding.kind)) {
+    let are_kept = report.findings.iter().any(|finding| is_kept(finding.kind));
+    if !are_kept && !report.audits.iter().any(has_held) {
         return Ok(freed);
     }
     let now = needless_in(&report.findings);

@@ -3,7 +3,8 @@
 ghost use Rattle.std.specs.Prelude.{◌≡◌, ◌++◌, IfOk, OnOk, codes, slice_get, string_bytes};
 ghost use Rattle.dsa_recording.specs.Details.{named_by};
 ghost use Rattle.dsa_recording.specs.Furthers.{code_name};
-ghost use Rattle.dsa_recording.specs.Keys.{batch_key, cause_key, entry_key, flaw_key, hazard_key, key_of_entry, key_words, member_key, name_or_code, operation_name, other_key, others_key, place_key};
+ghost use Rattle.dsa_recording.specs.EntryKeys.{batch_key, entry_key, fence_key, hazard_key, key_of_entry, member_key, name_or_code, operation_name};
+ghost use Rattle.dsa_recording.specs.Keys.{cause_key, flaw_key, key_words, other_key, others_key, place_key};
 
 use crate::detail::{Cause, Detail, named_by};
 use crate::entry::Header;
@@ -177,6 +178,39 @@ fn hazard_key(kind: HazardKind) -> &'static str
     }
 }
 
+/// The key of a missing fence before member `later` of a batch with these entries, which conflicts so with the earlier
+/// one.
+pub fn fence_key(
+    alloc: Global,
+    entries: &[[u8; 64]],
+    earlier: usize,
+    later: usize,
+    kind: HazardKind,
+) -> Result<String, AllocError>
+    ensures { IfOk result (λ s. string_bytes s ≡ fence_key entries.now earlier later kind) }
+{
+    let mut text = String::from_str(alloc, hazard_key(kind))?;
+    text.push_str(&batch_key(alloc, entries.len())?)?;
+    text.push_str(&member_key(alloc, entries, 0, later)?)?;
+    text.push_str(&member_key(alloc, entries, 0, earlier)?)?;
+    Ok(text)
+}
+
+/// How the keys begin of missing fences before member `later` of a batch with these entries, up to the number of the
+/// earlier member.
+pub(crate) fn fence_keys_begin(
+    alloc: Global,
+    entries: &[[u8; 64]],
+    later: usize,
+    kind: HazardKind,
+) -> Result<String, AllocError> {
+    let mut text = String::from_str(alloc, hazard_key(kind))?;
+    text.push_str(&batch_key(alloc, entries.len())?)?;
+    text.push_str(&member_key(alloc, entries, 0, later)?)?;
+    text.push_str("; member ")?;
+    Ok(text)
+}
+
 /// What else is wrong.
 fn flaw_key(flaw: Flaw) -> &'static str
     ensures { result.now ≡ flaw_key flaw }
@@ -209,8 +243,8 @@ fn cause_key(alloc: Global, code: u8, cause: Cause) -> Result<String, AllocError
     }
 }
 
-/// The key of a finding in these entries: what it is, of which operations, in a submission of how many members. It has no
-/// address, so findings of one kind in like batches have one key, in another run too.
+/// The key of a finding in these entries: what it is, of which operations, in a submission of how many members. It has
+/// no address, so findings of one kind in like batches have one key, in another run too.
 pub fn key_text(alloc: Global, all: &[[u8; 64]], detail: &Detail) -> Result<String, AllocError>
     ensures { IfOk result (λ s. string_bytes s ≡ key_words all.now detail.now) }
 {

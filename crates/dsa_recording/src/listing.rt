@@ -201,13 +201,14 @@ fn kept_for(fence: FenceUse) -> Option<&'static str>
 {
     match fence {
         FenceUse::NoFence | FenceUse::Needed(_, _) | FenceUse::Needless => None,
+        FenceUse::Held => Some("held"),
         FenceUse::Guarding(_) => Some("guarding"),
         FenceUse::Signalling(_) => Some("signalling"),
         FenceUse::GuardingAndSignalling(_, _) => Some("guarding and signalling"),
     }
 }
 
-/// Writes the line of a barrier before an entry whose fence guards or signals.
+/// Writes the line of a barrier before an entry whose fence guards, signals or is held.
 fn push_fence(
     alloc: Global,
     text: &mut String,

@@ -287,6 +287,10 @@ fn used_bar(
             };
             needed_bar(alloc, column, drawn.start, pair)?
         }
+        FenceUse::Held => {
+            let pair = known_pair(alloc, drawn, member)?;
+            needed_bar(alloc, column, drawn.start, pair)?
+        }
         FenceUse::Guarding(earlier) => guarding_bar(alloc, column, earlier)?,
         FenceUse::Signalling(awaited) => signalling_bar(alloc, column, awaited)?,
         FenceUse::GuardingAndSignalling(earlier, awaited) => {

@@ -78,7 +78,7 @@ impl Parts {
         ensures status { OnOk result
             (HasStatusAfter options.entry part.now self.old.status self.new.status) }
     {
-        match audit_recording(alloc, part, options.assumptions) {
+        match audit_recording(alloc, part, options.accepted, options.assumptions) {
             Ok(report) => {
                 let (all, _) = part.as_chunks::<64>();
                 self.written.add(alloc, all, &report, settings, options)?;

@@ -5,8 +5,10 @@ ghost use Rattle.dsa_recording.specs.declared.stream.Submission.{Submission};
 ghost use Rattle.dsa_recording.specs.declared.stream.StreamFault.{StreamFault};
 ghost use Rattle.dsa_recording.specs.declared.stream.StreamFault.TheVariants.{Memory};
 ghost use Rattle.dsa_recording.specs.Streams.{ReadsStream, IsStreamFault};
+ghost use Rattle.dsa_recording.specs.Pairs.{terms};
 ghost use Rattle.dsa_recording.specs.Reports.{IsReport, reported_by};
 
+use crate::accepted::Accepted;
 use crate::assumptions::Assumptions;
 use crate::findings::{Finding, findings_of};
 use crate::stream::{StreamFault, Submission, read_stream};
@@ -24,17 +26,19 @@ pub struct Report {
     pub findings: Vec<Finding>,
 }
 
-/// The submissions of a recording, an audit of each under the assumptions, and what these find.
+/// The submissions of a recording, an audit of each under the assumptions that accepts these keys, and what these find.
 ///
 /// # Errors
 /// Those of [`read_stream`].
 pub fn audit_recording(
     alloc: Global,
     bytes: &[u8],
+    accepted: &Accepted,
     assumptions: Assumptions,
 ) -> Result<Report, StreamFault>
     ensures answer { MatchResult result
-        (λ r. IsReport assumptions bytes.now (reported_by r)) (IsStreamFault bytes.now) }
+        (λ r. IsReport (terms accepted.now assumptions) bytes.now (reported_by r))
+        (IsStreamFault bytes.now) }
     ensures only { (list : List Submission) → ReadsStream bytes.now list →
         MatchResult result (λ r. r.submissions.items ≡ list) (λ fault. fault ≡ Memory) }
     ensures refused { (fault : StreamFault) → fault ≢ Memory → IsStreamFault bytes.now fault →
@@ -45,7 +49,7 @@ pub fn audit_recording(
         Err(fault) => return Err(fault),
     };
     let (all, _) = bytes.as_chunks::<64>();
-    let audits = audit_submissions(alloc, all, assumptions, &submissions)?;
+    let audits = audit_submissions(alloc, all, accepted, assumptions, &submissions)?;
     let findings = findings_of(alloc, &audits)?;
     Ok(Report {
         submissions,

@@ -2,13 +2,16 @@
 
 ghost use Rattle.std.specs.Prelude.{◌≡◌, All, map, IfOk};
 ghost use Rattle.dsa_recording.specs.Entries.{action_of};
+ghost use Rattle.dsa_recording.specs.Pairs.{terms};
 ghost use Rattle.dsa_recording.specs.Submissions.{head_at, is_fenced, IsWithin, AreMembers, AreOperands, IsAudited, AreAudited};
 
+use crate::accepted::Accepted;
 use crate::assumptions::Assumptions;
 use crate::entry::Header;
 use crate::failure::fallible_of;
 use crate::flaws::{Flaws, all_flaws, has_misaligned_record};
 use crate::member::{action_of, member_of, operands_member};
+use crate::pairs::AcceptedPairs;
 use crate::shared::shared_in;
 use crate::showing::visible_of;
 use crate::stream::Submission;
@@ -116,15 +119,18 @@ fn operands_in(
     Ok(members)
 }
 
-/// The fences of a submission of these entries: which are missing, and which are needless under the assumptions.
+/// The fences of a submission of these entries: which are missing, once pairs with these keys are accepted, and which
+/// are needless under the assumptions.
 pub fn audit_submission(
     alloc: Global,
     all: &[[u8; 64]],
+    accepted: &Accepted,
     assumptions: Assumptions,
     submission: Submission,
 ) -> Result<Audited, AllocError>
     requires { IsWithin all.now submission }
-    ensures { IfOk result (IsAudited assumptions all.now submission) }
+    ensures { IfOk result
+        (IsAudited (terms accepted.now assumptions) all.now submission) }
 {
     let at = head_at(submission);
     let entries = &all[submission.first..submission.first + submission.size];
@@ -138,7 +144,14 @@ pub fn audit_submission(
         fallible: &fallible,
         visible: &visible,
     };
-    let audit = audit_fences(alloc, &fences, &actions, &operands, &members, effects)?;
+    let pairs = AcceptedPairs {
+        accepted,
+        entries,
+        operands: &operands,
+    };
+    let audit = audit_fences(
+        alloc, &fences, &actions, &operands, &members, effects, &pairs,
+    )?;
     Ok(Audited {
         is_batch: submission.is_batch,
         is_head_fenced: is_fenced(&all[at]),
@@ -159,16 +172,18 @@ pub fn audit_submission(
 pub fn audit_submissions(
     alloc: Global,
     all: &[[u8; 64]],
+    accepted: &Accepted,
     assumptions: Assumptions,
     submissions: &[Submission],
 ) -> Result<Vec<Audited>, AllocError>
     requires { All (IsWithin all.now) submissions.now }
     ensures { IfOk result
-        (λ audits. AreAudited assumptions all.now submissions.now audits.items) }
+        (λ audits. AreAudited (terms accepted.now assumptions)
+        all.now submissions.now audits.items) }
 {
     let mut audits = Vec::with_capacity(alloc, submissions.len())?;
     for submission in submissions {
-        let audited = audit_submission(alloc, all, assumptions, *submission)?;
+        let audited = audit_submission(alloc, all, accepted, assumptions, *submission)?;
         audits.push(audited)?;
     }
     Ok(audits)

@@ -1,7 +1,8 @@
 //! What the parts of a recording come to, in numbers.
 
 ghost use Rattle.std.specs.Prelude.{All};
-ghost use Rattle.dsa_recording.specs.Submissions.{AreAudited, IsWithin};
+ghost use Rattle.dsa_recording.specs.Freed.{HasAudits};
+ghost use Rattle.dsa_recording.specs.Submissions.{IsWithin};
 ghost use Rattle.dsa_recording.specs.Totals.{HasSums};
 
 use crate::assumptions::Assumptions;
@@ -97,8 +98,7 @@ impl Sums {
     ) -> Result<(), AllocError>
         requires sums { HasSums report.now }
         requires within { All (IsWithin all.now) report.now.submissions.items }
-        requires audited { AreAudited assumptions all.now
-            report.now.submissions.items report.now.audits.items }
+        requires audited { HasAudits all.now report.now }
     {
         self.totals = both_totals(self.totals, totals_of(report));
         self.costs = both_costs(self.costs, costs_of(settings, report));

@@ -1,7 +1,8 @@
 //! What is written of the findings of a recording that comes in parts.
 
 ghost use Rattle.std.specs.Prelude.{All};
-ghost use Rattle.dsa_recording.specs.Submissions.{AreAudited, IsWithin};
+ghost use Rattle.dsa_recording.specs.Freed.{HasAudits};
+ghost use Rattle.dsa_recording.specs.Submissions.{IsWithin};
 ghost use Rattle.dsa_recording.specs.Totals.{HasSums};
 
 use crate::answer::{AuditFormat, AuditOptions, completeness, is_complete, severity_in};
@@ -193,8 +194,7 @@ impl Written {
     ) -> Result<(), AllocError>
         requires sums { HasSums report.now }
         requires within { All (IsWithin all.now) report.now.submissions.items }
-        requires audited { AreAudited options.assumptions all.now
-            report.now.submissions.items report.now.audits.items }
+        requires audited { HasAudits all.now report.now }
     {
         let complete = completeness(alloc, report)?;
         for finding in &report.findings {

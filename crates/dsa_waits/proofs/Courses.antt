@@ -15,7 +15,7 @@ use Rattle.dsa_waits.specs.declared.course.Told.TheVariants as told_of
 use Rattle.dsa_waits.specs.declared.event.Event.{Event}
 use Rattle.dsa_waits.specs.declared.event.Event.TheVariants.{Submitted, Watched, MemberEnded, Ended, Known}
 use Rattle.dsa_waits.specs.declared.search.Flying.{Flying}
-use Rattle.dsa_recording.specs.Accepted.{has_key}
+use Rattle.dsa_recording.specs.Pairs.{has_key}
 use Rattle.dsa_waits.specs.Waits.{Fits, IsCourse, IsMissingWait, IsOutstanding, ended_by, event_at, has_ended, is_made, is_number, is_told, made_at, made_before, submission_of, tells, told_by}
 use Rattle.dsa_waits.specs.Keys.{IsLeftConflict, IsLeftWait, NoneIsLeft}
 use Rattle.dsa_waits.specs.Steps.{AreBelow, AreOutstanding, HasSubmission, IsFlying, IsNotTold, IsRising, Marks, WithRange}

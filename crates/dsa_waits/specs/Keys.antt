@@ -7,8 +7,8 @@ use Rattle.dsa_ranges.specs.declared.hazards.HazardKind.{HazardKind}
 use Rattle.dsa_ranges.specs.declared.hazards.HazardKind.TheVariants.{ReadAfterWrite, WriteAfterRead, WriteAfterWrite}
 use Rattle.dsa_recording.specs.declared.accepted.Accepted.{Accepted}
 use Rattle.dsa_recording.specs.declared.stream.Submission.{Submission}
-use Rattle.dsa_recording.specs.Accepted.{has_key}
-use Rattle.dsa_recording.specs.Keys.{key_of_entry}
+use Rattle.dsa_recording.specs.Pairs.{has_key}
+use Rattle.dsa_recording.specs.EntryKeys.{key_of_entry}
 use Rattle.dsa_waits.specs.declared.course.Course.{Course}
 use Rattle.dsa_waits.specs.Recorded.{submission_at}
 use Rattle.dsa_waits.specs.Waits.{IsMissingWait, submission_of}

@@ -1,5 +1,5 @@
 use Rattle.std.proofs.Common.{◌≡◌, ap, sym, ◌∙◌}
-use Rattle.dsa_recording.specs.Accepted.{has_key}
+use Rattle.dsa_recording.specs.Pairs.{has_key}
 use Rattle.dsa_recording.specs.Keys.{key_words}
 use Rattle.dsa_recording.specs.Reports.{reported_by}
 use Rattle.dsa_recording.proofs.Keyed.{one_key}

@@ -1,6 +1,7 @@
 use Rattle.std.proofs.Common.{arith, subst, sym}
 use Rattle.dsa_recording.specs.Answers.{ArePlaced}
 use Rattle.dsa_recording.specs.Reports.{reported_by}
+use Rattle.dsa_recording.specs.Pairs.{terms}
 use Rattle.dsa_recording.proofs.Found.{report_placed}
 use Rattle.dsa_recording.proofs.ListingLines.{report_entries}
 use Rattle.dsa_recording.proofs.Status.{reported}
@@ -9,10 +10,10 @@ use Rattle.dsa_recording.proofs.Within.{within}
 use Rattle.dsa_recording.proofs.answer.audit_bytes.Goals as goal
 
 pub answer_report-requires-clause-sums : goal.answer_report-requires-clause-sums
-answer_report-requires-clause-sums c = has_sums c.args.options.assumptions c.args.bytes.now c.in-Ok.report c.in-Ok.ensures.answer (omega arith)
+answer_report-requires-clause-sums c = has_sums (terms c.args.options.accepted.now c.args.options.assumptions) c.args.bytes.now c.in-Ok.report c.in-Ok.ensures.answer (omega arith)
 
 pub answer_report-requires-clause-entries : goal.answer_report-requires-clause-entries
-answer_report-requires-clause-entries c = report_entries c.args.options.assumptions c.args.bytes.now c.as_chunks.result.0.now c.in-Ok.report c.as_chunks.ensures.front c.in-Ok.ensures.answer
+answer_report-requires-clause-entries c = report_entries (terms c.args.options.accepted.now c.args.options.assumptions) c.args.bytes.now c.as_chunks.result.0.now c.in-Ok.report c.as_chunks.ensures.front c.in-Ok.ensures.answer
 
 pub answer_report-requires-clause-within : goal.answer_report-requires-clause-within
 answer_report-requires-clause-within c =
@@ -21,7 +22,7 @@ answer_report-requires-clause-within c =
 pub answer_report-requires-clause-placed : goal.answer_report-requires-clause-placed
 answer_report-requires-clause-placed c =
     subst (λ es. ArePlaced es (reported_by c.in-Ok.report)) (sym c.as_chunks.ensures.front)
-    (report_placed c.args.options.assumptions c.args.bytes.now (reported_by c.in-Ok.report) c.in-Ok.ensures.answer)
+    (report_placed (terms c.args.options.accepted.now c.args.options.assumptions) c.args.bytes.now (reported_by c.in-Ok.report) c.in-Ok.ensures.answer)
 
 pub returns-in-Ok : goal.returns-in-Ok
 returns-in-Ok c =

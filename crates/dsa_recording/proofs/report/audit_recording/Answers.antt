@@ -1,6 +1,7 @@
 use Rattle.std.proofs.Common.{All, sym, subst}
 use Rattle.dsa_recording.specs.Submissions.{IsWithin}
 use Rattle.dsa_recording.specs.Findings.{HasAll}
+use Rattle.dsa_recording.specs.Pairs.{terms}
 use Rattle.dsa_recording.proofs.Within.{within, all_have}
 use Rattle.dsa_recording.proofs.report.audit_recording.Goals as goal
 
@@ -12,4 +13,4 @@ audit_submissions-requires c =
 pub findings_of-requires : goal.findings_of-requires
 findings_of-requires c =
     subst (All HasAll) (sym c.deref-2.ensures.value)
-    (all_have c.args.assumptions c.as_chunks.result.0.now c.deref.result.now c.in_ok-audits.audits.items c.in_ok-audits.ensures)
+    (all_have (terms c.args.accepted.now c.args.assumptions) c.as_chunks.result.0.now c.deref.result.now c.in_ok-audits.audits.items c.in_ok-audits.ensures)

@@ -1,4 +1,4 @@
-use Rattle.dsa_waits.proofs.Hazards.{between_conflict}
+use Rattle.dsa_recording.proofs.FenceKeys.{between_conflict}
 use Rattle.dsa_waits.proofs.keys.key_of_wait.Goals as goal
 
 pub returns-in_default : goal.returns-in_default

@@ -1,13 +1,14 @@
 use Rattle.std.proofs.Common.{arith, subst, sym}
 use Rattle.dsa_recording.specs.Answers.{ArePlaced}
 use Rattle.dsa_recording.specs.Reports.{reported_by}
+use Rattle.dsa_recording.specs.Pairs.{terms}
 use Rattle.dsa_recording.proofs.Found.{report_placed}
 use Rattle.dsa_recording.proofs.Summed.{has_sums}
 use Rattle.dsa_recording.proofs.Within.{within}
 use Rattle.dsa_recording.proofs.parts.Parts.add_report.Goals as goal
 
 pub add-requires-clause-sums : goal.add-requires-clause-sums
-add-requires-clause-sums c = has_sums c.args.options.assumptions c.args.part.now c.in-Ok.report c.in-Ok.ensures.answer (omega arith)
+add-requires-clause-sums c = has_sums (terms c.args.options.accepted.now c.args.options.assumptions) c.args.part.now c.in-Ok.report c.in-Ok.ensures.answer (omega arith)
 
 pub add-requires-clause-within : goal.add-requires-clause-within
 add-requires-clause-within c =
@@ -16,4 +17,4 @@ add-requires-clause-within c =
 pub status_of-requires : goal.status_of-requires
 status_of-requires c =
     subst (λ es. ArePlaced es (reported_by c.in-Ok.report)) (sym c.as_chunks.ensures.front)
-    (report_placed c.args.options.assumptions c.args.part.now (reported_by c.in-Ok.report) c.in-Ok.ensures.answer)
+    (report_placed (terms c.args.options.accepted.now c.args.options.assumptions) c.args.part.now (reported_by c.in-Ok.report) c.in-Ok.ensures.answer)

@@ -57,6 +57,8 @@ CHECKERS = {
         ("the last step is left out", "one_step last_cost (raised (b - b') far)", "Some (raised (b - b') far)"),
         ("bytes 38 and 39 are left out", " && (its_zeros v =? 0)", ""),
         ("more bytes may come after", "| [] => match m with [] => true | _ => false end", "| [] => true"),
+        ("more pieces may come after", "| [] => match ps with [] => true | _ => false end", "| [] => true"),
+        ("the pieces of a move are not turned", "then rev_append ks [] else ks", "then ks else ks"),
     ],
 }
 # Those that each needs to be right about.

@@ -273,6 +273,11 @@ def judge_keys(recording, events, keys, draw, name):
     last = list(dict.fromkeys(named[max(named)] for named in keys.values()))
     right = status == 0 and of_waits == last and written == others + of_waits
     common.expect(right, f"{name}: the keys {written} are not those of {keys}")
+    more = others[:]
+    while more:
+        left = audited(recording, events, "--write-accept", known=others)[1].splitlines()
+        more = [key for key in left if not key.startswith("missing wait")]
+        others += more
     every = sorted({key for named in keys.values() for key in named.values()})
     some = [key for key in every if draw.random() < 0.5]
     for known in (of_waits, of_waits[:-1], some, every):

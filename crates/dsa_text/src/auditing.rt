@@ -60,8 +60,8 @@ Drop needless fences of one audit together, and never with those of an audit und
 
 Each finding names its entries and what they do. Of findings of one kind in like batches the first is written, and how many
 more there are; --all writes each. --write-accept writes a line for each kind of error that there is; with such a file
---accept takes errors of these kinds as known, so that others alone make the status 1. With --events repeat both until
-nothing is written, since each entry names the last wait alone that it lacks:
+--accept takes errors of these kinds as known, so that others alone make the status 1. Repeat both until nothing is
+written, since each member is named with one fence alone that it lacks, and each entry with one wait:
   dsa_text audit --write-accept recording.bin > known.txt && dsa_text audit --accept known.txt recording.bin
 
 Each submission is taken to be waited for before the next one. With --events it also reports missing waits: an entry

@@ -4,7 +4,7 @@ ghost use Rattle.std.specs.Prelude.{IfOk, string_bytes};
 ghost use Rattle.dsa_text.specs.Refusals.{NamesCause};
 
 use crate::messages::message_of;
-use dsa_audit::{FencePlace, KnownConflicts, Member, add_missing, hazard_between, known_lasts};
+use dsa_audit::{FencePlace, Member, hazard_between, missing_fences};
 use dsa_calls::PlanFault;
 use dsa_descriptor::Descriptor;
 use dsa_explain::kind_text;
@@ -53,9 +53,7 @@ fn push_missing(
     if group.fences().len() != members.len() {
         return Ok(());
     }
-    let relation = KnownConflicts { members: &members };
-    let lasts = known_lasts(alloc, &members)?;
-    let corrected = add_missing(alloc, group.fences(), &relation, &lasts)?;
+    let corrected = missing_fences(alloc, group.fences(), &members)?;
     for (at, place) in corrected.places.iter().enumerate() {
         if let FencePlace::Missing(earlier) = *place {
             push_conflict(alloc, text, &members, (earlier, at), start)?;

@@ -1,0 +1,221 @@
+"""Accepted pairs of conflicts, for tests/audit.py: random recordings, with the keys of random pairs of their members
+accepted, are judged by a model of the definition (docs/FORMATS.md) that tries every set of fences; and recordings made
+by hand."""
+
+import random
+import subprocess
+import tempfile
+import time
+from pathlib import Path
+
+import audit_model
+import common
+from audit_entries import batch, entry, first_foreign
+from audit_model import Batch, Maker, all_separated, audited, fewest, separated, submissions
+from common import move, program
+from findings import key_of
+from model import COMPARE
+
+HAZARDS = ("read after write", "write after write", "write after read")
+
+
+def with_keys(recording, keys, *words):
+    """The report on a recording, and the status, with these keys accepted."""
+    with tempfile.NamedTemporaryFile("w") as file:
+        file.write("".join(f"{key}\n" for key in keys))
+        file.flush()
+        return audited(recording, " ".join([*words, "--accept", file.name]))
+
+
+def written_keys(recording, keys=()):
+    """The keys that are written of the errors, with these accepted."""
+    with tempfile.NamedTemporaryFile("w") as file:
+        file.write("".join(f"{key}\n" for key in keys))
+        file.flush()
+        command = [program("dsa_text"), "audit", "--write-accept", "--accept", file.name]
+        return subprocess.run(command, input=recording, capture_output=True).stdout.decode().splitlines()
+
+
+class Accepting(Batch):
+    """A recorded submission, of which the keys of some pairs are accepted."""
+
+    def __init__(self, it, keys, findings, assumed):
+        missing = [f for f in findings if f["what"]["kind"] == "missing"]
+        errors = [f for f in findings if f["what"]["kind"] != "missing" or f["severity"] == "error"]
+        super().__init__(it.number, it.head, it.entries, errors, assumed, it.is_batch)
+        self.shown = {f["member"]: f["what"]["earlier"] for f in missing if f["severity"] == "accepted"}
+        self.accepted = {p for p in self.certain if self.key(p) in keys and not separated(self.fences, p)}
+        self.left = [p for p in self.certain if p not in self.accepted]
+
+    def key(self, pair):
+        """The key of a missing fence between two members that are known to conflict."""
+        (reads, writes), (reads2, writes2) = (self.operands[k] for k in pair)
+        shared = (writes & reads2, writes & writes2, reads & writes2)
+        hazard = next(name for name, some in zip(HAZARDS, shared) if some)
+        what = {"kind": "missing", "hazard": hazard, "earlier": pair[0]}
+        return key_of(what, self.entries, pair[1], 0, len(self.entries))
+
+    def missing_before(self):
+        """The missing fences if nothing is accepted, each with the last earlier member of its epoch that conflicts."""
+        found, epoch = {}, 0
+        for k in range(len(self.entries)):
+            last = max((a for a, b in self.certain if b == k and a >= epoch), default=None)
+            if k not in self.fences and last is not None:
+                found[k] = last
+            epoch = k if k in self.fences or k in found else epoch
+        return found
+
+    def stays(self, given, held):
+        """Of fences those that are needed, that guard or signal, or that are held."""
+        kept = set()
+        for k in sorted(given):
+            end = min((it for it in given if it > k), default=len(self.entries))
+            begin = max((it for it in given if it < k), default=0)
+            needed = any(a < k <= b < end and not any(a < it for it in kept) for a, b in self.possible)
+            guards = any(begin <= m < k for m in self.fallible)
+            signals = any(0 < k <= j < end for j in self.visible)
+            if needed or guards or signals or k in held:
+                kept.add(k)
+        return kept
+
+    def accepting_faults(self):
+        """What is wrong with the missing, the accepted and the needless fences."""
+        wanted = {k: a for k, a in self.missing_before().items() if (a, k) in self.accepted}
+        if self.shown != wanted:
+            yield f"accepted are {self.shown}, and not {wanted}"
+        for later, what in self.found["missing"].items():
+            pair = (what["earlier"], later)
+            if pair not in self.left or separated(self.fences, pair):
+                yield f"no fence is missing between {pair}"
+        if not all_separated(self.corrected, self.left):
+            yield "a conflict is left"
+        free = [k for k in range(len(self.entries)) if k not in self.fences]
+        if len(self.found["missing"]) != fewest(self.fences, free, self.left):
+            yield "not the fewest fences are missing"
+        if not self.is_batch:
+            return
+        before = self.stays(self.fences | set(self.missing_before()), set())
+        held = before & self.fences
+        if self.reduced != self.stays(self.corrected, held):
+            yield f"{self.reduced} stay, and not {self.stays(self.corrected, held)}"
+        if not held <= self.reduced:
+            yield "accepting frees a fence"
+        kept, others = self.kept_pairs()
+        if len(self.reduced) != len(held) + fewest(held, sorted(self.corrected - held), kept + others):
+            yield "not the fewest fences stay"
+
+
+def drawn_keys(chosen, recording):
+    """The keys of some pairs of members of a recording, which may conflict or not be in one epoch."""
+    keys = set()
+    for it, is_batch in submissions(recording, {"findings": []}):
+        pairs = Accepting(it, (), [], ("writes", False)).certain if is_batch else []
+        share = chosen.choice([0, 0.3, 0.7, 1])
+        keys |= {Accepting(it, (), [], ("writes", False)).key(p) for p in pairs if chosen.random() < share}
+    return keys
+
+
+def accepting():
+    """Random recordings with random pairs accepted; and with all errors accepted, one after another, none is left."""
+    sums = {"accepted": 0, "missing": 0}
+    for seed in range(audit_model.COUNT // 2):
+        chosen, recording = random.Random(seed), Maker(seed).recording()
+        if first_foreign(recording):
+            continue
+        assumed = chosen.choice([("writes", False), ("signals", True), ("batches", True)])
+        words = ["--await", assumed[0]] + ["--resident"] * assumed[1]
+        keys = drawn_keys(chosen, recording)
+        report, status = with_keys(recording, keys, *words)
+        errors = any(it["severity"] == "error" for it in report["findings"])
+        common.expect(status == int(errors), f"seed {seed}: status {status}")
+        found = {}
+        for finding in report["findings"]:
+            found.setdefault(finding["submission"], []).append(finding)
+        for it, _ in submissions(recording, report, assumed):
+            judged = Accepting(it, keys, found.get(it.number, []), assumed)
+            for fault in judged.accepting_faults():
+                common.expect(False, f"seed {seed} {' '.join(words)}, submission {it.number}: {fault}")
+            sums["accepted"] += len(judged.accepted)
+            sums["missing"] += len(judged.found["missing"])
+    print("accepting: " + ", ".join(f"{number} {name}" for name, number in sums.items()))
+    common.expect(sums["accepted"] > audit_model.COUNT // 10, f"too few pairs are accepted: {sums}")
+
+
+def till_none_is_left():
+    """The keys that are written are accepted, until none is written; then no missing fence is an error."""
+    for seed in range(audit_model.COUNT // 10):
+        recording, keys = Maker(seed).recording(), []
+        if first_foreign(recording):
+            continue
+        for _ in range(64):
+            more = written_keys(recording, keys)
+            if not more:
+                break
+            keys += more
+        status = with_keys(recording, keys)[1]
+        common.expect(not more and status == 0, f"seed {seed}: left are {more}, status {status}")
+
+
+def padded_accepting():
+    """A batch has the same findings with 70 more members, which touch nothing that it touches, and the same pairs
+    accepted: above 64 members conflicts before accepted ones come from a sweep."""
+    found, idle = 0, [entry(COMPARE, 2, 0, 0x10000000 + 64 * k, 0x20000000 + 64 * k, 64) for k in range(70)]
+    left_out = ("small batch", "overwrites batch")
+
+    def said(members, pairs):
+        made = Accepting(Batch(0, batch(*members)[:64], members, [], ("writes", False)), (), [], ("writes", False))
+        keys = [made.key(p) for p in pairs]
+        return [it for it in with_keys(batch(*members), keys)[0]["findings"] if it["what"]["kind"] not in left_out]
+
+    for seed in range(audit_model.COUNT // 10):
+        chosen = random.Random(seed)
+        for it, is_batch in submissions(Maker(seed).recording(), {"findings": []}):
+            if not is_batch or len(it.entries) < 2:
+                continue
+            pairs = [p for p in it.certain if chosen.random() < 0.6]
+            wanted, got = said(it.entries, pairs), said([*it.entries, *idle], pairs)
+            common.expect(got == wanted, f"seed {seed}, {it.number}: {got} with members after it, and not {wanted}")
+            found += sum(f["severity"] == "accepted" for f in wanted)
+    common.expect(found > audit_model.COUNT // 50, f"only {found} are accepted")
+
+
+def by_hand():
+    """An accepted pair hides no other, and no fence is needless because an accepted one would be there."""
+    first = move(0x1000, 0x2000, size=64, record_at=0x8000).bytes()
+    second, near = (move(0x3000, at, size=8, record_at=0x8020).bytes() for at in (0x4000, 0x5000))
+    check = entry(COMPARE, 0x0E, 0x8040, 0x2000, 0x4000, 8)
+    keys = ["missing fence, read after write; batch of 3; member 2: compare, 8 bytes; member 1: move, 8 bytes"]
+    for members, wanted in [((first, second, check), (1, 0)), ((first, near, check), (0,))]:
+        report, status = with_keys(batch(*members), keys)
+        errors = [it["what"]["earlier"] for it in report["findings"] if it["severity"] == "error"]
+        accepted = [it["what"]["earlier"] for it in report["findings"] if it["severity"] == "accepted"]
+        common.expect((status, accepted + errors) == (1, [*wanted]), f"{wanted}: {status}, {report['findings']}")
+    reads = entry(COMPARE, 0x0E, 0x8020, 0x2000, 0x9000, 8)
+    copies = bytearray(move(0x2000, 0x3000, size=64, record_at=0x8040).bytes())
+    copies[4] |= 1
+    keys = ["missing fence, read after write; batch of 3; member 1: compare, 8 bytes; member 0: move, 64 bytes"]
+    words = ["--await", "batches", "--resident", "--deny", "needless"]
+    report, status = with_keys(batch(first, reads, bytes(copies)), keys, *words)
+    kinds = [(it["what"]["kind"], it["severity"]) for it in report["findings"]]
+    common.expect((status, kinds) == (0, [("missing", "accepted")]), f"a fence is freed: {status}, {kinds}")
+
+
+def soon_accepted():
+    """65,472 members in one batch. Each second conflicts with the one before it, or all conflict; half of the pairs of
+    neighbours are accepted. The time is printed; more than ten seconds are a fault."""
+    size = 64 * 1023
+    kinds = {"each second conflicts": lambda k: 0x9000000 + 64 * (k // 2), "all conflict": lambda k: 0x2000}
+    for name, target in kinds.items():
+        made = [move(0x1000000 + 64 * k, target(k), size=8, record_at=0x20000000 + 32 * k) for k in range(size)]
+        members = [it.bytes() for it in made]
+        what = "missing fence, write after write"
+        keys = [
+            f"{what}; batch of {size}; member {k}: move, 8 bytes; member {k - 1}: move, 8 bytes"
+            for k in range(1, size, 2)
+        ]
+        start = time.monotonic()
+        report, _ = with_keys(batch(*members), keys)
+        took = time.monotonic() - start
+        accepted = sum(it["severity"] == "accepted" for it in report["findings"])
+        print(f"a batch of {size}, {name}, {accepted} accepted: {took:.2f} s, {len(report['findings'])} findings")
+        common.expect(accepted == size // 2 and took < 10, f"{name}: {accepted} accepted, {took:.1f} s")

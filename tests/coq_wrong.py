@@ -28,7 +28,7 @@ DEFINITIONS = [
     ("records are aligned to 64", "record d mod 32", "record d mod 64"),
     ("a batch has three pieces at the least", "1 <? count g", "2 <? count g"),
 ]
-# The same of the checker, and of the quick one that the judges run.
+# The same of the checker, of the quick one that the judges run, and of what engines may do.
 CHECKERS = {
     "Checker": [
         ("pairs may come before the piece", "(k <=? a) && (a <? b) &&", "(a <? b) &&"),
@@ -60,9 +60,17 @@ CHECKERS = {
         ("more pieces may come after", "| [] => match ps with [] => true | _ => false end", "| [] => true"),
         ("the pieces of a move are not turned", "then rev_append ks [] else ks", "then ks else ks"),
     ],
+    "Engines": [
+        ("no engine takes a piece", "h k = None -> done e = 0", "h k <> h k -> done e = 0"),
+        ("engines take what others have ended", "h k = None -> done e = 0", "h k = None -> finished e"),
+    ],
 }
 # Those that each needs to be right about.
-PROOFS = {"Checker": ("Sound", "Unique", "Split"), "Quick": ("QuickConflicts", "QuickPrices", "QuickBytes")}
+PROOFS = {
+    "Checker": ("Sound", "Unique", "Split"),
+    "Quick": ("QuickConflicts", "QuickPrices", "QuickBytes"),
+    "Engines": ("Turns",),
+}
 JUDGE = """From Dsa Require Import Numbers Checker.
 Extraction "checker.ml" check.
 """

@@ -22,6 +22,7 @@ import common
 import coq_wrong
 from campaign import Case
 from common import ROOT, expect
+from model import FILL
 
 COQ = ROOT / "coq"
 NEEDED = ("coqc", "coqdep", "ocamlfind")
@@ -191,15 +192,30 @@ def lists(tried):
 
 
 def large(tried):
-    """The plans of 65,536 moves and fills among 64 buffers, in small batches and in the greatest, and by size."""
-    pieces = bench.crowded()
+    """The plans of 65,536 moves and fills among 64 buffers, in small batches and in the greatest, and by size; and pairs
+    that end near and far by turns."""
+    checks = [jumping()]
     for batch, more in ((32, {}), (1024, {}), (1024, {"version": 2, "batch": [14] * 1023})):
-        job = bench.job_of("plan", pieces, batch)
+        job = bench.job_of("plan", bench.crowded(), batch)
         job["settings"].update(more)
-        check = json.dumps(bench.check_of(job, tried.dsa))
+        checks.append(bench.check_of(job, tried.dsa))
+    for number, check in enumerate(checks):
         how = {"capture_output": True, "text": True, "preexec_fn": limited}
-        ran = subprocess.run([tried.out / "fast/judge"], input=check, **how)
-        expect(ran.stdout == tried.asked([check])[0] + "\n", f"batches of {batch}: {ran.stdout} {ran.stderr[:200]}")
+        ran = subprocess.run([tried.out / "fast/judge"], input=json.dumps(check), **how)
+        wanted = tried.asked([json.dumps(check)])[0] + "\n"
+        expect(wanted.startswith("{"), f"large job {number}: {wanted}")
+        expect(ran.stdout == wanted, f"large job {number}: {ran.stdout} {ran.stderr[:200]}")
+
+
+def jumping():
+    """A job of 65,536 fills of the same bytes, each alone, since a batch costs much."""
+    count = 65536
+    fills = [bench.descriptor(FILL, 7, 4096, 512, k) for k in range(count)]
+    job = bench.job_of("plan", fills, 32)
+    settings = {**job["settings"], "lone": 10, "batch": 10**6}
+    pairs = [[k, count - 1 if k % 2 else k + 1] for k in range(count - 2)] + [None, None]
+    certificate = {"pairs": pairs, "prices": [10 * k for k in range(count + 1)], "version": 1}
+    return {"do": "check", "settings": settings, "portal": job["list"], "staging": "", "certificate": certificate}
 
 
 def emitted(answer):

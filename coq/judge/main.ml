@@ -1,6 +1,6 @@
-(* Reads jobs `check`, one on each line, as docs/FORMATS.md says, and writes for each its cost or `refused`. If a job
-   has a member `list` too, the plan has to be one of that list. This file has to be trusted: that it hands the members
-   of the job to the checker as they are. *)
+(* Reads jobs `check`, one on each line, as docs/FORMATS.md says, and writes for each its cost or `refused`, or that it
+   has no answer, for want of memory. If a job has a member `list` too, the plan has to be one of that list. This file
+   has to be trusted: that it hands the members of the job to the checker as they are. *)
 open Checker
 
 exception Bad of string
@@ -87,7 +87,8 @@ let answer line =
   with
   | Bad why -> "refused " ^ why
   | Yojson.Json_error _ -> "refused json"
-  | Stack_overflow -> "refused stack" (* several times the most pieces *)
+  | Stack_overflow -> "no answer: stack" (* several times the most pieces *)
+  | Out_of_memory -> "no answer: memory"
 
 (* Most values live until the line is answered: a large young heap and few collections of the old one halve the time. *)
 let () = Gc.set { (Gc.get ()) with Gc.minor_heap_size = 4 lsl 20; Gc.space_overhead = 1000 }

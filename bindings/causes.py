@@ -52,9 +52,10 @@ def constant(name):
 def of_c():
     """The lines of `enum dsa_number` after its first."""
     yield "    DSA_OK = 0,"
-    for number, name, said in causes():
+    known = causes()
+    for number, name, said in known:
         yield from textwrap.wrap(f"/* {said} */", 116, initial_indent="    ", subsequent_indent="       ")
-        yield f"    {constant(name)} = {number},"
+        yield f"    {constant(name)} = {number}" + "," * (number != known[-1][0])
 
 
 def of_rust():

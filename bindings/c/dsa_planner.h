@@ -276,7 +276,7 @@ enum dsa_number {
        its groups and their pieces */
     DSA_OTHER_PLAN = 127,
     /* the plan has `first` groups, more than slots are free or have a place in the array */
-    DSA_FEW_SLOTS = 128,
+    DSA_FEW_SLOTS = 128
 };
 
 /* The most bytes of the text of a refusal. */

@@ -1,21 +1,17 @@
 -- A list whose fences say nothing is planned as without them.
-use Rattle.std.proofs.Common.{◌≡◌, ℕ, zero, suc, ◌*◌, ◌/◌, ◌<◌, ◌↔◌, inl, inr, Bool, true, false, List, [], ◌∷◌, ◌++◌, length, take, drop, map, Result, Ok, Err, Some, slice_get, refl, sym, ap, subst, ◌∙◌, append_assoc, arith}
-use Rattle.std.specs.List.{flat_map, list_any}
-use Rattle.std.specs.Simd.{first_chunks}
-use Rattle.std.proofs.lemmas.List.{take-append-drop, take_at, drop_at, drop-drop}
-use Rattle.std.proofs.lemmas.Option.{same_Some}
+use Rattle.std.proofs.Common.{◌≡◌, ℕ, suc, ◌<◌, ◌↔◌, inl, inr, Bool, true, false, List, [], ◌∷◌, map, Result, Ok, Err, refl, sym, subst, ◌∙◌, arith}
+use Rattle.std.specs.List.{list_any}
 use Rattle.dsa_descriptor.specs.declared.descriptor.Descriptor.{Descriptor}
-use Rattle.dsa_descriptor.specs.Lists.{list_spelling}
-use Rattle.dsa_descriptor.specs.Spelling.{spelling}
-use Rattle.dsa_descriptor.proofs.Entries.{length-list_spelling, length-spelling}
-use Rattle.dsa_descriptor.proofs.Seen.{cond_false, plain_entry, unfenced_spelling}
+use Rattle.dsa_descriptor.specs.Lists.{entries}
+use Rattle.dsa_descriptor.proofs.Plain.{none_listed, unfenced_stays}
+use Rattle.dsa_descriptor.proofs.Seen.{cond_false, list_any-of}
 use Rattle.dsa_descriptor.specs.Fields.{Fields}
 use Rattle.dsa_descriptor.specs.Descriptors.{fields}
 use Rattle.dsa_plan.specs.Barriers.{IsBarrier, WithBarriers}
 use Rattle.dsa_calls.specs.declared.fault.PlanFault.{PlanFault}
 use Rattle.dsa_calls.specs.Lists.{IsListOf, OverList}
 use Rattle.dsa_calls.specs.Planned.{Plans, PlansOperations}
-use Rattle.dsa_descriptor.specs.Fences.{is_fenced, unfenced, fences_of, unfenced_list, after_first, barriers_of}
+use Rattle.dsa_descriptor.specs.Fences.{fences_of, unfenced_list, after_first, barriers_of}
 use Rattle.dsa_calls.specs.Fenced.{PlansWith, PlansFenced, NoMarksPlanAlike, NoBarriersPlanAlike, NoFencesPlanAlike}
 use Rattle.dsa_calls.proofs.Submissions.{of_pieces, submission_of_operations}
 
@@ -38,7 +34,7 @@ none_after_first [] none = refl
 none_after_first (mark ∷ marks) none = none_set marks (λ k is. none (suc k) (omega arith) is)
 
 -- then there are no barriers
-no_barriers : (bytes : List ℕ) → AreUnsetLater (fences_of bytes) → barriers_of bytes ≡ []
+pub no_barriers : (bytes : List ℕ) → AreUnsetLater (fences_of bytes) → barriers_of bytes ≡ []
 no_barriers bytes none =
     cond_false (list_any (λ mark. mark) (after_first (fences_of bytes))) (after_first (fences_of bytes)) (none_after_first (fences_of bytes) none)
 
@@ -64,42 +60,16 @@ no_barriers_plan_alike bytes s outcome none =
 
 -- ---- bytes with no flag
 
-plain_joined : (n : ℕ) (bytes : List ℕ) → AreUnset (map is_fenced (first_chunks 64 n bytes)) → flat_map unfenced (first_chunks 64 n bytes) ++ drop (64 * n) bytes ≡ bytes
-plain_joined zero bytes none = refl
-plain_joined (suc n) bytes none =
-    let others : List ℕ = flat_map unfenced (first_chunks 64 n (drop 64 bytes)) in
-    let first : unfenced (take 64 bytes) ≡ take 64 bytes = plain_entry (take 64 bytes) (λ e. none 0 (ap Some e)) in
-    let next : drop (64 * suc n) bytes ≡ drop (64 * n) (drop 64 bytes) = ap (λ (k : ℕ). drop k bytes) (omega arith) ∙ sym (drop-drop (64 * n) 64 bytes) in
-    let rest : others ++ drop (64 * n) (drop 64 bytes) ≡ drop 64 bytes = plain_joined n (drop 64 bytes) (λ k is. none (suc k) is) in
-    append_assoc (unfenced (take 64 bytes)) others (drop (64 * suc n) bytes)
-    ∙ ap (λ (xs : List ℕ). unfenced (take 64 bytes) ++ (others ++ xs)) next
-    ∙ ap (λ (xs : List ℕ). unfenced (take 64 bytes) ++ xs) rest
-    ∙ ap (λ (xs : List ℕ). xs ++ drop 64 bytes) first
-    ∙ take-append-drop 64 bytes
-
-unfenced_stays : (bytes : List ℕ) → AreUnset (fences_of bytes) → unfenced_list bytes ≡ bytes
-unfenced_stays bytes none = plain_joined (length bytes / 64) bytes none
-
--- a listed descriptor has no fence
-spelled_unset : (ds : List Descriptor) → AreUnset (map is_fenced (first_chunks 64 (length ds) (list_spelling (map fields ds))))
-spelled_unset [] k is = cc
-spelled_unset (d ∷ ds) zero is =
-    let front : take 64 (spelling (fields d) ++ list_spelling (map fields ds)) ≡ spelling (fields d) = take_at (spelling (fields d)) (list_spelling (map fields ds)) 64 (length-spelling d) in
-    unfenced_spelling d (ap is_fenced (sym front) ∙ same_Some _ true is)
-spelled_unset (d ∷ ds) (suc k) is =
-    let back : drop 64 (spelling (fields d) ++ list_spelling (map fields ds)) ≡ list_spelling (map fields ds) = drop_at (spelling (fields d)) (list_spelling (map fields ds)) 64 (length-spelling d) in
-    spelled_unset ds k (subst (λ (rest : List ℕ). slice_get (map is_fenced (first_chunks 64 (length ds) rest)) k ≡ Some true) back is)
+-- the bytes are the same without it
+pub unfenced_unset : (bytes : List ℕ) → AreUnset (fences_of bytes) → unfenced_list bytes ≡ bytes
+unfenced_unset bytes none = unfenced_stays bytes (sym (list_any-of (entries bytes)) ∙ none_set (fences_of bytes) none)
 
 -- so what a list spells it spells without its fences
 pub listed_unfenced : (bytes : List ℕ) (ds : List Descriptor) → IsListOf bytes ds → IsListOf (unfenced_list bytes) ds
 listed_unfenced bytes ds listed =
-    let count : length bytes / 64 ≡ length ds = omega (arith, ap length listed.spelled, length-list_spelling ds) in
-    let unset : AreUnset (fences_of bytes) =
-    subst (λ (n : ℕ). AreUnset (map is_fenced (first_chunks 64 n bytes))) (sym count)
-    (subst (λ (b : List ℕ). AreUnset (map is_fenced (first_chunks 64 (length ds) b))) (sym listed.spelled) (spelled_unset ds)) in
-    subst (λ (b : List ℕ). IsListOf b ds) (sym (unfenced_stays bytes unset)) listed
+    subst (λ (b : List ℕ). IsListOf b ds) (sym (unfenced_stays bytes (none_listed bytes ds listed.spelled))) listed
 
 pub no_fences_plan_alike : NoFencesPlanAlike
 no_fences_plan_alike bytes s outcome none =
-    subst (λ (plain : List ℕ). PlansFenced bytes s outcome ↔ Plans plain s outcome) (unfenced_stays bytes none)
+    subst (λ (plain : List ℕ). PlansFenced bytes s outcome ↔ Plans plain s outcome) (unfenced_unset bytes none)
     (no_barriers_plan_alike bytes s outcome (λ k some is. none k is))

@@ -127,11 +127,15 @@ barriers_count barriers marks n is count some =
     ap length is
     ∙ set_length (list_any (λ mark. mark) (after_first marks)) (after_first marks) n (length-after_first marks ∙ count) (λ none. some (is ∙ none))
 
-list_any-of : (bs : List (List ℕ)) → list_any (λ mark. mark) (map is_fenced bs) ≡ list_any is_fenced bs
+pub list_any-of : (bs : List (List ℕ)) → list_any (λ mark. mark) (map is_fenced bs) ≡ list_any is_fenced bs
 list_any-of [] = refl
 list_any-of (b ∷ bs) = ap (λ (r : Bool). is_fenced b || r) (list_any-of bs)
 
-right_false : (a b : Bool) → (a || b) ≡ false → b ≡ false
+pub left_false : (a b : Bool) → (a || b) ≡ false → a ≡ false
+left_false true b none = absurd cc
+left_false false b none = refl
+
+pub right_false : (a b : Bool) → (a || b) ≡ false → b ≡ false
 right_false true b none = absurd cc
 right_false false b none = none
 

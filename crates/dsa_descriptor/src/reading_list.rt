@@ -1,5 +1,5 @@
-//! Reading a list in which a fence is a barrier. Its loop is another than that of `list`: one for both would cost each
-//! entry of a plain list a copy.
+//! Reading a list in which a fence is a barrier. One without fences is read by the loop of `list`, and takes no longer
+//! than a plain list; the loop here is for the others.
 
 ghost use Rattle.std.specs.Prelude.{◌≡◌, ◌≢◌, ◌||◌, List, map, IfOk, IfErr, Err, MatchResult};
 ghost use Rattle.std.specs.List.{list_any};
@@ -15,7 +15,7 @@ ghost use Rattle.dsa_descriptor.specs.Spelling.{spelling};
 use crate::descriptor::Descriptor;
 use crate::fault::{FieldFault, ListFault};
 use crate::fences::{barriers_of, is_fenced, unfenced};
-use crate::list::agree_on_owner;
+use crate::list::{agree_on_owner, read_list};
 use crate::operations::DescriptorList;
 use std::alloc::Global;
 
@@ -101,6 +101,24 @@ fn read_marked(alloc: Global, bytes: &[u8]) -> Result<DescriptorList, ListFault>
     })
 }
 
+/// The descriptors that the bytes spell without their fences, and their barriers: as a plain list if they spell one,
+/// else entry by entry.
+fn read_either(alloc: Global, bytes: &[u8]) -> Result<DescriptorList, ListFault>
+    ensures ok { IfOk result (λ list.
+        (unfenced_list bytes.now ≡ list_spelling (map fields list.descriptors.items)) ×
+        IsSound (unfenced_list bytes.now)) }
+    ensures barriers { IfOk result (λ list. list.barriers.items ≡ barriers_of bytes.now) }
+    ensures err { IfErr result (IsFirstListFault (unfenced_list bytes.now)) }
+{
+    match read_list(alloc, bytes) {
+        Ok(descriptors) => Ok(DescriptorList::without_barriers(alloc, descriptors)),
+        Err(ListFault::Memory) => Err(ListFault::Memory),
+        Err(ListFault::Length | ListFault::Field(_, _) | ListFault::MixedPasid(_)) => {
+            read_marked(alloc, bytes)
+        }
+    }
+}
+
 /// The descriptors that the bytes spell, fenced or not, and their barriers: the flag 0x0001, fence, of an entry is a
 /// barrier before its operation. A fence on the first entry says nothing.
 ///
@@ -118,5 +136,5 @@ pub fn read_descriptor_list(alloc: Global, bytes: &[u8]) -> Result<DescriptorLis
     ensures refused { (fault : ListFault) →
         fault ≢ Memory → IsFirstListFault (unfenced_list bytes.now) fault → result ≡ Err fault }
 {
-    read_marked(alloc, bytes)
+    read_either(alloc, bytes)
 }

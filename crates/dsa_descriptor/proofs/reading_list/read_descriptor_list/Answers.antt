@@ -3,10 +3,10 @@ use Rattle.dsa_descriptor.proofs.Entries.{owner_of_read, only_read, refused_read
 use Rattle.dsa_descriptor.proofs.reading_list.read_descriptor_list.Goals as goal
 
 pub returns-clause-found : goal.returns-clause-found
-returns-clause-found c = owner_of_read _ (λ list. list.descriptors.items) (unfenced_list c.args.bytes.now) c.read_marked.result c.read_marked.ensures.ok
+returns-clause-found c = owner_of_read _ (λ list. list.descriptors.items) (unfenced_list c.args.bytes.now) c.read_either.result c.read_either.ensures.ok
 
 pub returns-clause-only : goal.returns-clause-only
-returns-clause-only c = only_read _ (λ list. list.descriptors.items) (unfenced_list c.args.bytes.now) c.read_marked.result c.read_marked.ensures.ok c.read_marked.ensures.err
+returns-clause-only c = only_read _ (λ list. list.descriptors.items) (unfenced_list c.args.bytes.now) c.read_either.result c.read_either.ensures.ok c.read_either.ensures.err
 
 pub returns-clause-refused : goal.returns-clause-refused
-returns-clause-refused c = refused_read _ (λ list. list.descriptors.items) (unfenced_list c.args.bytes.now) c.read_marked.result c.read_marked.ensures.ok c.read_marked.ensures.err
+returns-clause-refused c = refused_read _ (λ list. list.descriptors.items) (unfenced_list c.args.bytes.now) c.read_either.result c.read_either.ensures.ok c.read_either.ensures.err

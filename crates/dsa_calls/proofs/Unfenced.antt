@@ -7,12 +7,16 @@ use Rattle.dsa_descriptor.proofs.Plain.{none_listed, unfenced_stays}
 use Rattle.dsa_descriptor.proofs.Seen.{cond_false, list_any-of}
 use Rattle.dsa_descriptor.specs.Fields.{Fields}
 use Rattle.dsa_descriptor.specs.Descriptors.{fields}
+use Rattle.dsa_ranges.specs.Ranges.{ConflictAt}
 use Rattle.dsa_plan.specs.Barriers.{IsBarrier, WithBarriers}
+use Rattle.dsa_plan.specs.Plan.{Plan}
+use Rattle.dsa_plan.specs.Settings.{Limits}
 use Rattle.dsa_calls.specs.declared.fault.PlanFault.{PlanFault}
+use Rattle.dsa_calls.specs.Judge.{Judges, JudgesPieces, JudgesPiecesBy}
 use Rattle.dsa_calls.specs.Lists.{IsListOf, OverList}
 use Rattle.dsa_calls.specs.Planned.{Plans, PlansOperations}
 use Rattle.dsa_descriptor.specs.Fences.{fences_of, unfenced_list, after_first, barriers_of}
-use Rattle.dsa_calls.specs.Fenced.{PlansWith, PlansFenced, NoMarksPlanAlike, NoBarriersPlanAlike, NoFencesPlanAlike}
+use Rattle.dsa_calls.specs.Fenced.{JudgesFenced, PlansWith, PlansFenced, NoMarksPlanAlike, NoBarriersPlanAlike, NoFencesPlanAlike, NoFencesJudgeAlike}
 use Rattle.dsa_calls.proofs.Submissions.{of_pieces, submission_of_operations}
 
 -- ---- marks that are not set
@@ -68,6 +72,21 @@ unfenced_unset bytes none = unfenced_stays bytes (sym (list_any-of (entries byte
 pub listed_unfenced : (bytes : List ℕ) (ds : List Descriptor) → IsListOf bytes ds → IsListOf (unfenced_list bytes) ds
 listed_unfenced bytes ds listed =
     subst (λ (b : List ℕ). IsListOf b ds) (sym (unfenced_stays bytes (none_listed bytes ds listed.spelled))) listed
+
+-- judging without barriers says what judging says
+no_marks_judge_alike : (plan : Plan) (s : Limits) (fs : List Fields) (outcome : Result ℕ PlanFault) → JudgesPiecesBy (WithBarriers (ConflictAt fs) []) fs plan s outcome ↔ JudgesPieces fs plan s outcome
+unfolding WithBarriers
+no_marks_judge_alike plan s fs (Ok cost) = (λ h. h, λ h. h)
+no_marks_judge_alike plan s fs (Err fault) = (λ h. h, λ h. h)
+
+pub no_fences_judge_alike : NoFencesJudgeAlike
+no_fences_judge_alike bytes plan s outcome none =
+    subst (λ (plain : List ℕ). JudgesFenced bytes plan s outcome ↔ Judges plain plan s outcome) (unfenced_unset bytes none)
+    (subst (λ (marks : List Bool). OverList (λ fs o. JudgesPiecesBy (WithBarriers (ConflictAt fs) marks) fs plan s o) (unfenced_list bytes) outcome ↔ Judges (unfenced_list bytes) plan s outcome)
+    (sym (no_barriers bytes (λ k some is. none k is))) (
+      over_goes (λ fs o. JudgesPiecesBy (WithBarriers (ConflictAt fs) []) fs plan s o) (λ fs o. JudgesPieces fs plan s o) (λ fs o. (no_marks_judge_alike plan s fs o).0) (unfenced_list bytes) outcome,
+      over_goes (λ fs o. JudgesPieces fs plan s o) (λ fs o. JudgesPiecesBy (WithBarriers (ConflictAt fs) []) fs plan s o) (λ fs o. (no_marks_judge_alike plan s fs o).1) (unfenced_list bytes) outcome,
+    ))
 
 pub no_fences_plan_alike : NoFencesPlanAlike
 no_fences_plan_alike bytes s outcome none =

@@ -14,7 +14,7 @@ use Rattle.dsa_splitter.specs.Pieces.{all_pieces, piece_barriers}
 use Rattle.dsa_splitter.specs.Rules.{IsSplit}
 use Rattle.dsa_calls.specs.declared.fault.PlanFault.{PlanFault}
 use Rattle.dsa_calls.specs.Lists.{IsListOf, OverList}
-use Rattle.dsa_calls.specs.Judge.{JudgesPiecesBy}
+use Rattle.dsa_calls.specs.Judge.{Judges, JudgesPiecesBy}
 use Rattle.dsa_calls.specs.Planned.{Submission, IsSubmissionOfPiecesBy, Plans, PlansOperations}
 
 -- the pieces of these operations conflict, or a barrier of the operations is between them
@@ -85,7 +85,16 @@ abbrev pub NoBarriersPlanAlike : Type 0
 NoBarriersPlanAlike = (bytes : List ℕ) (s : Limits) (outcome : Result Submission PlanFault) →
     HasNoBarriers bytes → (PlansFenced bytes s outcome ↔ Plans (unfenced_list bytes) s outcome)
 
+-- no descriptor has the flag
+abbrev pub HasNoFences : List ℕ → Type 0
+HasNoFences bytes = (k : ℕ) → ¬ IsBarrier (fences_of bytes) k
+
 -- for bytes without the flag it says what planning says of them
 abbrev pub NoFencesPlanAlike : Type 0
 NoFencesPlanAlike = (bytes : List ℕ) (s : Limits) (outcome : Result Submission PlanFault) →
-    ((k : ℕ) → ¬ IsBarrier (fences_of bytes) k) → (PlansFenced bytes s outcome ↔ Plans bytes s outcome)
+    HasNoFences bytes → (PlansFenced bytes s outcome ↔ Plans bytes s outcome)
+
+-- and judging with fences says what judging says of them
+abbrev pub NoFencesJudgeAlike : Type 0
+NoFencesJudgeAlike = (bytes : List ℕ) (plan : Plan) (s : Limits) (outcome : Result ℕ PlanFault) →
+    HasNoFences bytes → (JudgesFenced bytes plan s outcome ↔ Judges bytes plan s outcome)

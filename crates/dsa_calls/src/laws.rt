@@ -1,7 +1,7 @@
 //! What the outcomes of the calls promise of each other. Each function is a law: its body is empty, and its clause is
 //! what the proof shows.
 
-ghost use Rattle.dsa_calls.specs.Fenced.{OneFencedPlan, FencedPlanIsLeast, NoMarksPlanAlike, NoBarriersPlanAlike, NoFencesPlanAlike};
+ghost use Rattle.dsa_calls.specs.Fenced.{OneFencedPlan, FencedPlanIsLeast, NoMarksPlanAlike, NoBarriersPlanAlike, NoFencesPlanAlike, NoFencesJudgeAlike};
 ghost use Rattle.dsa_calls.specs.FencedChecked.{FencedPlanIsChecked, OneFencedCheck};
 ghost use Rattle.dsa_calls.specs.Laws.{OneJudged, OnePlanned, OneChecked, OneReplayed, OneRun, PlannedIsLeastAndShown, PlannedRunsLeaveWhole, ReplaysFollowPlans, RunsFollowPlans};
 
@@ -33,6 +33,11 @@ pub fn plans_without_barriers()
     ensures operations { NoMarksPlanAlike }
     ensures first { NoBarriersPlanAlike }
     ensures none { NoFencesPlanAlike }
+{}
+
+/// A list in which no operation has the fence flag is judged as by [`judge_bytes`](crate::judge_bytes).
+pub fn judges_without_fences()
+    ensures { NoFencesJudgeAlike }
 {}
 
 /// Checking bytes for a list has at most one outcome for the list, the bytes, settings and a certificate.

@@ -16,9 +16,10 @@ pub use dsa_descriptor::MOST_PIECES;
 pub use fault::{InnerFault, PlanFault};
 pub use judging::{judge_bytes, judge_fenced_list, judge_pieces};
 pub use laws::{
-    fenced_plan_is_checked, fenced_plan_is_least, one_checked, one_fenced_check, one_fenced_plan,
-    one_judged, one_planned, one_replayed, one_run, planned_is_least_and_shown,
-    planned_runs_leave_whole, plans_without_barriers, replays_follow_plans, runs_follow_plans,
+    fenced_plan_is_checked, fenced_plan_is_least, judges_without_fences, one_checked,
+    one_fenced_check, one_fenced_plan, one_judged, one_planned, one_replayed, one_run,
+    planned_is_least_and_shown, planned_runs_leave_whole, plans_without_barriers,
+    replays_follow_plans, runs_follow_plans,
 };
 pub use line::{LONGEST_LINE, refusal_line};
 pub use planning::{

@@ -505,13 +505,14 @@ struct dsa_prepared_info {
 #endif
 
 /*
- * Plans a list once, for dsa_fill to write what submits it on any buffers. regions are the buffers at whose addresses the
- * list was made, in the order of their addresses and without overlap; each range of each operation, and the row of its
- * pieces' records, lies in one of them. settings->staging counts for planning alone: dsa_fill takes one of its own.
+ * Plans a list once, for dsa_fill to write what submits it on any buffers. regions are the buffers at whose addresses
+ * the list was made, in the order of their addresses and without overlap; each range of each operation, and the row of
+ * its pieces' records, lies in one of them. settings->staging counts for planning alone: dsa_fill takes one of its
+ * own. The flag 0x0001, fence, of an operation is a barrier, as of dsa_plan_fenced_list, and dsa_fill keeps each.
  *
- * Returns 0: rows begins with the info->rows rows of the prepared list, and its rest is unchanged; refusal is not written.
- * Returns another number: refusal has it, and nothing else was written. What dsa_plan_list refuses comes first, then 100
- * to 102, then DSA_NO_ROOM_FOR_ROWS: refusal.first is the number of rows that are needed.
+ * Returns 0: rows begins with the info->rows rows of the prepared list, and its rest is unchanged; refusal is not
+ * written. Returns another number: refusal has it, and nothing else was written. What dsa_plan_fenced_list refuses
+ * comes first, then 100 to 102, then DSA_NO_ROOM_FOR_ROWS: refusal.first is the number of rows that are needed.
  */
 uint32_t dsa_prepare(const struct dsa_settings *settings,
                      const uint64_t *table, size_t table_len,
@@ -522,28 +523,16 @@ uint32_t dsa_prepare(const struct dsa_settings *settings,
                      struct dsa_refusal *refusal);
 
 /*
- * The same, but an operation of the list may have the flag 0x0001, fence, as of dsa_plan_fenced_list: each barrier is
- * kept by what dsa_fill writes, the bytes that dsa_plan_fenced_list answers for the list at its new addresses. Refusals
- * are those of the list without the flags, but for DSA_NO_ROOM_FOR_ROWS.
- */
-uint32_t dsa_prepare_fenced(const struct dsa_settings *settings,
-                            const uint64_t *table, size_t table_len,
-                            const uint8_t *list, size_t list_len,
-                            const struct dsa_region *regions, size_t regions_len,
-                            struct dsa_prepared_row *rows, size_t rows_capacity,
-                            struct dsa_prepared_info *info,
-                            struct dsa_refusal *refusal);
-
-/*
  * Writes what submits a prepared list whose regions begin at these bases, one for each in their order, and whose staging
  * area is at staging_address. It allocates nothing, and rows_len is info->rows.
  *
- * Returns 0: portal and staging begin with info->portal_len and info->staging_len bytes, those that dsa_plan_list answers
- * for the list at its new addresses; the rest of each buffer is unchanged, and refusal is not written. Returns another
- * number: refusal has it, and nothing else was written. DSA_NOT_PREPARED comes first: the form of the rows is tested each
- * time, so that no rows, damaged or of another origin, make the call read or write out of its arrays. Damaged rows that
- * keep the form are filled like any others, and what is written may then name any address: if rows can be damaged, for
- * example in a file, keep a checksum beside them. Then come 103 to 110, in their order.
+ * Returns 0: portal and staging begin with info->portal_len and info->staging_len bytes, those that
+ * dsa_plan_fenced_list answers for the list at its new addresses; the rest of each buffer is unchanged, and refusal is
+ * not written. Returns another number: refusal has it, and nothing else was written. DSA_NOT_PREPARED comes first: the
+ * form of the rows is tested each time, so that no rows, damaged or of another origin, make the call read or write out
+ * of its arrays. Damaged rows that keep the form are filled like any others, and what is written may then name any
+ * address: if rows can be damaged, for example in a file, keep a checksum beside them. Then come 103 to 110, in their
+ * order.
  */
 uint32_t dsa_fill(const struct dsa_prepared_row *rows, size_t rows_len,
                   const uint64_t *bases, size_t bases_len,

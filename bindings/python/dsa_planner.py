@@ -25,7 +25,7 @@ __all__ = [
     "Prepared", "Refusal", "Retired", "Settings", "Submitted", "Summary", "Tracker", "apply_delta", "check",
     "check_fenced_list", "compare", "compare_pattern", "count_pieces", "dualcast", "fill", "groups", "judge",
     "judge_fenced_list", "library_version", "move", "plan_fenced_list", "plan_fenced_list_certified", "plan_list",
-    "plan_list_certified", "prepare", "prepare_fenced", "resume",
+    "plan_list_certified", "prepare", "resume",
 ]
 
 MOST_PIECES = 65_536
@@ -159,7 +159,7 @@ def _declare(library: ctypes.CDLL) -> None:
         "dsa_check_fenced_list": (number, [*listed, *[byte, size] * 2, ctypes.c_uint64, *certificate, word, refusal]),
         "dsa_resume": (number, [*listed, byte, size, number, byte, size, word, refusal]),
         **dict.fromkeys(("dsa_judge", "dsa_judge_fenced_list"), (number, [*listed, byte, size, word, refusal])),
-        **dict.fromkeys(("dsa_prepare", "dsa_prepare_fenced"), (number, [*listed, *kept, info, refusal])),
+        "dsa_prepare": (number, [*listed, *kept, info, refusal]),
         "dsa_fill": (ctypes.c_uint32, [rows, size, word, size, ctypes.c_uint64, *rooms, refusal]),
         "dsa_track_begin": (number, [*words, number, number, number, number, refusal]),
         "dsa_track_list": (number, [*words, *listed, *[ctypes.c_uint64] * 3, slot, word, refusal]),
@@ -649,17 +649,8 @@ class Prepared:
 
 def prepare(settings: Settings, operations: Bytes, regions: Sequence[Tuple[int, int]]) -> Prepared:
     """Plans a list once, for buffers at any addresses: the regions, each its first address and its length, are those with
-    which the list was made, in the order of their addresses. Raises `Refusal`."""
-    return _prepared(_library.dsa_prepare, settings, operations, regions)
-
-
-def prepare_fenced(settings: Settings, operations: Bytes, regions: Sequence[Tuple[int, int]]) -> Prepared:
-    """The same, but operations may have the flag `BARRIER`, as for `plan_fenced_list`; what is filled keeps them."""
-    return _prepared(_library.dsa_prepare_fenced, settings, operations, regions)
-
-
-def _prepared(call, settings: Settings, operations: Bytes, regions: Sequence[Tuple[int, int]]) -> Prepared:
-    """What a call that prepares a list answers."""
+    which the list was made, in the order of their addresses. Operations may have the flag `BARRIER`, as for
+    `plan_fenced_list`; what is filled keeps the barriers. Raises `Refusal`."""
     raw, table, entries = settings._raw()
     listed, size = _given("operations", operations)
     pieces = min(int(_library.dsa_count_pieces(raw, table, entries, listed, size)), MOST_PIECES)
@@ -668,7 +659,8 @@ def _prepared(call, settings: Settings, operations: Bytes, regions: Sequence[Tup
         spans[at] = _Region(_whole("a region's address", first), _whole("a region's length", length))
     room = 1 + len(regions) + 3 * pieces
     rows, info, refusal = (_Row * room)(), _Info(), _Refusal()
-    code = call(raw, table, entries, listed, size, spans, len(regions), rows, room, info, refusal)
+    given = listed, size, spans, len(regions), rows, room
+    code = _library.dsa_prepare(raw, table, entries, *given, info, refusal)
     _answered(code, refusal)
     return Prepared(bytes(rows)[: info.rows * ctypes.sizeof(_Row)])
 

@@ -383,8 +383,8 @@ static void try_prepared(const struct list *l)
             address += at == 8 ? bases[1] - regions[1].first : bases[0] - regions[0].first;
             memcpy(moved.bytes + 64 * k + at, &address, 8);
         }
-    if (dsa_prepare_fenced(&l->settings, l->table, l->entries, l->bytes, 64 * l->count, regions, 2, rows,
-                           sizeof rows / sizeof *rows, &info, &r)
+    if (dsa_prepare(&l->settings, l->table, l->entries, l->bytes, 64 * l->count, regions, 2, rows,
+                    sizeof rows / sizeof *rows, &info, &r)
         || dsa_fill(rows, info.rows, bases, 2, area, portal, sizeof portal, staging, sizeof staging, &r))
         fail(l, "preparing is refused", r.number, r.first);
     if (dsa_plan_fenced_list(&moved.settings, l->table, l->entries, moved.bytes, 64 * l->count, want_portal,

@@ -37,7 +37,7 @@ struct rattle_block rattle_realloc(void *at, size_t old_size, size_t size, size_
     return block;
 }
 
-enum { N = 24, ROWS = 1 + 2 + 3 * N, CALLS = 13, WORDS = 4096 };
+enum { N = 24, ROWS = 1 + 2 + 3 * N, CALLS = 12, WORDS = 4096 };
 static const struct dsa_settings settings = {1, 5, 4096, 10, 14, 3, UINT64_C(1) << 40};
 static uint8_t list[64 * N], records[32 * N], marks_in[N], portal_in[64 * N], staging_in[80 * N];
 static uint64_t prices_in[N + 1];
@@ -110,15 +110,12 @@ static uint32_t call(int which, struct dsa_refusal *r)
         return dsa_check_fenced_list(&settings, &settings.batch, 0, list, sizeof list, portal_in, planned_in.portal_len,
                                      staging_in, planned_in.staging_len, 1, prices_in, N + 1, pairs_in, N, &o->cost, r);
     case 9:
-        return dsa_prepare_fenced(&settings, &settings.batch, 0, list, sizeof list, regions, 2, o->rows, ROWS, &o->info,
-                                  r);
-    case 10:
         return dsa_plan_fenced_list_certified(&settings, &settings.batch, 0, list, sizeof list, o->portal,
                                               sizeof o->portal, o->staging, sizeof o->staging, o->prices, N + 1,
                                               o->pairs, N, o->marks, N, &o->planned, r);
-    case 11:
+    case 10:
         return dsa_judge_fenced_list(&settings, &settings.batch, 0, list, sizeof list, marks_in, N, &o->cost, r);
-    case 12:
+    case 11:
         return dsa_resume(&settings, &settings.batch, 0, list, sizeof list, records, sizeof records, 1, o->portal,
                           sizeof o->portal, &o->cost, r);
     default:

@@ -8,7 +8,7 @@
 
 #include <dsa_planner.h>
 
-enum { MOST = DSA_MOST_PIECES, STACK = 1 << 20, CALLS = 16 };
+enum { MOST = DSA_MOST_PIECES, STACK = 1 << 20, CALLS = 15 };
 
 static const struct dsa_settings settings = {1, 1024, 4096, 10, 14, 3, UINT64_C(1) << 40};
 static uint8_t list[64 * MOST], records[32 * MOST], portal[64 * MOST], staging[80 * MOST], marks[MOST];
@@ -87,18 +87,14 @@ static void *call(void *which)
                                      planned.staging_len, 1, prices, n + 1, pairs, n, &cost, &refusal);
         break;
     case 12:
-        code = dsa_prepare_fenced(s, &s->batch, 0, list, len, regions, 2, rows, DSA_PREPARED_ROOM(2, MOST), &prepared,
-                                  &refusal);
-        break;
-    case 13:
         code = dsa_plan_fenced_list_certified(s, &s->batch, 0, list, len, portal, sizeof portal, staging,
                                               sizeof staging, prices, MOST + 1, pairs, MOST, marks, MOST, &planned,
                                               &refusal);
         break;
-    case 14:
+    case 13:
         code = dsa_judge_fenced_list(s, &s->batch, 0, list, len, marks, n, &cost, &refusal);
         break;
-    case 15:
+    case 14:
         code = dsa_resume(s, &s->batch, 0, list, len, records, 32 * n, 0, portal, sizeof portal, &cost, &refusal);
         break;
     default: /* large groups, and many, are refused once they are read */
@@ -141,8 +137,8 @@ int main(int argc, char **argv)
 {
     static const char *const names[CALLS] = {"count_pieces", "plan_list", "plan_list_certified", "check", "judge",
                                              "prepare", "fill", "track_list", "track_complete", "track_groups",
-                                             "plan_fenced_list", "check_fenced_list", "prepare_fenced",
-                                             "plan_fenced_list_certified", "judge_fenced_list", "resume"};
+                                             "plan_fenced_list", "check_fenced_list", "plan_fenced_list_certified",
+                                             "judge_fenced_list", "resume"};
     static const uint64_t lengths[] = {2, 63, 65, 3000, MOST};
     size_t greatest[CALLS] = {0}, limits[2] = {0, 0};
     if (argc != 3)
@@ -160,7 +156,7 @@ int main(int argc, char **argv)
     int is_over = 0;
     for (int which = 0; which < CALLS; which++) {
         printf("%s: %zu bytes of stack\n", names[which], greatest[which]);
-        is_over |= greatest[which] > limits[which == 3 || which == 4 || which == 11 || which == 14];
+        is_over |= greatest[which] > limits[which == 3 || which == 4 || which == 11 || which == 13];
     }
     return is_over;
 }

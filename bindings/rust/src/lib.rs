@@ -48,7 +48,7 @@ use core::fmt;
 
 pub use cause::Cause;
 pub use descriptor::{groups_of, list_of, Descriptor, Group, BLOCK_ON_FAULT};
-pub use prepared::{prepare, prepare_fenced, Prepared, Region, Row};
+pub use prepared::{prepare, Prepared, Region, Row};
 pub use tracker::{Retired, Slots, Span, Submitted, Tracker};
 
 /// The most pieces of a planned list. An operation longer than `greatest_transfer` is several pieces.

@@ -49,43 +49,21 @@ pub struct Prepared {
 }
 
 /// Plans a list once, for buffers at any addresses: 64 bytes for each operation, in their order, of which
-/// [`plan_list`](crate::plan_list) says what is promised. The regions are the buffers at whose addresses the list was made, in the order of their addresses; each range
-/// of each operation, and the row of its pieces' completion records, lies in one of them.
+/// [`plan_fenced_into`](crate::plan_fenced_into) says what is promised; [`Prepared::fill`] keeps its barriers. The
+/// regions are the buffers at whose addresses the list was made, in the order of their addresses; each range of each
+/// operation, and the row of its pieces' completion records, lies in one of them.
 ///
 /// # Errors
-/// What [`plan_list`](crate::plan_list) refuses; then [`Cause::RegionWrap`](crate::Cause::RegionWrap), `RegionOrder` and
+/// What [`plan_fenced_into`](crate::plan_fenced_into) refuses of the list; then [`Cause::RegionWrap`](crate::Cause::RegionWrap), `RegionOrder` and
 /// `Outside`.
 pub fn prepare(settings: &Settings, list: &[u8], regions: &[Region]) -> Result<Prepared, Refusal> {
-    prepared_by(raw::dsa_prepare, settings, list, regions)
-}
-
-/// The same, but an operation may have the flag 0x0001, as [`plan_fenced_into`](crate::plan_fenced_into) takes it: each
-/// filled submission keeps its barriers.
-///
-/// # Errors
-/// The same, of the list without the flags.
-pub fn prepare_fenced(
-    settings: &Settings,
-    list: &[u8],
-    regions: &[Region],
-) -> Result<Prepared, Refusal> {
-    prepared_by(raw::dsa_prepare_fenced, settings, list, regions)
-}
-
-// What a call of the library that prepares a list answers.
-fn prepared_by(
-    call: raw::PrepareInto,
-    settings: &Settings,
-    list: &[u8],
-    regions: &[Region],
-) -> Result<Prepared, Refusal> {
     let (raw, table) = settings.raw();
     let pieces = usize::try_from(count_pieces(settings, list)).map_or(0, |n| n.min(MOST_PIECES));
     let mut rows = vec![Row::default(); 1 + regions.len() + 3 * pieces];
     let (mut info, mut refusal) = (raw::Info::default(), raw::Refusal::default());
     // SAFETY: each pointer and length are those of one slice, or of one struct, and no output overlaps another argument.
     let code = unsafe {
-        call(
+        raw::dsa_prepare(
             &raw,
             table.as_ptr(),
             table.len(),

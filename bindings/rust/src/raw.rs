@@ -88,21 +88,6 @@ pub(crate) type Judge = unsafe extern "C" fn(
     refusal: &mut Refusal,
 ) -> u32;
 
-// A call that prepares a list.
-pub(crate) type PrepareInto = unsafe extern "C" fn(
-    settings: &Settings,
-    table: *const u64,
-    table_len: usize,
-    list: *const u8,
-    list_len: usize,
-    regions: *const Region,
-    regions_len: usize,
-    rows: *mut Row,
-    rows_capacity: usize,
-    info: &mut Info,
-    refusal: &mut Refusal,
-) -> u32;
-
 extern "C" {
     pub fn dsa_planner_version() -> u32;
 
@@ -260,20 +245,6 @@ extern "C" {
     ) -> u32;
 
     pub fn dsa_prepare(
-        settings: &Settings,
-        table: *const u64,
-        table_len: usize,
-        list: *const u8,
-        list_len: usize,
-        regions: *const Region,
-        regions_len: usize,
-        rows: *mut Row,
-        rows_capacity: usize,
-        info: &mut Info,
-        refusal: &mut Refusal,
-    ) -> u32;
-
-    pub fn dsa_prepare_fenced(
         settings: &Settings,
         table: *const u64,
         table_len: usize,

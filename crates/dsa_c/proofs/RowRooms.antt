@@ -15,7 +15,7 @@ use Rattle.dsa_splitter.specs.Pieces.{all_pieces}
 use Rattle.dsa_splitter.specs.Rules.{piece_total}
 use Rattle.dsa_splitter.proofs.Walks.{length_all}
 use Rattle.dsa_calls.specs.Planned.{Submission}
-use Rattle.dsa_prepared.specs.Preparing.{IsCostedOf, IsFencedCostedOf}
+use Rattle.dsa_prepared.specs.Preparing.{IsCostedOf}
 use Rattle.dsa_prepared.specs.Rows.{entry_row, region_rows_of, rows_of, tie_row}
 use Rattle.dsa_prepared.specs.Templates.{Template, template_of, units_of}
 use Rattle.dsa_prepared.proofs.SoundTemplates.{few_entries, few_ties}
@@ -85,8 +85,4 @@ few_kept s rs ds p t least are covers is =
 
 pub few_rows : (list : List ℕ) (s : Limits) (rs : List Span) (ds : List Descriptor) (t : Template) (cost : ℕ) → IsCostedOf list s rs ds t cost
     → length (rows_of t) ≤ prepared_room (length rs) t.pieces
-few_rows list s rs ds t cost (h, is) = few_kept s rs ds h.submission t h.limits.least_transfer h.planned.pieces_are h.planned.chosen.has_plan.covers h.template
-
-pub few_fenced_rows : (list : List ℕ) (s : Limits) (rs : List Span) (ds : List Descriptor) (t : Template) (cost : ℕ) → IsFencedCostedOf list s rs ds t cost
-    → length (rows_of t) ≤ prepared_room (length rs) t.pieces
-few_fenced_rows list s rs ds t cost (h, is) = few_kept s rs ds h.submission t h.limits.least_transfer h.planned.pieces_are h.planned.of_pieces.chosen.has_plan.covers h.template
+few_rows list s rs ds t cost (h, is) = few_kept s rs ds h.submission t h.limits.least_transfer h.planned.pieces_are h.planned.of_pieces.chosen.has_plan.covers h.template

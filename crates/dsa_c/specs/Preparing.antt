@@ -10,7 +10,7 @@ use Rattle.dsa_prepared.specs.declared.fault.FillFault.{FillFault}
 use Rattle.dsa_prepared.specs.declared.row.Row.{Row}
 use Rattle.dsa_prepared.specs.Causes.{fill_number, fill_indices}
 use Rattle.dsa_prepared.specs.Filling.{CanFill, IsFirstFillFault}
-use Rattle.dsa_prepared.specs.Preparing.{IsCostedOf, IsFencedCostedOf, IsFirstFencedFault, IsFirstPrepareFault}
+use Rattle.dsa_prepared.specs.Preparing.{IsCostedOf, IsFirstPrepareFault}
 use Rattle.dsa_prepared.specs.Rows.{ArePrepared, rows_of, template_in}
 use Rattle.dsa_prepared.specs.Templates.{Template, filled_portal, filled_staging}
 use Rattle.dsa_c.specs.declared.preparing.RawInfo.{RawInfo}
@@ -49,56 +49,33 @@ info_of t cost =
       staging_len = 64 * length t.staging + 32 * t.batches;
     }
 
--- the list is prepared as this template: the bytes spell these operations, and the plan costs this
+-- the list, whose fences are barriers, is prepared as this template: the bytes without their fences spell these operations,
+-- and the plan costs this
 pub record IsPreparedFor (s : RawSettings) (table list : List ℕ) (regions : List Span) (t : Template) (cost : ℕ) : Type 0 where
   pub settings : AreSettings s table
   pub operations : List Descriptor
   pub prepared : IsCostedOf list (limits_of s table) regions operations t cost
 
--- the same for a list in which a fence is a barrier
-pub record IsFencedPreparedFor (s : RawSettings) (table list : List ℕ) (regions : List Span) (t : Template) (cost : ℕ) : Type 0 where
-  pub settings : AreSettings s table
-  pub operations : List Descriptor
-  pub prepared : IsFencedCostedOf list (limits_of s table) regions operations t cost
-
--- the rows of a list that is prepared for this are at the front of the array, whose rest is unchanged; reading them gives the
--- template, and they can be filled
-pub record IsPreparedIntoBy (For : Template → ℕ → Type 0) (rows new_rows : List Row) (info : RawInfo) : Type 0 where
+-- the rows of the prepared list are at the front of the array, whose rest is unchanged; reading them gives the template, and
+-- they can be filled
+pub record IsPreparedInto (s : RawSettings) (table list : List ℕ) (regions : List Span) (rows new_rows : List Row) (info : RawInfo) : Type 0 where
   pub template : Template
   pub cost : ℕ
-  pub prepared : For template cost
+  pub prepared : IsPreparedFor s table list regions template cost
   pub fits : length (rows_of template) ≤ length rows
   pub rows_is : new_rows ≡ written (rows_of template) rows
   pub read : template_in (rows_of template) ≡ template
   pub fillable : ArePrepared (rows_of template)
   pub info_is : info ≡ info_of template cost
 
--- the same for the prepared list
-abbrev pub IsPreparedInto : RawSettings → List ℕ → List ℕ → List Span → List Row → List Row → RawInfo → Type 0
-IsPreparedInto s table list regions rows new_rows info = IsPreparedIntoBy (IsPreparedFor s table list regions) rows new_rows info
-
--- the same for the list in which a fence is a barrier
-abbrev pub IsFencedPreparedInto : RawSettings → List ℕ → List ℕ → List Span → List Row → List Row → RawInfo → Type 0
-IsFencedPreparedInto s table list regions rows new_rows info = IsPreparedIntoBy (IsFencedPreparedFor s table list regions) rows new_rows info
-
 -- Why nothing is written: the numbers are no settings, and one is named; an allocation failed; preparing refuses the list
 -- for this fault; or the rows of the prepared list don't fit, and so many are needed.
-abbrev pub RefusesPrepareBy : (PrepareFault → Type 0) → (Template → ℕ → Type 0) → RawSettings → List ℕ → ℕ → RawRefusal → Type 0
-RefusesPrepareBy Faults For s table room r =
-    RefusesSettings s table r
-    ⊎ ((r ≡ refusal_of Memory) × AreSettings s table)
-    ⊎ ((fault : PrepareFault) × AreSettings s table × Faults fault × (r ≡ prepare_refusal_of fault))
-    ⊎ ((t : Template) × (cost : ℕ) × For t cost × (room < length (rows_of t)) × (r ≡ no_room_for_rows (length (rows_of t))))
-
--- the same for a list
 abbrev pub RefusesPrepare : RawSettings → List ℕ → List ℕ → List Span → ℕ → RawRefusal → Type 0
 RefusesPrepare s table list regions room r =
-    RefusesPrepareBy (IsFirstPrepareFault list (limits_of s table) regions) (IsPreparedFor s table list regions) s table room r
-
--- the same for a list in which a fence is a barrier
-abbrev pub RefusesFencedPrepare : RawSettings → List ℕ → List ℕ → List Span → ℕ → RawRefusal → Type 0
-RefusesFencedPrepare s table list regions room r =
-    RefusesPrepareBy (IsFirstFencedFault list (limits_of s table) regions) (IsFencedPreparedFor s table list regions) s table room r
+    RefusesSettings s table r
+    ⊎ ((r ≡ refusal_of Memory) × AreSettings s table)
+    ⊎ ((fault : PrepareFault) × AreSettings s table × IsFirstPrepareFault list (limits_of s table) regions fault × (r ≡ prepare_refusal_of fault))
+    ⊎ ((t : Template) × (cost : ℕ) × IsPreparedFor s table list regions t cost × (room < length (rows_of t)) × (r ≡ no_room_for_rows (length (rows_of t))))
 
 -- ---- filling
 

@@ -40,10 +40,10 @@ pub extern "C" fn dsa_fill(
     // unchanged.
     ensures filled { result ≡ 0 → IsFilledInto rows.now bases.now staging
         portal.old portal.new area.old area.new }
-    // They are what planning the relocated list answers.
+    // They are what planning the list on the new buffers answers.
     ensures planned { (list : List ℕ) (s : Limits) (ds : List Descriptor) →
         IsPreparedOf list s (template_in rows.now).regions ds (template_in rows.now) →
-        result ≡ 0 → IsPlannedInto (template_in rows.now).regions bases.now staging s ds
+        result ≡ 0 → IsPlannedInto (template_in rows.now).regions bases.now staging s list ds
         portal.old portal.new area.old area.new }
     // A refusal is the first cause, and if there is a cause, it is the answer.
     ensures refused { result ≢ 0 → (result ≡ refusal.new.number)

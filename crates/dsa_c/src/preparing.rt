@@ -11,7 +11,7 @@ use crate::refusal::{RawRefusal, refusal, refusal_at};
 use crate::settings::{RawSettings, settings_of, settings_refusal};
 use dsa_descriptor::Span;
 use dsa_plan::Settings;
-use dsa_prepared::{Costed, PrepareFault, Row, prepare_costed};
+use dsa_prepared::{Costed, PrepareFault, Row, prepare};
 use std::alloc::Global;
 
 /// The number of the refusal of an array that is too small for the rows.
@@ -34,7 +34,7 @@ pub struct RawInfo {
 }
 
 /// The refusal of this cause.
-pub(crate) fn prepare_refusal(fault: PrepareFault) -> RawRefusal
+fn prepare_refusal(fault: PrepareFault) -> RawRefusal
     ensures value { result ≡ prepare_refusal_of fault }
     ensures some { 0 < result.number }
 {
@@ -47,7 +47,7 @@ pub(crate) fn prepare_refusal(fault: PrepareFault) -> RawRefusal
 }
 
 /// What was prepared, and what filling writes.
-pub(crate) fn info_of(costed: &Costed) -> RawInfo
+fn info_of(costed: &Costed) -> RawInfo
     ensures { result ≡ info_of costed.now.prepared costed.now.cost }
 {
     RawInfo {
@@ -74,7 +74,7 @@ fn prepare_under(
         (λ r. (0 < r.number)
         × RefusesPrepare raw table list.now regions.now room r) }
 {
-    match prepare_costed(alloc, list, settings, regions) {
+    match prepare(alloc, list, settings, regions) {
         Ok(costed) => {
             let rows = costed.prepared.as_rows().len();
             if rows <= room {
@@ -108,8 +108,8 @@ fn prepare_for(
     }
 }
 
-/// Plans the operations that the bytes of `list` spell, and writes their submission to `rows`, with each address as a
-/// region and an offset, for [`dsa_fill`](crate::dsa_fill). It returns 0 then; else it returns the number of the
+/// Plans a list as [`dsa_plan_list`](crate::dsa_plan_list) does, and writes its submission to `rows`, with each address
+/// as a region and an offset, for [`dsa_fill`](crate::dsa_fill). It returns 0 then; else it returns the number of the
 /// refusal, and has written only `refusal`.
 #[unsafe(no_mangle)]
 pub extern "C" fn dsa_prepare(

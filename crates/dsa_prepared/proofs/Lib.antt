@@ -26,5 +26,4 @@ pub mod RowWords
 pub mod RowLists
 pub mod RowChecks
 pub mod RowParts
-pub mod FencedFilled
 pub mod Ranked

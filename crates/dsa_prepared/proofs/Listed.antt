@@ -1,5 +1,6 @@
 -- Relocated descriptors are listed.
-use Rattle.std.proofs.Common.{◌≡◌, ℕ, ◌^◌, ◌<◌, inl, inr, List, [], ◌∷◌, map, refl, sym, ap, subst, ◌∙◌, arith}
+use Rattle.std.proofs.Common.{◌≡◌, ℕ, ◌^◌, ◌<◌, inl, inr, Bool, List, [], ◌∷◌, map, refl, sym, ap, subst, ◌∙◌, arith}
+use Rattle.std.specs.Prelude.{Ok}
 use Rattle.std.specs.List.{AllByRecursion}
 use Rattle.std.proofs.lemmas.List.{get_or-map, length-map}
 use Rattle.dsa_descriptor.specs.declared.op.Op.{Op}
@@ -7,6 +8,7 @@ use Rattle.dsa_descriptor.specs.declared.op.Op.TheVariants.{Move, Fill, Compare,
 use Rattle.dsa_descriptor.specs.declared.span.Span.{Span}
 use Rattle.dsa_descriptor.specs.Fields.{Fields}
 use Rattle.dsa_descriptor.specs.Data.{sources, targets, data_of, record_span}
+use Rattle.dsa_descriptor.specs.Fences.{after_first, barriers_of, set_marks}
 use Rattle.dsa_descriptor.specs.Lists.{HaveOneOwner}
 use Rattle.dsa_descriptor.specs.Spans.{Apart, IsAddressable}
 use Rattle.dsa_descriptor.specs.Profile.{FieldsFit, AreListedFlags, RegionsApart, HasDeltaUnits, HasExpectedBit, IsListed}
@@ -14,7 +16,9 @@ use Rattle.dsa_prepared.specs.Relocated.{relocated_op, relocated_fields, relocat
 use Rattle.dsa_prepared.specs.Regions.{Region, base_span, new_span, relocated, HasAddress, AreDisjoint, LiesInOne, LieInOne}
 use Rattle.dsa_prepared.specs.Listed.{HasAlignedDelta, IsAlignedAt, ListedRelocates, PlansRelocate}
 use Rattle.dsa_descriptor.specs.Descriptors.{fields}
-use Rattle.dsa_calls.specs.Planned.{IsSubmissionOf}
+use Rattle.dsa_calls.specs.Fenced.{IsSubmissionWith}
+use Rattle.dsa_calls.specs.Planned.{Submission}
+use Rattle.dsa_calls.proofs.Unfenced.{no_barriers, no_marks_plan_alike}
 use Rattle.dsa_prepared.specs.Submissions.{staged_at, with_pieces}
 use Rattle.dsa_prepared.proofs.RelocatedSpans.{comes}
 use Rattle.dsa_prepared.proofs.Regions.{head, tail, outside, first_in, regions_are_one_to_one, regions_keep_offsets}
@@ -129,11 +133,21 @@ one_owner to fs one i j d less lt =
     (ap (λ (f : Fields). f.pasid) a ∙ h.0 ∙ sym (ap (λ (f : Fields). f.pasid) b), ap (λ (f : Fields). f.privileged) a ∙ h.1 ∙ sym (ap (λ (f : Fields). f.privileged) b))
 
 pub plans_relocate : PlansRelocate
-plans_relocate rs staging s bytes ds ds' pieces p pos may list sub are are' =
-    let owner = one_owner (relocated rs) (map fields ds) list.owner in
-    let moved_sub = submission_relocates rs staging s (map fields ds) p pieces pos may sub are' in
-    inr (
-      ds',
-      record { spelled = refl; owner = subst (λ (fs : List Fields). HaveOneOwner fs) (sym are) owner },
-      subst (λ (fs : List Fields). IsSubmissionOf (staged_at staging s) fs (with_pieces (staged_at staging s) pieces p)) (sym are) moved_sub,
-    )
+plans_relocate rs staging s list ds ds' pieces p pos may listed sub are are' =
+    let q : Submission = with_pieces (staged_at staging s) pieces p in
+    let owner : HaveOneOwner (map fields ds') = subst (λ (fs : List Fields). HaveOneOwner fs) (sym are) (one_owner (relocated rs) (map fields ds) listed.owner) in
+    let moved : IsSubmissionWith (barriers_of list) (staged_at staging s) (map fields ds') q =
+    subst (λ (fs : List Fields). IsSubmissionWith (barriers_of list) (staged_at staging s) fs q) (sym are)
+    (submission_relocates rs staging s (map fields ds) (barriers_of list) p pieces pos may sub are') in
+    record {
+      fenced = λ bytes b. inr (
+        ds',
+        record { spelled = b.operations; owner = owner },
+        subst (λ (marks : List Bool). IsSubmissionWith marks (staged_at staging s) (map fields ds') q) (sym (ap (λ (marks : List Bool). set_marks (after_first marks)) b.fences)) moved,
+      );
+      plain = λ none. inr (
+        ds',
+        record { spelled = refl; owner = owner },
+        (no_marks_plan_alike (staged_at staging s) (map fields ds') (Ok q)).0 (subst (λ (marks : List Bool). IsSubmissionWith marks (staged_at staging s) (map fields ds') q) (no_barriers list none) moved),
+      );
+    }

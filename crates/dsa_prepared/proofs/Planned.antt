@@ -14,7 +14,6 @@ use Rattle.dsa_image.specs.Parts.{quotient_up}
 use Rattle.dsa_plan.specs.Plan.{Plan}
 use Rattle.dsa_plan.specs.Settings.{Limits}
 use Rattle.dsa_plan.specs.Emission.{portal_bytes, staging_bytes}
-use Rattle.dsa_descriptor.specs.Lists.{list_spelling}
 use Rattle.dsa_splitter.specs.Operations.{op_runs_down}
 use Rattle.dsa_splitter.specs.Pieces.{piece_at, piece_count, pieces, all_pieces}
 use Rattle.dsa_settings.specs.Staging.{staging_area}
@@ -22,10 +21,12 @@ use Rattle.dsa_splitter.specs.Rules.{AllMaySplit, MaySplit, piece_total}
 use Rattle.dsa_splitter.proofs.PieceListed.{piece_listed}
 use Rattle.dsa_splitter.proofs.PiecesWhole.{pieces_up, pieces_down}
 use Rattle.dsa_splitter.proofs.Walks.{length_all}
-use Rattle.dsa_calls.specs.Planned.{Submission, Plans}
+use Rattle.dsa_calls.specs.Lists.{IsListOf}
+use Rattle.dsa_calls.specs.Planned.{Submission}
+use Rattle.dsa_calls.proofs.Unfenced.{no_fences_plan_alike, unfenced_unset}
 use Rattle.dsa_prepared.specs.Relocated.{relocated_fields}
 use Rattle.dsa_prepared.specs.Regions.{Region, base_span, new_span, relocated, AreDisjoint, LiesInOne, LieInOne, AllLieInOne, LiesWhole}
-use Rattle.dsa_prepared.specs.Listed.{IsAlignedAt}
+use Rattle.dsa_prepared.specs.Listed.{IsAlignedAt, PlansWithFencesOf}
 use Rattle.dsa_prepared.specs.Submissions.{MayRelocate, staged_at, with_pieces}
 use Rattle.dsa_prepared.proofs.Listed.{listed_relocates, plans_relocate}
 use Rattle.dsa_prepared.proofs.PiecesLie.{all_join, all_first, pieces_lie}
@@ -33,8 +34,8 @@ use Rattle.dsa_prepared.proofs.ByRegions.{pieces_relocate}
 use Rattle.dsa_prepared.proofs.Submissions.{may_split}
 use Rattle.dsa_prepared.specs.Templates.{Template, template_of}
 use Rattle.dsa_prepared.specs.Preparing.{AreRegions, IsPreparedOf, IsSplitInto, relocation}
-use Rattle.dsa_prepared.specs.Filling.{HasBases, CanFill, relocated_list}
-use Rattle.dsa_prepared.specs.Laws.{FilledIsPlanned}
+use Rattle.dsa_prepared.specs.Filling.{HasBases, CanFill, IsPlannedAnew}
+use Rattle.dsa_prepared.specs.Laws.{FilledIsPlanned, PreparedWithoutFences}
 use Rattle.dsa_prepared.specs.Templates.{filled_portal, filled_staging}
 use Rattle.dsa_prepared.proofs.Spans.{bases_are, disjoint, all_fit, all_clear}
 use Rattle.dsa_prepared.proofs.Whole.{filled_is_emission, aligned_bases_align}
@@ -164,26 +165,35 @@ moves rs bases staging s ds pieces plan least is regions lies count can =
       staging_is = ap (λ (fs : List Fields). staging_bytes plan fs) new_pieces.1 ∙ sym bytes.1;
     }
 
-abbrev Answer : List Span → List ℕ → ℕ → Limits → List Descriptor → Template → Type 0
-Answer rs bases staging s ds t =
-    (p : Submission) × Plans (relocated_list rs bases ds) (staged_at staging s) (Ok p)
+abbrev Answer : List ℕ → List Span → List ℕ → ℕ → Limits → List Descriptor → Template → Type 0
+Answer list rs bases staging s ds t =
+    (p : Submission) × IsPlannedAnew rs bases staging s list ds p
     × (p.portal ≡ filled_portal t bases staging) × (p.staging ≡ filled_staging t bases staging)
 
 of_template : (list : List ℕ) (s : Limits) (rs : List Span) (ds : List Descriptor) (t : Template) (bases : List ℕ) (staging : ℕ) (h : IsPreparedOf list s rs ds t) →
     HasBases (template_of rs (map fields ds) h.submission.plan (map fields h.submission.pieces)) bases →
     CanFill (template_of rs (map fields ds) h.submission.plan (map fields h.submission.pieces)) bases staging →
-    Answer rs bases staging s ds (template_of rs (map fields ds) h.submission.plan (map fields h.submission.pieces))
+    Answer list rs bases staging s ds (template_of rs (map fields ds) h.submission.plan (map fields h.submission.pieces))
 of_template list s rs ds t bases staging h count can =
     let least = h.limits.least_transfer in
     let p : Submission = h.submission in
     let m = moves rs bases staging s ds p.pieces p.plan least (record { split = h.planned.split; pieces_are = h.planned.pieces_are }) h.regions h.lie count can in
+    let q : Submission = with_pieces (staged_at staging s) m.moved p in
     let plans = plans_relocate (relocation rs bases) staging s list ds m.operations m.moved p (omega (arith, least)) m.may h.listed h.planned m.operations_are m.moved_are in (
-      with_pieces (staged_at staging s) m.moved p,
-      subst (λ (fs : List Fields). Plans (list_spelling fs) (staged_at staging s) (Ok (with_pieces (staged_at staging s) m.moved p))) m.operations_are plans,
+      q,
+      subst (λ (fs : List Fields). PlansWithFencesOf list (staged_at staging s) fs q) m.operations_are plans,
       m.portal_is,
       m.staging_is,
     )
 
 pub filled_is_planned : FilledIsPlanned
 filled_is_planned list s rs ds t bases staging h =
-    subst (λ (x : Template). HasBases x bases → CanFill x bases staging → Answer rs bases staging s ds x) (sym h.template) (of_template list s rs ds t bases staging h)
+    subst (λ (x : Template). HasBases x bases → CanFill x bases staging → Answer list rs bases staging s ds x) (sym h.template) (of_template list s rs ds t bases staging h)
+
+-- ---- without fences
+
+pub prepared_without_fences : PreparedWithoutFences
+prepared_without_fences list s rs ds t none h = (
+  subst (λ (bytes : List ℕ). IsListOf bytes ds) (unfenced_unset list none) h.listed,
+  (no_fences_plan_alike list s (Ok h.submission) none).0 (inr (ds, h.listed, h.planned)),
+)

@@ -19,10 +19,9 @@ use Rattle.dsa_calls.specs.declared.fault.PlanFault.TheVariants.{Memory}
 use Rattle.dsa_descriptor.specs.Fences.{barriers_of, unfenced_list}
 use Rattle.dsa_calls.specs.Fenced.{IsSubmissionWith, PlansFenced}
 use Rattle.dsa_calls.specs.Lists.{IsListOf}
-use Rattle.dsa_calls.specs.Planned.{Submission, IsSubmissionOf, IsSubmissionOfPiecesBy, Plans}
+use Rattle.dsa_calls.specs.Planned.{Submission, IsSubmissionOfPiecesBy}
 use Rattle.dsa_calls.proofs.FencedPlans.{one_fenced_plan}
 use Rattle.dsa_calls.proofs.Over.{one_list}
-use Rattle.dsa_calls.proofs.Submissions.{one_planned}
 use Rattle.dsa_prepared.specs.Regions.{AllLieInOne, LiesWhole}
 use Rattle.dsa_prepared.proofs.PiecesLie.{pieces_lie}
 use Rattle.dsa_prepared.proofs.Submissions.{all_at}
@@ -30,7 +29,7 @@ use Rattle.dsa_prepared.specs.declared.fault.PrepareFault.{PrepareFault}
 use Rattle.dsa_prepared.specs.declared.fault.PrepareFault.TheVariants.{Plan as InPlan, RegionWrap, RegionOrder, Outside}
 use Rattle.dsa_prepared.specs.Sound.{AreNonempty}
 use Rattle.dsa_prepared.specs.Templates.{Template}
-use Rattle.dsa_prepared.specs.Preparing.{AreRegions, FollowsAt, region_at, IsCostedOf, IsFencedCostedOf, IsFirstFencedFault, IsFirstOutside, IsFirstPrepareFault, IsFirstPrepareFaultBy, IsKept, IsPlaceFault, IsRegionFault, IsSplitInto}
+use Rattle.dsa_prepared.specs.Preparing.{AreRegions, FollowsAt, region_at, IsCostedOf, IsFirstOutside, IsFirstPrepareFault, IsKept, IsPlaceFault, IsRegionFault, IsSplitInto}
 use Rattle.dsa_prepared.proofs.Outside.{field_there}
 use Rattle.dsa_prepared.proofs.Planned.{ops_lie}
 
@@ -114,88 +113,65 @@ outside_same rs greatest fs i j p q =
       | inr (inr more) ↦ absurd (q.outside (p.before j q.operation more q.there))
     ]
 
--- of a call that says at most one thing of a list
-module _ (Says : Result Submission PlanFault → Type 0) (one : (o p : Result Submission PlanFault) → Says o → Says p → o ≡ p) (list : List ℕ) (s : Limits) (rs : List Span) where
-  refused_or_planned : (f : PlanFault) (p : Submission) → Says (Err f) → Says (Ok p) → ⊥
-  refused_or_planned f p refused planned = never_both p f (one (Ok p) (Err f) planned refused)
+module _ (list : List ℕ) (s : Limits) (rs : List Span) where
+  refused_or_planned : (f : PlanFault) (p : Submission) → PlansFenced list s (Err f) → PlansFenced list s (Ok p) → ⊥
+  refused_or_planned f p refused planned = never_both p f (one_fenced_plan list s (Ok p) (Err f) planned refused)
 
-  plan_faults_same : (f g : PlanFault) → Says (Err f) → Says (Err g) → f ≡ g
-  plan_faults_same f g p q = let e = one (Err f) (Err g) p q in cc
+  plan_faults_same : (f g : PlanFault) → PlansFenced list s (Err f) → PlansFenced list s (Err g) → f ≡ g
+  plan_faults_same f g p q = let e = one_fenced_plan list s (Err f) (Err g) p q in cc
 
-  pub one_cause_by : (f g : PrepareFault) → IsFirstPrepareFaultBy Says list s rs f → IsFirstPrepareFaultBy Says list s rs g → f ≡ g
-  one_cause_by (InPlan f) (InPlan g) p q = ap InPlan (plan_faults_same f g p q)
-  one_cause_by (InPlan f) (RegionWrap j) p q = absurd (refused_or_planned f q.0.0 p q.0.1)
-  one_cause_by (InPlan f) (RegionOrder j) p q = absurd (refused_or_planned f q.0.0 p q.0.1)
-  one_cause_by (InPlan f) (Outside j) p q = absurd (refused_or_planned f q.0.0 p q.0.1)
-  one_cause_by (RegionWrap i) (InPlan g) p q = absurd (refused_or_planned g p.0.0 q p.0.1)
-  one_cause_by (RegionWrap i) (RegionWrap j) p q = one_region_fault rs (RegionWrap i) (RegionWrap j) p.1 q.1
-  one_cause_by (RegionWrap i) (RegionOrder j) p q = one_region_fault rs (RegionWrap i) (RegionOrder j) p.1 q.1
-  one_cause_by (RegionWrap i) (Outside j) p q = absurd (no_region_fault rs (RegionWrap i) q.1 p.1)
-  one_cause_by (RegionOrder i) (InPlan g) p q = absurd (refused_or_planned g p.0.0 q p.0.1)
-  one_cause_by (RegionOrder i) (RegionWrap j) p q = one_region_fault rs (RegionOrder i) (RegionWrap j) p.1 q.1
-  one_cause_by (RegionOrder i) (RegionOrder j) p q = one_region_fault rs (RegionOrder i) (RegionOrder j) p.1 q.1
-  one_cause_by (RegionOrder i) (Outside j) p q = absurd (no_region_fault rs (RegionOrder i) q.1 p.1)
-  one_cause_by (Outside i) (InPlan g) p q = absurd (refused_or_planned g p.0.0 q p.0.1)
-  one_cause_by (Outside i) (RegionWrap j) p q = absurd (no_region_fault rs (RegionWrap j) p.1 q.1)
-  one_cause_by (Outside i) (RegionOrder j) p q = absurd (no_region_fault rs (RegionOrder j) p.1 q.1)
-  one_cause_by (Outside i) (Outside j) p q =
-      let same : q.2.0 ≡ p.2.0 = one_list list p.2.0 q.2.0 p.2.1 q.2.1 in
+  pub one_cause : (f g : PrepareFault) → IsFirstPrepareFault list s rs f → IsFirstPrepareFault list s rs g → f ≡ g
+  one_cause (InPlan f) (InPlan g) p q = ap InPlan (plan_faults_same f g p q)
+  one_cause (InPlan f) (RegionWrap j) p q = absurd (refused_or_planned f q.0.0 p q.0.1)
+  one_cause (InPlan f) (RegionOrder j) p q = absurd (refused_or_planned f q.0.0 p q.0.1)
+  one_cause (InPlan f) (Outside j) p q = absurd (refused_or_planned f q.0.0 p q.0.1)
+  one_cause (RegionWrap i) (InPlan g) p q = absurd (refused_or_planned g p.0.0 q p.0.1)
+  one_cause (RegionWrap i) (RegionWrap j) p q = one_region_fault rs (RegionWrap i) (RegionWrap j) p.1 q.1
+  one_cause (RegionWrap i) (RegionOrder j) p q = one_region_fault rs (RegionWrap i) (RegionOrder j) p.1 q.1
+  one_cause (RegionWrap i) (Outside j) p q = absurd (no_region_fault rs (RegionWrap i) q.1 p.1)
+  one_cause (RegionOrder i) (InPlan g) p q = absurd (refused_or_planned g p.0.0 q p.0.1)
+  one_cause (RegionOrder i) (RegionWrap j) p q = one_region_fault rs (RegionOrder i) (RegionWrap j) p.1 q.1
+  one_cause (RegionOrder i) (RegionOrder j) p q = one_region_fault rs (RegionOrder i) (RegionOrder j) p.1 q.1
+  one_cause (RegionOrder i) (Outside j) p q = absurd (no_region_fault rs (RegionOrder i) q.1 p.1)
+  one_cause (Outside i) (InPlan g) p q = absurd (refused_or_planned g p.0.0 q p.0.1)
+  one_cause (Outside i) (RegionWrap j) p q = absurd (no_region_fault rs (RegionWrap j) p.1 q.1)
+  one_cause (Outside i) (RegionOrder j) p q = absurd (no_region_fault rs (RegionOrder j) p.1 q.1)
+  one_cause (Outside i) (Outside j) p q =
+      let same : q.2.0 ≡ p.2.0 = one_list (unfenced_list list) p.2.0 q.2.0 p.2.1 q.2.1 in
       let here = subst (λ (xs : List Descriptor). IsFirstOutside rs s.greatest_transfer (map fields xs) j) same q.2.2 in
       ap Outside (outside_same rs s.greatest_transfer (map fields p.2.0) i j p.2.2 here)
 
   -- what is prepared has no cause
-  pub no_cause_by : (ds : List Descriptor) (p : Submission) → Says (Ok p) → IsListOf list ds → AreRegions rs → AllByRecursion (LiesWhole rs s.greatest_transfer) (map fields ds) →
-      (f : PrepareFault) → IsFirstPrepareFaultBy Says list s rs f → ⊥
-  no_cause_by ds p planned listed regions lie (InPlan f) h = refused_or_planned f p h planned
-  no_cause_by ds p planned listed regions lie (RegionWrap i) h = no_region_fault rs (RegionWrap i) regions h.1
-  no_cause_by ds p planned listed regions lie (RegionOrder i) h = no_region_fault rs (RegionOrder i) regions h.1
-  no_cause_by ds p planned listed regions lie (Outside i) h =
-      let same : h.2.0 ≡ ds = one_list list ds h.2.0 listed h.2.1 in
+  pub no_cause : (ds : List Descriptor) (t : Template) (cost : ℕ) → IsCostedOf list s rs ds t cost → (f : PrepareFault) → IsFirstPrepareFault list s rs f → ⊥
+  no_cause ds t cost (k, is) (InPlan f) h = refused_or_planned f k.submission h (inr (ds, k.listed, k.planned))
+  no_cause ds t cost (k, is) (RegionWrap i) h = no_region_fault rs (RegionWrap i) k.regions h.1
+  no_cause ds t cost (k, is) (RegionOrder i) h = no_region_fault rs (RegionOrder i) k.regions h.1
+  no_cause ds t cost (k, is) (Outside i) h =
+      let same : h.2.0 ≡ ds = one_list (unfenced_list list) ds h.2.0 k.listed h.2.1 in
       let first = subst (λ (xs : List Descriptor). IsFirstOutside rs s.greatest_transfer (map fields xs) i) same h.2.2 in
-      first.outside (all_at (LiesWhole rs s.greatest_transfer) (map fields ds) i first.operation lie first.there)
+      first.outside (all_at (LiesWhole rs s.greatest_transfer) (map fields ds) i first.operation k.lie first.there)
 
   -- a cause, as the code finds it, is the first
-  pub place_first : (ds : List Descriptor) (p : Submission) (f : PrepareFault) → Says (Ok p) → IsListOf list ds → IsPlaceFault s rs ds f → IsFirstPrepareFaultBy Says list s rs f
+  pub place_first : (ds : List Descriptor) (p : Submission) (f : PrepareFault) → PlansFenced list s (Ok p) → IsListOf (unfenced_list list) ds → IsPlaceFault s rs ds f → IsFirstPrepareFault list s rs f
   place_first ds p (InPlan f) planned listed (inl h) = absurd h
   place_first ds p (RegionWrap i) planned listed (inl h) = ((p, planned), h)
   place_first ds p (RegionOrder i) planned listed (inl h) = ((p, planned), h)
   place_first ds p (Outside i) planned listed (inl h) = absurd h
   place_first ds p f planned listed (inr (i, is, regions, first)) =
-      subst (λ (x : PrepareFault). IsFirstPrepareFaultBy Says list s rs x) (sym is) ((p, planned), regions, (ds, listed, first))
+      subst (λ (x : PrepareFault). IsFirstPrepareFault list s rs x) (sym is) ((p, planned), regions, (ds, listed, first))
 
   -- so that the first cause is the answer
-  pub refused_by : {X : Type 0} (Kept : X → Type 0) → ((x : X) → Kept x → (f : PrepareFault) → IsFirstPrepareFaultBy Says list s rs f → ⊥) → (r : Result X PrepareFault) → IfOk r Kept
-      → IfErr r (λ f. (f ≡ InPlan Memory) ⊎ IsFirstPrepareFaultBy Says list s rs f) → (f : PrepareFault) → IsFirstPrepareFaultBy Says list s rs f → (r ≡ Err f) ⊎ (r ≡ Err (InPlan Memory))
+  pub refused_by : {X : Type 0} (Kept : X → Type 0) → ((x : X) → Kept x → (f : PrepareFault) → IsFirstPrepareFault list s rs f → ⊥) → (r : Result X PrepareFault) → IfOk r Kept
+      → IfErr r (λ f. (f ≡ InPlan Memory) ⊎ IsFirstPrepareFault list s rs f) → (f : PrepareFault) → IsFirstPrepareFault list s rs f → (r ≡ Err f) ⊎ (r ≡ Err (InPlan Memory))
   refused_by Kept none (Ok x) kept told f first = absurd (none x kept f first)
   refused_by Kept none (Err g) kept (inl memory) f first = inr (ap Err memory)
-  refused_by Kept none (Err g) kept (inr here) f first = inl (ap Err (one_cause_by g f here first))
-
-pub one_cause : (list : List ℕ) (s : Limits) (rs : List Span) (f g : PrepareFault) → IsFirstPrepareFault list s rs f → IsFirstPrepareFault list s rs g → f ≡ g
-one_cause list s rs = one_cause_by (Plans list s) (one_planned list s) list s rs
-
-pub one_fenced_cause : (list : List ℕ) (s : Limits) (rs : List Span) (f g : PrepareFault) → IsFirstFencedFault list s rs f → IsFirstFencedFault list s rs g → f ≡ g
-one_fenced_cause list s rs = one_cause_by (PlansFenced list s) (one_fenced_plan list s) (unfenced_list list) s rs
-
-pub no_cause : (list : List ℕ) (s : Limits) (rs : List Span) (ds : List Descriptor) (t : Template) (cost : ℕ) → IsCostedOf list s rs ds t cost → (f : PrepareFault) → IsFirstPrepareFault list s rs f → ⊥
-no_cause list s rs ds t cost (h, is) =
-    no_cause_by (Plans list s) (one_planned list s) list s rs ds h.submission (inr (ds, h.listed, h.planned)) h.listed h.regions h.lie
-
-pub no_fenced_cause : (list : List ℕ) (s : Limits) (rs : List Span) (ds : List Descriptor) (t : Template) (cost : ℕ) → IsFencedCostedOf list s rs ds t cost → (f : PrepareFault) → IsFirstFencedFault list s rs f → ⊥
-no_fenced_cause list s rs ds t cost (h, is) =
-    no_cause_by (PlansFenced list s) (one_fenced_plan list s) (unfenced_list list) s rs ds h.submission (inr (ds, h.listed, h.planned)) h.listed h.regions h.lie
+  refused_by Kept none (Err g) kept (inr here) f first = inl (ap Err (one_cause g f here first))
 
 -- ---- what is kept is prepared
 
-pub costed_of : (list : List ℕ) (s : Limits) (rs : List Span) (ds : List Descriptor) (p : Submission) (t : Template) (cost : ℕ) → IsListOf list ds → IsSubmissionOf s (map fields ds) p →
-    (cost ≡ p.cost) × IsKept s rs ds p t → IsCostedOf list s rs ds t cost
-costed_of list s rs ds p t cost listed planned h = (
-  record { limits = h.1.limits; listed = listed; submission = p; planned = planned; regions = h.1.regions; lie = h.1.lie; template = h.1.template },
-  h.0,
-)
-
-pub fenced_costed_of : (list : List ℕ) (s : Limits) (rs : List Span) (ds : List Descriptor) (marks : List Bool) (p : Submission) (t : Template) (cost : ℕ) → IsListOf (unfenced_list list) ds → marks ≡ barriers_of list →
-    IsSubmissionWith marks s (map fields ds) p → (cost ≡ p.cost) × IsKept s rs ds p t → IsFencedCostedOf list s rs ds t cost
-fenced_costed_of list s rs ds marks p t cost listed is planned h = (
+pub costed_of : (list : List ℕ) (s : Limits) (rs : List Span) (ds : List Descriptor) (marks : List Bool) (p : Submission) (t : Template) (cost : ℕ) → IsListOf (unfenced_list list) ds → marks ≡ barriers_of list →
+    IsSubmissionWith marks s (map fields ds) p → (cost ≡ p.cost) × IsKept s rs ds p t → IsCostedOf list s rs ds t cost
+costed_of list s rs ds marks p t cost listed is planned h = (
   record {
     limits = h.1.limits;
     listed = listed;

@@ -1,5 +1,5 @@
 -- The submission of relocated operations.
-use Rattle.std.proofs.Common.{◌≡◌, ℕ, zero, suc, ◌<◌, inl, inr, Some, List, [], ◌∷◌, map, length, refl, sym, ap, subst, ◌∙◌, arith}
+use Rattle.std.proofs.Common.{◌≡◌, ℕ, zero, suc, ◌-◌, ◌<◌, inl, inr, Some, Bool, false, List, [], ◌∷◌, ◌++◌, map, length, replicate, refl, sym, ap, subst, ◌∙◌, arith}
 use Rattle.std.specs.Prelude.{slice_get}
 use Rattle.std.specs.List.{AllByRecursion}
 use Rattle.std.proofs.lemmas.Option.{same_Some}
@@ -13,12 +13,15 @@ use Rattle.dsa_descriptor.specs.Fields.{Fields}
 use Rattle.dsa_descriptor.specs.Data.{sources, targets, data_of}
 use Rattle.dsa_descriptor.specs.Spans.{InSome, ApartFrom, IsAddressable}
 use Rattle.dsa_ranges.specs.Ranges.{ConflictAt, read_spans, written_spans, Touches}
+use Rattle.dsa_plan.specs.Barriers.{WithBarriers}
 use Rattle.dsa_plan.specs.Settings.{Limits, tariff_of}
+use Rattle.dsa_settings.proofs.Barriers.{parted_by, by_conflict, by_barrier}
 use Rattle.dsa_splitter.specs.Operations.{IsSplittable, ExpectedFits}
-use Rattle.dsa_splitter.specs.Pieces.{all_pieces, piece_count, row_span}
+use Rattle.dsa_splitter.specs.Pieces.{all_pieces, piece_barriers, piece_count, row_span}
 use Rattle.dsa_settings.specs.Staging.{staging_area}
 use Rattle.dsa_splitter.specs.Rules.{MaySplit, IsSplit, IsClear, piece_total}
 use Rattle.dsa_search.specs.Chosen.{IsChosen}
+use Rattle.dsa_calls.proofs.SameChoice.{Within, chosen_goes}
 use Rattle.dsa_prepared.specs.Relocated.{relocated_op, relocated_fields, relocated_span, IsOneToOne, KeepsOffsets}
 use Rattle.dsa_prepared.specs.Regions.{Region, base_span, new_span, relocated, HasAddress, AreDisjoint, LiesInOne, LieInOne, AllLieInOne, LiesWhole}
 use Rattle.dsa_prepared.specs.Submissions.{MayRelocate, SubmissionRelocates}
@@ -26,7 +29,7 @@ use Rattle.dsa_prepared.proofs.RelocatedSpans.{comes, some_come}
 use Rattle.dsa_prepared.proofs.Conflicts.{reads_relocate, writes_relocate, relocated_at}
 use Rattle.dsa_prepared.proofs.Regions.{head, tail, outside, first_in, goes_to, regions_are_one_to_one, regions_keep_offsets}
 use Rattle.dsa_prepared.proofs.PiecesLie.{all_join, pieces_lie}
-use Rattle.dsa_prepared.proofs.ByRegions.{spans_relocate, choice_stays, pieces_relocate}
+use Rattle.dsa_prepared.proofs.ByRegions.{spans_relocate, places_stay, pieces_relocate}
 
 pub all_at : {X : Type 0} (P : X → Type 0) (xs : List X) (i : ℕ) (x : X) → AllByRecursion P xs → slice_get xs i ≡ Some x → P x
 all_at P [] i x all there = absurd cc
@@ -129,20 +132,47 @@ split_moves rs staging s fs pos may split =
       clear = subst (λ (ps : List Fields). IsClear (staging_area staging (piece_total g (map (relocated_fields (relocated rs)) fs))) ps) (sym (pieces_relocate rs g fs may.apart pos may.operations)) clear';
     }
 
+-- ---- barriers at the new addresses
+
+marks_stay : (to : ℕ → ℕ) (g : ℕ) (fs : List Fields) (marks : List Bool) → piece_barriers g (map (relocated_fields to) fs) marks ≡ piece_barriers g fs marks
+marks_stay to g fs [] = refl
+marks_stay to g [] (mark ∷ marks) = refl
+marks_stay to g (f ∷ fs) (mark ∷ marks) =
+    ap (λ (ms : List Bool). (mark ∷ replicate (piece_count f g - 1) false) ++ ms) (marks_stay to g fs marks)
+
+with_within : (C D : ℕ → ℕ → Type 0) (marks : List Bool) → Within C D → Within (WithBarriers C marks) (WithBarriers D marks)
+with_within C D marks to a b h =
+    elim (parted_by C marks a b h) [
+      | inl conflict ↦ by_conflict D marks a b (to a b conflict)
+      | inr pair ↦ by_barrier D marks a b pair
+    ]
+
+-- ---- the submission of the relocated operations
+
 pub submission_relocates : SubmissionRelocates
-submission_relocates rs staging s fs p pieces pos may sub are =
+submission_relocates rs staging s fs marks p pieces pos may sub are =
     let g : ℕ = s.greatest_transfer in
-    let to : ℕ → ℕ = relocated rs in
+    let to : Fields → Fields = relocated_fields (relocated rs) in
+    let of : List Bool = piece_barriers g fs marks in
     let lie : AllLieInOne (map base_span rs) (map fields p.pieces) = subst (λ (ps : List Fields). AllLieInOne (map base_span rs) ps) (sym sub.pieces_are) (pieces_lie (map base_span rs) g fs pos may.operations) in
-    let count : length p.pieces ≡ length pieces = omega (arith, length-map p.pieces fields, length-map pieces fields, length-map (map fields p.pieces) (relocated_fields to), ap length are) in
-    let chosen = choice_stays rs (map fields p.pieces) may.apart lie s.greatest_batch (tariff_of s) (length p.pieces) p.certificate.prices p.certificate.pairs p.plan sub.chosen in
-    let chosen' = subst (λ (n : ℕ). IsChosen (ConflictAt (map (relocated_fields to) (map fields p.pieces))) s.greatest_batch (tariff_of s) n p.certificate.prices p.certificate.pairs p.plan) count chosen in
+    let count : length p.pieces ≡ length pieces = omega (arith, length-map p.pieces fields, length-map pieces fields, length-map (map fields p.pieces) to, ap length are) in
+    let C = ConflictAt (map fields p.pieces) in
+    let D = ConflictAt (map to (map fields p.pieces)) in
+    let stay = places_stay rs (map fields p.pieces) may.apart lie in
+    let chosen = chosen_goes (WithBarriers C of) (WithBarriers D of) (with_within C D of (λ a b. (stay a b).0)) (with_within D C of (λ a b. (stay a b).1))
+    s.greatest_batch (tariff_of s) (length p.pieces) p.certificate.prices p.certificate.pairs p.plan sub.of_pieces.chosen in
+    let counted = subst (λ (n : ℕ). IsChosen (WithBarriers D of) s.greatest_batch (tariff_of s) n p.certificate.prices p.certificate.pairs p.plan) count chosen in
+    let named = subst (λ (ps : List Fields). IsChosen (WithBarriers (ConflictAt ps) of) s.greatest_batch (tariff_of s) (length pieces) p.certificate.prices p.certificate.pairs p.plan) (sym are) counted in
     record {
       split = split_moves rs staging s fs pos may sub.split;
-      pieces_are = are ∙ ap (map (relocated_fields to)) sub.pieces_are ∙ sym (pieces_relocate rs g fs may.apart pos may.operations);
-      chosen = subst (λ (ps : List Fields). IsChosen (ConflictAt ps) s.greatest_batch (tariff_of s) (length pieces) p.certificate.prices p.certificate.pairs p.plan) (sym are) chosen';
-      version_is = sub.version_is;
-      cost_is = sub.cost_is;
-      portal_is = refl;
-      staging_is = refl;
+      pieces_are = are ∙ ap (map to) sub.pieces_are ∙ sym (pieces_relocate rs g fs may.apart pos may.operations);
+      of_pieces = record {
+        chosen =
+            subst (λ (ms : List Bool). IsChosen (WithBarriers (ConflictAt (map fields pieces)) ms) s.greatest_batch (tariff_of s) (length pieces) p.certificate.prices p.certificate.pairs p.plan)
+            (sym (marks_stay (relocated rs) g fs marks)) named;
+        version_is = sub.of_pieces.version_is;
+        cost_is = sub.of_pieces.cost_is;
+        portal_is = refl;
+        staging_is = refl;
+      };
     }

@@ -1,16 +1,16 @@
 -- When a prepared submission can be filled for new bases, and why it is refused.
-use Rattle.std.specs.Prelude.{◌≡◌, ℕ, ◌+◌, ◌*◌, ◌%◌, ◌^◌, ◌<◌, ◌≤◌, List, ◌++◌, drop, length, map, slice_index, slice_index_or, Ok}
+use Rattle.std.specs.Prelude.{◌≡◌, ℕ, ◌+◌, ◌*◌, ◌%◌, ◌^◌, ◌<◌, ◌≤◌, List, ◌++◌, drop, length, map, slice_index, slice_index_or}
 use Rattle.dsa_descriptor.specs.declared.descriptor.Descriptor.{Descriptor}
 use Rattle.dsa_descriptor.specs.declared.span.Span.{Span}
 use Rattle.dsa_descriptor.specs.Descriptors.{fields}
-use Rattle.dsa_descriptor.specs.Lists.{list_spelling}
 use Rattle.dsa_descriptor.specs.Spans.{span, Apart, IsAddressable}
 use Rattle.dsa_plan.specs.Settings.{Limits}
 use Rattle.dsa_settings.specs.declared.setting.Setting.TheVariants.{Staging as Area}
 use Rattle.dsa_settings.specs.Outside.{Allows}
 use Rattle.dsa_settings.specs.Staging.{staging_area}
-use Rattle.dsa_calls.specs.Planned.{Submission, Plans}
+use Rattle.dsa_calls.specs.Planned.{Submission}
 use Rattle.dsa_prepared.specs.Relocated.{relocated_fields}
+use Rattle.dsa_prepared.specs.Listed.{PlansWithFencesOf}
 use Rattle.dsa_prepared.specs.Regions.{relocated}
 use Rattle.dsa_prepared.specs.Submissions.{staged_at}
 use Rattle.dsa_prepared.specs.declared.fault.FillFault.{FillFault}
@@ -158,13 +158,14 @@ IsFirstFillFault t bases staging portal_len staging_len Staging =
 abbrev pub written : List ℕ → List ℕ → List ℕ
 written bytes old = bytes ++ drop (length bytes) old
 
--- the bytes of the list on the new buffers
-abbrev pub relocated_list : List Span → List ℕ → List Descriptor → List ℕ
-relocated_list rs bases ds = list_spelling (map (relocated_fields (relocated (relocation rs bases))) (map fields ds))
+-- planning the operations of the list on the new buffers, with the fences of the list, answers this
+abbrev pub IsPlannedAnew : List Span → List ℕ → ℕ → Limits → List ℕ → List Descriptor → Submission → Type 0
+IsPlannedAnew rs bases staging s list ds p =
+    PlansWithFencesOf list (staged_at staging s) (map (relocated_fields (relocated (relocation rs bases))) (map fields ds)) p
 
--- the buffers have at their front what planning the relocated list answers, and their rest is unchanged
-pub record IsPlannedInto (rs : List Span) (bases : List ℕ) (staging : ℕ) (s : Limits) (ds : List Descriptor) (portal new_portal area new_area : List ℕ) : Type 0 where
+-- the buffers have at their front what planning the list on the new buffers answers, and their rest is unchanged
+pub record IsPlannedInto (rs : List Span) (bases : List ℕ) (staging : ℕ) (s : Limits) (list : List ℕ) (ds : List Descriptor) (portal new_portal area new_area : List ℕ) : Type 0 where
   pub submission : Submission
-  pub planned : Plans (relocated_list rs bases ds) (staged_at staging s) (Ok submission)
+  pub planned : IsPlannedAnew rs bases staging s list ds submission
   pub portal_is : new_portal ≡ written submission.portal portal
   pub staging_is : new_area ≡ written submission.staging area

@@ -7,17 +7,17 @@ use Rattle.dsa_descriptor.specs.Descriptors.{fields}
 use Rattle.dsa_plan.specs.Plan.{Plan}
 use Rattle.dsa_plan.specs.Settings.{Limits}
 use Rattle.dsa_plan.specs.Emission.{portal_bytes, staging_bytes}
-use Rattle.dsa_descriptor.specs.Fences.{fences_of, unfenced_list}
-use Rattle.dsa_calls.specs.Fenced.{PlansFenced}
+use Rattle.dsa_calls.specs.Fenced.{HasNoFences}
+use Rattle.dsa_calls.specs.Lists.{IsListOf}
 use Rattle.dsa_calls.specs.Planned.{Submission, Plans}
 use Rattle.dsa_prepared.specs.Relocated.{relocated_fields}
 use Rattle.dsa_prepared.specs.Regions.{relocated, AllLieInOne}
 use Rattle.dsa_prepared.specs.Submissions.{staged_at}
 use Rattle.dsa_prepared.specs.Listed.{IsAlignedAt}
 use Rattle.dsa_prepared.specs.Templates.{template_of, filled_portal, filled_staging}
-use Rattle.dsa_prepared.specs.Preparing.{IsPreparedOf, IsFencedPreparedOf, relocation}
+use Rattle.dsa_prepared.specs.Preparing.{IsPreparedOf, relocation}
 use Rattle.dsa_prepared.specs.Templates.{Template}
-use Rattle.dsa_prepared.specs.Filling.{HasBases, AllAligned, AllTied, CanFill, relocated_list}
+use Rattle.dsa_prepared.specs.Filling.{HasBases, AllAligned, AllTied, CanFill, IsPlannedAnew}
 
 -- a filled template has the bytes that submit the same plan of the relocated pieces, whatever the bases are
 abbrev pub FilledIsEmission : Type 0
@@ -38,24 +38,18 @@ AlignedBasesAlign =
     AllTied (template_of rs (map fields operations) plan (map fields pieces)) bases →
     AllByRecursion (IsAlignedAt (relocated (relocation rs bases))) (map fields operations)
 
--- what is filled of a prepared list is what planning the relocated list answers
+-- what is filled of a prepared list is what planning the list on the new buffers answers
 abbrev pub FilledIsPlanned : Type 0
 FilledIsPlanned =
     (list : List ℕ) (s : Limits) (rs : List Span) (ds : List Descriptor) (t : Template) (bases : List ℕ) (staging : ℕ) →
     IsPreparedOf list s rs ds t → HasBases t bases → CanFill t bases staging →
-    (p : Submission) × Plans (relocated_list rs bases ds) (staged_at staging s) (Ok p)
+    (p : Submission) × IsPlannedAnew rs bases staging s list ds p
     × (p.portal ≡ filled_portal t bases staging) × (p.staging ≡ filled_staging t bases staging)
 
--- these bytes spell the operations of a list on new buffers, with the fences of the list
-pub record IsRelocatedList (rs : List Span) (bases list : List ℕ) (ds : List Descriptor) (bytes : List ℕ) : Type 0 where
-  pub operations : unfenced_list bytes ≡ relocated_list rs bases ds
-  pub fences : fences_of bytes ≡ fences_of list
-
--- what is filled of a prepared list in which a fence is a barrier is what planning the list on the new buffers answers
-abbrev pub FilledIsFencedPlan : Type 0
-FilledIsFencedPlan =
-    (list : List ℕ) (s : Limits) (rs : List Span) (ds : List Descriptor) (t : Template) (bases : List ℕ) (staging : ℕ) →
-    IsFencedPreparedOf list s rs ds t → HasBases t bases → CanFill t bases staging →
-    (p : Submission)
-    × ((bytes : List ℕ) → IsRelocatedList rs bases list ds bytes → PlansFenced bytes (staged_at staging s) (Ok p))
-    × (p.portal ≡ filled_portal t bases staging) × (p.staging ≡ filled_staging t bases staging)
+-- a list without the flag spells the operations of which it is prepared, and planning it without barriers answers the
+-- submission that is prepared
+abbrev pub PreparedWithoutFences : Type 0
+PreparedWithoutFences =
+    (list : List ℕ) (s : Limits) (rs : List Span) (ds : List Descriptor) (t : Template) →
+    HasNoFences list → (prepared : IsPreparedOf list s rs ds t) →
+    IsListOf list ds × Plans list s (Ok prepared.submission)

@@ -5,13 +5,15 @@ use Rattle.dsa_descriptor.specs.declared.descriptor.Descriptor.{Descriptor}
 use Rattle.dsa_descriptor.specs.declared.op.Op.{Op}
 use Rattle.dsa_descriptor.specs.declared.op.Op.TheVariants.{Move, Fill, Compare, ComparePattern, ApplyDelta, Dualcast}
 use Rattle.dsa_descriptor.specs.Descriptors.{fields}
+use Rattle.dsa_descriptor.specs.Fences.{barriers_of, fences_of, unfenced_list}
 use Rattle.dsa_descriptor.specs.Fields.{Fields}
 use Rattle.dsa_descriptor.specs.Lists.{list_spelling}
 use Rattle.dsa_descriptor.specs.Profile.{HasEqualLowBits, IsListed}
 use Rattle.dsa_descriptor.specs.Spans.{IsAddressable}
 use Rattle.dsa_plan.specs.Settings.{Limits}
 use Rattle.dsa_calls.specs.Lists.{IsListOf}
-use Rattle.dsa_calls.specs.Planned.{Submission, IsSubmissionOf, Plans}
+use Rattle.dsa_calls.specs.Fenced.{HasNoBarriers, IsSubmissionWith, PlansFenced}
+use Rattle.dsa_calls.specs.Planned.{Submission, Plans}
 use Rattle.dsa_prepared.specs.Relocated.{relocated_op, relocated_fields}
 use Rattle.dsa_prepared.specs.Regions.{Region, base_span, new_span, relocated, AreDisjoint, LieInOne}
 use Rattle.dsa_prepared.specs.Submissions.{staged_at, with_pieces, MayRelocate}
@@ -38,11 +40,23 @@ ListedRelocates =
     (rs : List Region) (f : Fields) → AreDisjoint rs → AllByRecursion (λ r. IsAddressable (new_span r)) rs →
     IsListed f → LieInOne (map base_span rs) f → IsAlignedAt (relocated rs) f → IsListed (relocated_fields (relocated rs) f)
 
+-- these bytes spell these operations with the fences of this list
+pub record SpellWithFencesOf (list : List ℕ) (fs : List Fields) (bytes : List ℕ) : Type 0 where
+  pub operations : unfenced_list bytes ≡ list_spelling fs
+  pub fences : fences_of bytes ≡ fences_of list
+
+-- planning these operations with the fences of this list answers this submission; if none of the fences is a barrier, so
+-- does planning the operations as a list without fences
+pub record PlansWithFencesOf (list : List ℕ) (s : Limits) (fs : List Fields) (p : Submission) : Type 0 where
+  pub fenced : (bytes : List ℕ) → SpellWithFencesOf list fs bytes → PlansFenced bytes s (Ok p)
+  pub plain : HasNoBarriers list → Plans (list_spelling fs) s (Ok p)
+
 -- planning the relocated list answers the relocated submission
 abbrev pub PlansRelocate : Type 0
 PlansRelocate =
-    (rs : List Region) (staging : ℕ) (s : Limits) (bytes : List ℕ) (ds ds' pieces : List Descriptor) (p : Submission) →
-    0 < s.greatest_transfer → MayRelocate rs staging s (map fields ds) → IsListOf bytes ds → IsSubmissionOf s (map fields ds) p →
+    (rs : List Region) (staging : ℕ) (s : Limits) (list : List ℕ) (ds ds' pieces : List Descriptor) (p : Submission) →
+    0 < s.greatest_transfer → MayRelocate rs staging s (map fields ds) →
+    IsListOf (unfenced_list list) ds → IsSubmissionWith (barriers_of list) s (map fields ds) p →
     map fields ds' ≡ map (relocated_fields (relocated rs)) (map fields ds) →
     map fields pieces ≡ map (relocated_fields (relocated rs)) (map fields p.pieces) →
-    Plans (list_spelling (map fields ds')) (staged_at staging s) (Ok (with_pieces (staged_at staging s) pieces p))
+    PlansWithFencesOf list (staged_at staging s) (map fields ds') (with_pieces (staged_at staging s) pieces p)

@@ -1,5 +1,5 @@
 -- When a list can be prepared, and why it is refused.
-use Rattle.std.specs.Prelude.{◌≡◌, ◌⊎◌, ℕ, suc, ◌+◌, ◌<◌, ◌≤◌, List, [], ◌∷◌, length, map, slice_get, slice_index_or, Some, Result, Ok, Err}
+use Rattle.std.specs.Prelude.{◌≡◌, ◌⊎◌, ℕ, suc, ◌+◌, ◌<◌, ◌≤◌, List, [], ◌∷◌, length, map, slice_get, slice_index_or, Some, Ok, Err}
 use Rattle.std.specs.List.{AllByRecursion}
 use Rattle.dsa_descriptor.specs.declared.descriptor.Descriptor.{Descriptor}
 use Rattle.dsa_descriptor.specs.declared.span.Span.{Span}
@@ -9,11 +9,10 @@ use Rattle.dsa_descriptor.specs.Spans.{span, IsAddressable}
 use Rattle.dsa_plan.specs.Settings.{Limits, AreInLimits}
 use Rattle.dsa_splitter.specs.Pieces.{all_pieces}
 use Rattle.dsa_splitter.specs.Rules.{IsSplit}
-use Rattle.dsa_calls.specs.declared.fault.PlanFault.{PlanFault}
 use Rattle.dsa_descriptor.specs.Fences.{barriers_of, unfenced_list}
 use Rattle.dsa_calls.specs.Fenced.{IsSubmissionWith, PlansFenced}
 use Rattle.dsa_calls.specs.Lists.{IsListOf}
-use Rattle.dsa_calls.specs.Planned.{Submission, IsSubmissionOf, Plans}
+use Rattle.dsa_calls.specs.Planned.{Submission}
 use Rattle.dsa_prepared.specs.Regions.{Region, LiesWhole}
 use Rattle.dsa_prepared.specs.declared.fault.PrepareFault.{PrepareFault}
 use Rattle.dsa_prepared.specs.declared.fault.PrepareFault.TheVariants.{Plan, RegionWrap, RegionOrder, Outside}
@@ -49,19 +48,10 @@ relocation (r ∷ rs) (base ∷ bases) = record { base = r.first; len = r.len; n
 
 -- ---- what is prepared
 
--- This is the template of the submission that planning the list answers: the bytes spell these operations, this is their
--- submission, and each range of each operation lies in one of the regions.
+-- This is the template of the submission that planning the list answers: the bytes without their fences spell these
+-- operations, this is their submission with the fences as barriers, and each range of each operation lies in one of the
+-- regions.
 pub record IsPreparedOf (list : List ℕ) (s : Limits) (rs : List Span) (ds : List Descriptor) (t : Template) : Type 0 where
-  pub limits : AreInLimits s
-  pub listed : IsListOf list ds
-  pub submission : Submission
-  pub planned : IsSubmissionOf s (map fields ds) submission
-  pub regions : AreRegions rs
-  pub lie : AllByRecursion (LiesWhole rs s.greatest_transfer) (map fields ds)
-  pub template : t ≡ template_of rs (map fields ds) submission.plan (map fields submission.pieces)
-
--- the same of a list in which a fence is a barrier
-pub record IsFencedPreparedOf (list : List ℕ) (s : Limits) (rs : List Span) (ds : List Descriptor) (t : Template) : Type 0 where
   pub limits : AreInLimits s
   pub listed : IsListOf (unfenced_list list) ds
   pub submission : Submission
@@ -69,10 +59,6 @@ pub record IsFencedPreparedOf (list : List ℕ) (s : Limits) (rs : List Span) (d
   pub regions : AreRegions rs
   pub lie : AllByRecursion (LiesWhole rs s.greatest_transfer) (map fields ds)
   pub template : t ≡ template_of rs (map fields ds) submission.plan (map fields submission.pieces)
-
--- and the plan costs this
-abbrev pub IsFencedCostedOf : List ℕ → Limits → List Span → List Descriptor → Template → ℕ → Type 0
-IsFencedCostedOf list s rs ds t cost = (prepared : IsFencedPreparedOf list s rs ds t) × (cost ≡ prepared.submission.cost)
 
 -- and the plan costs this
 abbrev pub IsCostedOf : List ℕ → Limits → List Span → List Descriptor → Template → ℕ → Type 0
@@ -95,24 +81,16 @@ pub record IsFirstOutside (rs : List Span) (greatest : ℕ) (fs : List Fields) (
   pub outside : ¬ LiesWhole rs greatest operation
   pub before : (j : ℕ) (f : Fields) → j < i → slice_get fs j ≡ Some f → LiesWhole rs greatest f
 
--- The first cause why a list is not prepared, if planning it gives this result and these bytes spell its operations, in
--- this order: what planning refuses; the least region that goes past 2^64, or else begins before the one before it has
--- ended; the least operation that has a range, or the row of records, in no one region.
-abbrev pub IsFirstPrepareFaultBy : (Result Submission PlanFault → Type 0) → List ℕ → Limits → List Span → PrepareFault → Type 0
-IsFirstPrepareFaultBy Says list s rs (Plan fault) = Says (Err fault)
-IsFirstPrepareFaultBy Says list s rs (RegionWrap i) = ((p : Submission) × Says (Ok p)) × IsRegionFault rs (RegionWrap i)
-IsFirstPrepareFaultBy Says list s rs (RegionOrder i) = ((p : Submission) × Says (Ok p)) × IsRegionFault rs (RegionOrder i)
-IsFirstPrepareFaultBy Says list s rs (Outside i) =
-    ((p : Submission) × Says (Ok p)) × AreRegions rs
-    × ((ds : List Descriptor) × IsListOf list ds × IsFirstOutside rs s.greatest_transfer (map fields ds) i)
-
--- the same for a list without barriers
+-- The first cause why a list is not prepared, in this order: what planning it refuses; the least region that goes past
+-- 2^64, or else begins before the one before it has ended; the least operation that has a range, or the row of records, in
+-- no one region.
 abbrev pub IsFirstPrepareFault : List ℕ → Limits → List Span → PrepareFault → Type 0
-IsFirstPrepareFault list s rs fault = IsFirstPrepareFaultBy (Plans list s) list s rs fault
-
--- the same for a list in which a fence is a barrier
-abbrev pub IsFirstFencedFault : List ℕ → Limits → List Span → PrepareFault → Type 0
-IsFirstFencedFault list s rs fault = IsFirstPrepareFaultBy (PlansFenced list s) (unfenced_list list) s rs fault
+IsFirstPrepareFault list s rs (Plan fault) = PlansFenced list s (Err fault)
+IsFirstPrepareFault list s rs (RegionWrap i) = ((p : Submission) × PlansFenced list s (Ok p)) × IsRegionFault rs (RegionWrap i)
+IsFirstPrepareFault list s rs (RegionOrder i) = ((p : Submission) × PlansFenced list s (Ok p)) × IsRegionFault rs (RegionOrder i)
+IsFirstPrepareFault list s rs (Outside i) =
+    ((p : Submission) × PlansFenced list s (Ok p)) × AreRegions rs
+    × ((ds : List Descriptor) × IsListOf (unfenced_list list) ds × IsFirstOutside rs s.greatest_transfer (map fields ds) i)
 
 -- ---- for private clauses
 

@@ -1,5 +1,5 @@
 -- A planned submission on other buffers.
-use Rattle.std.specs.Prelude.{ℕ, ◌≡◌, ◌<◌, List, map}
+use Rattle.std.specs.Prelude.{ℕ, ◌≡◌, ◌<◌, Bool, List, map}
 use Rattle.std.specs.List.{AllByRecursion}
 use Rattle.dsa_descriptor.specs.declared.descriptor.Descriptor.{Descriptor}
 use Rattle.dsa_descriptor.specs.Descriptors.{fields}
@@ -9,7 +9,8 @@ use Rattle.dsa_plan.specs.Settings.{Limits}
 use Rattle.dsa_plan.specs.Emission.{portal_bytes, staging_bytes}
 use Rattle.dsa_settings.specs.Staging.{staging_area}
 use Rattle.dsa_splitter.specs.Rules.{piece_total}
-use Rattle.dsa_calls.specs.Planned.{Submission, IsSubmissionOf}
+use Rattle.dsa_calls.specs.Fenced.{IsSubmissionWith}
+use Rattle.dsa_calls.specs.Planned.{Submission}
 use Rattle.dsa_prepared.specs.Relocated.{relocated_fields}
 use Rattle.dsa_prepared.specs.Regions.{Region, base_span, new_span, relocated, AreDisjoint, LiesWhole}
 
@@ -39,10 +40,11 @@ pub record MayRelocate (rs : List Region) (staging : ℕ) (s : Limits) (fs : Lis
   -- each range and the row of records of each operation lie in one region
   pub operations : AllByRecursion (LiesWhole (map base_span rs) s.greatest_transfer) fs
 
--- the submission of the relocated operations is that of the same plan, certificate and cost for the relocated pieces
+-- the submission of the relocated operations and their barriers, if they have any, is that of the same plan, certificate
+-- and cost for the relocated pieces
 abbrev pub SubmissionRelocates : Type 0
 SubmissionRelocates =
-    (rs : List Region) (staging : ℕ) (s : Limits) (fs : List Fields) (p : Submission) (pieces : List Descriptor) →
-    0 < s.greatest_transfer → MayRelocate rs staging s fs → IsSubmissionOf s fs p →
+    (rs : List Region) (staging : ℕ) (s : Limits) (fs : List Fields) (barriers : List Bool) (p : Submission) (pieces : List Descriptor) →
+    0 < s.greatest_transfer → MayRelocate rs staging s fs → IsSubmissionWith barriers s fs p →
     map fields pieces ≡ map (relocated_fields (relocated rs)) (map fields p.pieces) →
-    IsSubmissionOf (staged_at staging s) (map (relocated_fields (relocated rs)) fs) (with_pieces (staged_at staging s) pieces p)
+    IsSubmissionWith barriers (staged_at staging s) (map (relocated_fields (relocated rs)) fs) (with_pieces (staged_at staging s) pieces p)

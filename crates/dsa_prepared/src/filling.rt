@@ -412,12 +412,15 @@ fn first_base_fault(rows: &[Row], bases: &[u64], staging: u64) -> Option<FillFau
     }
 }
 
-/// Writes what is submitted if the regions have these bases and the staging area this address, as
-/// [`Prepared::fill`](crate::Prepared::fill) does, from rows that are prepared: [`are_prepared`](crate::are_prepared)
-/// tests that. Nothing is allocated.
+/// Writes what is submitted if the regions have these bases and the staging area this address: the portal's bytes at
+/// the front of `portal`, those of the staging area at the front of `area`. They are those that
+/// [`plan_fenced_list`](dsa_calls::plan_fenced_list()) returns for the list on the new buffers. The rows are prepared:
+/// [`are_prepared`](crate::are_prepared) tests that. Nothing is allocated.
 ///
 /// # Errors
-/// Those of [`Prepared::fill`](crate::Prepared::fill), and nothing is written.
+/// The first of these, and nothing is written: [`FillFault::Bases`]; `Room`; for the least region `RegionWrap`;
+/// `Misaligned`; for the first dualcast `DualcastBits`; for the least region `RegionsMeet`, with the least earlier one
+/// that it meets; `StagingMeets`; `Staging`.
 pub fn fill_rows(
     rows: &[Row],
     bases: &[u64],
@@ -430,10 +433,10 @@ pub fn fill_rows(
     ensures written { IfOk result (λ _.
         (portal.new ≡ written (filled_portal (template_in rows.now) bases.now staging) portal.old)
         × (area.new ≡ written (filled_staging (template_in rows.now) bases.now staging) area.old)) }
-    // They are what planning the relocated list answers.
+    // They are what planning the list on the new buffers answers.
     ensures planned { (list : List ℕ) (s : Limits) (ds : List Descriptor) →
         IsPreparedOf list s (template_in rows.now).regions ds (template_in rows.now) → IfOk result
-        (λ _. IsPlannedInto (template_in rows.now).regions bases.now staging s ds
+        (λ _. IsPlannedInto (template_in rows.now).regions bases.now staging s list ds
         portal.old portal.new area.old area.new) }
     ensures can { IfOk result (λ _. CanFill (template_in rows.now) bases.now staging) }
     // A refusal is the first cause, and if there is a cause, it is the answer.

@@ -40,8 +40,8 @@ pub fn pieces_relocate()
     ensures { PiecesRelocate }
 {}
 
-/// The submission of relocated operations: the same plan, certificate and cost, and the emission of the relocated
-/// pieces.
+/// The submission of relocated operations and their barriers: the same plan, certificate and cost, and the emission of
+/// the relocated pieces.
 pub fn submission_relocates()
     ensures { SubmissionRelocates }
 {}
@@ -51,7 +51,7 @@ pub fn listed_relocates()
     ensures { ListedRelocates }
 {}
 
-/// Planning the relocated list answers the relocated submission.
+/// Planning the relocated list, with its fences, answers the relocated submission.
 pub fn plans_relocate()
     ensures { PlansRelocate }
 {}

@@ -1,6 +1,6 @@
 //! Laws of prepared submissions. Each function is a law: its body is empty, and its clause is what the proof shows.
 
-ghost use Rattle.dsa_prepared.specs.Laws.{FilledIsEmission, AlignedBasesAlign, FilledIsFencedPlan, FilledIsPlanned};
+ghost use Rattle.dsa_prepared.specs.Laws.{FilledIsEmission, AlignedBasesAlign, FilledIsPlanned, PreparedWithoutFences};
 
 /// A filled template has the bytes that submit the same plan of the relocated pieces.
 pub fn filled_is_emission()
@@ -12,12 +12,13 @@ pub fn aligned_bases_align()
     ensures { AlignedBasesAlign }
 {}
 
-/// What is filled of a prepared list is what planning the relocated list answers.
+/// What is filled of a prepared list is what planning it on the new buffers answers, with its fences as barriers.
 pub fn filled_is_planned()
     ensures { FilledIsPlanned }
 {}
 
-/// What is filled of a prepared list in which a fence is a barrier is what planning it on the new buffers answers.
-pub fn filled_is_fenced_plan()
-    ensures { FilledIsFencedPlan }
+/// A list without fences is prepared of the operations that it spells and of the plan that
+/// [`plan_list`](dsa_calls::plan_list()) returns.
+pub fn prepared_without_fences()
+    ensures { PreparedWithoutFences }
 {}

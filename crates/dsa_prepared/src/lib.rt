@@ -26,8 +26,10 @@ pub use keeping::{
     pieces_relocate, plans_relocate, regions_are_one_to_one, regions_keep_offsets,
     samples_relocate, submission_relocates,
 };
-pub use laws::{aligned_bases_align, filled_is_emission, filled_is_fenced_plan, filled_is_planned};
+pub use laws::{
+    aligned_bases_align, filled_is_emission, filled_is_planned, prepared_without_fences,
+};
 pub use prepared::Prepared;
-pub use preparing::{Costed, prepare, prepare_costed, prepare_fenced};
+pub use preparing::{Costed, prepare};
 pub use reading::are_prepared;
 pub use row::Row;

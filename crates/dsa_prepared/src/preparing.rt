@@ -1,6 +1,6 @@
 //! Preparing a list: planning it, and keeping its submission with each address as a region and an offset.
 
-ghost use Rattle.std.specs.Prelude.{◌≡◌, ◌⊎◌, [], List, IfErr, IfOk, Err, length, ℕ};
+ghost use Rattle.std.specs.Prelude.{◌≡◌, ◌⊎◌, List, IfErr, IfOk, Err, length, ℕ};
 ghost use Rattle.dsa_descriptor.specs.declared.descriptor.Descriptor.{Descriptor};
 ghost use Rattle.dsa_plan.specs.Plan.{piece_count};
 ghost use Rattle.dsa_descriptor.specs.Fences.{barriers_of, unfenced_list};
@@ -9,7 +9,7 @@ ghost use Rattle.dsa_calls.specs.Planned.{submission_of};
 ghost use Rattle.dsa_calls.specs.declared.fault.PlanFault.TheVariants.{Memory};
 ghost use Rattle.dsa_prepared.specs.declared.fault.PrepareFault.{PrepareFault};
 ghost use Rattle.dsa_prepared.specs.declared.fault.PrepareFault.TheVariants.{Plan};
-ghost use Rattle.dsa_prepared.specs.Preparing.{IsPreparedOf, IsCostedOf, IsFencedCostedOf, IsFirstFencedFault, IsFirstPrepareFault, IsKept, IsPlaceFault, IsSplitInto};
+ghost use Rattle.dsa_prepared.specs.Preparing.{IsCostedOf, IsFirstPrepareFault, IsKept, IsPlaceFault, IsSplitInto};
 ghost use Rattle.dsa_prepared.specs.Sound.{AreNonempty};
 
 use crate::fault::PrepareFault;
@@ -17,7 +17,7 @@ use crate::places::{first_outside, region_fault};
 use crate::prepared::Prepared;
 use crate::template::template_of;
 use dsa_calls::{PlanFault, Planned, plan_operations};
-use dsa_descriptor::{Descriptor, DescriptorList, Span, read_descriptor_list, read_list};
+use dsa_descriptor::{Descriptor, DescriptorList, Span, read_descriptor_list};
 use dsa_plan::Settings;
 use std::alloc::Global;
 
@@ -68,21 +68,15 @@ fn prepare_operations(
     settings: &Settings,
     regions: &[Span],
 ) -> Result<Costed, PrepareFault>
-    ensures prepared { (list : List ℕ) → IsListOf list operations.now.descriptors.items →
-        operations.now.barriers.items ≡ [] → IfOk result (λ x. IsCostedOf list
-        settings.now regions.now operations.now.descriptors.items x.prepared x.cost) }
-    ensures fault { (list : List ℕ) → IsListOf list operations.now.descriptors.items →
-        operations.now.barriers.items ≡ [] → IfErr result (λ fault. (fault ≡ Plan Memory) ⊎
-        IsFirstPrepareFault list settings.now regions.now fault) }
-    ensures fenced { (list : List ℕ) →
+    ensures prepared { (list : List ℕ) →
         IsListOf (unfenced_list list) operations.now.descriptors.items →
-        operations.now.barriers.items ≡ barriers_of list → IfOk result (λ x. IsFencedCostedOf list
+        operations.now.barriers.items ≡ barriers_of list → IfOk result (λ x. IsCostedOf list
         settings.now regions.now operations.now.descriptors.items x.prepared x.cost) }
-    ensures fenced_fault { (list : List ℕ) →
+    ensures fault { (list : List ℕ) →
         IsListOf (unfenced_list list) operations.now.descriptors.items →
         operations.now.barriers.items ≡ barriers_of list →
         IfErr result (λ fault. (fault ≡ Plan Memory) ⊎
-        IsFirstFencedFault list settings.now regions.now fault) }
+        IsFirstPrepareFault list settings.now regions.now fault) }
 {
     match plan_operations(alloc, operations, settings) {
         Ok(planned) => keep(alloc, &operations.descriptors, &planned, settings, regions),
@@ -90,11 +84,17 @@ fn prepare_operations(
     }
 }
 
-/// Prepares a list as [`prepare`] does, and also returns what the plan costs.
+/// Plans the operations that the bytes spell, as [`plan_fenced_list`](dsa_calls::plan_fenced_list()) does, and keeps
+/// their submission so that [`fill_rows`](crate::fill_rows) writes it for other buffers, with the fences that keep its
+/// barriers. It also returns what the plan costs. The regions are the buffers with which the list was made: each range
+/// of each operation, and the row of the records of its pieces, lies in one of them. They come in the order of their
+/// addresses.
 ///
 /// # Errors
-/// Those of [`prepare`].
-pub fn prepare_costed(
+/// What [`plan_fenced_list`](dsa_calls::plan_fenced_list()) refuses, as [`PrepareFault::Plan`]; for the least region
+/// [`PrepareFault::RegionWrap`], or else `RegionOrder`; the least operation that is `Outside`;
+/// `Plan(PlanFault::Memory)` at the first allocation that fails.
+pub fn prepare(
     alloc: Global,
     list: &[u8],
     settings: &Settings,
@@ -109,68 +109,6 @@ pub fn prepare_costed(
     // The first cause is the answer, unless an allocation failed before it was found.
     ensures refused { (fault : PrepareFault) →
         IsFirstPrepareFault list.now settings.now regions.now fault →
-        (result ≡ Err fault) ⊎ (result ≡ Err (Plan Memory)) }
-{
-    match read_list(alloc, list) {
-        Ok(operations) => {
-            let plain = DescriptorList::without_barriers(alloc, operations);
-            prepare_operations(alloc, &plain, settings, regions)
-        }
-        Err(fault) => Err(PrepareFault::Plan(PlanFault::from(fault))),
-    }
-}
-
-/// Plans the operations that the bytes spell, and keeps their submission so that [`Prepared::fill`] writes it for other
-/// buffers. The regions are the buffers with which the list was made: each range of each operation, and the row of the
-/// records of its pieces, lies in one of them. They come in the order of their addresses.
-///
-/// # Errors
-/// What [`plan_list`](dsa_calls::plan_list()) refuses, as [`PrepareFault::Plan`]; for the least region
-/// [`PrepareFault::RegionWrap`], or else `RegionOrder`; the least operation that is `Outside`;
-/// `Plan(PlanFault::Memory)` at the first allocation that fails.
-pub fn prepare(
-    alloc: Global,
-    list: &[u8],
-    settings: &Settings,
-    regions: &[Span],
-) -> Result<Prepared, PrepareFault>
-    // What it answers is the template of the planned list.
-    ensures prepared { IfOk result (λ p. (ds : List Descriptor) ×
-        IsPreparedOf list.now settings.now regions.now ds p) }
-    // A refusal is the first cause, or that an allocation failed.
-    ensures fault { IfErr result (λ fault. (fault ≡ Plan Memory) ⊎
-        IsFirstPrepareFault list.now settings.now regions.now fault) }
-    // The first cause is the answer, unless an allocation failed before it was found.
-    ensures refused { (fault : PrepareFault) →
-        IsFirstPrepareFault list.now settings.now regions.now fault →
-        (result ≡ Err fault) ⊎ (result ≡ Err (Plan Memory)) }
-{
-    match prepare_costed(alloc, list, settings, regions) {
-        Ok(costed) => Ok(costed.prepared),
-        Err(fault) => Err(fault),
-    }
-}
-
-/// Prepares a list in which a fence is a barrier, as [`plan_fenced_list`](dsa_calls::plan_fenced_list()) plans it:
-/// [`Prepared::fill`] writes what that returns for the list on the new buffers, with the fences that keep its barriers.
-///
-/// # Errors
-/// Those of [`prepare`] for the list without its fences.
-pub fn prepare_fenced(
-    alloc: Global,
-    list: &[u8],
-    settings: &Settings,
-    regions: &[Span],
-) -> Result<Costed, PrepareFault>
-    // What it answers is the template of the planned list, and the plan's cost.
-    ensures prepared { IfOk result (λ x. (ds : List Descriptor) ×
-        IsFencedCostedOf list.now settings.now regions.now ds x.prepared x.cost) }
-    // A refusal is the first cause, or that an allocation failed.
-    ensures fault { IfErr result (λ fault. (fault ≡ Plan Memory) ⊎
-        IsFirstFencedFault list.now settings.now regions.now fault) }
-    // The first cause is the answer, unless an allocation failed before it was found.
-    ensures refused { (fault : PrepareFault) →
-        IsFirstFencedFault list.now settings.now regions.now fault →
         (result ≡ Err fault) ⊎ (result ≡ Err (Plan Memory)) }
 {
     match read_descriptor_list(alloc, list) {

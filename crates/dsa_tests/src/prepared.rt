@@ -2,7 +2,7 @@ use crate::given::operation;
 use dsa_calls::{PlanFault, plan_list};
 use dsa_descriptor::{ListFault, Span};
 use dsa_plan::Settings;
-use dsa_prepared::{FillFault, PrepareFault, Prepared, prepare};
+use dsa_prepared::{FillFault, PrepareFault, Prepared, fill_rows, prepare};
 use std::alloc::{AllocError, Global};
 use std::test::Fail;
 
@@ -173,10 +173,11 @@ fn nines(alloc: Global, count: usize) -> Result<Vec<u8>, AllocError> {
 fn a_filled_submission_has_the_bytes_of_the_model(rt: HostRuntime) -> Result<(), Fail> {
     let alloc = rt.alloc();
     let list = one_of_each(alloc, &OLD)?;
-    let prepared = prepare(alloc, &list, &settings(STAGING)?, &regions())?;
+    let prepared = prepare(alloc, &list, &settings(STAGING)?, &regions())?.prepared;
     assert!(rt; (prepared.portal_len(), prepared.staging_len()) == (192, 576));
     let (mut portal, mut area) = (nines(alloc, 200)?, nines(alloc, 580)?);
-    prepared.fill(&wide(&NEW), NEW_STAGING, &mut portal, &mut area)?;
+    let rows = prepared.as_rows();
+    fill_rows(rows, &wide(&NEW), NEW_STAGING, &mut portal, &mut area)?;
     let mut expected = entry_bytes(alloc, &PORTAL)?;
     expected.extend_from_slice(&[9; 8])?;
     assert!(rt; portal == expected);
@@ -196,7 +197,7 @@ fn refusal(
     lens: (usize, usize),
 ) -> Result<(Result<(), FillFault>, bool), AllocError> {
     let (mut portal, mut area) = (nines(alloc, lens.0)?, nines(alloc, lens.1)?);
-    let answer = prepared.fill(bases, staging, &mut portal, &mut area);
+    let answer = fill_rows(prepared.as_rows(), bases, staging, &mut portal, &mut area);
     let left = portal == nines(alloc, lens.0)? && area == nines(alloc, lens.1)?;
     Ok((answer, left))
 }
@@ -205,7 +206,7 @@ fn refusal(
 fn bases_are_refused_in_order_and_nothing_is_written(rt: HostRuntime) -> Result<(), Fail> {
     let alloc = rt.alloc();
     let list = one_of_each(alloc, &OLD)?;
-    let prepared = prepare(alloc, &list, &settings(STAGING)?, &regions())?;
+    let prepared = prepare(alloc, &list, &settings(STAGING)?, &regions())?.prepared;
     let [one, two, three, records] = wide(&NEW);
     let wrap = 0xffff_ffff_ffff_f123;
     for (bases, staging, fault) in [
@@ -384,12 +385,13 @@ fn some_bases(bits: u64) -> Bases {
 fn fills_as_planned(alloc: Global, seed: u64) -> Result<bool, Fail> {
     let bases = some_bases(next(next(seed)));
     let list = some_list(alloc, seed, &OLD)?;
-    let prepared = prepare(alloc, &list, &settings(STAGING)?, &regions())?;
+    let prepared = prepare(alloc, &list, &settings(STAGING)?, &regions())?.prepared;
     let there = some_list(alloc, seed, &bases)?;
     let planned = plan_list(alloc, &there, &settings(NEW_STAGING)?)?;
     let mut portal = nines(alloc, prepared.portal_len())?;
     let mut area = nines(alloc, prepared.staging_len())?;
-    prepared.fill(&wide(&bases), NEW_STAGING, &mut portal, &mut area)?;
+    let rows = prepared.as_rows();
+    fill_rows(rows, &wide(&bases), NEW_STAGING, &mut portal, &mut area)?;
     Ok(portal == planned.emission.portal && area == planned.emission.staging)
 }
 

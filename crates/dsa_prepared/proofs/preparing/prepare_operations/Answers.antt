@@ -1,18 +1,14 @@
-use Rattle.std.proofs.Common.{◌≡◌, ◌⊎◌, [], inl, inr, List, Bool, Ok, map, ap, sym, subst}
+use Rattle.std.proofs.Common.{◌≡◌, ◌⊎◌, inl, inr, List, Bool, map, ap, sym, subst}
 use Rattle.std.specs.Prelude.{IfErr, IfOk}
 use Rattle.std.proofs.lemmas.Result.{IfOk-weaker, IfErr-weaker}
 use Rattle.dsa_descriptor.specs.declared.descriptor.Descriptor.{Descriptor}
 use Rattle.dsa_descriptor.specs.Descriptors.{fields}
-use Rattle.dsa_descriptor.specs.Fences.{unfenced_list}
 use Rattle.dsa_calls.specs.declared.fault.PlanFault.TheVariants.{Memory}
-use Rattle.dsa_calls.specs.Fenced.{IsSubmissionWith, PiecesConflict, PlansFenced, PlansWith}
-use Rattle.dsa_calls.specs.Planned.{IsSubmissionOf, Plans, submission_of}
-use Rattle.dsa_calls.proofs.FencedPlans.{one_fenced_plan}
-use Rattle.dsa_calls.proofs.Submissions.{one_planned}
-use Rattle.dsa_calls.proofs.Unfenced.{no_marks_plan_alike}
+use Rattle.dsa_calls.specs.Fenced.{IsSubmissionWith, PiecesConflict}
+use Rattle.dsa_calls.specs.Planned.{submission_of}
 use Rattle.dsa_prepared.specs.declared.fault.PrepareFault.TheVariants.{Plan as InPlan}
 use Rattle.dsa_prepared.specs.Preparing.{IsKept, IsPlaceFault, IsSplitInto}
-use Rattle.dsa_prepared.proofs.Preparation.{chosen_nonempty, costed_of, fenced_costed_of, place_first}
+use Rattle.dsa_prepared.proofs.Preparation.{chosen_nonempty, costed_of, place_first}
 use Rattle.dsa_prepared.proofs.preparing.prepare_operations.Goals as goal
 use Rattle.dsa_prepared.proofs.preparing.prepare_operations.Goals.{After-drop-planned-in-Ok-6}
 
@@ -30,14 +26,6 @@ keep-requires-clause-nonempty c =
     let operations = c.args.operations.now in
     chosen_nonempty (PiecesConflict c.args.settings.now (map fields operations.descriptors.items) operations.barriers.items (map fields p.pieces)) c.args.settings.now p c.in-Ok.ensures.answer.of_pieces
 
--- without barriers it is the submission of the operations
-plain : (c : After-drop-planned-in-Ok-6) → c.args.operations.now.barriers.items ≡ [] → IsSubmissionOf c.args.settings.now (map fields c.args.operations.now.descriptors.items) (submission_of c.in-Ok.planned)
-plain c none =
-    let s = c.args.settings.now in
-    let p = submission_of c.in-Ok.planned in
-    let fs = map fields c.args.operations.now.descriptors.items in
-    (no_marks_plan_alike s fs (Ok p)).0 (subst (λ (marks : List Bool). PlansWith marks s fs (Ok p)) none c.in-Ok.ensures.answer)
-
 kept : (c : After-drop-planned-in-Ok-6) → IfOk c.keep.result (λ x. (x.cost ≡ c.in-Ok.planned.cost) × IsKept c.args.settings.now c.args.regions.now c.args.operations.now.descriptors.items (submission_of c.in-Ok.planned) x.prepared)
 kept c =
     subst (λ (ds : List Descriptor). IfOk c.keep.result (λ x. (x.cost ≡ c.in-Ok.planned.cost) × IsKept c.args.settings.now c.args.regions.now ds (submission_of c.in-Ok.planned) x.prepared))
@@ -48,31 +36,14 @@ refused c =
     subst (λ (ds : List Descriptor). IfErr c.keep.result (λ f. (f ≡ InPlan Memory) ⊎ IsPlaceFault c.args.settings.now c.args.regions.now ds f)) c.deref.ensures.value c.keep.ensures.fault
 
 pub returns-in-Ok-clause-prepared : goal.returns-in-Ok-clause-prepared
-returns-in-Ok-clause-prepared c = λ list listed none.
+returns-in-Ok-clause-prepared c = λ list listed is.
+    let operations = c.args.operations.now in
     IfOk-weaker c.keep.result _ _
-    (λ x h. costed_of list c.args.settings.now c.args.regions.now c.args.operations.now.descriptors.items (submission_of c.in-Ok.planned) x.prepared x.cost listed (plain c none) h)
+    (λ x h. costed_of list c.args.settings.now c.args.regions.now operations.descriptors.items operations.barriers.items (submission_of c.in-Ok.planned) x.prepared x.cost listed is c.in-Ok.ensures.answer h)
     (kept c)
 
 pub returns-in-Ok-clause-fault : goal.returns-in-Ok-clause-fault
-returns-in-Ok-clause-fault c = λ list listed none.
-    let s = c.args.settings.now in
-    let ds = c.args.operations.now.descriptors.items in
-    IfErr-weaker c.keep.result _ _
-    (λ f h. elim h [
-      | inl memory ↦ inl memory
-      | inr place ↦ inr (place_first (Plans list s) (one_planned list s) list s c.args.regions.now ds (submission_of c.in-Ok.planned) f (inr (ds, listed, plain c none)) listed place)
-    ])
-    (refused c)
-
-pub returns-in-Ok-clause-fenced : goal.returns-in-Ok-clause-fenced
-returns-in-Ok-clause-fenced c = λ list listed is.
-    let operations = c.args.operations.now in
-    IfOk-weaker c.keep.result _ _
-    (λ x h. fenced_costed_of list c.args.settings.now c.args.regions.now operations.descriptors.items operations.barriers.items (submission_of c.in-Ok.planned) x.prepared x.cost listed is c.in-Ok.ensures.answer h)
-    (kept c)
-
-pub returns-in-Ok-clause-fenced_fault : goal.returns-in-Ok-clause-fenced_fault
-returns-in-Ok-clause-fenced_fault c = λ list listed is.
+returns-in-Ok-clause-fault c = λ list listed is.
     let s = c.args.settings.now in
     let p = submission_of c.in-Ok.planned in
     let ds = c.args.operations.now.descriptors.items in
@@ -80,19 +51,12 @@ returns-in-Ok-clause-fenced_fault c = λ list listed is.
     IfErr-weaker c.keep.result _ _
     (λ f h. elim h [
       | inl memory ↦ inl memory
-      | inr place ↦ inr (place_first (PlansFenced list s) (one_fenced_plan list s) (unfenced_list list) s c.args.regions.now ds p f (inr (ds, listed, planned)) listed place)
+      | inr place ↦ inr (place_first list s c.args.regions.now ds p f (inr (ds, listed, planned)) listed place)
     ])
     (refused c)
 
 pub returns-in-Err-clause-fault : goal.returns-in-Err-clause-fault
-returns-in-Err-clause-fault c = λ list listed none.
-    elim c.in-Err.ensures.answer [
-      | inl memory ↦ inl (ap InPlan memory)
-      | inr refused ↦ inr (inr (c.args.operations.now.descriptors.items, listed, refused))
-    ]
-
-pub returns-in-Err-clause-fenced_fault : goal.returns-in-Err-clause-fenced_fault
-returns-in-Err-clause-fenced_fault c = λ list listed is.
+returns-in-Err-clause-fault c = λ list listed is.
     elim c.in-Err.ensures.answer [
       | inl memory ↦ inl (ap InPlan memory)
       | inr refused ↦ inr (inr (c.args.operations.now.descriptors.items, listed, refused))

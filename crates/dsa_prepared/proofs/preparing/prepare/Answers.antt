@@ -2,14 +2,13 @@ use Rattle.std.proofs.Common.{inl, inr, ap, Err}
 use Rattle.std.proofs.lemmas.Result.{IfOk-weaker}
 use Rattle.dsa_calls.specs.declared.fault.PlanFault.{PlanFault}
 use Rattle.dsa_descriptor.specs.Fences.{unfenced_list}
-use Rattle.dsa_calls.specs.Fenced.{PlansFenced}
 use Rattle.dsa_calls.specs.Lists.{IsListOf}
-use Rattle.dsa_calls.proofs.FencedPlans.{one_fenced_plan, refused_list}
+use Rattle.dsa_calls.proofs.FencedPlans.{refused_list}
 use Rattle.dsa_prepared.specs.declared.fault.PrepareFault.TheVariants.{Plan as InPlan}
-use Rattle.dsa_prepared.specs.Preparing.{IsFencedCostedOf}
-use Rattle.dsa_prepared.proofs.Preparation.{no_fenced_cause, one_fenced_cause, refused_by}
-use Rattle.dsa_prepared.proofs.preparing.prepare_fenced.Goals as goal
-use Rattle.dsa_prepared.proofs.preparing.prepare_fenced.Goals.{After-drop-operations-in-Ok}
+use Rattle.dsa_prepared.specs.Preparing.{IsCostedOf}
+use Rattle.dsa_prepared.proofs.Preparation.{no_cause, one_cause, refused_by}
+use Rattle.dsa_prepared.proofs.preparing.prepare.Goals as goal
+use Rattle.dsa_prepared.proofs.preparing.prepare.Goals.{After-drop-operations-in-Ok}
 
 listed : (c : After-drop-operations-in-Ok) → IsListOf (unfenced_list c.args.list.now) c.in-Ok.operations.descriptors.items
 listed c = record { spelled = c.in-Ok.ensures.found.0; owner = c.in-Ok.ensures.found.1 }
@@ -17,10 +16,10 @@ listed c = record { spelled = c.in-Ok.ensures.found.0; owner = c.in-Ok.ensures.f
 pub returns-in-Ok-clause-prepared : goal.returns-in-Ok-clause-prepared
 returns-in-Ok-clause-prepared c =
     IfOk-weaker c.prepare_operations.result _ _ (λ x h. (c.in-Ok.operations.descriptors.items, h))
-    (c.prepare_operations.ensures.fenced c.args.list.now (listed c) c.in-Ok.ensures.barriers)
+    (c.prepare_operations.ensures.prepared c.args.list.now (listed c) c.in-Ok.ensures.barriers)
 
 pub returns-in-Ok-clause-fault : goal.returns-in-Ok-clause-fault
-returns-in-Ok-clause-fault c = c.prepare_operations.ensures.fenced_fault c.args.list.now (listed c) c.in-Ok.ensures.barriers
+returns-in-Ok-clause-fault c = c.prepare_operations.ensures.fault c.args.list.now (listed c) c.in-Ok.ensures.barriers
 
 pub returns-in-Ok-clause-refused : goal.returns-in-Ok-clause-refused
 returns-in-Ok-clause-refused c =
@@ -28,8 +27,8 @@ returns-in-Ok-clause-refused c =
     let s = c.args.settings.now in
     let rs = c.args.regions.now in
     let ds = c.in-Ok.operations.descriptors.items in
-    refused_by (PlansFenced list s) (one_fenced_plan list s) (unfenced_list list) s rs (λ x. IsFencedCostedOf list s rs ds x.prepared x.cost) (λ x h. no_fenced_cause list s rs ds x.prepared x.cost h)
-    c.prepare_operations.result (c.prepare_operations.ensures.fenced list (listed c) c.in-Ok.ensures.barriers) (c.prepare_operations.ensures.fenced_fault list (listed c) c.in-Ok.ensures.barriers)
+    refused_by list s rs (λ x. IsCostedOf list s rs ds x.prepared x.cost) (λ x h. no_cause list s rs ds x.prepared x.cost h)
+    c.prepare_operations.result (c.prepare_operations.ensures.prepared list (listed c) c.in-Ok.ensures.barriers) (c.prepare_operations.ensures.fault list (listed c) c.in-Ok.ensures.barriers)
 
 pub returns-in-Err-clause-fault : goal.returns-in-Err-clause-fault
 returns-in-Err-clause-fault c =
@@ -42,5 +41,5 @@ pub returns-in-Err-clause-refused : goal.returns-in-Err-clause-refused
 returns-in-Err-clause-refused c = λ fault first.
     elim (refused_list c.args.list.now c.args.settings.now c.in-Err.fault c.from.result c.from.ensures c.in-Err.ensures.fault) [
       | inl memory ↦ inr (ap (λ (f : PlanFault). Err (InPlan f)) memory)
-      | inr refused ↦ inl (ap Err (one_fenced_cause c.args.list.now c.args.settings.now c.args.regions.now (InPlan c.from.result) fault refused first))
+      | inr refused ↦ inl (ap Err (one_cause c.args.list.now c.args.settings.now c.args.regions.now (InPlan c.from.result) fault refused first))
     ]

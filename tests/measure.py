@@ -64,7 +64,7 @@ def instructions(caller, kind, length, folder):
     callgrind counts an instruction for each byte."""
     out = f"{folder}/callgrind"
     command = ["valgrind", "--tool=callgrind", f"--toggle-collect={CALL}", f"--callgrind-out-file={out}"]
-    subprocess.run([*command, caller, "1", kind, length], check=True, capture_output=True)
+    subprocess.run([*command, caller, "1", kind, length, "plain"], check=True, capture_output=True)
     show = ["callgrind_annotate", "--auto=no", "--threshold=100", out]
     shown = subprocess.run(show, stdout=subprocess.PIPE, text=True, check=True).stdout
     counts = re.findall(r"^ *([\d,]+) \([ \d.]+%\)  (.*)$", shown, re.M)

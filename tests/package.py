@@ -439,11 +439,11 @@ except Refusal as refusal:
 
 # two moves with a barrier between: a batch of cost 14 with a fence of cost 3, where one of them alone costs 10
 BARRIERS = """
-from dsa_planner import BARRIER, Settings, check_fenced_list, move, plan_fenced_list_certified
+from dsa_planner import BARRIER, Settings, check_list, move, plan_list_certified
 settings = Settings(4, 4096, 10, 14, 3, 65536)
 operations = move(0x1000, 0x2000, 64, 0x8000) + move(0x3000, 0x4000, 64, 0x8020, flags=BARRIER)
-planned = plan_fenced_list_certified(settings, operations)
-cost = check_fenced_list(settings, operations, planned.portal, planned.staging, planned.certificate)
+planned = plan_list_certified(settings, operations)
+cost = check_list(settings, operations, planned.portal, planned.staging, planned.certificate)
 print(cost, planned.cost, planned.certificate.prices, planned.certificate.pairs, planned.marks.hex())
 """
 
@@ -518,7 +518,7 @@ def threads():
     """Random lists from eight threads at once with sanitizers (LISTS sets how many, 100), and the stack that each call
     takes beside what the header says."""
     asked = Path(PREFIX, "include/dsa_planner.h").read_text()
-    words = r"has (\d+) KiB of stack free for dsa_check.*\n.* dsa_judge_fenced_list, and (\d+) KiB for\s"
+    words = r"has (\d+) KiB of stack free for dsa_check, .* and dsa_judge, and (\d+) KiB for\s"
     limits = re.search(words, asked)
     common = ["cc", "-std=c11", "-D_GNU_SOURCE", "-O1", "-g", "-Wall", "-Wextra", "-Werror", "-pthread"]
     tried("stack.c", *common, ROOT / "tests/bindings/stack.c", *linking("dsa_planner_static"), "-o", "stack")

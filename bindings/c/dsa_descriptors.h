@@ -19,7 +19,7 @@ extern "C" {
 #endif
 
 enum {
-    DSA_BARRIER = 0x0001,        /* the operation begins after a barrier: for dsa_plan_fenced_list alone */
+    DSA_BARRIER = 0x0001,        /* the operation begins after a barrier */
     DSA_BLOCK_ON_FAULT = 0x0002, /* the device waits for pages that are absent, if its queue allows that */
     DSA_CHECK_RESULT = 0x0080    /* a compare fails if its result is not the expected one */
 };

@@ -4,6 +4,12 @@
  * A list of operations goes in, 64 bytes for each (struct dsa_hw_desc of linux/idxd.h); out come the bytes that submit
  * it, as batches and lone descriptors with fences, at least cost.
  *
+ * Barriers:  the flag 0x0001, fence, of an operation of a list is a barrier before it. The device starts no piece of
+ *            it, nor of any operation after it, before all pieces before the barrier have ended with status 1; if one
+ *            of them fails, nothing after the barrier is done, as long as the caller stops there, too. Of an operation
+ *            that is split the first piece is after the barrier, and the flag on the first operation says nothing. A
+ *            plan keeps each barrier, by a fence or a new group, and no legal plan that does costs less.
+ *
  * Proved:    of each call but dsa_planner_version, for all inputs of a caller that does what is asked below: which number
  *            it returns, and what it has written then, as its comment here says. The contracts are at the functions of the
  *            same names in crates/dsa_c/src. Tested, not proved: that a call succeeds if there is memory, how much stack it
@@ -37,10 +43,10 @@
  *   - each pointer is aligned and not NULL, and points to as many items as its length says, which can be read (const) or
  *     written (not const). With length 0 it is not read, and any aligned non-null address will do.
  *   - no output of a call overlaps another output or an input of that call. Outputs need not be initialised.
- *   - the calling thread has 256 KiB of stack free for dsa_check, dsa_check_fenced_list, dsa_judge and
- *     dsa_judge_fenced_list, and 64 KiB for the other calls (measured: 166,088 bytes for dsa_check). Main threads and
- *     those of glibc have 8 MiB if no limit is set lower. A thread of musl has 128 KiB, too little for these four,
- *     unless pthread_attr_setstacksize gives it more.
+ *   - the calling thread has 256 KiB of stack free for dsa_check, dsa_check_list and dsa_judge, and 64 KiB for the
+ *     other calls (measured: 166,088 bytes for dsa_check). Main threads and those of glibc have 8 MiB if no limit is
+ *     set lower. A thread of musl has 128 KiB, too little for these three, unless pthread_attr_setstacksize gives it
+ *     more.
  *   - its rattle_alloc, rattle_realloc and rattle_dealloc, if it has its own, return, and may be called by several
  *     threads at once if calls are made so.
  *   - nothing else writes to inputs or outputs, or reads outputs, during the call.
@@ -295,11 +301,10 @@ enum dsa_number {
 uint64_t dsa_refusal_text(const struct dsa_refusal *refusal, char *text, size_t text_capacity);
 
 /*
- * How many pieces a list has, with barriers or without, to size buffers before planning it: with n the result,
- * DSA_PORTAL_ROOM(n) and DSA_STAGING_ROOM(n) bytes are enough. It looks at sizes only and allocates nothing. It returns
- * 65,537 for more pieces than may be planned. If each size is 1 to greatest_transfer and there are at most 65,536
- * operations, the result is list_len / 64. With 0 the settings are refused, or no operation has a byte; dsa_plan_list
- * says which.
+ * How many pieces a list has, to size buffers before planning it: with n the result, DSA_PORTAL_ROOM(n) and
+ * DSA_STAGING_ROOM(n) bytes are enough. It looks at sizes only and allocates nothing. It returns 65,537 for more pieces
+ * than may be planned. If each size is 1 to greatest_transfer and there are at most 65,536 operations, the result is
+ * list_len / 64. With 0 the settings are refused, or no operation has a byte; dsa_plan_list says which.
  */
 uint64_t dsa_count_pieces(const struct dsa_settings *settings,
                           const uint64_t *table, size_t table_len,
@@ -308,8 +313,9 @@ uint64_t dsa_count_pieces(const struct dsa_settings *settings,
 /*
  * Plans a list: 64 bytes for each operation, in their order.
  *
- * If all operations succeed, the final memory is that of the list in order. Nothing is promised of what another thread, an
- * interrupt or the device's other queues see in between, nor that a later operation waits for an earlier one to succeed.
+ * If all operations succeed, the final memory is that of the list in order. Nothing is promised of what another
+ * thread, an interrupt or the device's other queues see in between, nor that a later operation waits for an earlier
+ * one to succeed, if no barrier is between them.
  *
  * Returns 0: portal and staging begin with the bytes that submit the plan of least cost, and planned has their lengths.
  * The rest of each buffer is unchanged; refusal is not written. To run the plan, clear the completion records of all
@@ -320,8 +326,8 @@ uint64_t dsa_count_pieces(const struct dsa_settings *settings,
  * before its entry is written: else the wait passes at once.) The staging area is 96 bytes for each piece from
  * settings->staging on; a list that meets it is refused (33).
  *
- * Returns another number: refusal has it, and nothing else was written. DSA_NO_ROOM: refusal.first and refusal.second
- * are the bytes that portal and staging need.
+ * Returns another number: refusal has it, and nothing else was written. The flag 0x0001 changes no other refusal than
+ * DSA_NO_ROOM, of which refusal.first and refusal.second are the bytes that portal and staging need.
  */
 uint32_t dsa_plan_list(const struct dsa_settings *settings,
                        const uint64_t *table, size_t table_len,
@@ -332,25 +338,10 @@ uint32_t dsa_plan_list(const struct dsa_settings *settings,
                        struct dsa_refusal *refusal);
 
 /*
- * The same, but an operation of the list may have the flag 0x0001, fence: it begins after a barrier. The device starts
- * no piece of it, nor of any operation after it, before all pieces before the barrier have ended with status 1; if one
- * of them fails, nothing after the barrier is done, as long as the caller stops there, too. Of an operation that is
- * split the first piece is after the barrier, and the flag on the first operation says nothing. The plan keeps each
- * barrier, by a fence or a new group, and no legal plan that does costs less. Refusals are those of the list without
- * the flags, but for DSA_NO_ROOM: with barriers other bytes are needed.
- */
-uint32_t dsa_plan_fenced_list(const struct dsa_settings *settings,
-                              const uint64_t *table, size_t table_len,
-                              const uint8_t *list, size_t list_len,
-                              uint8_t *portal, size_t portal_capacity,
-                              uint8_t *staging, size_t staging_capacity,
-                              struct dsa_planned *planned,
-                              struct dsa_refusal *refusal);
-
-/*
  * The same as dsa_plan_list, and for n pieces it writes the plan's certificate, n + 1 prices and n pairs, and n marks
- * (DSA_BEGINS, DSA_FENCED), each to the front of its array. DSA_NO_ROOM_FOR_CERTIFICATE: one of these is too small, and
- * refusal.first is n. The certificate's version is that of the settings.
+ * (DSA_BEGINS, DSA_FENCED), each to the front of its array. DSA_NO_ROOM_FOR_CERTIFICATE: one of these is too small,
+ * and refusal.first is n. The certificate's version is that of the settings; it is for dsa_check_list, and without
+ * barriers for dsa_check, too.
  */
 uint32_t dsa_plan_list_certified(const struct dsa_settings *settings,
                                  const uint64_t *table, size_t table_len,
@@ -362,21 +353,6 @@ uint32_t dsa_plan_list_certified(const struct dsa_settings *settings,
                                  uint8_t *marks, size_t marks_capacity,
                                  struct dsa_planned *planned,
                                  struct dsa_refusal *refusal);
-
-/*
- * The same of dsa_plan_fenced_list: the certificate is for dsa_check_fenced_list, and says that no legal plan that
- * keeps the barriers costs less.
- */
-uint32_t dsa_plan_fenced_list_certified(const struct dsa_settings *settings,
-                                        const uint64_t *table, size_t table_len,
-                                        const uint8_t *list, size_t list_len,
-                                        uint8_t *portal, size_t portal_capacity,
-                                        uint8_t *staging, size_t staging_capacity,
-                                        uint64_t *prices, size_t prices_capacity,
-                                        struct dsa_pair *pairs, size_t pairs_capacity,
-                                        uint8_t *marks, size_t marks_capacity,
-                                        struct dsa_planned *planned,
-                                        struct dsa_refusal *refusal);
 
 /*
  * Checks bytes to submit, whoever made them, with a certificate of this version, whoever wrote it. The lengths are those
@@ -396,23 +372,22 @@ uint32_t dsa_check(const struct dsa_settings *settings,
                    struct dsa_refusal *refusal);
 
 /*
- * The same for a list as dsa_plan_fenced_list takes it, which says where the barriers are: not each fence that is
- * submitted is one. Returns 0 only if the bytes submit the pieces of the list, the plan keeps each barrier, and the
- * certificate proves that no legal plan that does costs less. Else the first refusal, in this order: of the list and
- * its pieces, as of dsa_plan_fenced_list; of the bytes; DSA_OTHER_PIECE, the first submitted piece that is not the
- * list's; of the plan and the certificate. A barrier that is not kept is an inner DSA_UNFENCED, with the pieces just
- * before and just after it.
+ * The same for a list, which says where the barriers are: not each fence that is submitted is one. Returns 0 only if
+ * the bytes submit the pieces of the list, the plan keeps each barrier, and the certificate proves that no legal plan
+ * that does costs less. Else the first refusal, in this order: of the list and its pieces, as of dsa_plan_list; of the
+ * bytes; DSA_OTHER_PIECE, the first submitted piece that is not the list's; of the plan and the certificate. A barrier
+ * that is not kept is an inner DSA_UNFENCED, with the pieces just before and just after it.
  */
-uint32_t dsa_check_fenced_list(const struct dsa_settings *settings,
-                               const uint64_t *table, size_t table_len,
-                               const uint8_t *list, size_t list_len,
-                               const uint8_t *portal, size_t portal_len,
-                               const uint8_t *staging, size_t staging_len,
-                               uint64_t version,
-                               const uint64_t *prices, size_t prices_len,
-                               const struct dsa_pair *pairs, size_t pairs_len,
-                               uint64_t *cost,
-                               struct dsa_refusal *refusal);
+uint32_t dsa_check_list(const struct dsa_settings *settings,
+                        const uint64_t *table, size_t table_len,
+                        const uint8_t *list, size_t list_len,
+                        const uint8_t *portal, size_t portal_len,
+                        const uint8_t *staging, size_t staging_len,
+                        uint64_t version,
+                        const uint64_t *prices, size_t prices_len,
+                        const struct dsa_pair *pairs, size_t pairs_len,
+                        uint64_t *cost,
+                        struct dsa_refusal *refusal);
 
 /*
  * What is left to submit of a list that dsa_plan_list has planned with these settings, once a submission has stopped,
@@ -453,9 +428,10 @@ uint32_t dsa_resume(const struct dsa_settings *settings,
  * Judges a plan of the caller's, a mark for each descriptor of the list. No descriptor is split. The first descriptor
  * begins a group, whatever its mark; bits of a mark beside DSA_BEGINS and DSA_FENCED do not count.
  *
- * Returns 0: cost is what the plan costs; it is within the limits, and each conflict within a batch has its fence.
- * Returns another number: refusal has it, and nothing else was written. DSA_UNFENCED: the pieces refusal.first and
- * refusal.second of one batch conflict, and no fence is between them.
+ * Returns 0: cost is what the plan costs; it is within the limits, each conflict within a batch has its fence, and
+ * each barrier is kept, by a fence of the descriptor after it, or by a group that begins there. Returns another
+ * number: refusal has it, and nothing else was written. DSA_UNFENCED: the pieces refusal.first and refusal.second of
+ * one batch conflict, or are just before and just after a barrier, and no fence is between them.
  */
 uint32_t dsa_judge(const struct dsa_settings *settings,
                    const uint64_t *table, size_t table_len,
@@ -463,18 +439,6 @@ uint32_t dsa_judge(const struct dsa_settings *settings,
                    const uint8_t *marks, size_t marks_len,
                    uint64_t *cost,
                    struct dsa_refusal *refusal);
-
-/*
- * The same for a list as dsa_plan_fenced_list takes it. Returns 0 if the plan also keeps each barrier: by a fence of
- * the descriptor after it, or by a group that begins there. A barrier that is not kept is DSA_UNFENCED, with the
- * pieces just before and just after it.
- */
-uint32_t dsa_judge_fenced_list(const struct dsa_settings *settings,
-                               const uint64_t *table, size_t table_len,
-                               const uint8_t *list, size_t list_len,
-                               const uint8_t *marks, size_t marks_len,
-                               uint64_t *cost,
-                               struct dsa_refusal *refusal);
 
 /* A buffer with which a list was made: addresses first to first + len - 1. */
 struct dsa_region {
@@ -508,11 +472,11 @@ struct dsa_prepared_info {
  * Plans a list once, for dsa_fill to write what submits it on any buffers. regions are the buffers at whose addresses
  * the list was made, in the order of their addresses and without overlap; each range of each operation, and the row of
  * its pieces' records, lies in one of them. settings->staging counts for planning alone: dsa_fill takes one of its
- * own. The flag 0x0001, fence, of an operation is a barrier, as of dsa_plan_fenced_list, and dsa_fill keeps each.
+ * own. What dsa_fill writes keeps each barrier.
  *
  * Returns 0: rows begins with the info->rows rows of the prepared list, and its rest is unchanged; refusal is not
- * written. Returns another number: refusal has it, and nothing else was written. What dsa_plan_fenced_list refuses
- * comes first, then 100 to 102, then DSA_NO_ROOM_FOR_ROWS: refusal.first is the number of rows that are needed.
+ * written. Returns another number: refusal has it, and nothing else was written. What dsa_plan_list refuses comes
+ * first, then 100 to 102, then DSA_NO_ROOM_FOR_ROWS: refusal.first is the number of rows that are needed.
  */
 uint32_t dsa_prepare(const struct dsa_settings *settings,
                      const uint64_t *table, size_t table_len,
@@ -526,13 +490,12 @@ uint32_t dsa_prepare(const struct dsa_settings *settings,
  * Writes what submits a prepared list whose regions begin at these bases, one for each in their order, and whose staging
  * area is at staging_address. It allocates nothing, and rows_len is info->rows.
  *
- * Returns 0: portal and staging begin with info->portal_len and info->staging_len bytes, those that
- * dsa_plan_fenced_list answers for the list at its new addresses; the rest of each buffer is unchanged, and refusal is
- * not written. Returns another number: refusal has it, and nothing else was written. DSA_NOT_PREPARED comes first: the
- * form of the rows is tested each time, so that no rows, damaged or of another origin, make the call read or write out
- * of its arrays. Damaged rows that keep the form are filled like any others, and what is written may then name any
- * address: if rows can be damaged, for example in a file, keep a checksum beside them. Then come 103 to 110, in their
- * order.
+ * Returns 0: portal and staging begin with info->portal_len and info->staging_len bytes, those that dsa_plan_list answers
+ * for the list at its new addresses; the rest of each buffer is unchanged, and refusal is not written. Returns another
+ * number: refusal has it, and nothing else was written. DSA_NOT_PREPARED comes first: the form of the rows is tested each
+ * time, so that no rows, damaged or of another origin, make the call read or write out of its arrays. Damaged rows that
+ * keep the form are filled like any others, and what is written may then name any address: if rows can be damaged, for
+ * example in a file, keep a checksum beside them. Then come 103 to 110, in their order.
  */
 uint32_t dsa_fill(const struct dsa_prepared_row *rows, size_t rows_len,
                   const uint64_t *bases, size_t bases_len,
@@ -586,11 +549,11 @@ uint32_t dsa_track_begin(uint64_t *words, size_t words_len,
                          struct dsa_refusal *refusal);
 
 /*
- * Takes a list as a submission, 64 bytes for each operation, as dsa_plan_list or dsa_plan_fenced_list takes it: what
- * the pieces into which these settings split it read and write, records included, and the staging_len bytes of the
- * staging area at `staging`, which count as written. settings->staging is not read. The flag 0x0001, a barrier, orders
- * nothing between submissions. All pieces of a tracker have one PASID and privilege. The submission gets the first free
- * slot and waits for the outstanding ones that conflict with it, and for those of `also` that are outstanding.
+ * Takes a list as a submission, 64 bytes for each operation: what the pieces into which these settings split it read
+ * and write, records included, and the staging_len bytes of the staging area at `staging`, which count as written.
+ * settings->staging is not read. A barrier orders nothing between submissions. All pieces of a tracker have one PASID
+ * and privilege. The submission gets the first free slot and waits for the outstanding ones that conflict with it, and
+ * for those of `also` that are outstanding.
  *
  * Returns 0: slot and waits are written. Returns another number: refusal has it, and nothing else was written. What
  * planning refuses of the list with this staging address comes first, 83 (setting 7 is `staging`), 1 to 13, and 30 to
@@ -625,8 +588,8 @@ uint32_t dsa_track_spans(uint64_t *words, size_t words_len,
  *
  * A group that fails stops itself alone. With all slots in `also`, UINT64_MAX, each entry waits for all that are
  * outstanding, so for each earlier entry: then a caller that withdraws what waited for a failed group keeps the plan's
- * own stop point. Give it for each plan with barriers (dsa_plan_fenced_list): a tracker sees addresses alone, and would
- * lose a barrier between groups.
+ * own stop point. Give it for each plan with barriers: a tracker sees addresses alone, and would lose a barrier between
+ * groups.
  *
  * Returns 0: slots begins with the slot of each entry, portal_len / 64 of them, and its rest is unchanged; what each
  * waits for says dsa_track_waits. Returns another number: refusal has it, and nothing else was written, nor is any

@@ -23,9 +23,8 @@ from typing import Dict, FrozenSet, Iterable, List, NamedTuple, Optional, Sequen
 __all__ = [
     "BARRIER", "BEGINS", "BLOCK_ON_FAULT", "CAUSES", "FENCED", "MOST_PIECES", "Certificate", "Group", "Planned",
     "Prepared", "Refusal", "Retired", "Settings", "Submitted", "Summary", "Tracker", "apply_delta", "check",
-    "check_fenced_list", "compare", "compare_pattern", "count_pieces", "dualcast", "fill", "groups", "judge",
-    "judge_fenced_list", "library_version", "move", "plan_fenced_list", "plan_fenced_list_certified", "plan_list",
-    "plan_list_certified", "prepare", "resume",
+    "check_list", "compare", "compare_pattern", "count_pieces", "dualcast", "fill", "groups", "judge",
+    "library_version", "move", "plan_list", "plan_list_certified", "prepare", "resume",
 ]
 
 MOST_PIECES = 65_536
@@ -35,7 +34,7 @@ BEGINS = 1
 FENCED = 2
 """The mark of a piece that carries the fence; it is added to `BEGINS`."""
 BARRIER = 0x0001
-"""The flag of an operation that begins after a barrier, for the calls that take barriers alone."""
+"""The flag of an operation that begins after a barrier."""
 BLOCK_ON_FAULT = 0x0002
 """The flag that has the device wait for pages that are absent, if its queue allows that."""
 
@@ -152,13 +151,12 @@ def _declare(library: ctypes.CDLL) -> None:
     calls = {
         "dsa_refusal_text": (ctypes.c_uint64, [refusal, ctypes.c_char_p, size]),
         "dsa_count_pieces": (ctypes.c_uint64, listed),
-        **dict.fromkeys(("dsa_plan_list", "dsa_plan_fenced_list"), (number, [*listed, *rooms, planned, refusal])),
+        "dsa_plan_list": (number, [*listed, *rooms, planned, refusal]),
         "dsa_plan_list_certified": (number, [*listed, *rooms, *certificate, byte, size, planned, refusal]),
-        "dsa_plan_fenced_list_certified": (number, [*listed, *rooms, *certificate, byte, size, planned, refusal]),
         "dsa_check": (ctypes.c_uint32, [*listed, byte, size, ctypes.c_uint64, *certificate, word, refusal]),
-        "dsa_check_fenced_list": (number, [*listed, *[byte, size] * 2, ctypes.c_uint64, *certificate, word, refusal]),
+        "dsa_check_list": (number, [*listed, *[byte, size] * 2, ctypes.c_uint64, *certificate, word, refusal]),
         "dsa_resume": (number, [*listed, byte, size, number, byte, size, word, refusal]),
-        **dict.fromkeys(("dsa_judge", "dsa_judge_fenced_list"), (number, [*listed, byte, size, word, refusal])),
+        "dsa_judge": (number, [*listed, byte, size, word, refusal]),
         "dsa_prepare": (number, [*listed, *kept, info, refusal]),
         "dsa_fill": (ctypes.c_uint32, [rows, size, word, size, ctypes.c_uint64, *rooms, refusal]),
         "dsa_track_begin": (number, [*words, number, number, number, number, refusal]),
@@ -486,47 +484,30 @@ def count_pieces(settings: Settings, operations: Bytes) -> int:
     return int(_library.dsa_count_pieces(raw, table, entries, listed, size))
 
 
-def _summary(call, settings: Settings, operations: Bytes) -> Summary:
-    """What a call that plans a list into buffers answers."""
+def plan_list(settings: Settings, operations: Bytes) -> Summary:
+    """Plans a list: 64 bytes for each operation, in their order. Raises `Refusal`.
+
+    If all operations succeed, the final memory is that of the list in order. Nothing is promised of what another
+    thread, an interrupt or the device's other queues see in between, nor that a later operation waits for an earlier
+    one to succeed, if no barrier is between them.
+
+    An operation with the flag `BARRIER` begins after a barrier. If each entry is awaited, and none is submitted after
+    one that failed, the device starts nothing of it, nor of what comes after it, before all operations before it have
+    ended with status 1. No plan that keeps each barrier costs less."""
     raw, table, entries = settings._raw()
     listed, size = _given("operations", operations)
     pieces = min(int(_library.dsa_count_pieces(raw, table, entries, listed, size)), MOST_PIECES)
     portal, staging = _room(64 * pieces), _room(80 * pieces)
     planned, refusal = _Planned(), _Refusal()
     rooms = portal, 64 * pieces, staging, 80 * pieces
-    _answered(call(raw, table, entries, listed, size, *rooms, planned, refusal), refusal)
+    _answered(_library.dsa_plan_list(raw, table, entries, listed, size, *rooms, planned, refusal), refusal)
     to_portal, to_staging = bytes(portal)[: planned.portal_len], bytes(staging)[: planned.staging_len]
     return Summary(planned.cost, planned.pieces, to_portal, to_staging)
 
 
-def plan_list(settings: Settings, operations: Bytes) -> Summary:
-    """Plans a list: 64 bytes for each operation, in their order. Raises `Refusal`.
-
-    If all operations succeed, the final memory is that of the list in order. Nothing is promised of what another thread, an
-    interrupt or the device's other queues see in between, nor that a later operation waits for an earlier one to succeed.
-    """
-    return _summary(_library.dsa_plan_list, settings, operations)
-
-
-def plan_fenced_list(settings: Settings, operations: Bytes) -> Summary:
-    """The same, but an operation may have the flag `BARRIER`. If each entry is awaited, and none is submitted after one
-    that failed, the device starts nothing of it, nor of what comes after it, before all operations before it have ended
-    with status 1. No plan that keeps each barrier costs less."""
-    return _summary(_library.dsa_plan_fenced_list, settings, operations)
-
-
 def plan_list_certified(settings: Settings, operations: Bytes) -> Planned:
-    """Plans a list, with the marks of its pieces and the certificate of the plan. Raises `Refusal`."""
-    return _certified(_library.dsa_plan_list_certified, settings, operations)
-
-
-def plan_fenced_list_certified(settings: Settings, operations: Bytes) -> Planned:
-    """The same of a list with barriers, as `plan_fenced_list` takes it. The certificate is for `check_fenced_list`."""
-    return _certified(_library.dsa_plan_fenced_list_certified, settings, operations)
-
-
-def _certified(call, settings: Settings, operations: Bytes) -> Planned:
-    """What a call that plans a list with its certificate answers."""
+    """The same, with the marks of its pieces and the certificate of the plan, for `check_list`, and without barriers
+    for `check`, too. Raises `Refusal`."""
     raw, table, entries = settings._raw()
     listed, size = _given("operations", operations)
     pieces = min(int(_library.dsa_count_pieces(raw, table, entries, listed, size)), MOST_PIECES)
@@ -535,7 +516,8 @@ def _certified(call, settings: Settings, operations: Bytes) -> Planned:
     planned, refusal = _Planned(), _Refusal()
     rooms = portal, 64 * pieces, staging, 80 * pieces
     certified = prices, pieces + 1, pairs, pieces, marks, pieces
-    _answered(call(raw, table, entries, listed, size, *rooms, *certified, planned, refusal), refusal)
+    code = _library.dsa_plan_list_certified(raw, table, entries, listed, size, *rooms, *certified, planned, refusal)
+    _answered(code, refusal)
     count = planned.pieces
     couples = [(pair.first, pair.second) for pair in pairs[:count]]
     found: List[Pair] = [None if couple == (_NONE, _NONE) else couple for couple in couples]
@@ -550,14 +532,11 @@ def check(settings: Settings, portal: Bytes, staging: Bytes, certificate: Certif
     return _checked(_library.dsa_check, settings, [_given("portal", portal), _given("staging", staging)], certificate)
 
 
-def check_fenced_list(
-    settings: Settings, operations: Bytes, portal: Bytes, staging: Bytes, certificate: Certificate
-) -> int:
-    """The same for a list as `plan_fenced_list` takes it, which says where the barriers are: the bytes submit the
-    pieces of the list, the plan keeps each barrier, and the certificate proves that no legal plan that does costs
-    less."""
+def check_list(settings: Settings, operations: Bytes, portal: Bytes, staging: Bytes, certificate: Certificate) -> int:
+    """The same for a list, which says where the barriers are: the bytes submit the pieces of the list, the plan keeps
+    each barrier, and the certificate proves that no legal plan that does costs less."""
     given = [_given("operations", operations), _given("portal", portal), _given("staging", staging)]
-    return _checked(_library.dsa_check_fenced_list, settings, given, certificate)
+    return _checked(_library.dsa_check_list, settings, given, certificate)
 
 
 def _checked(call, settings: Settings, given: Sequence, certificate: Certificate) -> int:
@@ -595,22 +574,13 @@ def resume(settings: Settings, operations: Bytes, records: Bytes, failed_first: 
 
 
 def judge(settings: Settings, operations: Bytes, marks: Bytes) -> int:
-    """What a plan of the caller's costs, a mark for each descriptor of the list, if it is within the limits and each
-    conflict within a batch has its fence. No descriptor is split. Raises `Refusal`. It needs 256 KiB of stack."""
-    return _judged(_library.dsa_judge, settings, operations, marks)
-
-
-def judge_fenced_list(settings: Settings, operations: Bytes, marks: Bytes) -> int:
-    """The same for a list as `plan_fenced_list` takes it: the plan keeps each barrier, too."""
-    return _judged(_library.dsa_judge_fenced_list, settings, operations, marks)
-
-
-def _judged(call, settings: Settings, operations: Bytes, marks: Bytes) -> int:
-    """The cost that a call answers of a list and the marks of a plan."""
+    """What a plan of the caller's costs, a mark for each descriptor of the list, if it is within the limits, each
+    conflict within a batch has its fence, and each barrier is kept. No descriptor is split. Raises `Refusal`. It needs
+    256 KiB of stack."""
     raw, table, entries = settings._raw()
     cost, refusal = ctypes.c_uint64(), _Refusal()
     listed, marked = _given("operations", operations), _given("marks", marks)
-    _answered(call(raw, table, entries, *listed, *marked, cost, refusal), refusal)
+    _answered(_library.dsa_judge(raw, table, entries, *listed, *marked, cost, refusal), refusal)
     return cost.value
 
 
@@ -648,9 +618,9 @@ class Prepared:
 
 
 def prepare(settings: Settings, operations: Bytes, regions: Sequence[Tuple[int, int]]) -> Prepared:
-    """Plans a list once, for buffers at any addresses: the regions, each its first address and its length, are those with
-    which the list was made, in the order of their addresses. Operations may have the flag `BARRIER`, as for
-    `plan_fenced_list`; what is filled keeps the barriers. Raises `Refusal`."""
+    """Plans a list once, for buffers at any addresses: the regions, each its first address and its length, are those
+    with which the list was made, in the order of their addresses. What is filled keeps its barriers. Raises
+    `Refusal`."""
     raw, table, entries = settings._raw()
     listed, size = _given("operations", operations)
     pieces = min(int(_library.dsa_count_pieces(raw, table, entries, listed, size)), MOST_PIECES)
@@ -731,7 +701,7 @@ class Tracker:
 
     def submit(self, settings: Settings, operations: Bytes, staging: Tuple[int, int],
                also: Iterable[int] = ()) -> Submitted:
-        """Takes a list as a submission, with barriers or without: the pieces into which these settings split it, and
+        """Takes a list as a submission: the pieces into which these settings split it, and
         the staging area, its address and its length, which counts as written; that of the settings does not. It waits
         for the outstanding ones that conflict with it, and for those of `also` that are outstanding."""
         raw, table, entries = settings._raw()

@@ -68,8 +68,8 @@ int main(int argc, char **argv)
     struct dsa_planned planned;
     struct dsa_refusal refusal;
     put_list(list);
-    if (dsa_plan_fenced_list(&settings, &settings.batch, 0, list, sizeof list, portal, sizeof portal, staging,
-                             sizeof staging, &planned, &refusal)) {
+    if (dsa_plan_list(&settings, &settings.batch, 0, list, sizeof list, portal, sizeof portal, staging, sizeof staging,
+                      &planned, &refusal)) {
         char text[DSA_REFUSAL_TEXT_ROOM];
         fprintf(stderr, "%.*s\n", (int)dsa_refusal_text(&refusal, text, sizeof text), text);
         return 2;

@@ -1,12 +1,12 @@
 /* Lists in which a fence is a barrier, beside every plan of them: fenced [COUNT [SEED]].
  *
- * Random lists of up to seven moves over a few pages, with random barriers. Of all plans those that dsa_judge takes and
- * that begin a group or set a fence at each barrier are legal; the least cost of these is the answer, and what is
- * submitted keeps each barrier. Without barriers the bytes are those of dsa_plan_list, and what that refuses of the
- * list without fences is refused. Of each plan dsa_judge_fenced_list says what it costs, or which barrier it does not
- * keep. With the certificate of these costs dsa_check_fenced_list accepts the bytes of those plans alone that are
- * legal, keep the barriers and cost the least, and no bytes of other pieces; and with its own certificate what
- * dsa_plan_fenced_list_certified writes, which is what dsa_plan_fenced_list does. */
+ * Random lists of up to seven moves over a few pages, with random barriers. Of all plans those that dsa_judge takes of
+ * the list without the flag and that begin a group or set a fence at each barrier are legal; the least cost of these is
+ * the answer, and what is submitted keeps each barrier. A flag that is no barrier changes no byte, and what is refused
+ * of the list without flags is refused. Of each plan dsa_judge says what it costs, or which barrier it does not keep.
+ * With the certificate of these costs dsa_check_list accepts the bytes of those plans alone that are legal, keep the
+ * barriers and cost the least, and no bytes of other pieces; and with its own certificate what dsa_plan_list_certified
+ * writes, which is what dsa_plan_list does. */
 #include <inttypes.h>
 #include <stdio.h>
 #include <stdlib.h>
@@ -119,8 +119,8 @@ static void try_list(const struct list *l)
     struct dsa_planned planned, plain;
     struct dsa_refusal r;
     int any = 0;
-    const uint32_t code = dsa_plan_fenced_list(&l->settings, l->table, l->entries, l->bytes, 64 * l->count, portal,
-                                               sizeof portal, staging, sizeof staging, &planned, &r);
+    const uint32_t code = dsa_plan_list(&l->settings, l->table, l->entries, l->bytes, 64 * l->count, portal,
+                                        sizeof portal, staging, sizeof staging, &planned, &r);
     if (code)
         fail(l, "refused", code, 0);
     const uint64_t best = least(l, marks, 0);
@@ -239,9 +239,9 @@ static struct bytes emitted(const struct list *l, const uint8_t *marks)
 static uint32_t checked(const struct list *l, const struct bytes *b, const struct certificate *c, uint64_t *cost,
                         struct dsa_refusal *r)
 {
-    return dsa_check_fenced_list(&l->settings, l->table, l->entries, l->bytes, 64 * l->count, b->portal, b->portal_len,
-                                 b->staging, b->staging_len, l->settings.version, c->prices, l->count + 1, c->pairs,
-                                 l->count, cost, r);
+    return dsa_check_list(&l->settings, l->table, l->entries, l->bytes, 64 * l->count, b->portal, b->portal_len,
+                          b->staging, b->staging_len, l->settings.version, c->prices, l->count + 1, c->pairs, l->count,
+                          cost, r);
 }
 
 /* A plan that is legal without barriers, and costs this, is judged so exactly if it keeps them; else the first that it
@@ -253,8 +253,8 @@ static void try_judging(const struct list *l, const uint8_t *marks, uint64_t own
     size_t passed_at = 0;
     for (size_t k = l->count; k-- > 1;)
         passed_at = l->is_barrier[k] && !marks[k] ? k : passed_at;
-    const uint32_t code = dsa_judge_fenced_list(&l->settings, l->table, l->entries, l->bytes, 64 * l->count, marks,
-                                                l->count, &cost, &r);
+    const uint32_t code = dsa_judge(&l->settings, l->table, l->entries, l->bytes, 64 * l->count, marks, l->count,
+                                    &cost, &r);
     if (own == UINT64_MAX ? code == DSA_OK : code != (passed_at ? DSA_UNFENCED : DSA_OK))
         fail(l, "judging a plan", code, passed_at);
     if (code ? cost != 7 : cost != own)
@@ -324,12 +324,12 @@ static void try_certified(const struct list *l, const struct bytes *b, const str
     uint8_t marks[MOST] = {0};
     uint64_t cost = 0;
     const size_t n = l->count;
-    const uint32_t narrow = dsa_plan_fenced_list_certified(
+    const uint32_t narrow = dsa_plan_list_certified(
         &l->settings, l->table, l->entries, l->bytes, 64 * n, own.portal, ROOM, own.staging, STAGED, c.prices, n + 1,
         c.pairs, n, marks, n - 1, &summary, &r);
     if (narrow != DSA_NO_ROOM_FOR_CERTIFICATE || r.first != n || summary.pieces)
         fail(l, "a certificate without room", narrow, n);
-    const uint32_t code = dsa_plan_fenced_list_certified(
+    const uint32_t code = dsa_plan_list_certified(
         &l->settings, l->table, l->entries, l->bytes, 64 * n, own.portal, ROOM, own.staging, STAGED, c.prices, n + 1,
         c.pairs, n, marks, n, &summary, &r);
     const struct bytes spelled = emitted(l, marks);
@@ -354,8 +354,8 @@ static void try_checks(struct list *l)
     struct dsa_planned planned;
     struct dsa_refusal r;
     uint64_t cost = 0;
-    if (dsa_plan_fenced_list(&l->settings, l->table, l->entries, l->bytes, 64 * l->count, b.portal, sizeof b.portal,
-                             b.staging, sizeof b.staging, &planned, &r))
+    if (dsa_plan_list(&l->settings, l->table, l->entries, l->bytes, 64 * l->count, b.portal, sizeof b.portal, b.staging,
+                      sizeof b.staging, &planned, &r))
         fail(l, "refused", r.number, 0);
     b.portal_len = planned.portal_len;
     b.staging_len = planned.staging_len;
@@ -387,8 +387,8 @@ static void try_prepared(const struct list *l)
                     sizeof rows / sizeof *rows, &info, &r)
         || dsa_fill(rows, info.rows, bases, 2, area, portal, sizeof portal, staging, sizeof staging, &r))
         fail(l, "preparing is refused", r.number, r.first);
-    if (dsa_plan_fenced_list(&moved.settings, l->table, l->entries, moved.bytes, 64 * l->count, want_portal,
-                             sizeof want_portal, want_staging, sizeof want_staging, &planned, &r))
+    if (dsa_plan_list(&moved.settings, l->table, l->entries, moved.bytes, 64 * l->count, want_portal,
+                      sizeof want_portal, want_staging, sizeof want_staging, &planned, &r))
         fail(l, "the list on the new buffers is refused", r.number, r.first);
     if (info.cost != planned.cost || info.portal_len != planned.portal_len || info.staging_len != planned.staging_len
         || memcmp(portal, want_portal, planned.portal_len) || memcmp(staging, want_staging, planned.staging_len))
@@ -408,8 +408,8 @@ static void try_refusal(struct list *l)
     memcpy(l->plain, l->bytes, sizeof l->plain);
     for (size_t k = 0; k < l->count; k++)
         l->plain[64 * k + 4] &= 0xfe;
-    const uint32_t code = dsa_plan_fenced_list(&l->settings, l->table, l->entries, l->bytes, len, portal, sizeof portal,
-                                               staging, sizeof staging, &planned, &one);
+    const uint32_t code = dsa_plan_list(&l->settings, l->table, l->entries, l->bytes, len, portal, sizeof portal,
+                                        staging, sizeof staging, &planned, &one);
     if (code && (memcmp(portal, old, sizeof old) || planned.cost != 1))
         fail(l, "something is written", code, 0);
     const uint32_t plain = dsa_plan_list(&l->settings, l->table, l->entries, l->plain, len, portal, sizeof portal,

@@ -54,6 +54,7 @@ static void any_operation(uint8_t *d, uint64_t index)
     put(d + 32, size, 4);
     if (below(24) == 0)
         d[below(64)] ^= (uint8_t)(1 << below(8));
+    d[4] &= 0xfe; /* jobs take no barriers */
 }
 
 static void any_settings(void)

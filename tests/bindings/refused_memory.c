@@ -1,5 +1,6 @@
-/* Refuses each allocation of each call in turn, by memory functions of its own: the answer has to be 73, no output but
- * the refusal may have changed, and nothing may be kept. Then each call needs no more than it took with ample memory. */
+/* Refuses each allocation of each call in turn, by memory functions of its own, and of a list with barriers all after
+ * it, too, since such a list is first read as one without: the answer has to be 73, no output but the refusal may have
+ * changed, and nothing may be kept. Then each call needs no more than it took with ample memory. */
 #include <inttypes.h>
 #include <stdio.h>
 #include <stdlib.h>
@@ -8,11 +9,12 @@
 #include "dsa_planner.h"
 
 static uint64_t asked, live, refused_at;
+static int are_more_refused;
 
 struct rattle_block rattle_alloc(size_t size, size_t align)
 {
     static uint8_t none[16];
-    if (++asked == refused_at)
+    if (++asked == refused_at || (are_more_refused && refused_at && asked > refused_at))
         return (struct rattle_block){0, none};
     void *at = aligned_alloc(16, (size + align + 15) / 16 * 16);
     if (!at)
@@ -37,9 +39,9 @@ struct rattle_block rattle_realloc(void *at, size_t old_size, size_t size, size_
     return block;
 }
 
-enum { N = 24, ROWS = 1 + 2 + 3 * N, CALLS = 12, WORDS = 4096 };
+enum { N = 24, ROWS = 1 + 2 + 3 * N, CALLS = 10, WORDS = 4096 };
 static const struct dsa_settings settings = {1, 5, 4096, 10, 14, 3, UINT64_C(1) << 40};
-static uint8_t list[64 * N], records[32 * N], marks_in[N], portal_in[64 * N], staging_in[80 * N];
+static uint8_t list[64 * N], fenced[64 * N], records[32 * N], marks_in[N], portal_in[64 * N], staging_in[80 * N];
 static uint64_t prices_in[N + 1];
 static struct dsa_pair pairs_in[N];
 static struct dsa_planned planned_in;
@@ -104,20 +106,14 @@ static uint32_t call(int which, struct dsa_refusal *r)
     case 4:
         return dsa_prepare(&settings, &settings.batch, 0, list, sizeof list, regions, 2, o->rows, ROWS, &o->info, r);
     case 7:
-        return dsa_plan_fenced_list(&settings, &settings.batch, 0, list, sizeof list, o->portal, sizeof o->portal,
-                                    o->staging, sizeof o->staging, &o->planned, r);
+        return dsa_check_list(&settings, &settings.batch, 0, list, sizeof list, portal_in, planned_in.portal_len,
+                              staging_in, planned_in.staging_len, 1, prices_in, N + 1, pairs_in, N, &o->cost, r);
     case 8:
-        return dsa_check_fenced_list(&settings, &settings.batch, 0, list, sizeof list, portal_in, planned_in.portal_len,
-                                     staging_in, planned_in.staging_len, 1, prices_in, N + 1, pairs_in, N, &o->cost, r);
-    case 9:
-        return dsa_plan_fenced_list_certified(&settings, &settings.batch, 0, list, sizeof list, o->portal,
-                                              sizeof o->portal, o->staging, sizeof o->staging, o->prices, N + 1,
-                                              o->pairs, N, o->marks, N, &o->planned, r);
-    case 10:
-        return dsa_judge_fenced_list(&settings, &settings.batch, 0, list, sizeof list, marks_in, N, &o->cost, r);
-    case 11:
         return dsa_resume(&settings, &settings.batch, 0, list, sizeof list, records, sizeof records, 1, o->portal,
                           sizeof o->portal, &o->cost, r);
+    case 9: /* with a barrier before each third move */
+        return dsa_plan_list(&settings, &settings.batch, 0, fenced, sizeof fenced, o->portal, sizeof o->portal,
+                             o->staging, sizeof o->staging, &o->planned, r);
     default:
         return track(which, r);
     }
@@ -140,6 +136,9 @@ int main(void)
         memcpy(d + 8, fields, 24);
         d[32] = 64;
     }
+    memcpy(fenced, list, sizeof fenced);
+    for (uint64_t i = 0; i < N; i += 3)
+        fenced[64 * i + 4] |= 1;
     if (call(1, &r) != DSA_OK)
         fail("refused with ample memory", 1, 0);
     memcpy(portal_in, outputs.portal, sizeof portal_in);
@@ -150,6 +149,7 @@ int main(void)
     planned_in = outputs.planned;
     for (int which = 0; which < CALLS; which++) {
         refused_at = asked = 0;
+        are_more_refused = which == 9;
         if (call(which, &r) != DSA_OK || live != 0 || asked == 0)
             fail("refused with ample memory, or kept some", which, 0);
         uint64_t growths = asked;
@@ -166,7 +166,7 @@ int main(void)
             if (live != 0)
                 fail("a block was kept", which, refused_at);
         }
-        asked = 0;
+        asked = refused_at = 0;
         if (call(which, &r) != DSA_OK || asked != growths)
             fail("refused afterwards", which, growths + 1);
         printf("call %d: %" PRIu64 " allocations refused in turn\n", which, growths);

@@ -1,6 +1,7 @@
-/* Measures planning in process, beside a loop that only copies the descriptors: speed [ROUNDS [KIND [COUNT]]]. For each kind
- * of list and each number of moves, or for one alone, it prints nanoseconds for each move, best of the rounds: of
- * dsa_plan_list, and of dsa_plan_fenced_list without barriers and with one at each fourth move. It judges nothing. */
+/* Measures planning in process, beside a loop that only copies the descriptors: speed [ROUNDS [KIND [COUNT [plain]]]].
+ * For each kind of list and each number of moves, or for one alone, it prints nanoseconds for each move, best of the
+ * rounds: of dsa_plan_list without barriers, and, unless plain lists alone are wanted, with one at each fourth move. It
+ * judges nothing. */
 #include <inttypes.h>
 #include <stdio.h>
 #include <stdlib.h>
@@ -78,17 +79,14 @@ static void copy_list(uint64_t n)
     __asm__ volatile("" : : "r"(staging) : "memory");
 }
 
-typedef uint32_t planner(const struct dsa_settings *, const uint64_t *, size_t, const uint8_t *, size_t, uint8_t *,
-                         size_t, uint8_t *, size_t, struct dsa_planned *, struct dsa_refusal *);
-
 /* Plans the list `repeat` times: nanoseconds for each move. */
-static double planned_in(planner *call, uint64_t n, uint64_t repeat, struct dsa_planned *planned)
+static double planned_in(uint64_t n, uint64_t repeat, struct dsa_planned *planned)
 {
     static const struct dsa_settings s = {1, 32, 4096, 10, 14, 3, UINT64_C(1) << 40};
     struct dsa_refusal r;
     const double start = now();
     for (uint64_t i = 0; i < repeat; i++)
-        if (call(&s, &s.batch, 0, list, 64 * n, portal, sizeof portal, staging, sizeof staging, planned, &r))
+        if (dsa_plan_list(&s, &s.batch, 0, list, 64 * n, portal, sizeof portal, staging, sizeof staging, planned, &r))
             exit(EXIT_FAILURE);
     return (now() - start) / (double)(repeat * n);
 }
@@ -105,26 +103,25 @@ static double least(double a, double b)
     return a < b ? a : b;
 }
 
-static void measure(const char *kind, uint64_t n, int rounds)
+static void measure(const char *kind, uint64_t n, int rounds, int is_plain)
 {
     const uint64_t repeat = n < 4096 ? 4096 / n : 1;
-    double plan = 1e18, unfenced = 1e18, fenced = 1e18, copy = 1e18;
+    double plan = 1e18, fenced = 1e18, copy = 1e18;
     struct dsa_planned p = {0}, other = {0};
     fill_list(kind, n);
     for (int round = 0; round < rounds; round++) {
-        plan = least(plan, planned_in(dsa_plan_list, n, repeat, &p));
-        unfenced = least(unfenced, planned_in(dsa_plan_fenced_list, n, repeat, &other));
+        plan = least(plan, planned_in(n, repeat, &p));
         turn_barriers(n);
-        fenced = least(fenced, planned_in(dsa_plan_fenced_list, n, repeat, &other));
+        fenced = is_plain ? 0 : least(fenced, planned_in(n, repeat, &other));
         turn_barriers(n);
         const double start = now();
         for (uint64_t i = 0; i < repeat; i++)
             copy_list(n);
         copy = least(copy, (now() - start) / (double)(repeat * n));
     }
-    printf("%-9s %6" PRIu64 " moves: plan %6.1f ns an operation, as a list with fences %6.1f, with a barrier at each"
-           " fourth %6.1f, copy %5.1f; cost %" PRIu64 ", one by one %" PRIu64 "\n",
-           kind, n, plan, unfenced, fenced, copy, p.cost, 10 * n);
+    printf("%-9s %6" PRIu64 " moves: plan %6.1f ns an operation, with a barrier at each fourth %6.1f, copy %5.1f;"
+           " cost %" PRIu64 ", one by one %" PRIu64 "\n",
+           kind, n, plan, fenced, copy, p.cost, 10 * n);
 }
 
 int main(int argc, char **argv)
@@ -138,7 +135,7 @@ int main(int argc, char **argv)
                 continue;
             if (argc > 3 && strtoull(argv[3], NULL, 10) != lengths[k])
                 continue;
-            measure(kinds[kind], lengths[k], rounds);
+            measure(kinds[kind], lengths[k], rounds, argc > 4);
         }
     return EXIT_SUCCESS;
 }

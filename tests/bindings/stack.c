@@ -8,7 +8,7 @@
 
 #include <dsa_planner.h>
 
-enum { MOST = DSA_MOST_PIECES, STACK = 1 << 20, CALLS = 15 };
+enum { MOST = DSA_MOST_PIECES, STACK = 1 << 20, CALLS = 12 };
 
 static const struct dsa_settings settings = {1, 1024, 4096, 10, 14, 3, UINT64_C(1) << 40};
 static uint8_t list[64 * MOST], records[32 * MOST], portal[64 * MOST], staging[80 * MOST], marks[MOST];
@@ -64,37 +64,25 @@ static void *call(void *which)
         code = dsa_judge(s, &s->batch, 0, list, len, marks, n, &cost, &refusal);
         break;
     case 5:
-        code = dsa_prepare(s, &s->batch, 0, list, len, regions, 2, rows, DSA_PREPARED_ROOM(2, MOST), &prepared, &refusal);
+        code = dsa_check_list(s, &s->batch, 0, list, len, portal, planned.portal_len, staging, planned.staging_len, 1,
+                              prices, n + 1, pairs, n, &cost, &refusal);
         break;
     case 6:
-        code = dsa_fill(rows, prepared.rows, bases, 2, s->staging, portal, sizeof portal, staging, sizeof staging, &refusal);
+        code = dsa_prepare(s, &s->batch, 0, list, len, regions, 2, rows, DSA_PREPARED_ROOM(2, MOST), &prepared, &refusal);
         break;
     case 7:
+        code = dsa_fill(rows, prepared.rows, bases, 2, s->staging, portal, sizeof portal, staging, sizeof staging, &refusal);
+        break;
+    case 8:
         code = dsa_track_begin(words, sizeof words / sizeof *words, 1, DSA_TRACKER_SPANS(MOST), 13, 12, &refusal);
         if (code == DSA_OK)
             code = dsa_track_list(words, sizeof words / sizeof *words, s, &s->batch, 0, list, len, s->staging, 96 * n,
                                   0, &slot, &waited, &refusal);
         break;
-    case 8:
+    case 9:
         code = dsa_track_complete(words, sizeof words / sizeof *words, slot, &waited, &ready, &refusal);
         break;
-    case 10:
-        code = dsa_plan_fenced_list(s, &s->batch, 0, list, len, portal, sizeof portal, staging, sizeof staging,
-                                    &planned, &refusal);
-        break;
     case 11:
-        code = dsa_check_fenced_list(s, &s->batch, 0, list, len, portal, planned.portal_len, staging,
-                                     planned.staging_len, 1, prices, n + 1, pairs, n, &cost, &refusal);
-        break;
-    case 12:
-        code = dsa_plan_fenced_list_certified(s, &s->batch, 0, list, len, portal, sizeof portal, staging,
-                                              sizeof staging, prices, MOST + 1, pairs, MOST, marks, MOST, &planned,
-                                              &refusal);
-        break;
-    case 13:
-        code = dsa_judge_fenced_list(s, &s->batch, 0, list, len, marks, n, &cost, &refusal);
-        break;
-    case 14:
         code = dsa_resume(s, &s->batch, 0, list, len, records, 32 * n, 0, portal, sizeof portal, &cost, &refusal);
         break;
     default: /* large groups, and many, are refused once they are read */
@@ -136,9 +124,8 @@ static size_t touched_by(void *(*run)(void *), int which)
 int main(int argc, char **argv)
 {
     static const char *const names[CALLS] = {"count_pieces", "plan_list", "plan_list_certified", "check", "judge",
-                                             "prepare", "fill", "track_list", "track_complete", "track_groups",
-                                             "plan_fenced_list", "check_fenced_list", "plan_fenced_list_certified",
-                                             "judge_fenced_list", "resume"};
+                                             "check_list", "prepare", "fill", "track_list", "track_complete",
+                                             "track_groups", "resume"};
     static const uint64_t lengths[] = {2, 63, 65, 3000, MOST};
     size_t greatest[CALLS] = {0}, limits[2] = {0, 0};
     if (argc != 3)
@@ -156,7 +143,7 @@ int main(int argc, char **argv)
     int is_over = 0;
     for (int which = 0; which < CALLS; which++) {
         printf("%s: %zu bytes of stack\n", names[which], greatest[which]);
-        is_over |= greatest[which] > limits[which == 3 || which == 4 || which == 11 || which == 13];
+        is_over |= greatest[which] > limits[which >= 3 && which <= 5];
     }
     return is_over;
 }

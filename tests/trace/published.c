@@ -58,8 +58,8 @@ static int publishes(struct world *w, void *page, int has_barrier)
     memset(w->unequal[0], 0x5a, PAGE);
     const size_t n = draw(w, list, has_barrier);
     const struct dsa_settings settings = {1, 2 + drawn(8), 1 << 21, drawn(14), drawn(20), drawn(12), at(w->staging)};
-    if (dsa_plan_fenced_list(&settings, &settings.batch, 0, list, 64 * n, portal, sizeof portal, w->staging,
-                             sizeof w->staging, &planned, &refusal))
+    if (dsa_plan_list(&settings, &settings.batch, 0, list, 64 * n, portal, sizeof portal, w->staging, sizeof w->staging,
+                      &planned, &refusal))
         return -1;
     if (!run(page, 0, portal, planned.portal_len))
         return -1; /* the check has not failed */

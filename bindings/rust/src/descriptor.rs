@@ -92,7 +92,7 @@ impl Descriptor {
         self
     }
 
-    /// The same after a barrier, for calls that take barriers alone, as [`plan_fenced_into`](crate::plan_fenced_into).
+    /// The same after a barrier.
     #[must_use]
     pub fn after_barrier(self) -> Descriptor {
         self.with_flags(0x0001)

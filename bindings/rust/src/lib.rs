@@ -1,9 +1,10 @@
 //! Plans lists of descriptors of Intel's Data Streaming Accelerator: slices in, vectors or errors out.
 //!
-//! A list of operations goes in, 64 bytes for each; out come the bytes that submit it, as batches and lone descriptors with
-//! fences, at least cost. This is a safe wrapper of the proved library of the package dsa-planner, which has to be
-//! installed: `build.rs` finds it by `DSA_PLANNER_PREFIX` or by pkg-config, and says what to do if it doesn't. What the
-//! calls promise is proved of the library; this wrapper is tested.
+//! A list of operations goes in, 64 bytes for each; out come the bytes that submit it, as batches and lone descriptors
+//! with fences, at least cost. The flag 0x0001 of an operation ([`Descriptor::after_barrier`]) is a barrier before it,
+//! which each plan keeps. This is a safe wrapper of the proved library of the package dsa-planner, which has to be
+//! installed: `build.rs` finds it by `DSA_PLANNER_PREFIX` or by pkg-config, and says what to do if it doesn't. What
+//! the calls promise is proved of the library; this wrapper is tested.
 //!
 //! ```
 //! use dsa_planner::{plan_list, BatchPrice, Settings};
@@ -18,9 +19,9 @@
 //! # }
 //! ```
 //!
-//! **Threads.** No call keeps state, takes a lock or starts a thread; calls may run at the same time. All types are plain
-//! data: they are `Send` and `Sync`. [`check`], [`check_fenced_list`], [`judge`] and [`judge_fenced_list`] need 256 KiB
-//! of stack, the other calls 64 KiB; a thread that `std` starts has 2 MiB.
+//! **Threads.** No call keeps state, takes a lock or starts a thread; calls may run at the same time. All types are
+//! plain data: they are `Send` and `Sync`. [`check`], [`check_list`] and [`judge`] need 256 KiB of stack, the other
+//! calls 64 KiB; a thread that `std` starts has 2 MiB.
 //!
 //! **Memory.** The library takes its memory from the program's global allocator and has given it back when a call returns.
 //! If the allocator fails within the library, the answer is [`Cause::Memory`].
@@ -292,50 +293,12 @@ pub fn plan_into(
     portal: &mut [u8],
     staging: &mut [u8],
 ) -> Result<Summary, Refusal> {
-    written_by(raw::dsa_plan_list, settings, list, portal, staging)
-}
-
-/// The same, but an operation may have the flag 0x0001 ([`Descriptor::after_barrier`]). If each entry is awaited, and
-/// none is submitted after one that failed, the device starts nothing of it, nor of what comes after it, before all
-/// operations before it have ended with status 1. No legal plan that keeps each barrier costs less.
-///
-/// # Errors
-/// The same, of the list without the flags; but other buffers may be too small.
-///
-/// ```
-/// # use dsa_planner::{list_of, plan_fenced_into, BatchPrice, Descriptor, Settings};
-/// # let (lone, batch, fence) = (10, BatchPrice::Flat(14), 3);
-/// # let settings = Settings { greatest_batch: 4, greatest_transfer: 4096, lone, batch, fence, staging: 0x10000 };
-/// let checked = Descriptor::compare(0x1000, 0x2000, 64, 0x8000).expecting(false);
-/// let publish = Descriptor::memory_move(0x3000, 0x4000, 64, 0x8020).after_barrier();
-/// let (mut portal, mut staging) = ([0; 128], [0; 160]);
-/// let summary = plan_fenced_into(&settings, &list_of(&[checked, publish]), &mut portal, &mut staging)?;
-/// assert_eq!(summary.cost, 17); // one batch, with a fence before the move
-/// # Ok::<(), dsa_planner::Refusal>(())
-/// ```
-pub fn plan_fenced_into(
-    settings: &Settings,
-    list: &[u8],
-    portal: &mut [u8],
-    staging: &mut [u8],
-) -> Result<Summary, Refusal> {
-    written_by(raw::dsa_plan_fenced_list, settings, list, portal, staging)
-}
-
-// What a call of the library that plans a list into buffers answers.
-fn written_by(
-    call: raw::PlanInto,
-    settings: &Settings,
-    list: &[u8],
-    portal: &mut [u8],
-    staging: &mut [u8],
-) -> Result<Summary, Refusal> {
     let (raw, table) = settings.raw();
     let (mut summary, mut refusal) = (Summary::default(), raw::Refusal::default());
     // SAFETY: each pointer and length are those of one slice, or of one struct, and no output overlaps another
     // argument.
     let code = unsafe {
-        call(
+        raw::dsa_plan_list(
             &raw,
             table.as_ptr(),
             table.len(),
@@ -354,52 +317,30 @@ fn written_by(
 
 /// Plans a list: 64 bytes for each operation, in their order.
 ///
-/// If all operations succeed, the final memory is that of the list in order. Nothing is promised of what another thread, an
-/// interrupt or the device's other queues see in between, nor that a later operation waits for an earlier one to succeed.
+/// If all operations succeed, the final memory is that of the list in order. Nothing is promised of what another
+/// thread, an interrupt or the device's other queues see in between, nor that a later operation waits for an earlier
+/// one to succeed, if no barrier is between them.
+///
+/// An operation with the flag 0x0001 ([`Descriptor::after_barrier`]) begins after a barrier. If each entry is awaited,
+/// and none is submitted after one that failed, the device starts nothing of it, nor of what comes after it, before
+/// all operations before it have ended with status 1. No legal plan that keeps each barrier costs less. The
+/// certificate is for [`check_list`], and without barriers for [`check`], too.
 ///
 /// # Errors
 /// The first fault of the list or the settings; [`Cause::Memory`].
 ///
 /// ```
-/// # use dsa_planner::{plan_list, BatchPrice, Settings};
-/// # let (lone, batch, fence) = (10, BatchPrice::Flat(14), 3);
-/// # let settings = Settings { greatest_batch: 4, greatest_transfer: 4096, lone, batch, fence, staging: 0x10000 };
-/// # let mut list = [0u8; 64];
-/// # (list[4], list[7], list[9], list[17], list[25], list[32]) = (0x0c, 0x03, 0x80, 0x10, 0x20, 64);
-/// let planned = plan_list(&settings, &list)?;
-/// assert_eq!((planned.cost, planned.certificate.prices), (10, vec![0, 10]));
-/// # Ok::<(), dsa_planner::Refusal>(())
-/// ```
-pub fn plan_list(settings: &Settings, list: &[u8]) -> Result<Planned, Refusal> {
-    certified_by(raw::dsa_plan_list_certified, settings, list)
-}
-
-/// The same of a list with barriers, as [`plan_fenced_into`] takes it. The certificate is for [`check_fenced_list`].
-///
-/// # Errors
-/// The first fault of the list, without the flags, or the settings; [`Cause::Memory`].
-///
-/// ```
-/// # use dsa_planner::{check_fenced_list, list_of, plan_fenced_list, BatchPrice, Descriptor, Settings};
+/// # use dsa_planner::{check_list, list_of, plan_list, BatchPrice, Descriptor, Settings};
 /// # let (lone, batch, fence) = (10, BatchPrice::Flat(14), 3);
 /// # let settings = Settings { greatest_batch: 4, greatest_transfer: 4096, lone, batch, fence, staging: 0x10000 };
 /// let checked = Descriptor::compare(0x1000, 0x2000, 64, 0x8000).expecting(false);
 /// let list = list_of(&[checked, Descriptor::memory_move(0x3000, 0x4000, 64, 0x8020).after_barrier()]);
-/// let planned = plan_fenced_list(&settings, &list)?;
-/// let cost = check_fenced_list(&settings, &list, &planned.portal, &planned.staging, &planned.certificate)?;
-/// assert_eq!((cost, planned.cost), (17, 17));
+/// let planned = plan_list(&settings, &list)?;
+/// let cost = check_list(&settings, &list, &planned.portal, &planned.staging, &planned.certificate)?;
+/// assert_eq!((cost, planned.cost), (17, 17)); // one batch, with a fence before the move
 /// # Ok::<(), dsa_planner::Refusal>(())
 /// ```
-pub fn plan_fenced_list(settings: &Settings, list: &[u8]) -> Result<Planned, Refusal> {
-    certified_by(raw::dsa_plan_fenced_list_certified, settings, list)
-}
-
-// What a call of the library that plans a list with its certificate answers.
-fn certified_by(
-    call: raw::PlanCertified,
-    settings: &Settings,
-    list: &[u8],
-) -> Result<Planned, Refusal> {
+pub fn plan_list(settings: &Settings, list: &[u8]) -> Result<Planned, Refusal> {
     let (raw, table) = settings.raw();
     let pieces = usize::try_from(count_pieces(settings, list)).map_or(0, |n| n.min(MOST_PIECES));
     let (mut portal, mut staging) = (vec![0; 64 * pieces], vec![0; 80 * pieces]);
@@ -408,7 +349,7 @@ fn certified_by(
     let (mut summary, mut refusal) = (Summary::default(), raw::Refusal::default());
     // SAFETY: each pointer and length are those of one slice, or of one struct, and no output overlaps another argument.
     let code = unsafe {
-        call(
+        raw::dsa_plan_list_certified(
             &raw,
             table.as_ptr(),
             table.len(),
@@ -503,27 +444,26 @@ fn raw_pairs(certificate: &Certificate) -> Vec<raw::Pair> {
     certificate.pairs.iter().map(pair_of).collect()
 }
 
-/// The same for a list as [`plan_fenced_into`] takes it, which says where the barriers are: the bytes submit the pieces
-/// of the list, the plan keeps each barrier, and the certificate proves that no legal plan that does costs less. It
-/// needs 256 KiB of stack.
+/// The same for a list, which says where the barriers are: the bytes submit the pieces of the list, the plan keeps each
+/// barrier, and the certificate proves that no legal plan that does costs less. It needs 256 KiB of stack.
 ///
 /// # Errors
 /// The first fault of the settings, the list and its pieces, or the bytes; [`Cause::OtherPiece`]; then that of the plan
 /// or the certificate. A barrier that is not kept is an inner [`Cause::Unfenced`].
 ///
 /// ```
-/// # use dsa_planner::{check_fenced_list, list_of, plan_fenced_into, BatchPrice, Certificate, Descriptor, Settings};
+/// # use dsa_planner::{check_list, list_of, plan_into, BatchPrice, Certificate, Descriptor, Settings};
 /// # let (lone, batch, fence) = (10, BatchPrice::Flat(14), 3);
 /// # let settings = Settings { greatest_batch: 4, greatest_transfer: 4096, lone, batch, fence, staging: 0x10000 };
 /// let checked = Descriptor::compare(0x1000, 0x2000, 64, 0x8000).expecting(false);
 /// let list = list_of(&[checked, Descriptor::memory_move(0x3000, 0x4000, 64, 0x8020).after_barrier()]);
 /// let (mut portal, mut staging) = ([0; 64], [0; 160]);
-/// let summary = plan_fenced_into(&settings, &list, &mut portal, &mut staging)?;
+/// let summary = plan_into(&settings, &list, &mut portal, &mut staging)?;
 /// let certificate = Certificate { version: 1, prices: vec![0, 10, 17], pairs: vec![Some((0, 1)), None] };
-/// assert_eq!(check_fenced_list(&settings, &list, &portal, &staging, &certificate)?, summary.cost);
+/// assert_eq!(check_list(&settings, &list, &portal, &staging, &certificate)?, summary.cost);
 /// # Ok::<(), dsa_planner::Refusal>(())
 /// ```
-pub fn check_fenced_list(
+pub fn check_list(
     settings: &Settings,
     list: &[u8],
     portal: &[u8],
@@ -535,7 +475,7 @@ pub fn check_fenced_list(
     let (mut cost, mut refusal) = (0, raw::Refusal::default());
     // SAFETY: each pointer and length are those of one slice, or of one struct, and no output overlaps an argument.
     let code = unsafe {
-        raw::dsa_check_fenced_list(
+        raw::dsa_check_list(
             &raw,
             table.as_ptr(),
             table.len(),
@@ -625,62 +565,30 @@ pub fn resume(
     Ok(rest)
 }
 
-/// What a plan of the caller's costs, a mark for each descriptor of the list, if it is within the limits and each
-/// conflict within a batch has its fence. No descriptor is split. It needs 256 KiB of stack.
+/// What a plan of the caller's costs, a mark for each descriptor of the list, if it is within the limits, each conflict
+/// within a batch has its fence, and each barrier is kept. No descriptor is split. It needs 256 KiB of stack.
 ///
 /// # Errors
-/// The first fault of the settings, the list or the plan, as [`Cause::Unfenced`].
+/// The first fault of the settings, the list or the plan, as [`Cause::Unfenced`], with two pieces that conflict, or
+/// those just before and just after a barrier.
 ///
 /// ```
-/// # use dsa_planner::{judge, BatchPrice, Settings, BEGINS};
-/// # let (lone, batch, fence) = (10, BatchPrice::Flat(14), 3);
-/// # let settings = Settings { greatest_batch: 4, greatest_transfer: 4096, lone, batch, fence, staging: 0x10000 };
-/// # let mut list = [0u8; 64];
-/// # (list[4], list[7], list[9], list[17], list[25], list[32]) = (0x0c, 0x03, 0x80, 0x10, 0x20, 64);
-/// assert_eq!(judge(&settings, &list, &[BEGINS])?, 10);
-/// # Ok::<(), dsa_planner::Refusal>(())
-/// ```
-pub fn judge(settings: &Settings, list: &[u8], marks: &[u8]) -> Result<u64, Refusal> {
-    judged_by(raw::dsa_judge, settings, list, marks)
-}
-
-/// The same for a list as [`plan_fenced_into`] takes it: the plan keeps each barrier, too. It needs 256 KiB of stack.
-///
-/// # Errors
-/// The first fault of the settings, the list without the flags, or the plan. A barrier that is not kept is
-/// [`Cause::Unfenced`], with the pieces just before and just after it.
-///
-/// ```
-/// # use dsa_planner::{judge_fenced_list, list_of, BatchPrice, Cause, Descriptor, Settings, BEGINS, FENCED};
+/// # use dsa_planner::{judge, list_of, BatchPrice, Cause, Descriptor, Settings, BEGINS, FENCED};
 /// # let (lone, batch, fence) = (10, BatchPrice::Flat(14), 3);
 /// # let settings = Settings { greatest_batch: 4, greatest_transfer: 4096, lone, batch, fence, staging: 0x10000 };
 /// let checked = Descriptor::compare(0x1000, 0x2000, 64, 0x8000).expecting(false);
 /// let list = list_of(&[checked, Descriptor::memory_move(0x3000, 0x4000, 64, 0x8020).after_barrier()]);
-/// assert_eq!(judge_fenced_list(&settings, &list, &[BEGINS, FENCED])?, 17);
-/// let refusal = judge_fenced_list(&settings, &list, &[BEGINS, 0]).unwrap_err();
+/// assert_eq!(judge(&settings, &list, &[BEGINS, FENCED])?, 17);
+/// let refusal = judge(&settings, &list, &[BEGINS, 0]).unwrap_err();
 /// assert_eq!((refusal.cause, refusal.first, refusal.second), (Cause::Unfenced, 0, 1));
 /// # Ok::<(), dsa_planner::Refusal>(())
 /// ```
-pub fn judge_fenced_list(
-    settings: &Settings,
-    list: &[u8],
-    marks: &[u8],
-) -> Result<u64, Refusal> {
-    judged_by(raw::dsa_judge_fenced_list, settings, list, marks)
-}
-
-// What a call of the library that judges a plan answers.
-fn judged_by(
-    call: raw::Judge,
-    settings: &Settings,
-    list: &[u8],
-    marks: &[u8],
-) -> Result<u64, Refusal> {
+pub fn judge(settings: &Settings, list: &[u8], marks: &[u8]) -> Result<u64, Refusal> {
     let (raw, table) = settings.raw();
     let (mut cost, mut refusal) = (0, raw::Refusal::default());
     // SAFETY: each pointer and length are those of one slice, or of one struct, and no output overlaps another argument.
     let code = unsafe {
-        call(
+        raw::dsa_judge(
             &raw,
             table.as_ptr(),
             table.len(),

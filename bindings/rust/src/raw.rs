@@ -39,55 +39,6 @@ pub struct Info {
     pub staging_len: u64,
 }
 
-// A call that plans a list into buffers.
-pub(crate) type PlanInto = unsafe extern "C" fn(
-    settings: &Settings,
-    table: *const u64,
-    table_len: usize,
-    list: *const u8,
-    list_len: usize,
-    portal: *mut u8,
-    portal_capacity: usize,
-    staging: *mut u8,
-    staging_capacity: usize,
-    planned: &mut Summary,
-    refusal: &mut Refusal,
-) -> u32;
-
-// A call that plans a list into buffers, with its certificate and marks.
-pub(crate) type PlanCertified = unsafe extern "C" fn(
-    settings: &Settings,
-    table: *const u64,
-    table_len: usize,
-    list: *const u8,
-    list_len: usize,
-    portal: *mut u8,
-    portal_capacity: usize,
-    staging: *mut u8,
-    staging_capacity: usize,
-    prices: *mut u64,
-    prices_capacity: usize,
-    pairs: *mut Pair,
-    pairs_capacity: usize,
-    marks: *mut u8,
-    marks_capacity: usize,
-    planned: &mut Summary,
-    refusal: &mut Refusal,
-) -> u32;
-
-// A call that judges a plan.
-pub(crate) type Judge = unsafe extern "C" fn(
-    settings: &Settings,
-    table: *const u64,
-    table_len: usize,
-    list: *const u8,
-    list_len: usize,
-    marks: *const u8,
-    marks_len: usize,
-    cost: &mut u64,
-    refusal: &mut Refusal,
-) -> u32;
-
 extern "C" {
     pub fn dsa_planner_version() -> u32;
 
@@ -115,41 +66,7 @@ extern "C" {
         refusal: &mut Refusal,
     ) -> u32;
 
-    pub fn dsa_plan_fenced_list(
-        settings: &Settings,
-        table: *const u64,
-        table_len: usize,
-        list: *const u8,
-        list_len: usize,
-        portal: *mut u8,
-        portal_capacity: usize,
-        staging: *mut u8,
-        staging_capacity: usize,
-        planned: &mut Summary,
-        refusal: &mut Refusal,
-    ) -> u32;
-
     pub fn dsa_plan_list_certified(
-        settings: &Settings,
-        table: *const u64,
-        table_len: usize,
-        list: *const u8,
-        list_len: usize,
-        portal: *mut u8,
-        portal_capacity: usize,
-        staging: *mut u8,
-        staging_capacity: usize,
-        prices: *mut u64,
-        prices_capacity: usize,
-        pairs: *mut Pair,
-        pairs_capacity: usize,
-        marks: *mut u8,
-        marks_capacity: usize,
-        planned: &mut Summary,
-        refusal: &mut Refusal,
-    ) -> u32;
-
-    pub fn dsa_plan_fenced_list_certified(
         settings: &Settings,
         table: *const u64,
         table_len: usize,
@@ -186,7 +103,7 @@ extern "C" {
         refusal: &mut Refusal,
     ) -> u32;
 
-    pub fn dsa_check_fenced_list(
+    pub fn dsa_check_list(
         settings: &Settings,
         table: *const u64,
         table_len: usize,
@@ -221,18 +138,6 @@ extern "C" {
     ) -> u32;
 
     pub fn dsa_judge(
-        settings: &Settings,
-        table: *const u64,
-        table_len: usize,
-        list: *const u8,
-        list_len: usize,
-        marks: *const u8,
-        marks_len: usize,
-        cost: &mut u64,
-        refusal: &mut Refusal,
-    ) -> u32;
-
-    pub fn dsa_judge_fenced_list(
         settings: &Settings,
         table: *const u64,
         table_len: usize,

@@ -108,14 +108,14 @@ impl Tracker {
         answer(code, Tracker { words }, refusal)
     }
 
-    /// Takes a list as a submission, with barriers or without: the pieces into which these settings split it, and the
-    /// staging area, which counts as written. The address of the settings' own staging area does not count. It waits
-    /// for the outstanding ones that conflict with it, and for those of `also` that are outstanding. A barrier orders
-    /// nothing between submissions.
+    /// Takes a list as a submission: the pieces into which these settings split it, and the staging area, which counts
+    /// as written. The address of the settings' own staging area does not count. It waits for the outstanding ones
+    /// that conflict with it, and for those of `also` that are outstanding. A barrier orders nothing between
+    /// submissions.
     ///
     /// # Errors
-    /// What [`plan_fenced_list`](crate::plan_fenced_list) refuses of the list with this staging address; then the first
-    /// of [`Cause::NoSlot`](crate::Cause::NoSlot), `TooManySpans`, `SpanWrap` and `OtherOwner`.
+    /// What [`plan_list`](crate::plan_list) refuses of the list with this staging address; then the first of
+    /// [`Cause::NoSlot`](crate::Cause::NoSlot), `TooManySpans`, `SpanWrap` and `OtherOwner`.
     pub fn submit(
         &mut self,
         settings: &Settings,

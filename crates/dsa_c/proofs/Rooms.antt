@@ -13,7 +13,6 @@ use Rattle.dsa_descriptor.specs.Places.{u32_at}
 use Rattle.dsa_descriptor.proofs.Rules.{spelling_stands}
 use Rattle.dsa_descriptor.proofs.Entries.{chunks_spelt, length-list_spelling}
 use Rattle.dsa_image.specs.Lines.{quotient_up}
-use Rattle.dsa_ranges.specs.Ranges.{ConflictAt}
 use Rattle.dsa_plan.specs.Plan.{Plan, Group, piece_count}
 use Rattle.dsa_plan.specs.Settings.{Limits}
 use Rattle.dsa_plan.specs.Legal.{IsLegal}
@@ -28,10 +27,10 @@ use Rattle.dsa_splitter.proofs.Walks.{length_all}
 use Rattle.dsa_descriptor.specs.Fences.{barriers_of, unfenced_list}
 use Rattle.dsa_calls.specs.Fenced.{PiecesConflict, PlansFenced}
 use Rattle.dsa_calls.specs.Lists.{IsListOf}
-use Rattle.dsa_calls.specs.Planned.{Submission, Plans, CanBePlanned}
+use Rattle.dsa_calls.specs.Planned.{Submission, CanBePlanned}
 use Rattle.dsa_descriptor.proofs.Seen.{entries_unfenced}
 use Rattle.dsa_calls.proofs.FencedPlans.{fenced_plan_is_least}
-use Rattle.dsa_calls.proofs.Submissions.{pieces_can, can_emit, planned_is_least_and_shown}
+use Rattle.dsa_calls.proofs.Submissions.{pieces_can, can_emit}
 use Rattle.dsa_c.specs.Counting.{pieces_of, HasRoom}
 
 -- batches have two pieces at least, and no more than there are
@@ -107,20 +106,6 @@ pieces_counted list s ds pieces listed split is =
 
 -- ---- of a planned list
 
-pub planned_counted : (list : List ℕ) (s : Limits) (p : Submission) → Plans list s (Ok p) → AreCounted list s p.pieces
-planned_counted list s p (inl (fault, not, first, bad)) = absurd (cc)
-planned_counted list s p (inr (ds, listed, of)) = pieces_counted list s ds p.pieces listed of.split of.pieces_are
-
--- its emission has that much room
-pub has_room : (list : List ℕ) (s : Limits) (p : Submission) → Plans list s (Ok p) → HasRoom p
-has_room list s p (inl (fault, not, first, bad)) = absurd (cc)
-has_room list s p (inr (ds, listed, of)) =
-    let can = (planned_counted list s p (inr (ds, listed, of))).can in
-    let legal : IsLegal (ConflictAt (map fields p.pieces)) s.greatest_batch (length p.pieces) p.plan = (planned_is_least_and_shown list s p (inr (ds, listed, of))).least.legal in
-    emission_has_room (ConflictAt (map fields p.pieces)) s p can legal of.portal_is of.staging_is
-
--- ---- of a planned list in which a fence is a barrier
-
 -- without its fence an entry has the same size
 size_unfenced : (e : List ℕ) → u32_at 32 (unfenced e) ≡ u32_at 32 e
 unfolding u32_at
@@ -134,9 +119,9 @@ sizes_unfenced greatest (e ∷ es) =
     ∙ ap (λ (n : ℕ). pieces_of greatest e + n) (sizes_unfenced greatest es)
     ∙ sym (sum_by-cons (pieces_of greatest) e es)
 
-pub fenced_counted : (list : List ℕ) (s : Limits) (p : Submission) → PlansFenced list s (Ok p) → AreCounted list s p.pieces
-fenced_counted list s p (inl (fault, not, first, bad)) = absurd (cc)
-fenced_counted list s p (inr (ds, listed, of)) =
+pub planned_counted : (list : List ℕ) (s : Limits) (p : Submission) → PlansFenced list s (Ok p) → AreCounted list s p.pieces
+planned_counted list s p (inl (fault, not, first, bad)) = absurd (cc)
+planned_counted list s p (inr (ds, listed, of)) =
     let here : AreCounted (unfenced_list list) s p.pieces = pieces_counted (unfenced_list list) s ds p.pieces listed of.split of.pieces_are in
     record {
       can = here.can;
@@ -145,9 +130,9 @@ fenced_counted list s p (inr (ds, listed, of)) =
           sym (sizes_unfenced s.greatest_transfer (entries list)) ∙ ap (sum_by (pieces_of s.greatest_transfer)) (sym (entries_unfenced list)) ∙ here.count;
     }
 
-pub fenced_has_room : (list : List ℕ) (s : Limits) (p : Submission) → PlansFenced list s (Ok p) → HasRoom p
-fenced_has_room list s p (inl (fault, not, first, bad)) = absurd (cc)
-fenced_has_room list s p (inr (ds, listed, of)) =
-    let can = (fenced_counted list s p (inr (ds, listed, of))).can in
+pub has_room : (list : List ℕ) (s : Limits) (p : Submission) → PlansFenced list s (Ok p) → HasRoom p
+has_room list s p (inl (fault, not, first, bad)) = absurd (cc)
+has_room list s p (inr (ds, listed, of)) =
+    let can = (planned_counted list s p (inr (ds, listed, of))).can in
     let least = fenced_plan_is_least list s p (inr (ds, listed, of)) in
     emission_has_room (PiecesConflict s (map fields least.operations) (barriers_of list) (map fields p.pieces)) s p can least.least.legal of.of_pieces.portal_is of.of_pieces.staging_is

@@ -10,9 +10,13 @@ use Rattle.dsa_plan.specs.EmissionFaults.{IsEmission}
 use Rattle.dsa_plan.specs.Certificate.{Contents}
 use Rattle.dsa_calls.specs.declared.fault.PlanFault.{PlanFault}
 use Rattle.dsa_calls.specs.declared.fault.PlanFault.TheVariants.{Memory}
+use Rattle.dsa_calls.specs.declared.checking.FencedFault.{FencedFault}
+use Rattle.dsa_calls.specs.declared.checking.FencedFault.TheVariants.{Call, OtherPiece}
 use Rattle.dsa_calls.specs.Checked.{Checks}
+use Rattle.dsa_calls.specs.FencedChecked.{ChecksFenced, IsLeastEmission}
 use Rattle.dsa_c.specs.declared.settings.RawSettings.{RawSettings}
 use Rattle.dsa_c.specs.declared.refusal.RawRefusal.{RawRefusal}
+use Rattle.dsa_c.specs.Preparing.{refusal_at}
 use Rattle.dsa_c.specs.Raw.{limits_of, AreSettings, RefusesSettings, refusal_of}
 
 -- checking answers this cost, and no legal plan of the pieces that the bytes submit costs less, whoever wrote the certificate
@@ -29,3 +33,25 @@ RefusesCheck s table portal staging c r =
     RefusesSettings s table r
     ⊎ ((r ≡ refusal_of Memory) × AreSettings s table)
     ⊎ ((fault : PlanFault) × AreSettings s table × Checks portal staging (limits_of s table) c (Err fault) × (r ≡ refusal_of fault))
+
+-- ---- for a list
+
+-- the refusal of a cause why bytes are refused for a list; number 66 for a piece that is not the list's (this project's
+-- choice)
+abbrev pub list_refusal_of : FencedFault → RawRefusal
+list_refusal_of (Call fault) = refusal_of fault
+list_refusal_of (OtherPiece piece) = refusal_at 66 piece 0
+
+-- checking for the list, whose fences are barriers, answers this cost, so the bytes submit its pieces by a plan that keeps
+-- the barriers, and no legal plan that does costs less, whoever wrote the certificate
+pub record IsCheckedListCost (s : RawSettings) (table list portal staging : List ℕ) (c : Contents) (cost : ℕ) : Type 0 where
+  pub settings : AreSettings s table
+  pub checks : ChecksFenced list portal staging (limits_of s table) c (Ok cost)
+  pub least : IsLeastEmission list portal staging (limits_of s table) cost
+
+-- why checking for the list refuses: the numbers are no settings, and one is named; an allocation failed; or checking answers this fault
+abbrev pub RefusesCheckList : RawSettings → List ℕ → List ℕ → List ℕ → List ℕ → Contents → RawRefusal → Type 0
+RefusesCheckList s table list portal staging c r =
+    RefusesSettings s table r
+    ⊎ ((r ≡ refusal_of Memory) × AreSettings s table)
+    ⊎ ((fault : FencedFault) × AreSettings s table × ChecksFenced list portal staging (limits_of s table) c (Err fault) × (r ≡ list_refusal_of fault))

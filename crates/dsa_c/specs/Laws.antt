@@ -1,7 +1,15 @@
--- Marks and plans spell each other.
-use Rattle.std.specs.Prelude.{◌≡◌, ℕ, ◌<◌, true, List, [], ◌∷◌, All, length}
+-- Marks and plans spell each other; and what planning and judging answer of a list without fences.
+use Rattle.std.specs.Prelude.{◌≡◌, ℕ, ◌<◌, true, List, [], ◌∷◌, All, length, Ok}
 use Rattle.dsa_plan.specs.Plan.{Plan, piece_count}
+use Rattle.dsa_calls.specs.Fenced.{HasNoFences}
+use Rattle.dsa_calls.specs.Judge.{Judges}
+use Rattle.dsa_calls.specs.Laws.{IsLeastAndShown}
+use Rattle.dsa_calls.specs.Planned.{Submission, Plans}
+use Rattle.dsa_c.specs.declared.settings.RawSettings.{RawSettings}
 use Rattle.dsa_c.specs.Marks.{marks_of, plan_of, begins_group}
+use Rattle.dsa_c.specs.Judging.{IsJudgedCost}
+use Rattle.dsa_c.specs.Planning.{IsPlannedFor}
+use Rattle.dsa_c.specs.Raw.{limits_of, AreSettings}
 
 -- the marks of a plan spell it, and there are as many marks as pieces
 pub record AreSpelt (plan : Plan) : Type 0 where
@@ -20,3 +28,16 @@ AreMarks (first ∷ rest) = (begins_group first ≡ true) × All (λ mark. mark 
 -- such marks are those of the plan that they spell
 abbrev pub PlansSpellMarks : Type 0
 PlansSpellMarks = (marks : List ℕ) → AreMarks marks → marks_of (plan_of marks) ≡ marks
+
+-- a list without the flag is planned as without barriers: no legal plan of its pieces costs less, the certificate is good,
+-- and checking the bytes alone with it answers the cost
+abbrev pub PlannedWithoutFences : Type 0
+PlannedWithoutFences = (s : RawSettings) (table list : List ℕ) (p : Submission) →
+    HasNoFences list → IsPlannedFor s table list p →
+    AreSettings s table × Plans list (limits_of s table) (Ok p) × IsLeastAndShown (limits_of s table) p
+
+-- and judged so
+abbrev pub JudgedWithoutFences : Type 0
+JudgedWithoutFences = (s : RawSettings) (table list marks : List ℕ) (cost : ℕ) →
+    HasNoFences list → IsJudgedCost s table list marks cost →
+    AreSettings s table × Judges list (plan_of marks) (limits_of s table) (Ok cost)

@@ -2,12 +2,10 @@ pub mod Raw
 pub mod Counting
 pub mod Certificates
 pub mod Marks
-pub mod Laws
 pub mod Planning
-pub mod Fenced
-pub mod Checking
 pub mod Judging
 pub mod Preparing
+pub mod Checking
 pub mod Resuming
-pub mod FencedChecking
 pub mod Tracking
+pub mod Laws

@@ -18,27 +18,23 @@ use std::alloc::Global;
 
 /// A planned list, and the marks of its pieces.
 #[derive(Drop)]
-pub(crate) struct Certified {
-    pub(crate) planned: Planned,
-    pub(crate) marks: Vec<u8>,
+struct Certified {
+    planned: Planned,
+    marks: Vec<u8>,
 }
 
 /// How many items each of the caller's arrays has room for.
 #[derive(Clone, Copy)]
-pub(crate) struct Rooms {
-    pub(crate) portal: usize,
-    pub(crate) staging: usize,
-    pub(crate) prices: usize,
-    pub(crate) pairs: usize,
-    pub(crate) marks: usize,
+struct Rooms {
+    portal: usize,
+    staging: usize,
+    prices: usize,
+    pairs: usize,
+    marks: usize,
 }
 
 /// What is planned with the marks of its pieces, if these and the certificate fit.
-pub(crate) fn certified_of(
-    alloc: Global,
-    planned: Planned,
-    rooms: Rooms,
-) -> Result<Certified, RawRefusal>
+fn certified_of(alloc: Global, planned: Planned, rooms: Rooms) -> Result<Certified, RawRefusal>
     ensures { MatchResult result
         (λ x. (x.planned ≡ planned)
         × CertificateFitsIn (submission_of planned) rooms.prices rooms.pairs rooms.marks
@@ -84,8 +80,9 @@ fn certified_for(
     }
 }
 
-/// Plans a list as [`dsa_plan_list`](crate::dsa_plan_list) does, and writes the plan's certificate too, to `prices` and
-/// `pairs`, and for each piece a mark to `marks`: 1 if it begins a group, and 2 more if it is fenced.
+/// Plans a list as [`dsa_plan_list`](crate::dsa_plan_list) does, and writes the plan's certificate too, to `prices`
+/// and `pairs`, for [`dsa_check_list`](crate::dsa_check_list), and for each piece a mark to `marks`: 1 if it begins a
+/// group, and 2 more if it is fenced.
 #[unsafe(no_mangle)]
 pub extern "C" fn dsa_plan_list_certified(
     alloc: Global,

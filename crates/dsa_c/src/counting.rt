@@ -2,7 +2,7 @@
 
 ghost use Rattle.std.specs.Prelude.{◌≡◌, ◌<◌, ◌≤◌, ◌^◌, length, Ok};
 ghost use Rattle.dsa_calls.specs.Fenced.{PlansFenced};
-ghost use Rattle.dsa_calls.specs.Planned.{Submission, Plans};
+ghost use Rattle.dsa_calls.specs.Planned.{Submission};
 ghost use Rattle.dsa_c.specs.Raw.{limits_of, AreSettings};
 ghost use Rattle.dsa_c.specs.Counting.{size_of, pieces_of, CountsEntries, IsCount, HasRoom};
 
@@ -49,9 +49,6 @@ fn count(entries: &[[u8; 64]], greatest: u64) -> Option<u64>
 pub extern "C" fn dsa_count_pieces(settings: &RawSettings, table: &[u64], list: &[u8]) -> u64
     ensures counted { IsCount settings.now table.now list.now result }
     ensures planned { (p : Submission) → AreSettings settings.now table.now →
-        Plans list.now (limits_of settings.now table.now) (Ok p) →
-        (result ≡ length p.pieces) × HasRoom p }
-    ensures planned_fenced { (p : Submission) → AreSettings settings.now table.now →
         PlansFenced list.now (limits_of settings.now table.now) (Ok p) →
         (result ≡ length p.pieces) × HasRoom p }
 {

@@ -1,6 +1,6 @@
-//! Laws of marks.
+//! Laws of marks, and of lists without fences.
 
-ghost use Rattle.dsa_c.specs.Laws.{MarksSpellPlans, PlansSpellMarks};
+ghost use Rattle.dsa_c.specs.Laws.{JudgedWithoutFences, MarksSpellPlans, PlannedWithoutFences, PlansSpellMarks};
 
 /// A plan whose groups are not empty is the plan that its marks spell, and it has as many marks as pieces. This is a
 /// law: the body is empty, and the clause is what the proof shows.
@@ -12,4 +12,15 @@ pub fn marks_spell_plans()
 /// such list of marks. This is a law too.
 pub fn plans_spell_marks()
     ensures { PlansSpellMarks }
+{}
+
+/// A list without the flag 0x0001, fence, is planned as [`plan_list`](dsa_calls::plan_list()) plans it, at the cost
+/// that no legal plan of its pieces undercuts. This is a law too.
+pub fn planned_without_fences()
+    ensures { PlannedWithoutFences }
+{}
+
+/// Such a list is judged as [`judge_bytes`](dsa_calls::judge_bytes()) judges it. This is a law too.
+pub fn judged_without_fences()
+    ensures { JudgedWithoutFences }
 {}

@@ -6,10 +6,6 @@ mod certificate;
 mod certified;
 mod checking;
 mod counting;
-mod fenced;
-mod fenced_certified;
-mod fenced_checking;
-mod fenced_judging;
 mod filling;
 mod judging;
 mod laws;
@@ -25,15 +21,13 @@ mod tracking;
 
 pub use certificate::RawPair;
 pub use certified::dsa_plan_list_certified;
-pub use checking::dsa_check;
+pub use checking::{dsa_check, dsa_check_list};
 pub use counting::dsa_count_pieces;
-pub use fenced::dsa_plan_fenced_list;
-pub use fenced_certified::dsa_plan_fenced_list_certified;
-pub use fenced_checking::dsa_check_fenced_list;
-pub use fenced_judging::dsa_judge_fenced_list;
 pub use filling::dsa_fill;
 pub use judging::dsa_judge;
-pub use laws::{marks_spell_plans, plans_spell_marks};
+pub use laws::{
+    judged_without_fences, marks_spell_plans, planned_without_fences, plans_spell_marks,
+};
 pub use planning::{RawPlanned, dsa_plan_list};
 pub use preparing::{RawInfo, dsa_prepare};
 pub use refusal::RawRefusal;

@@ -9,7 +9,7 @@ ghost use Rattle.dsa_c.specs.Planning.{IsPlannedFor, FitsIn, IsWritten, Refuses,
 use crate::buffer::put;
 use crate::refusal::{RawRefusal, no_room, refusal};
 use crate::settings::{RawSettings, by_size, same_price, settings_refusal};
-use dsa_calls::{Planned, plan_list};
+use dsa_calls::{Planned, plan_fenced_list};
 use dsa_plan::Settings;
 use std::alloc::Global;
 
@@ -53,7 +53,7 @@ fn plan_under(
         × FitsIn (submission_of p) portal_room staging_room)
         (λ r. (0 < r.number) × Refuses raw table list.now portal_room staging_room r) }
 {
-    match plan_list(alloc, list, settings) {
+    match plan_fenced_list(alloc, list, settings) {
         Ok(planned) => {
             let portal_len = planned.emission.portal.len();
             let staging_len = planned.emission.staging.len();
@@ -143,8 +143,9 @@ pub(crate) fn plan_for(
 }
 
 /// Plans the operations that the bytes of `list` spell, and writes the bytes that submit the plan of least cost to
-/// `portal` and `staging`. It returns 0 then; else it returns the number of the refusal, and has written only
-/// `refusal`.
+/// `portal` and `staging`. An operation with the flag 0x0001, fence, begins after a barrier; if it is split, its first
+/// piece does. The plan keeps each barrier, and no legal plan that does costs less. It returns 0 then; else it returns
+/// the number of the refusal, and has written only `refusal`.
 #[unsafe(no_mangle)]
 pub extern "C" fn dsa_plan_list(
     alloc: Global,

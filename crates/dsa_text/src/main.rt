@@ -119,8 +119,8 @@ const LINES: &str = "A line is an operation, as docs/FORMATS.md has them:
   compare 0x1000 with 0x2000, 64 bytes, expect 0, record 0x8000, check
 
 A line \"barrier\" says that the next operation begins only after all before it have succeeded. The
-descriptor after it has the flag 0x0001: dsa_plan_fenced_list reads such a list, dsa_plan_list and jobs
-refuse it (3 FlagBits).
+descriptor after it has the flag 0x0001: dsa_plan_list and the other calls of the library take it as a
+barrier, jobs refuse it (3 FlagBits).
 
 Lines that disassemble writes of a portal and a staging area are read too, with the members of a batch behind its line. The
 lines of batches and the word fence are passed over, since a plan sets batches and fences anew.

@@ -6,4 +6,4 @@ pub put-requires-in-Ok-3 : goal.put-requires-in-Ok-3
 put-requires-in-Ok-3 c =
     let found = c.in-Ok.ensures in
     let same = ap length (c.deref-in-Ok-4.ensures.value ∙ found.3) in
-    omega (arith, same, marks_count c.in-Ok.answer.planned.plan, found.0.least.legal.covers, found.2.2)
+    omega (arith, same, marks_count c.in-Ok.answer.planned.plan, found.0.least.least.legal.covers, found.2.2)

@@ -4,7 +4,7 @@ use Rattle.dsa_plan.specs.Settings.{Limits}
 use Rattle.dsa_descriptor.specs.Lists.{entries}
 use Rattle.dsa_c.specs.Raw.{limits_of}
 use Rattle.dsa_c.specs.Counting.{pieces_of}
-use Rattle.dsa_c.proofs.Rooms.{planned_counted, has_room, fenced_counted, fenced_has_room}
+use Rattle.dsa_c.proofs.Rooms.{planned_counted, has_room}
 use Rattle.dsa_c.proofs.counting.dsa_count_pieces.Goals as goal
 
 pub returns-in-Some-count : goal.returns-in-Some-count
@@ -19,7 +19,6 @@ returns-in-Some-count c =
     record {
       counted = record { no_settings = λ none. absurd (none c.in-Some.ensures.1); few = λ are less. total; many = λ are more. absurd (omega (arith, more, few, total)) };
       planned = λ p are planned. (total ∙ (planned_counted list (limits_of s table) p planned).count, has_room list (limits_of s table) p planned);
-      planned_fenced = λ p are planned. (total ∙ (fenced_counted list (limits_of s table) p planned).count, fenced_has_room list (limits_of s table) p planned);
     }
 
 pub returns-in-None : goal.returns-in-None
@@ -34,8 +33,5 @@ returns-in-None c =
       counted = record { no_settings = λ none. absurd (none c.in-Some.ensures.1); few = λ are less. absurd (omega (arith, many, all, less)); many = λ are more. refl };
       planned = λ p are planned.
           let are_counted = planned_counted list (limits_of s table) p planned in
-          absurd (omega (arith, many, all, are_counted.count, are_counted.few));
-      planned_fenced = λ p are planned.
-          let are_counted = fenced_counted list (limits_of s table) p planned in
           absurd (omega (arith, many, all, are_counted.count, are_counted.few));
     }

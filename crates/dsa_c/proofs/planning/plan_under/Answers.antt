@@ -8,8 +8,7 @@ pub returns-else-portal_len-portal_room : goal.returns-else-portal_len-portal_ro
 returns-else-portal_len-portal_room c = λ s table is are.
     let list = c.args.list.now in
     let p : Submission = submission_of c.in-Ok.planned in
-    let found = c.in-Ok.ensures in
-    let planned = planned_for s table list c.args.settings.now p is are found.answer found.least found.certificate_good found.certificate_checks in
+    let planned = planned_for s table list c.args.settings.now p is are c.in-Ok.ensures.answer c.in-Ok.ensures.least in
     let short : (c.args.portal_room < length p.portal) ⊎ (c.args.staging_room < length p.staging) =
     elim c.else-portal_len-portal_room.branch [ else-portal_len-portal_room-via-then-portal_len-portal_room+else-staging_len-staging_room w ↦ inr (omega arith) | else-portal_len-portal_room-via-else-portal_len-portal_room w ↦ inl (omega arith) ] in
     (search rules, refuses_buffers s table list c.args.portal_room c.args.staging_room p c.no_room.result planned short (search rules))
@@ -19,3 +18,10 @@ returns-in-Err c = λ s table is are. (
   c.refusal.ensures.some,
   refuses_list s table c.args.list.now c.args.portal_room c.args.staging_room c.args.settings.now c.in-Err.fault c.refusal.result is are c.in-Err.ensures.answer c.refusal.ensures.value,
 )
+
+pub returns-then-staging_len-staging_room : goal.returns-then-staging_len-staging_room
+returns-then-staging_len-staging_room c = λ s table is are.
+    let p : Submission = submission_of c.in-Ok.planned in (
+      planned_for s table c.args.list.now c.args.settings.now p is are c.in-Ok.ensures.answer c.in-Ok.ensures.least,
+      (search rules, search rules),
+    )

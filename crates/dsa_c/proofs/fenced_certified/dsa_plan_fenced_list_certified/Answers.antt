@@ -1,9 +1,0 @@
-use Rattle.std.proofs.Common.{length, ap, ◌∙◌, arith}
-use Rattle.dsa_c.proofs.Agreeing.{marks_count}
-use Rattle.dsa_c.proofs.fenced_certified.dsa_plan_fenced_list_certified.Goals as goal
-
-pub put-requires-in-Ok-3 : goal.put-requires-in-Ok-3
-put-requires-in-Ok-3 c =
-    let found = c.in-Ok.ensures in
-    let same = ap length (c.deref-in-Ok-4.ensures.value ∙ found.3) in
-    omega (arith, same, marks_count c.in-Ok.answer.planned.plan, found.0.least.least.legal.covers, found.2.2)

@@ -55,7 +55,7 @@ plain_entry e none =
     ]
 
 -- a descriptor's bytes have no fence
-lowest_unset : (f : Fields) → IsListed f → get_or (spelling f) 4 0 % 2 ≡ 0
+pub lowest_unset : (f : Fields) → IsListed f → get_or (spelling f) 4 0 % 2 ≡ 0
 unfolding spelling
 lowest_unset f listed = omega (arith, no_fence f listed)
 

@@ -1,7 +1,11 @@
 -- The flag 0x0001, fence, of the entries of a list: an entry may be read without it, and it is a barrier before the operation.
-use Rattle.std.specs.Prelude.{ℕ, ◌*◌, ◌/◌, ◌-◌, ◌%◌, ◌==◌, Bool, false, List, [], ◌∷◌, ◌++◌, drop, length, map, slice_index, slice_set, if◌then◌else◌}
+use Rattle.std.specs.Prelude.{◌≡◌, ◌⊎◌, ℕ, ◌+◌, ◌*◌, ◌/◌, ◌-◌, ◌%◌, ◌==◌, Bool, false, List, [], ◌∷◌, ◌++◌, drop, length, map, slice_index, slice_index_or, slice_set, if◌then◌else◌}
 use Rattle.std.specs.List.{flat_map, list_any}
-use Rattle.dsa_descriptor.specs.Lists.{entries}
+use Rattle.dsa_descriptor.specs.declared.descriptor.Descriptor.{Descriptor}
+use Rattle.dsa_descriptor.specs.Descriptors.{fields}
+use Rattle.dsa_descriptor.specs.Fields.{Fields}
+use Rattle.dsa_descriptor.specs.Lists.{entries, list_spelling}
+use Rattle.dsa_descriptor.specs.Spelling.{spelling}
 
 -- the flag 0x0001 is set (specification 341204, fence)
 abbrev pub is_fenced : List ℕ → Bool
@@ -32,6 +36,22 @@ set_marks marks = if list_any (λ mark. mark) marks then marks else []
 -- its operation (this project's choice)
 abbrev pub barriers_of : List ℕ → List Bool
 barriers_of bytes = set_marks (after_first (fences_of bytes))
+
+-- the flag 0x0001, fence, is added if asked for; no listed descriptor has it
+abbrev pub with_fence : Bool → Fields → Fields
+with_fence fence f = record f { flags = f.flags + (if fence then 0x0001 else 0) }
+
+-- the bytes of a list with barriers: the flag of each operation after a barrier is set
+unfoldable pub marked_spelling : List Fields → List Bool → List ℕ
+marked_spelling [] marks = []
+marked_spelling (f ∷ fs) marks = spelling (with_fence (slice_index_or marks 0 false) f) ++ marked_spelling fs (drop 1 marks)
+
+-- these bytes are read back: without their fences they spell the operations, and the barriers are those that were marked
+abbrev pub MarkedListReadsBack : Type 0
+MarkedListReadsBack =
+    (ds : List Descriptor) (marks : List Bool) → (marks ≡ []) ⊎ (length marks ≡ length ds) →
+    (unfenced_list (marked_spelling (map fields ds) marks) ≡ list_spelling (map fields ds))
+    × (barriers_of (marked_spelling (map fields ds) marks) ≡ set_marks (after_first marks))
 
 -- ---- for private clauses
 

@@ -1,10 +1,13 @@
 //! The fences of the entries of a list.
 
-ghost use Rattle.std.specs.Prelude.{◌≡◌, IfOk, map};
+ghost use Rattle.std.specs.Prelude.{◌≡◌, IfOk, false, map, slice_index_or};
 ghost use Rattle.std.specs.List.{list_any};
-ghost use Rattle.dsa_descriptor.specs.Fences.{after_first, barriers_of, is_fenced, set_marks, unfenced};
+ghost use Rattle.dsa_descriptor.specs.Descriptors.{fields};
+ghost use Rattle.dsa_descriptor.specs.Fences.{after_first, barriers_of, is_fenced, set_marks, unfenced, with_fence};
 ghost use Rattle.dsa_descriptor.specs.Lists.{entries};
+ghost use Rattle.dsa_descriptor.specs.Spelling.{spelling};
 
+use crate::descriptor::Descriptor;
 use std::alloc::{AllocError, Global};
 
 /// Whether the entry has the flag 0x0001, fence.
@@ -23,6 +26,17 @@ pub fn unfenced(bytes: &[u8; 64]) -> [u8; 64]
     plain
 }
 
+/// The bytes of a descriptor, with that flag or without.
+pub fn write_fenced(descriptor: &Descriptor, fence: bool) -> [u8; 64]
+    ensures { result ≡ spelling (with_fence fence (fields descriptor.now)) }
+{
+    let mut bytes = descriptor.write();
+    if fence {
+        bytes[4] |= 1;
+    }
+    bytes
+}
+
 /// The flag of each entry.
 fn fences_of(alloc: Global, all: &[[u8; 64]]) -> Result<Vec<bool>, AllocError>
     ensures { IfOk result (λ fences. fences.items ≡ map is_fenced all.now) }
@@ -32,6 +46,13 @@ fn fences_of(alloc: Global, all: &[[u8; 64]]) -> Result<Vec<bool>, AllocError>
         fences.push_reserved(is_fenced(entry));
     }
     Ok(fences)
+}
+
+/// The mark of a descriptor; one without a mark is after no barrier.
+pub fn mark_at(marks: &[bool], index: usize) -> bool
+    ensures { result ≡ slice_index_or marks.now index false }
+{
+    index < marks.len() && marks[index]
 }
 
 /// Whether a mark is set.

@@ -13,10 +13,12 @@ use Rattle.dsa_descriptor.specs.Spelling.{spelling}
 use Rattle.dsa_descriptor.proofs.Entries.{chunk}
 use Rattle.dsa_settings.specs.Plan.{Group, Plan, start_of}
 use Rattle.dsa_settings.specs.Settings.{Limits}
-use Rattle.dsa_emission.specs.Emission.{batched, batch_count, batched_count, place_of, with_fence, portal_entry, fenced_spelling, staged, joined, portal_bytes, staging_bytes, CanBeEmitted}
+use Rattle.dsa_descriptor.specs.Fences.{with_fence}
+use Rattle.dsa_emission.specs.Emission.{batched, batch_count, batched_count, place_of, portal_entry, fenced_spelling, staged, joined, portal_bytes, staging_bytes, CanBeEmitted}
 use Rattle.dsa_emission.specs.EmissionLaws.{StandsAtPlaces}
 use Rattle.dsa_emission.proofs.Places.{batch_yes, lone_staged}
-use Rattle.dsa_emission.proofs.Told.{Fits, fits_at, group_at, entry_at, staged_at, length-joined, length-entry, is_group_at, length-staged, length-fenced, length-fenced_one, staged_batch}
+use Rattle.dsa_descriptor.proofs.Fenced.{length-fenced_one}
+use Rattle.dsa_emission.proofs.Told.{Fits, fits_at, group_at, entry_at, staged_at, length-joined, length-entry, is_group_at, length-staged, length-fenced, staged_batch}
 
 -- ---- parts one after another
 

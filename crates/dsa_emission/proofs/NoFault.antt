@@ -25,7 +25,8 @@ use Rattle.dsa_emission.specs.declared.emission_fault.EmissionFault.TheVariants.
 use Rattle.dsa_emission.specs.declared.place.Place.{Place}
 use Rattle.dsa_settings.specs.Plan.{Plan, start_of}
 use Rattle.dsa_settings.specs.Settings.{Limits}
-use Rattle.dsa_emission.specs.Emission.{is_batch, batch_count, batched_count, place_of, with_fence, batch_spelling}
+use Rattle.dsa_descriptor.specs.Fences.{with_fence}
+use Rattle.dsa_emission.specs.Emission.{is_batch, batch_count, batched_count, place_of, batch_spelling}
 use Rattle.dsa_emission.specs.EmissionFaults.{is_batch_entry, entry_size, place_before, place_at_end, piece_bytes, owner_of, demands_of, Spells, IsFit, IsFirstEntryFault, IsSoundPiece, IsSoundGroup, IsFirstPortalFault, IsRightAt, HasPieces, HasZeroRecord, records_of, IsEmission, IsFirstEmissionFault}
 use Rattle.dsa_emission.specs.EmissionLaws.{StandsAtPlaces}
 use Rattle.dsa_emission.proofs.AtPlaces.{emission_at_places}
@@ -33,7 +34,8 @@ use Rattle.dsa_emission.proofs.Places.{batch_yes, batch_no, entry_batch}
 use Rattle.dsa_emission.proofs.ReadBack.{fit_at}
 use Rattle.dsa_emission.proofs.SamePlaces.{SameShape, place_same, SameEnd, end_same}
 use Rattle.dsa_emission.proofs.Spelt.{told_piece, owner_spelt, owner_told}
-use Rattle.dsa_emission.proofs.Told.{group_at, is_group_at, some_at, Fits, fits_at, batch_entry_is, lone_entry_is, code_told, batch_code_told, count_told, unfenced_same}
+use Rattle.dsa_descriptor.proofs.Fenced.{unfenced_same}
+use Rattle.dsa_emission.proofs.Told.{group_at, is_group_at, some_at, Fits, fits_at, batch_entry_is, lone_entry_is, code_told, batch_code_told, count_told}
 
 -- ---- bytes without a fault have none
 

@@ -15,7 +15,8 @@ use Rattle.dsa_emission.specs.declared.place.Place.{Place}
 use Rattle.dsa_settings.specs.Plan.{Group, Plan, piece_count, start_of}
 use Rattle.dsa_settings.specs.Shapes.{HasGroupShapes}
 use Rattle.dsa_settings.specs.Settings.{Limits}
-use Rattle.dsa_emission.specs.Emission.{is_batch, batched, batch_count, batched_count, place_of, place_after, with_fence, batch_spelling, portal_entry, fenced_spelling, staged, joined}
+use Rattle.dsa_descriptor.specs.Fences.{with_fence}
+use Rattle.dsa_emission.specs.Emission.{is_batch, batched, batch_count, batched_count, place_of, place_after, batch_spelling, portal_entry, fenced_spelling, staged, joined}
 use Rattle.dsa_settings.proofs.Plans.{start_of-next}
 
 pub batch_yes : (g : Group) → 1 < length g → is_batch g ≡ true

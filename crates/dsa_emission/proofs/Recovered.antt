@@ -17,9 +17,9 @@ use Rattle.dsa_emission.specs.declared.place.Place.{Place}
 use Rattle.dsa_settings.specs.Plan.{Group, Plan, start_of}
 use Rattle.dsa_settings.specs.Shapes.{HasGroupShape}
 use Rattle.dsa_settings.specs.Settings.{Limits, AreInLimits}
-use Rattle.dsa_emission.specs.Emission.{is_batch, batched_count, place_of, with_fence, batch_spelling, portal_entry, CanBeEmitted}
+use Rattle.dsa_emission.specs.Emission.{is_batch, batched_count, place_of, batch_spelling, portal_entry, CanBeEmitted}
 use Rattle.dsa_emission.specs.EmissionFaults.{is_batch_entry, entry_size, place_before, place_at_end, piece_bytes, owner_of, demands_of, Spells, IsBatchAt, HasBatches, HasZeroRecord, records_of, IsRead, IsEmission}
-use Rattle.dsa_descriptor.specs.Fences.{is_fenced}
+use Rattle.dsa_descriptor.specs.Fences.{is_fenced, with_fence}
 use Rattle.dsa_emission.specs.EmissionLaws.{StandsAtPlaces}
 use Rattle.dsa_emission.proofs.AtPlaces.{emission_at_places}
 use Rattle.dsa_emission.proofs.Places.{batch_yes, batch_no, entry_batch, entry_lone}

@@ -7,28 +7,13 @@ use Rattle.dsa_descriptor.specs.declared.descriptor.Descriptor.{Descriptor}
 use Rattle.dsa_descriptor.specs.Descriptors.{fields}
 use Rattle.dsa_descriptor.specs.Fields.{Fields}
 use Rattle.dsa_descriptor.specs.Places.{u32_at, pasid_at, privileged_at}
-use Rattle.dsa_descriptor.specs.Profile.{IsListed}
 use Rattle.dsa_descriptor.specs.Spelling.{owner_word, spelling}
 use Rattle.dsa_descriptor.proofs.Entries.{length-spelling}
-use Rattle.dsa_emission.specs.Emission.{with_fence}
 use Rattle.dsa_emission.specs.EmissionFaults.{owner_at, Spells}
-use Rattle.dsa_descriptor.specs.Fences.{is_fenced, unfenced}
-use Rattle.dsa_emission.proofs.Emitted.{or_one, fenced_spelling_set}
-use Rattle.dsa_emission.proofs.Told.{fence_told, unfenced_again, unfenced_same}
+use Rattle.dsa_descriptor.specs.Fences.{is_fenced, unfenced, with_fence}
+use Rattle.dsa_descriptor.proofs.Fenced.{or_one, fenced_spelling_set, unfenced_same, fence_is, without_fence}
 
 -- ---- the fence
-
-fence_is : (f : Fields) (fence : Bool) → IsListed f → is_fenced (spelling (with_fence fence f)) ≡ fence
-fence_is f true listed = ap (λ (n : ℕ). eqb n 1) (fence_told f true listed)
-fence_is f false listed = ap (λ (n : ℕ). eqb n 1) (fence_told f false listed)
-
-without_fence : (f : Fields) (fence : Bool) → IsListed f → unfenced (spelling (with_fence fence f)) ≡ spelling f
-without_fence f true listed =
-    ap (λ (n : ℕ). set (spelling (with_fence true f)) 4 (get_or (spelling (with_fence true f)) 4 0 - n)) (fence_told f true listed) ∙ unfenced_again f listed
-without_fence f false listed =
-    let same : get_or (spelling (with_fence false f)) 4 0 - get_or (spelling (with_fence false f)) 4 0 % 2 ≡ get_or (spelling (with_fence false f)) 4 0 = omega (arith, fence_told f false listed) in
-    ap (λ (n : ℕ). set (spelling (with_fence false f)) 4 n) same
-    ∙ set-get_or (spelling (with_fence false f)) 4 0 ∙ unfenced_same f
 
 -- the bytes of a piece tell its fence, and the descriptor
 pub told_piece : (bytes : List ℕ) (fence : Bool) (d : Descriptor) → bytes ≡ spelling (with_fence fence (fields d)) → (is_fenced bytes ≡ fence) × Spells bytes d

@@ -1,9 +1,9 @@
 -- What the bytes of an emission tell: one plan and one list of pieces.
-use Rattle.std.proofs.Common.{ℕ, zero, suc, ◌≡◌, ◌+◌, ◌-◌, ◌*◌, ◌%◌, ◌^◌, ◌<◌, ◌≤◌, inl, inr, Bool, true, false, cond, List, [], ◌∷◌, ◌++◌, length, take, drop, get_or, set, Some, refl, sym, ap, ◌∙◌, subst, slice_get, sum_by, bit_or, add-zero, arith}
+use Rattle.std.proofs.Common.{ℕ, zero, suc, ◌≡◌, ◌+◌, ◌*◌, ◌^◌, ◌<◌, ◌≤◌, inl, inr, false, cond, List, [], ◌∷◌, ◌++◌, length, take, drop, get_or, Some, refl, sym, ap, ◌∙◌, subst, slice_get, sum_by, arith}
 use Rattle.std.specs.Prelude.{map, slice_index_or, replicate, nat_lt}
 use Rattle.std.proofs.Math.Seq.{take-add}
 use Rattle.std.proofs.lemmas.Bool.{cases_lt}
-use Rattle.std.proofs.lemmas.List.{take_all, length-append, length-map, length-drop, take_at, drop_at, set-set, length-set, set-get_or, get_or-set_same, drop-map, drop-drop, drop_more, same_lists, get_or_default}
+use Rattle.std.proofs.lemmas.List.{take_all, length-append, length-map, length-drop, take_at, drop_at, drop-map, drop-drop, drop_more, same_lists, get_or_default}
 use Rattle.std.proofs.lemmas.List.Sums.{sum_by-cons}
 use Rattle.std.proofs.lemmas.Option.{same_Some, slice_get_within, slice_get-get_or, get_or_from_slice_get}
 use Rattle.std.proofs.lemmas.Nat.{from_le_bytes-to_le_bytes_4}
@@ -17,14 +17,13 @@ use Rattle.dsa_descriptor.specs.Places.{u32_at}
 use Rattle.dsa_descriptor.specs.Profile.{IsListed}
 use Rattle.dsa_descriptor.specs.Spelling.{spelling}
 use Rattle.dsa_descriptor.proofs.Entries.{length-spelling}
-use Rattle.dsa_descriptor.proofs.Masks.{no_fence}
-use Rattle.dsa_descriptor.proofs.Rules.{spelling_stands}
 use Rattle.dsa_descriptor.proofs.Same.{one_spelling}
 use Rattle.dsa_emission.specs.declared.place.Place.{Place}
 use Rattle.dsa_settings.specs.Plan.{Group, Plan, piece_count, start_of}
 use Rattle.dsa_settings.specs.Settings.{Limits}
-use Rattle.dsa_emission.specs.Emission.{batched, batch_count, batched_count, place_of, with_fence, batch_spelling, portal_entry, fenced_spelling, staged, joined, portal_bytes, staging_bytes, CanBeEmitted}
-use Rattle.dsa_emission.proofs.Emitted.{or_one, fenced_spelling_set}
+use Rattle.dsa_descriptor.specs.Fences.{with_fence}
+use Rattle.dsa_emission.specs.Emission.{batched, batch_count, batched_count, place_of, batch_spelling, portal_entry, fenced_spelling, staged, joined, portal_bytes, staging_bytes, CanBeEmitted}
+use Rattle.dsa_descriptor.proofs.Fenced.{length-fenced_one, one_fenced}
 use Rattle.dsa_settings.proofs.Plans.{EachGroup, each_group}
 use Rattle.dsa_emission.proofs.Places.{batch_yes, batch_no, batch_staged, lone_staged, placed, IsPlaced, entry_batch, entry_lone}
 
@@ -53,47 +52,6 @@ length-joined part size (suc n) long =
     let before : length (joined part n) ≡ size * n = length-joined part size n (λ k lt. long k (omega arith)) in
     let more : size * suc n ≡ size * n + size = omega arith in
     omega (arith, length-append (joined part n) (part n), long n (omega arith))
-
--- ---- one descriptor
-
--- the lowest bit of byte 4 is the fence
-pub fence_told : (f : Fields) (fence : Bool) → IsListed f → get_or (spelling (with_fence fence f)) 4 0 % 2 ≡ cond fence 1 0
-unfolding spelling
-fence_told f true listed = omega (arith, no_fence f listed)
-fence_told f false listed = omega (arith, no_fence f listed)
-
-lowest_unset : (f : Fields) → IsListed f → get_or (spelling f) 4 0 % 2 ≡ 0
-unfolding spelling
-lowest_unset f listed = omega (arith, no_fence f listed)
-
--- the bytes without the fence
-pub unfenced_again : (f : Fields) → IsListed f → set (spelling (with_fence true f)) 4 (get_or (spelling (with_fence true f)) 4 0 - 1) ≡ spelling f
-unfenced_again f listed =
-    let made : set (spelling f) 4 (bit_or (get_or (spelling f) 4 0) 1) ≡ spelling (with_fence true f) = fenced_spelling_set f listed in
-    let long : length (spelling f) ≡ 64 = (spelling_stands f listed).long in
-    let even : get_or (spelling f) 4 0 % 2 ≡ 0 = lowest_unset f listed in
-    let there : get_or (set (spelling f) 4 (bit_or (get_or (spelling f) 4 0) 1)) 4 0 ≡ bit_or (get_or (spelling f) 4 0) 1 = get_or-set_same (spelling f) 4 (bit_or (get_or (spelling f) 4 0) 1) 0 (omega arith) in
-    let back : bit_or (get_or (spelling f) 4 0) 1 - 1 ≡ get_or (spelling f) 4 0 = omega (arith, or_one (get_or (spelling f) 4 0) even) in
-    ap (λ (bytes : List ℕ). set bytes 4 (get_or bytes 4 0 - 1)) (sym made)
-    ∙ set-set (spelling f) 4 (bit_or (get_or (spelling f) 4 0) 1) (get_or (set (spelling f) 4 (bit_or (get_or (spelling f) 4 0) 1)) 4 0 - 1)
-    ∙ ap (λ (byte : ℕ). set (spelling f) 4 byte) (ap (λ (x : ℕ). x - 1) there ∙ back) ∙ set-get_or (spelling f) 4 0
-
-pub unfenced_same : (f : Fields) → spelling (with_fence false f) ≡ spelling f
-unfenced_same f = ap (λ (n : ℕ). spelling (record f { flags = n })) (add-zero f.flags)
-
-pub length-fenced_one : (f : Fields) (fence : Bool) → IsListed f → length (spelling (with_fence fence f)) ≡ 64
-length-fenced_one f true listed = ap length (sym (fenced_spelling_set f listed)) ∙ length-set (spelling f) 4 (bit_or (get_or (spelling f) 4 0) 1) ∙ (spelling_stands f listed).long
-length-fenced_one f false listed = ap length (unfenced_same f) ∙ (spelling_stands f listed).long
-
--- a descriptor, fenced or not, is told by its bytes
-pub one_fenced : (d e : Descriptor) (a b : Bool) → spelling (with_fence a (fields d)) ≡ spelling (with_fence b (fields e)) → (a ≡ b) × (d ≡ e)
-one_fenced d e true true same =
-    (refl, one_spelling d e (sym (unfenced_again (fields d) d.listed) ∙ ap (λ (bytes : List ℕ). set bytes 4 (get_or bytes 4 0 - 1)) same ∙ unfenced_again (fields e) e.listed))
-one_fenced d e false false same = (refl, one_spelling d e (sym (unfenced_same (fields d)) ∙ same ∙ unfenced_same (fields e)))
-one_fenced d e true false same =
-    absurd (omega (arith, fence_told (fields d) true d.listed, fence_told (fields e) false e.listed, ap (λ (bytes : List ℕ). get_or bytes 4 0 % 2) same))
-one_fenced d e false true same =
-    absurd (omega (arith, fence_told (fields d) false d.listed, fence_told (fields e) true e.listed, ap (λ (bytes : List ℕ). get_or bytes 4 0 % 2) same))
 
 -- byte 7 is the operation code
 other_code : (op : Op) → (code_of op ≡ 1 → ⊥) × (code_of op < 256)

@@ -3,6 +3,7 @@ use Rattle.std.specs.Prelude.{ℕ, zero, suc, ◌≡◌, ◌+◌, ◌*◌, ◌�
 use Rattle.std.specs.Int.{w32, w64, to_le_bytes}
 use Rattle.std.specs.List.{flat_map, zip}
 use Rattle.dsa_descriptor.specs.declared.span.Span.{Span}
+use Rattle.dsa_descriptor.specs.Fences.{with_fence}
 use Rattle.dsa_descriptor.specs.Fields.{Fields}
 use Rattle.dsa_descriptor.specs.Lists.{list_spelling, HaveOneOwner}
 use Rattle.dsa_descriptor.specs.Spans.{InSpan}
@@ -48,10 +49,6 @@ place_after place group =
       batches = place.batches + (if is_batch group then 1 else 0);
       batched = place.batched + batched group;
     }
-
--- the flag 0x0001, fence, is added if asked for; no listed descriptor has it
-abbrev pub with_fence : Bool → Fields → Fields
-with_fence fence f = record f { flags = f.flags + (if fence then 0x0001 else 0) }
 
 -- the 64 bytes of a batch descriptor: the PASID and privilege, the flags 0x00000c and the operation code 0x01, the
 -- address of its completion record, that of its descriptors, and how many they are (specification 341204, batch

@@ -6,7 +6,8 @@ use Rattle.dsa_descriptor.specs.Lists.{entry}
 use Rattle.dsa_descriptor.specs.Spelling.{spelling}
 use Rattle.dsa_settings.specs.Plan.{Group, Plan, start_of}
 use Rattle.dsa_settings.specs.Settings.{Limits}
-use Rattle.dsa_emission.specs.Emission.{batch_count, batched_count, place_of, with_fence, portal_entry, portal_bytes, staging_bytes, CanBeEmitted}
+use Rattle.dsa_descriptor.specs.Fences.{with_fence}
+use Rattle.dsa_emission.specs.Emission.{batch_count, batched_count, place_of, portal_entry, portal_bytes, staging_bytes, CanBeEmitted}
 
 -- two plans and lists of pieces with the same portal and the same staging area are equal
 abbrev pub OneEmission : Type 0

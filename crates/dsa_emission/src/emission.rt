@@ -4,12 +4,12 @@ ghost use Rattle.std.specs.Prelude.{◌≡◌, ◌+◌, ◌*◌, ◌<◌, ◌≤
 ghost use Rattle.dsa_descriptor.specs.Descriptors.{fields};
 ghost use Rattle.dsa_descriptor.specs.Spelling.{spelling};
 ghost use Rattle.dsa_descriptor.specs.Pieces.{most_pieces};
-ghost use Rattle.dsa_emission.specs.Emission.{place_of, with_fence, batch_spelling, portal_entry, fenced_spelling, staged, portal_bytes, staging_bytes, CanBeEmitted};
+ghost use Rattle.dsa_emission.specs.Emission.{place_of, batch_spelling, portal_entry, fenced_spelling, staged, portal_bytes, staging_bytes, CanBeEmitted};
 ghost use Rattle.dsa_settings.specs.Plan.{piece_count};
 ghost use Rattle.dsa_settings.specs.Shapes.{HasGroupShapes};
 
 use crate::place::Place;
-use dsa_descriptor::Descriptor;
+use dsa_descriptor::{Descriptor, write_fenced};
 use dsa_settings::{Group, Plan, Settings};
 use std::alloc::{AllocError, Global};
 
@@ -23,17 +23,6 @@ pub struct Emission {
     pub portal: Vec<u8>,
     /// What has to be at the staging address: the descriptors of the batches, and room for their completion records.
     pub staging: Vec<u8>,
-}
-
-/// The descriptor's bytes, fenced or not.
-fn fenced_bytes(piece: &Descriptor, fence: bool) -> [u8; 64]
-    ensures { result ≡ spelling (with_fence fence (fields piece.now)) }
-{
-    let mut bytes = piece.write();
-    if fence {
-        bytes[4] |= 1;
-    }
-    bytes
 }
 
 /// The PASID and the privilege of the descriptor, as its first bytes have them.
@@ -147,7 +136,7 @@ fn stage_batch(
 {
     let fences = group.fences();
     for k in 0..fences.len() {
-        staging.extend_from_slice(&fenced_bytes(&pieces[k], fences[k]))?;
+        staging.extend_from_slice(&write_fenced(&pieces[k], fences[k]))?;
     }
     Ok(())
 }

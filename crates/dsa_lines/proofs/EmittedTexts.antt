@@ -17,7 +17,8 @@ use Rattle.dsa_descriptor.proofs.Entries.{length-chunks}
 use Rattle.dsa_settings.specs.Plan.{Group, Plan}
 use Rattle.dsa_settings.specs.Settings.{Limits, AreInLimits}
 use Rattle.dsa_emission.specs.declared.place.Place.{Place}
-use Rattle.dsa_emission.specs.Emission.{batched, batch_count, batched_count, place_of, with_fence, batch_spelling, portal_entry, fenced_spelling, staged, joined, portal_bytes, staging_bytes, CanBeEmitted}
+use Rattle.dsa_descriptor.specs.Fences.{with_fence}
+use Rattle.dsa_emission.specs.Emission.{batched, batch_count, batched_count, place_of, batch_spelling, portal_entry, fenced_spelling, staged, joined, portal_bytes, staging_bytes, CanBeEmitted}
 use Rattle.dsa_emission.specs.EmissionLaws.{StandsAtPlaces}
 use Rattle.dsa_emission.proofs.AtPlaces.{emission_at_places}
 use Rattle.dsa_emission.proofs.Places.{batch_yes, batch_no, lone_staged, counts_within, placed}

@@ -1,10 +1,11 @@
 -- The barriers of a text, and lists with barriers.
-use Rattle.std.proofs.Common.{◌≡◌, ◌≢◌, ℕ, zero, suc, ◌+◌, ◌<◌, Bool, true, false, Some, List, [], ◌∷◌, ◌++◌, length, take, drop, get_or, map, refl, sym, ap, ◌∙◌, append_assoc, length-append, arith}
+use Rattle.std.proofs.Common.{◌≡◌, ◌≢◌, ℕ, zero, suc, ◌+◌, Bool, true, false, Some, List, [], ◌∷◌, ◌++◌, length, take, drop, get_or, map, refl, sym, ap, ◌∙◌, append_assoc, length-append, arith}
 use Rattle.std.specs.Prelude.{codes, slice_get, if◌then◌else◌}
 use Rattle.std.specs.List.{AllByRecursion}
 use Rattle.std.specs.Str.{bytes_eq}
 use Rattle.std.proofs.lemmas.List.{append-nil, length-map}
 use Rattle.std.proofs.lemmas.Option.{same_Some}
+use Rattle.dsa_descriptor.proofs.Marked.{dropped}
 use Rattle.dsa_descriptor.specs.declared.descriptor.Descriptor.{Descriptor}
 use Rattle.dsa_descriptor.specs.Descriptors.{fields}
 use Rattle.dsa_descriptor.specs.Fields.{Fields}
@@ -12,8 +13,8 @@ use Rattle.dsa_descriptor.specs.Lists.{list_spelling, HaveOneOwner}
 use Rattle.dsa_descriptor.specs.Profile.{IsListed}
 use Rattle.dsa_descriptor.specs.Spelling.{spelling}
 use Rattle.dsa_descriptor.proofs.Seen.{barriers_count}
-use Rattle.dsa_emission.specs.Emission.{with_fence}
-use Rattle.dsa_emission.proofs.Told.{length-fenced_one, one_fenced}
+use Rattle.dsa_descriptor.specs.Fences.{with_fence, marked_spelling}
+use Rattle.dsa_descriptor.proofs.Fenced.{length-fenced_one, one_fenced}
 use Rattle.dsa_lines.specs.declared.barriers.LineKind.{LineKind}
 use Rattle.dsa_lines.specs.declared.barriers.LineKind.TheVariants.{Other, Barrier, Fenced, Operation}
 use Rattle.dsa_lines.specs.Assembled.{IsListing}
@@ -22,7 +23,7 @@ use Rattle.dsa_lines.specs.Grammar.{fields_of, op_at, ◌>>=◌}
 use Rattle.dsa_lines.specs.Recordings.{at_end, batch_at}
 use Rattle.dsa_lines.specs.Text.{line_text}
 use Rattle.dsa_lines.specs.Texts.{all_fields, line_fields, lines_of, text_line, TextSpells}
-use Rattle.dsa_lines.specs.Barriers.{barrier_line, barriers_of, IsMarkedListing, line_kind, line_marks, marked_spelling, marked_text, marks_from, pending_after, OneMarkEach, OneMarkedSpelling, MarkedTextSpells}
+use Rattle.dsa_lines.specs.Barriers.{barrier_line, barriers_of, IsMarkedListing, line_kind, line_marks, marked_text, marks_from, pending_after, OneMarkEach, OneMarkedSpelling, MarkedTextSpells}
 use Rattle.dsa_lines.proofs.LineLemmas.{canonical_is_line}
 use Rattle.dsa_lines.proofs.OneText.{bound, front, more_fields, spelled_list}
 use Rattle.dsa_lines.proofs.ReadAgain.{line_before, nothing}
@@ -59,25 +60,7 @@ marks_end keep pending before after whole line all kind is e pushed so_far =
     ∙ ap (λ (ms : List Bool). after ++ ms) (sym (no_marks keep (pending_after pending kind)))
     ∙ marks_step keep pending (pending_after pending kind) before after whole line all [] kind is e refl pushed so_far
 
--- ---- the bytes of one operation more
-
-dropped : (bs : List Bool) (i : ℕ) → get_or (drop 1 bs) i false ≡ get_or bs (suc i) false
-dropped [] i = refl
-dropped (b ∷ bs) i = refl
-
-pub marked_more : (fs : List Fields) (bs : List Bool) (i : ℕ) (f : Fields) → slice_get fs i ≡ Some f
-    → marked_spelling (take (i + 1) fs) bs ≡ marked_spelling (take i fs) bs ++ spelling (with_fence (get_or bs i false) f)
-unfolding marked_spelling
-marked_more [] bs i f h = cc
-marked_more (x ∷ xs) bs zero f h =
-    append-nil (spelling (with_fence (get_or bs 0 false) x)) ∙ ap (λ (z : Fields). spelling (with_fence (get_or bs 0 false) z)) (same_Some x f h)
-marked_more (x ∷ xs) bs (suc i) f h =
-    let next : suc i + 1 ≡ suc (i + 1) = omega arith in
-    let first : List ℕ = spelling (with_fence (get_or bs 0 false) x) in
-    ap (λ (n : ℕ). marked_spelling (take n (x ∷ xs)) bs) next
-    ∙ ap (λ (bytes : List ℕ). first ++ bytes) (marked_more xs (drop 1 bs) i f h)
-    ∙ sym (append_assoc first (marked_spelling (take i xs) (drop 1 bs)) (spelling (with_fence (get_or (drop 1 bs) i false) f)))
-    ∙ ap (λ (m : Bool). (first ++ marked_spelling (take i xs) (drop 1 bs)) ++ spelling (with_fence m f)) (dropped bs i)
+-- ---- the text of one operation more
 
 pub text_more : (fs : List Fields) (bs : List Bool) (i : ℕ) (f : Fields) → slice_get fs i ≡ Some f
     → marked_text (take (i + 1) fs) bs ≡ marked_text (take i fs) bs ++ (barrier_line (get_or bs i false) ++ text_line f)
@@ -100,15 +83,6 @@ text_more (x ∷ xs) bs (suc i) f h =
 pub none_written : (bs : List Bool) → marked_text [] bs ≡ []
 unfolding marked_text
 none_written bs = refl
-
-pub none_marked : (bs : List Bool) → marked_spelling [] bs ≡ []
-unfolding marked_spelling
-none_marked bs = refl
-
-pub field_at : (ds : List Descriptor) (i : ℕ) (d : Descriptor) → i < length ds → d ≡ get_or ds i d → slice_get (map fields ds) i ≡ Some (fields d)
-field_at [] i d lt is = absurd (omega arith)
-field_at (x ∷ xs) zero d lt is = ap (λ (y : Descriptor). Some (fields y)) (sym is)
-field_at (x ∷ xs) (suc i) d lt is = field_at xs i d (omega arith) is
 
 -- ---- what assembling a list with barriers answers
 

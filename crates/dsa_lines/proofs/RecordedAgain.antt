@@ -10,9 +10,8 @@ use Rattle.dsa_descriptor.specs.Lists.{entries}
 use Rattle.dsa_descriptor.specs.Profile.{IsListed}
 use Rattle.dsa_descriptor.specs.Spelling.{spelling}
 use Rattle.dsa_descriptor.proofs.Masks.{no_fence}
-use Rattle.dsa_emission.specs.Emission.{with_fence}
-use Rattle.dsa_emission.proofs.Emitted.{or_one}
-use Rattle.dsa_emission.proofs.Told.{unfenced_same}
+use Rattle.dsa_descriptor.specs.Fences.{with_fence}
+use Rattle.dsa_descriptor.proofs.Fenced.{or_one, unfenced_same}
 use Rattle.dsa_lines.specs.declared.recording.Recorded.{Recorded}
 use Rattle.dsa_lines.specs.declared.recording.Recorded.TheVariants.{Batch as BatchSaid, Entry as EntrySaid}
 use Rattle.dsa_lines.specs.Words.{Word, words_in, words_of}

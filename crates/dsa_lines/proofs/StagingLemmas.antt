@@ -15,11 +15,9 @@ use Rattle.dsa_descriptor.specs.Profile.{IsListed}
 use Rattle.dsa_descriptor.specs.Spelling.{spelling}
 use Rattle.dsa_descriptor.proofs.Rules.{first_is_one}
 use Rattle.dsa_descriptor.proofs.Same.{fault_only}
-use Rattle.dsa_emission.specs.Emission.{with_fence}
-use Rattle.dsa_descriptor.specs.Fences.{unfenced}
-use Rattle.dsa_emission.proofs.Emitted.{fenced_spelling_set}
+use Rattle.dsa_descriptor.specs.Fences.{unfenced, with_fence}
+use Rattle.dsa_descriptor.proofs.Fenced.{fenced_spelling_set, length-fenced_one, one_fenced, unfenced_same}
 use Rattle.dsa_emission.proofs.Spelt.{told_piece}
-use Rattle.dsa_emission.proofs.Told.{length-fenced_one, one_fenced, unfenced_same}
 use Rattle.dsa_lines.specs.Stagings.{StagedPiece, StagedEntry, IsNoPiece, Shows, BeginsRecord, IsEntry, IsRecord, IsStaging, staged_bytes, entry_bytes}
 use Rattle.dsa_lines.specs.Stagings.StagedEntry.{Piece, Other}
 

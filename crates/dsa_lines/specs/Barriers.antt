@@ -6,12 +6,10 @@ use Rattle.std.specs.List.{AllByRecursion}
 use Rattle.std.specs.Str.{bytes_eq}
 use Rattle.dsa_descriptor.specs.declared.descriptor.Descriptor.{Descriptor}
 use Rattle.dsa_descriptor.specs.Descriptors.{fields}
-use Rattle.dsa_descriptor.specs.Fences.{after_first, set_marks}
+use Rattle.dsa_descriptor.specs.Fences.{after_first, marked_spelling, set_marks}
 use Rattle.dsa_descriptor.specs.Fields.{Fields}
 use Rattle.dsa_descriptor.specs.Lists.{HaveOneOwner}
 use Rattle.dsa_descriptor.specs.Profile.{IsListed}
-use Rattle.dsa_descriptor.specs.Spelling.{spelling}
-use Rattle.dsa_emission.specs.Emission.{with_fence}
 use Rattle.dsa_lines.specs.declared.barriers.LineKind.{LineKind}
 use Rattle.dsa_lines.specs.declared.barriers.LineKind.TheVariants.{Other, Barrier, Fenced, Operation}
 use Rattle.dsa_lines.specs.declared.fault.TextFault.{TextFault}
@@ -52,11 +50,6 @@ abbrev pub barriers_of : Bool → List (List ℕ) → List Bool
 barriers_of keep lines = set_marks (after_first (marks_from keep false lines))
 
 -- ---- a list with barriers
-
--- its bytes: the flag fence of each operation after a barrier is set
-unfoldable pub marked_spelling : List Fields → List Bool → List ℕ
-marked_spelling [] marks = []
-marked_spelling (f ∷ fs) marks = spelling (with_fence (slice_index_or marks 0 false) f) ++ marked_spelling fs (drop 1 marks)
 
 -- the line of a barrier
 abbrev pub barrier_line : Bool → List ℕ

@@ -12,8 +12,7 @@ use Rattle.dsa_descriptor.specs.Places.{u32_at}
 use Rattle.dsa_descriptor.specs.Records.{layout}
 use Rattle.dsa_descriptor.specs.Spelling.{spelling}
 use Rattle.dsa_emission.specs.declared.emission_fault.EmissionFault.TheVariants.{StagingLength}
-use Rattle.dsa_emission.specs.Emission.{with_fence}
-use Rattle.dsa_descriptor.specs.Fences.{unfenced}
+use Rattle.dsa_descriptor.specs.Fences.{unfenced, with_fence}
 use Rattle.dsa_lines.specs.declared.fault.EmittedFault.{EmittedFault}
 use Rattle.dsa_lines.specs.Words.{Word}
 use Rattle.dsa_lines.specs.Numbers.{hex}

@@ -1,55 +1,18 @@
 //! The bytes of a list with barriers from its text, and its text.
 
-ghost use Rattle.std.specs.Prelude.{◌≡◌, ◌++◌, false, slice_index_or, map, string_bytes, IfOk, OnOk};
+ghost use Rattle.std.specs.Prelude.{◌≡◌, ◌++◌, map, string_bytes, IfOk, OnOk};
 ghost use Rattle.dsa_descriptor.specs.Descriptors.{fields};
 ghost use Rattle.dsa_descriptor.specs.Lists.{list_spelling};
-ghost use Rattle.dsa_descriptor.specs.Spelling.{spelling};
-ghost use Rattle.dsa_emission.specs.Emission.{with_fence};
 ghost use Rattle.dsa_lines.specs.Texts.{lines_of, text_line};
 ghost use Rattle.dsa_lines.specs.Assembled.{Assembles};
-ghost use Rattle.dsa_lines.specs.Barriers.{AssemblesMarked, MarkedTextSpells, OneMarkEach, OneMarkedSpelling, barrier_line, barriers_of, marked_spelling, marked_text};
+ghost use Rattle.dsa_lines.specs.Barriers.{AssemblesMarked, MarkedTextSpells, OneMarkEach, OneMarkedSpelling, barrier_line, barriers_of, marked_text};
 
 use crate::assembling::parse_operations;
 use crate::barriers::text_barriers;
 use crate::disassembling::push_line;
 use crate::fault::TextFault;
-use dsa_descriptor::{Descriptor, DescriptorList};
+use dsa_descriptor::{Descriptor, DescriptorList, mark_at, write_list};
 use std::alloc::{AllocError, Global};
-
-/// The mark of an operation; an operation without a mark has no barrier.
-fn mark_at(marks: &[bool], index: usize) -> bool
-    ensures { result ≡ slice_index_or marks.now index false }
-{
-    index < marks.len() && marks[index]
-}
-
-/// The bytes of an operation, fenced or not.
-fn fenced_bytes(operation: &Descriptor, fence: bool) -> [u8; 64]
-    ensures { result ≡ spelling (with_fence fence (fields operation.now)) }
-{
-    let mut bytes = operation.write();
-    if fence {
-        bytes[4] |= 1;
-    }
-    bytes
-}
-
-/// The bytes of operations, in which each that is marked has the flag fence.
-fn marked_bytes(
-    alloc: Global,
-    operations: &[Descriptor],
-    marks: &[bool],
-) -> Result<Vec<u8>, AllocError>
-    ensures { IfOk result (λ bytes. bytes.items ≡
-        marked_spelling (map fields operations.now) marks.now) }
-{
-    let mut bytes = Vec::new(alloc);
-    for index in 0..operations.len() {
-        let entry = fenced_bytes(&operations[index], mark_at(marks, index));
-        bytes.extend_from_slice(&entry)?;
-    }
-    Ok(bytes)
-}
 
 /// The operations that a text spells, as [`parse_operations`] returns them, and their barriers, as [`text_barriers`]
 /// does.
@@ -86,7 +49,7 @@ pub fn assemble_fenced(alloc: Global, text: &[u8], keep_fences: bool) -> Result<
     ensures { AssemblesMarked (λ bytes. bytes.items) keep_fences (lines_of text.now) result }
 {
     let list = parse_list(alloc, text, keep_fences)?;
-    match marked_bytes(alloc, &list.descriptors, &list.barriers) {
+    match write_list(alloc, &list) {
         Ok(bytes) => Ok(bytes),
         Err(_) => Err(TextFault::Memory),
     }

@@ -11,7 +11,7 @@ use Rattle.dsa_descriptor.specs.Lists.{list_spelling}
 use Rattle.dsa_descriptor.specs.Profile.{IsListed}
 use Rattle.dsa_emission.specs.declared.place.Place.{Place}
 use Rattle.dsa_emission.specs.Emission.{is_batch, batch_count, batched_count, place_of, portal_entry, fenced_spelling, staged, joined, portal_bytes, staging_bytes}
-use Rattle.dsa_emission.proofs.Told.{unfenced_same}
+use Rattle.dsa_descriptor.proofs.Fenced.{unfenced_same}
 use Rattle.dsa_plan.specs.Plan.{Group, Plan}
 use Rattle.dsa_plan.specs.Settings.{Limits}
 use Rattle.dsa_prepared.specs.Relocated.{relocated_fields}

@@ -14,7 +14,8 @@ use Rattle.dsa_descriptor.specs.Profile.{FieldsFit, IsListed}
 use Rattle.dsa_descriptor.specs.Spans.{InSome, span}
 use Rattle.dsa_descriptor.specs.Spelling.{owner_word, spelling}
 use Rattle.dsa_emission.specs.declared.place.Place.{Place}
-use Rattle.dsa_emission.specs.Emission.{with_fence, batch_spelling}
+use Rattle.dsa_descriptor.specs.Fences.{with_fence}
+use Rattle.dsa_emission.specs.Emission.{batch_spelling}
 use Rattle.dsa_plan.specs.Plan.{Group}
 use Rattle.dsa_prepared.specs.Relocated.{relocated_op, relocated_fields}
 use Rattle.dsa_prepared.specs.Regions.{relocated, LiesInOne, LieInOne}

@@ -9,7 +9,7 @@ use Rattle.dsa_descriptor.specs.Fields.{Fields}
 use Rattle.dsa_descriptor.specs.Lists.{list_spelling}
 use Rattle.dsa_descriptor.specs.Spelling.{spelling}
 use Rattle.dsa_plan.specs.Plan.{Group}
-use Rattle.dsa_plan.specs.Emission.{with_fence}
+use Rattle.dsa_descriptor.specs.Fences.{with_fence}
 use Rattle.dsa_emission.specs.declared.place.Place.{Place}
 use Rattle.dsa_prepared.specs.Regions.{has_address}
 use Rattle.dsa_prepared.specs.declared.word.Word.{Word}

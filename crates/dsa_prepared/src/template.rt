@@ -3,9 +3,7 @@
 ghost use Rattle.std.specs.Prelude.{◌≡◌, ◌≤◌, take, drop, length, map, IfOk};
 ghost use Rattle.dsa_descriptor.specs.Descriptors.{fields};
 ghost use Rattle.dsa_descriptor.specs.Pieces.{most_pieces};
-ghost use Rattle.dsa_descriptor.specs.Spelling.{spelling};
 ghost use Rattle.dsa_plan.specs.Plan.{piece_count};
-ghost use Rattle.dsa_plan.specs.Emission.{with_fence};
 ghost use Rattle.dsa_prepared.specs.Preparing.{AreRegions};
 ghost use Rattle.dsa_prepared.specs.Regions.{AllLieInOne};
 ghost use Rattle.dsa_prepared.specs.Entries.{entry_of, first_word, own_word, second_word};
@@ -19,20 +17,9 @@ use crate::places::{place_in, word_at};
 use crate::prepared::Prepared;
 use crate::tie::Tie;
 use crate::word::Word;
-use dsa_descriptor::{Descriptor, Op, Span};
+use dsa_descriptor::{Descriptor, Op, Span, write_fenced};
 use dsa_plan::Plan;
 use std::alloc::{AllocError, Global};
-
-/// The descriptor's bytes, fenced or not.
-fn fenced_bytes(piece: &Descriptor, fence: bool) -> [u8; 64]
-    ensures { result ≡ spelling (with_fence fence (fields piece.now)) }
-{
-    let mut bytes = piece.write();
-    if fence {
-        bytes[4] |= 1;
-    }
-    bytes
-}
 
 /// Bytes 0 to 7.
 fn head_of(bytes: &[u8; 64]) -> [u8; 8]
@@ -55,7 +42,7 @@ pub(crate) fn entry_of(regions: &[Span], fence: bool, piece: &Descriptor) -> Ent
     requires { AreRegions regions.now }
     ensures { result ≡ entry_of regions.now fence (fields piece.now) }
 {
-    let fenced = fenced_bytes(piece, fence);
+    let fenced = write_fenced(piece, fence);
     let plain = piece.write();
     let head = head_of(&fenced);
     let middle = middle_of(&plain);

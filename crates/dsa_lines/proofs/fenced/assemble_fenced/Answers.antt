@@ -1,7 +1,3 @@
-use Rattle.std.proofs.Common.{◌∙◌}
-use Rattle.std.specs.Prelude.{map}
-use Rattle.dsa_descriptor.specs.Descriptors.{fields}
-use Rattle.dsa_lines.specs.Barriers.{marked_spelling}
 use Rattle.dsa_lines.specs.Texts.{lines_of}
 use Rattle.dsa_lines.proofs.Marks.{marked_listing}
 use Rattle.dsa_lines.proofs.fenced.assemble_fenced.Goals as goal
@@ -11,4 +7,4 @@ returns-in-Ok c =
     let list = c.in_ok-list.list in
     marked_listing c.args.keep_fences (lines_of c.args.text.now) list.descriptors.items list.barriers.items c.in-Ok.bytes.items
     c.in_ok-list.ensures.answer list.one_owner c.in_ok-list.ensures.barriers
-    (c.in-Ok.ensures ∙ (λ i. marked_spelling (map fields (c.deref.ensures.value i)) (c.deref-2.ensures.value i)))
+    c.in-Ok.ensures

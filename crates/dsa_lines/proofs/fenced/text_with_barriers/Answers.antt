@@ -3,7 +3,8 @@ use Rattle.std.specs.Prelude.{Some, slice_get}
 use Rattle.dsa_descriptor.specs.Descriptors.{fields}
 use Rattle.dsa_lines.specs.Barriers.{barrier_line}
 use Rattle.dsa_lines.specs.Texts.{text_line}
-use Rattle.dsa_lines.proofs.Marks.{field_at, none_written, text_more}
+use Rattle.dsa_descriptor.proofs.Marked.{field_at}
+use Rattle.dsa_lines.proofs.Marks.{none_written, text_more}
 use Rattle.dsa_lines.proofs.fenced.text_with_barriers.Goals as goal
 
 pub loop-index-init : goal.loop-index-init

@@ -152,10 +152,23 @@ def example(folder):
     expect(len(parts) == 2, f"docs/USING.md shows {len(parts)} runs of publish.c")
 
 
+def journal(folder):
+    """examples/barrier/journal.c goes on after page faults, and publishes exactly if its checks succeed."""
+    for outcome, wanted in (("right", "valid\n"), ("wrong", "2 operations are left out\nnot valid\n")):
+        for fault in ("0", "2"):
+            options = ["--order", "all", "--seeds", "20", "--fault", fault]
+            command = [f"{folder}/dsa_trace", *options, "--", f"{folder}/journal", outcome]
+            ran = subprocess.run(command, capture_output=True, text=True, timeout=600)
+            said = ran.stdout.replace(wanted, "", 20) if ran.stdout.count(wanted) == 20 else ran.stdout
+            right = ran.returncode == 0 and re.fullmatch("(2 operations are left out\n)*", said)
+            expect(right, f"journal {outcome}, --fault {fault}: {ran.returncode}, {ran.stdout}")
+
+
 def build(folder):
     """The device, and the clients over the library."""
     commands = [["make", "-C", "trace", "CC=gcc", f"OUT={folder}"]]
-    for path in ("tests/trace/planned.c", "tests/trace/published.c", "examples/barrier/publish.c"):
+    examples = ("examples/barrier/publish.c", "examples/barrier/journal.c")
+    for path in ("tests/trace/planned.c", "tests/trace/published.c", *examples):
         sources = [path, "bindings/c/memory.c", ARCHIVE]
         words = ["-O2", "-mmovdir64b", "-I", "bindings/c", "-o", f"{folder}/{Path(path).stem}"]
         commands.append(["gcc", *STRICT, *words, *sources])
@@ -182,6 +195,7 @@ def main(words):
         without_fence(folder, lists, names)
         published(folder, count)
         example(folder)
+        journal(folder)
 
 
 if __name__ == "__main__":

@@ -84,7 +84,8 @@ def barriers(text):
 
 def resumed(text):
     """What is left of a list by completion records, typed by hand: operations that are split, both orders, records in
-    each form and of another length, barriers, and a file of records that is not there."""
+    each form and of another length, and a file of records that is not there; lists with barriers, and pieces that are
+    given up."""
     fill = "fill 0x300000 with 0102030405060708, 64 bytes, record 0x8060\n"
     lines = "move 0x100000 -> 0x200000, 10000 bytes, record 0x8000\n" + fill
     first = "move 0x100000 -> 0x200000, 4096 bytes, record 0x8000\n"
@@ -114,13 +115,12 @@ def resumed(text):
             expect(got == (0, wanted, ""), f"{words}: wanted {wanted!r}, got {got}")
         records = "there are not 32 bytes of completion records for each piece [112 Records]"
         sizes = "note: {} pieces have {} bytes of records, and these are {}\n".format
-        apart = "note: a list with barriers is not resumed: resume what is between two, "
-        apart += "nothing after a failed check\n"
         for words, given, status, error in (
             ([*short, "--records", f"{folder}/odd"], lines, 1, f"error: {records}\n{sizes(4, 128, 127)}"),
             (["--records", f"{folder}/some"], lines, 1, f"error: {records}\n{sizes(2, 64, 128)}"),
             ([*short, "--records", f"{folder}/some"], "mov 1", 1, "[130 Line]\n"),
-            ([*short, "--records", f"{folder}/some"], f"{first}barrier\n{fill}", 1, f"[3 FlagBits 1]\n{apart}"),
+            ([*short, "--give-up", "2,x", "--records", f"{folder}/some"], lines, 1, "with commas between\n"),
+            ([*short, "--give-up", "65536", "--records", f"{folder}/some"], lines, 1, "with commas between\n"),
             (["--greatest-transfer", "7", "--records", f"{folder}/some"], lines, 1, "[83 Settings]\n"),
             (["--records", f"{folder}/no"], lines, 2, f"{folder}/no can't be opened: there is no such file\n"),
             ([], lines, 2, "For more information, try '--help'.\n"),
@@ -130,7 +130,8 @@ def resumed(text):
             expect(right, f"resume {words}: status {ran.returncode}, {ran.stdout!r}, {ran.stderr!r}")
         # two groups of moves apart, and a compare whose source the move after it writes, so there is a fence between
         apart = "".join(f"move {at} -> {at + 64}, 64 bytes, record {0x8000 + at // 4}\n" for at in (0, 128, 256, 384))
-        checked = "compare 0 with 64, 64 bytes, expect 0, record 0x8000, check\nmove 128 -> 0, 64 bytes, record 0x8020\n"
+        checked = "compare 0 with 64, 64 bytes, expect 0, record 0x8000, check\n"
+        checked += "move 128 -> 0, 64 bytes, record 0x8020\n"
         early = "warning: piece {} has begun, and piece {}, of an earlier epoch of the plan, has not succeeded: "
         early += "groups submitted one after another leave no such records\n"
         for listed, statuses, places in (
@@ -154,6 +155,61 @@ def resumed(text):
             got, wanted = (ran.returncode, ran.stderr), (0, early.format(*places) if places else "")
             expect(got == wanted, f"resume, statuses {statuses}: wanted {wanted}, got {got}")
         sharing(text, folder)
+        stopped_at_barriers(text, folder)
+
+
+def stopped_at_barriers(text, folder):
+    """Barriers of a stopped list, by hand: those that hold stay, and what is after one that never can be passed is left
+    out."""
+    row = [f"move {128 * n:#x} -> {128 * n + 64:#x}, 64 bytes, record {0x8000 + 32 * n:#x}\n" for n in range(5)]
+    lines = row[0] + row[1] + "barrier\n" + row[2] + row[3] + "barrier\n" + row[4]
+    early = "piece {} has begun, piece {} has not succeeded, a barrier is between: restore memory, run the whole list "
+    early += "[115 PassedBarrier {} {}]\n"
+    given = "error: piece {} is given up, but the status in its record is not 3 or above, or there is no such piece "
+    given += "[114 NotFailed {}]\n"
+    out = "note: {} {} after a barrier left out: piece {} {}\n".format
+    for statuses, more, status, left, said in (
+        # nothing has begun, or all has succeeded
+        ((0, 0, 0, 0, 0), [], 0, lines, ""),
+        ((1, 1, 1, 1, 1), [], 0, "", ""),
+        # a fault before the first barrier, and the same in the other order
+        ((3, 0, 0, 0, 0), [], 0, lines, ""),
+        ((0, 3, 0, 0, 0), ["--failed-first"], 0, row[1] + row[0] + "".join(lines.partition("barrier\n")[1:]), ""),
+        # the first barrier is passed, the second holds
+        ((1, 1, 1, 4, 0), [], 0, row[3] + "barrier\n" + row[4], ""),
+        ((1, 1, 1, 1, 0), [], 0, row[4], ""),
+        # what is given up is not done, nor what is after the next barrier
+        ((3, 0, 0, 0, 0), ["--give-up", "0"], 0, row[1], out(3, "pieces", 0, "is given up")),
+        ((1, 1, 3, 4, 0), ["--give-up", "3"], 0, row[2], out(1, "piece", 3, "is given up")),
+        ((1, 1, 3, 4, 0), ["--give-up", "3,2"], 0, "", out(1, "piece", 2, "is given up")),
+        ((1, 1, 1, 1, 3), ["--give-up", "4"], 0, "", ""),
+        # a piece is given up that has not failed, or is not there
+        ((1, 1, 3, 4, 0), ["--give-up", "1"], 1, "", given.format(1, 1)),
+        ((1, 1, 3, 4, 0), ["--give-up", "5,4"], 1, "", given.format(4, 4)),
+        ((1, 1, 3, 4, 0), ["--give-up", "5"], 1, "", given.format(5, 5)),
+        # a piece has begun too early
+        ((1, 0, 0, 1, 0), [], 1, "", "error: " + early.format(3, 1, 1, 3)),
+        ((0, 3, 1, 1, 0), [], 1, "", "error: " + early.format(2, 0, 0, 2)),
+        ((1, 1, 1, 0, 3), [], 1, "", "error: " + early.format(4, 3, 3, 4)),
+    ):
+        Path(folder, "some").write_bytes(b"".join(bytes([end]).ljust(32, b"\0") for end in statuses))
+        ran = subprocess.run(
+            [text, "resume", *more, "--records", f"{folder}/some"], input=lines, capture_output=True, text=True
+        )
+        got = (ran.returncode, ran.stdout, re.sub("warning: piece .*\n", "", ran.stderr))
+        expect(got == (status, left, said), f"resume {more}, statuses {statuses}: wanted {left!r}, {said!r}, got {got}")
+    # a check that has failed
+    checked = "compare 0x0 with 0x40, 64 bytes, expect 0, record 0x8000, check\n" + row[1] + "barrier\n" + row[2]
+    for statuses, left, said in (
+        ((2, 0, 0), row[1], out(1, "piece", 0, "is a check with another result than expected")),
+        ((2, 1, 0), "", out(1, "piece", 0, "is a check with another result than expected")),
+        ((1, 0, 0), row[1] + "barrier\n" + row[2], ""),
+    ):
+        Path(folder, "some").write_bytes(b"".join(bytes([end]).ljust(32, b"\0") for end in statuses))
+        command = [text, "resume", "--records", f"{folder}/some"]
+        ran = subprocess.run(command, input=checked, capture_output=True, text=True)
+        got = (ran.returncode, ran.stdout, re.sub("warning: piece .*\n", "", ran.stderr))
+        expect(got == (0, left, said), f"resume of a check, statuses {statuses}: wanted {left!r}, {said!r}, got {got}")
 
 
 def sharing(text, folder):

@@ -147,8 +147,7 @@ enum dsa_number {
        dualcast */
     DSA_OPCODE = 2,
     /* descriptor `first`: flags 0x0004 and 0x0008 have to be set; 0x0010 (interrupt), 0x0040 and bits 16 to 23 may
-       not; 0x0001 (fence) only in fenced lists, which are resumed from one barrier to the next; 0x0080 (check) only
-       in compares */
+       not; 0x0001 (fence) only in lists with barriers; 0x0080 (check) only in compares */
     DSA_FLAG_BITS = 3,
     /* descriptor `first`: a reserved bit or byte is not zero */
     DSA_RESERVED = 4,
@@ -264,6 +263,11 @@ enum dsa_number {
     /* one of pieces `first` and `second` writes into the other's record: resume from the failed entry on if only
        groups before it share records; else restore the memory, and run the whole list with a record for each */
     DSA_SHARED_RECORD = 113,
+    /* piece `first` is given up, but the status in its record is not 3 or above, or there is no such piece */
+    DSA_NOT_FAILED = 114,
+    /* piece `second` has begun, piece `first` has not succeeded, a barrier is between: restore memory, run the
+       whole list */
+    DSA_PASSED_BARRIER = 115,
     /* no slot is free: complete a submission first */
     DSA_NO_SLOT = 120,
     /* the submission may read or write `first` spans, more than the tracker keeps of one */
@@ -389,39 +393,57 @@ uint32_t dsa_check_list(const struct dsa_settings *settings,
                         uint64_t *cost,
                         struct dsa_refusal *refusal);
 
+/* what dsa_resume has written, and what may not be done any more */
+struct dsa_resumed {
+    uint64_t rest_len;   /* the bytes of the list that was written, 64 for each piece */
+    uint64_t left_out;   /* how many pieces after a barrier are left out, because one before it will not succeed */
+    uint64_t stopped_by; /* the first piece that stops them; 0 if none is left out */
+};
+
 /*
- * What is left to submit of a list that dsa_plan_list has planned with these settings, once a submission has stopped,
- * as after a page fault. records has the completion records of its pieces as the device has left them, 32 bytes for
- * each in the order of the pieces: byte 0 is 0, as the caller has cleared it, of a piece that waits, 1 or 2 of one that
- * has finished (2: a compare found another result than expected), and any other of one that failed. The pieces of a
- * move to a higher address within its own range run from the end, and so do their records: the one at its record
- * address is that of its last piece.
+ * What is left to submit of a list that was planned with these settings, once a submission has stopped, as after a
+ * page fault. records has the completion records of its pieces as the device has left them, 32 bytes for each in the
+ * order of the pieces: byte 0 is 0, as the caller has cleared it, of a piece that waits, 1 or 2 of one that has
+ * finished (2: a compare found another result than expected), and any other of one that failed. The pieces of a move
+ * to a higher address within its own range run from the end, and so do their records: the one at its record address is
+ * that of its last piece. given_up has a byte for each piece, not 0 if it has failed and is not to be done again; it
+ * may be shorter, so with length 0 no piece is given up.
  *
- * A list with barriers can't be resumed (DSA_FLAG_BITS): if no two of its pieces share a record, resume what is between
- * two barriers by itself, and nothing after a barrier before which a record has the status 2; else restore the memory
- * and run the whole list. Clearing the flags does not help: what a failed check has stopped would be done.
+ * What is after a barrier is done only if all pieces before it end with status 1. Those that wait or failed still can;
+ * if one ended with status 2, or is given up, all pieces after the barrier are left out: resumed->left_out says how
+ * many they are, and resumed->stopped_by the first piece that stops them. They are not in rest, so a later call does
+ * not count them. A piece that reads what a given-up one should have written is done all the same, unless a barrier is
+ * between.
  *
- * Returns 0: rest begins with the list of the pieces that have not finished, 64 bytes each, and rest_len is its length
- * (64 bytes for each piece are always enough). They are as they were listed; if failed_first is not 0, those that
- * failed come before those that wait. Clear their completion records, and plan the list: planning does not refuse it.
- * If no entry of the portal was submitted after one that failed, doing it leaves what the whole list leaves, provided
- * that what is left writes each byte that a failed piece or the clearing of a record has changed before it reads it.
+ * Returns 0: rest begins with the list of the other pieces that have not finished, 64 bytes each, with the flag 0x0001
+ * after each barrier between them, and resumed->rest_len is its length (64 bytes for each piece are always enough).
+ * They are as they were listed; if failed_first is not 0, those that failed come before those that wait, up to the
+ * next barrier. Clear their completion records, and plan the list: planning does not refuse it. If no entry of the
+ * portal was submitted after one that failed, doing it leaves what executing the list in order leaves, without the
+ * pieces that are given up or left out, provided that what is left writes each byte that another failed piece or the
+ * clearing of a record has changed before it reads it, and that no other piece reads or writes a byte that a given-up
+ * piece has changed: those bytes, its record among them, stay as they are.
  *
  * Returns another number: refusal has it, and nothing else was written: the first refusal of dsa_plan_list but for
- * DSA_NO_ROOM, then DSA_RECORDS, then DSA_SHARED_RECORD, then DSA_NO_ROOM_FOR_LIST. DSA_SHARED_RECORD: a record that
- * another piece writes, with its data or its own record, does not say how its piece has ended. Give each piece a record
- * of its own before the next run. Now, if only pieces of groups that are known to have completed, by the records of
- * their batches, share records, give the pieces from the failed entry on, with their records, as the list: they are the
- * descriptors that were submitted, in the portal and in the staging area, without their fence flags (0x0001). Else
- * restore the memory and run the whole list.
+ * DSA_NO_ROOM, then DSA_RECORDS, then DSA_SHARED_RECORD, DSA_NOT_FAILED, DSA_PASSED_BARRIER, then
+ * DSA_NO_ROOM_FOR_LIST.
+ * DSA_SHARED_RECORD: a record that another piece writes, with its data or its own record, does not say how its piece
+ * has ended. Give each piece a record of its own before the next run. Now, if only pieces of groups that are known to
+ * have completed, by the records of their batches, share records, give the pieces from the first entry on whose status
+ * is not 1, with their records, as the list: they are the descriptors that were submitted, in the portal and in the
+ * staging area, with the flag 0x0001 exactly where the list has a barrier (clear it on all others, and set it on the
+ * first of a group before which there is one). Else restore the memory and run the whole list.
+ * DSA_PASSED_BARRIER: piece refusal.second has begun although piece refusal.first has not succeeded and a barrier is
+ * between them: groups were submitted too early, or records were not cleared.
  */
 uint32_t dsa_resume(const struct dsa_settings *settings,
                     const uint64_t *table, size_t table_len,
                     const uint8_t *list, size_t list_len,
                     const uint8_t *records, size_t records_len,
+                    const uint8_t *given_up, size_t given_up_len,
                     uint32_t failed_first,
                     uint8_t *rest, size_t rest_capacity,
-                    uint64_t *rest_len,
+                    struct dsa_resumed *resumed,
                     struct dsa_refusal *refusal);
 
 /*

@@ -22,7 +22,7 @@ from typing import Dict, FrozenSet, Iterable, List, NamedTuple, Optional, Sequen
 
 __all__ = [
     "BARRIER", "BEGINS", "BLOCK_ON_FAULT", "CAUSES", "FENCED", "MOST_PIECES", "Certificate", "Group", "Planned",
-    "Prepared", "Refusal", "Retired", "Settings", "Submitted", "Summary", "Tracker", "apply_delta", "check",
+    "Prepared", "Refusal", "Resumed", "Retired", "Settings", "Submitted", "Summary", "Tracker", "apply_delta", "check",
     "check_list", "compare", "compare_pattern", "count_pieces", "dualcast", "fill", "groups", "judge",
     "library_version", "move", "plan_list", "plan_list_certified", "prepare", "resume",
 ]
@@ -56,6 +56,10 @@ class _Settings(ctypes.Structure):
 
 class _Planned(ctypes.Structure):
     _fields_ = [(name, ctypes.c_uint64) for name in ("cost", "pieces", "portal_len", "staging_len")]
+
+
+class _Resumed(ctypes.Structure):
+    _fields_ = [(name, ctypes.c_uint64) for name in ("rest_len", "left_out", "stopped_by")]
 
 
 class _Refusal(ctypes.Structure):
@@ -155,7 +159,7 @@ def _declare(library: ctypes.CDLL) -> None:
         "dsa_plan_list_certified": (number, [*listed, *rooms, *certificate, byte, size, planned, refusal]),
         "dsa_check": (ctypes.c_uint32, [*listed, byte, size, ctypes.c_uint64, *certificate, word, refusal]),
         "dsa_check_list": (number, [*listed, *[byte, size] * 2, ctypes.c_uint64, *certificate, word, refusal]),
-        "dsa_resume": (number, [*listed, byte, size, number, byte, size, word, refusal]),
+        "dsa_resume": (number, [*listed, *[byte, size] * 2, number, byte, size, ctypes.POINTER(_Resumed), refusal]),
         "dsa_judge": (number, [*listed, byte, size, word, refusal]),
         "dsa_prepare": (number, [*listed, *kept, info, refusal]),
         "dsa_fill": (ctypes.c_uint32, [rows, size, word, size, ctypes.c_uint64, *rooms, refusal]),
@@ -241,6 +245,17 @@ class Summary(NamedTuple):
     """The bytes for the staging area."""
 
 
+class Resumed(NamedTuple):
+    """What `resume` answers."""
+
+    rest: bytes
+    """The list of the pieces that may be done, with the flag `BARRIER` after each barrier between them."""
+    left_out: int
+    """How many pieces after a barrier are left out, because one before it will not succeed."""
+    stopped_by: Optional[int]
+    """The first piece that will not, if some are left out: a failed check, or one that is given up."""
+
+
 @dataclass(frozen=True)
 class Certificate:
     """What shows that no legal plan costs less than a plan does."""
@@ -324,6 +339,8 @@ CAUSES: Dict[int, str] = {
     111: "NotPrepared",
     112: "Records",
     113: "SharedRecord",
+    114: "NotFailed",
+    115: "PassedBarrier",
     120: "NoSlot",
     121: "TooManySpans",
     122: "NotOutstanding",
@@ -555,22 +572,34 @@ def _checked(call, settings: Settings, given: Sequence, certificate: Certificate
     return cost.value
 
 
-def resume(settings: Settings, operations: Bytes, records: Bytes, failed_first: bool = False) -> bytes:
+def resume(
+    settings: Settings, operations: Bytes, records: Bytes, given_up: Iterable[int] = (), failed_first: bool = False
+) -> Resumed:
     """What is left to submit of a list that was planned with these settings, once a submission has stopped: the pieces
     that have not finished, by their completion records, 32 bytes for each in their order (first byte 0: it waits; 1, 2:
     it has finished). Those of a move to a higher address within its own range run from the end, and so do its records.
     Clear the records of what is left, and plan it: docs/USING.md says when that is right. Raises `Refusal`.
 
-    A list with barriers can't be resumed (3): if no two pieces share a record, resume what is between two barriers, and
-    nothing after one before which a record has status 2. Nor can one with a piece that writes into another's record
-    (113): resume from the failed entry on if only groups that completed by their batches' records share records."""
+    A piece that failed is not done again if `given_up` has its number (that of the piece, not of the operation). If
+    such a piece, or one with status 2, is before a barrier, all pieces after that are left out, and a later call
+    does not count them. A list with a piece that writes into another's record is refused (113): resume from the
+    first entry on whose status is not 1 if only groups that completed by their batches' records share records. So
+    are records by which a piece has begun though another has not succeeded and a barrier is between them (115)."""
     raw, table, entries = settings._raw()
     listed, size = _given("operations", operations)
     pieces = min(int(_library.dsa_count_pieces(raw, table, entries, listed, size)), MOST_PIECES)
-    rest, count, refusal = _room(64 * pieces), ctypes.c_uint64(), _Refusal()
-    given = *_given("records", records), int(failed_first), rest, 64 * pieces
-    _answered(_library.dsa_resume(raw, table, entries, listed, size, *given, count, refusal), refusal)
-    return bytes(rest)[: count.value]
+    rest, resumed, refusal = _room(64 * pieces), _Resumed(), _Refusal()
+    marks = bytearray()
+    if isinstance(given_up, (bytes, bytearray, memoryview)):
+        raise TypeError("given_up has the numbers of pieces, not a byte for each")
+    for piece in given_up:
+        place = _whole("a piece", piece, MOST_PIECES)
+        marks.extend(bytes(max(0, place + 1 - len(marks))))
+        marks[place] = 1
+    given = *_given("records", records), *_given("given_up", marks), int(failed_first), rest, 64 * pieces
+    _answered(_library.dsa_resume(raw, table, entries, listed, size, *given, resumed, refusal), refusal)
+    stopped_by = resumed.stopped_by if resumed.left_out else None
+    return Resumed(bytes(rest)[: resumed.rest_len], resumed.left_out, stopped_by)
 
 
 def judge(settings: Settings, operations: Bytes, marks: Bytes) -> int:

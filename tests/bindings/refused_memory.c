@@ -55,6 +55,7 @@ static struct outputs {
     uint64_t prices[N + 1], cost;
     struct dsa_pair pairs[N];
     struct dsa_planned planned;
+    struct dsa_resumed resumed;
     struct dsa_prepared_row rows[ROWS];
     struct dsa_prepared_info info;
     uint32_t slot, slots[N];
@@ -109,8 +110,8 @@ static uint32_t call(int which, struct dsa_refusal *r)
         return dsa_check_list(&settings, &settings.batch, 0, list, sizeof list, portal_in, planned_in.portal_len,
                               staging_in, planned_in.staging_len, 1, prices_in, N + 1, pairs_in, N, &o->cost, r);
     case 8:
-        return dsa_resume(&settings, &settings.batch, 0, list, sizeof list, records, sizeof records, 1, o->portal,
-                          sizeof o->portal, &o->cost, r);
+        return dsa_resume(&settings, &settings.batch, 0, list, sizeof list, records, sizeof records, records, 0, 1,
+                          o->portal, sizeof o->portal, &o->resumed, r);
     case 9: /* with a barrier before each third move */
         return dsa_plan_list(&settings, &settings.batch, 0, fenced, sizeof fenced, o->portal, sizeof o->portal,
                              o->staging, sizeof o->staging, &o->planned, r);

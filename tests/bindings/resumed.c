@@ -1,7 +1,7 @@
 /*
- * What dsa_resume answers of random lists of moves and fills, some of them split, and of random completion records, in
- * both orders, beside the pieces that are split here; and each refusal, which leaves all but itself as it was. What is
- * left can be planned.
+ * What dsa_resume answers of random lists of moves and fills, some of them split and some with barriers, of random
+ * completion records and of pieces that are given up, in both orders, beside the pieces that are split here; and each
+ * refusal, which leaves all but itself as it was. What is left can be planned.
  *
  *     resumed COUNT SEED
  */
@@ -18,8 +18,12 @@ static const struct dsa_settings settings = {
     .version = 1, .greatest_batch = 8, .greatest_transfer = GREATEST, .lone = 10, .batch = 14, .fence = 3,
     .staging = 1 << 30};
 static const uint8_t statuses[] = {0, 0, 1, 1, 1, 2, 3, 4, 0x13, 0x83, 0x1a};
-static uint8_t list[64 * OPERATIONS], pieces[PIECES][64], records[32 * PIECES], wanted[64 * PIECES];
+static uint8_t list[64 * OPERATIONS], pieces[PIECES][64], records[32 * PIECES], given_up[PIECES], wanted[64 * PIECES];
 static uint64_t piece_count, seed;
+/* the refusal that is wanted, or the front: the first piece after a barrier that holds; and what is left out */
+static struct dsa_refusal wrong;
+static uint64_t front;
+static struct dsa_resumed said;
 
 static uint64_t below(uint64_t limit)
 {
@@ -49,33 +53,95 @@ static void spell(uint8_t *to, int code, uint64_t record, uint64_t first, uint64
 /* A list, and the pieces that it is split into. */
 static uint64_t make(void)
 {
-    const uint64_t count = below(OPERATIONS + 1);
+    const uint64_t count = below(OPERATIONS + 1), with_barriers = below(2);
     piece_count = 0;
     for (uint64_t i = 0; i < count; ++i) {
         const int code = below(3) ? MOVE : FILL;
         const uint64_t record = 0x8000 + 32 * PIECES * i, from = 0x100000 * (1 + below(4)), to = 0x1000000 + 0x1000 * i;
         const uint64_t size = 1 + below(4 * GREATEST);
+        const int barrier = with_barriers && below(3) == 0;
         spell(list + 64 * i, code, record, code == MOVE ? from : 0x1122334455667788, to, size);
-        for (uint64_t at = 0, k = 0; at < size; at += GREATEST, ++k)
-            spell(pieces[piece_count++], code, record + 32 * k, code == MOVE ? from + at : 0x1122334455667788, to + at,
+        list[64 * i + 4] |= (uint8_t)barrier;
+        for (uint64_t at = 0, k = 0; at < size; at += GREATEST, ++k) {
+            spell(pieces[piece_count], code, record + 32 * k, code == MOVE ? from + at : 0x1122334455667788, to + at,
                   size - at < GREATEST ? size - at : GREATEST);
+            pieces[piece_count++][4] |= (uint8_t)(barrier && k == 0);
+        }
     }
-    memset(records, 0xa5, sizeof records);
-    for (uint64_t i = 0; i < piece_count; ++i)
-        records[32 * i] = statuses[below(sizeof statuses)];
     return 64 * count;
 }
 
-/* Adds the pieces that wait, or that failed, or both, to the bytes that are wanted so far. */
+static int is_barrier(uint64_t i)
+{
+    return pieces[i][4] & 1;
+}
+
+static int has_failed(uint64_t i)
+{
+    return records[32 * i] > 2;
+}
+
+/* Records and pieces that are given up; most of the records are such as barriers leave. */
+static void stop(void)
+{
+    int open = 0, held = 0;
+    memset(records, 0xa5, sizeof records);
+    memset(given_up, 0, sizeof given_up);
+    for (uint64_t i = 0; i < piece_count; ++i) {
+        held = held || (open && is_barrier(i));
+        records[32 * i] = held && below(50) ? 0 : below(2) ? 1 : statuses[below(sizeof statuses)];
+        open = open || records[32 * i] != 1;
+        given_up[i] = has_failed(i) ? below(3) == 0 ? (uint8_t)(1 + below(255)) : 0 : below(200) == 0;
+    }
+}
+
+/* Whether piece i before piece j has not succeeded, and a barrier is after it and not after j. */
+static int holds(uint64_t i, uint64_t j)
+{
+    int between = 0;
+    for (uint64_t k = i + 1; k <= j; ++k)
+        between = between || is_barrier(k);
+    return between && records[32 * i] != 1;
+}
+
+/* What is wanted, from the definitions: each pair of pieces is looked at. */
+static void judge(void)
+{
+    memset(&wrong, 0, sizeof wrong);
+    memset(&said, 0, sizeof said);
+    front = piece_count;
+    for (uint64_t j = piece_count; j-- > 0;)
+        for (uint64_t i = j; i-- > 0;)
+            if (holds(i, j)) {
+                front = j;
+                if (records[32 * j] != 0)
+                    wrong = (struct dsa_refusal){DSA_PASSED_BARRIER, 0, i, j};
+            }
+    for (uint64_t i = piece_count; i-- > 0;) {
+        if (given_up[i] && !has_failed(i))
+            wrong = (struct dsa_refusal){DSA_NOT_FAILED, 0, i, 0};
+        if (i < front && front < piece_count && (records[32 * i] == 2 || given_up[i]))
+            said = (struct dsa_resumed){0, piece_count - front, i};
+    }
+}
+
+/* Adds the pieces before the front that wait, or that failed, or both, to the bytes that are wanted so far. */
 static uint64_t add(uint64_t so_far, int waiting, int failed)
 {
-    for (uint64_t i = 0; i < piece_count; ++i) {
-        const uint8_t status = records[32 * i];
-        if (status == 0 ? waiting : status != 1 && status != 2 && failed) {
+    for (uint64_t i = 0; i < front; ++i)
+        if (records[32 * i] == 0 ? waiting : has_failed(i) && !given_up[i] && failed) {
             memcpy(wanted + so_far, pieces[i], 64);
+            wanted[so_far + 4] &= 0xfe;
             so_far += 64;
         }
-    }
+    return so_far;
+}
+
+/* Adds those after it, unless they are left out, with their barriers. */
+static uint64_t add_after(uint64_t so_far)
+{
+    for (uint64_t i = front; i < piece_count && said.left_out == 0; ++i, so_far += 64)
+        memcpy(wanted + so_far, pieces[i], 64);
     return so_far;
 }
 
@@ -86,7 +152,7 @@ static void fail(const char *what, uint64_t at)
 }
 
 static uint8_t rest[64 * PIECES + 64], untouched[64 * PIECES + 64];
-static uint64_t rest_len;
+static struct dsa_resumed answer;
 static struct dsa_refusal refusal;
 
 /* The call, with the outputs filled before; answers its code. */
@@ -95,36 +161,50 @@ static uint32_t resumed(const struct dsa_settings *s, uint64_t list_len, uint64_
 {
     memset(rest, 0x5a, sizeof rest);
     memset(&refusal, 0x5a, sizeof refusal);
-    rest_len = 77;
-    return dsa_resume(s, &s->batch, 0, list, list_len, records, records_len, first, rest, room, &rest_len, &refusal);
+    answer = (struct dsa_resumed){77, 77, 77};
+    return dsa_resume(s, &s->batch, 0, list, list_len, records, records_len, given_up, piece_count, first, rest, room,
+                      &answer, &refusal);
 }
 
-/* The call refuses with this number and index, and has written nothing else. */
-static void refuses(uint32_t code, uint32_t number, uint64_t first, uint64_t at)
+/* The call refuses so, and has written nothing else. */
+static void refuses(uint32_t code, struct dsa_refusal want, uint64_t at)
 {
-    const struct dsa_refusal want = {number, 0, first, 0};
-    if (code != number || memcmp(&refusal, &want, sizeof want) != 0)
+    if (code != want.number || memcmp(&refusal, &want, sizeof want) != 0)
         fail("another refusal", at);
-    if (rest_len != 77 || memcmp(rest, untouched, sizeof rest) != 0)
+    if (answer.rest_len != 77 || answer.left_out != 77 || answer.stopped_by != 77)
+        fail("a refusal answers", at);
+    if (memcmp(rest, untouched, sizeof rest) != 0)
         fail("a refusal writes", at);
+}
+
+/* The same for a number and the first place. */
+static void refuses_at(uint32_t code, uint32_t number, uint64_t first, uint64_t at)
+{
+    refuses(code, (struct dsa_refusal){number, 0, first, 0}, at);
 }
 
 static void look(uint64_t list_len, uint32_t first, uint64_t at)
 {
-    const uint64_t len = first ? add(add(0, 0, 1), 1, 0) : add(0, 1, 1);
+    const uint64_t len = add_after(first ? add(add(0, 0, 1), 1, 0) : add(0, 1, 1));
     struct dsa_refusal before;
     memset(&before, 0x5a, sizeof before);
-    if (resumed(&settings, list_len, 32 * piece_count, first, below(2) ? len : sizeof rest) != DSA_OK)
+    const uint32_t code = resumed(&settings, list_len, 32 * piece_count, first, below(2) ? len : sizeof rest);
+    if (wrong.number) {
+        refuses(code, wrong, at);
+        return;
+    }
+    if (code != DSA_OK)
         fail("is refused", at);
-    if (rest_len != len || memcmp(rest, wanted, len) != 0)
+    said.rest_len = len;
+    if (memcmp(&answer, &said, sizeof said) != 0 || memcmp(rest, wanted, len) != 0)
         fail("something else is left", at);
     if (memcmp(rest + len, untouched, sizeof rest - len) != 0 || memcmp(&refusal, &before, sizeof before) != 0)
         fail("more is written", at);
     if (len)
-        refuses(resumed(&settings, list_len, 32 * piece_count, first, len - 1), DSA_NO_ROOM_FOR_LIST, len, at);
-    refuses(resumed(&settings, list_len, 32 * piece_count + 1, first, sizeof rest), DSA_RECORDS, 0, at);
+        refuses_at(resumed(&settings, list_len, 32 * piece_count, first, len - 1), DSA_NO_ROOM_FOR_LIST, len, at);
+    refuses_at(resumed(&settings, list_len, 32 * piece_count + 1, first, sizeof rest), DSA_RECORDS, 0, at);
     if (piece_count)
-        refuses(resumed(&settings, list_len, 32 * piece_count - 32, first, 0), DSA_RECORDS, 0, at);
+        refuses_at(resumed(&settings, list_len, 32 * piece_count - 32, first, 0), DSA_RECORDS, 0, at);
 }
 
 /* What is left can be planned, and what planning refuses is refused. */
@@ -133,16 +213,17 @@ static void plan(uint64_t list_len, uint64_t at)
     uint8_t portal[64 * PIECES + 1], staging[80 * PIECES + 1];
     struct dsa_planned planned;
     struct dsa_settings other = settings;
-    if (dsa_plan_list(&settings, &settings.batch, 0, rest, rest_len, portal, sizeof portal, staging, sizeof staging,
-                      &planned, &refusal) != DSA_OK)
+    if (resumed(&settings, list_len, 32 * piece_count, 0, sizeof rest) == DSA_OK
+        && dsa_plan_list(&settings, &settings.batch, 0, rest, answer.rest_len, portal, sizeof portal, staging,
+                         sizeof staging, &planned, &refusal) != DSA_OK)
         fail("what is left can't be planned", at);
     other.greatest_batch = 1;
-    refuses(resumed(&other, list_len, 32 * piece_count, 0, sizeof rest), DSA_SETTINGS, 2, at);
+    refuses_at(resumed(&other, list_len, 32 * piece_count, 0, sizeof rest), DSA_SETTINGS, 2, at);
     if (list_len == 0)
         return;
-    refuses(resumed(&settings, list_len - 1, 0, 0, sizeof rest), DSA_LENGTH, 0, at);
-    list[list_len - 64 + 4] |= 1;
-    refuses(resumed(&settings, list_len, 0, 0, sizeof rest), DSA_FLAG_BITS, list_len / 64 - 1, at);
+    refuses_at(resumed(&settings, list_len - 1, 0, 0, sizeof rest), DSA_LENGTH, 0, at);
+    list[list_len - 64 + 4] |= 0x10;
+    refuses_at(resumed(&settings, list_len, 0, 0, sizeof rest), DSA_FLAG_BITS, list_len / 64 - 1, at);
 }
 
 int main(int argc, char **argv)
@@ -152,10 +233,10 @@ int main(int argc, char **argv)
     memset(untouched, 0x5a, sizeof untouched);
     for (uint64_t at = 0; at < count; ++at) {
         const uint64_t list_len = make();
+        stop();
+        judge();
         look(list_len, 1 + (uint32_t)below(9), at);
         look(list_len, 0, at);
-        if (resumed(&settings, list_len, 32 * piece_count, 0, sizeof rest) != DSA_OK)
-            fail("is refused", at);
         plan(list_len, at);
     }
     printf("%" PRIu64 " lists resumed\n", count);

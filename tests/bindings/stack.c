@@ -15,6 +15,7 @@ static uint8_t list[64 * MOST], records[32 * MOST], portal[64 * MOST], staging[8
 static uint64_t prices[MOST + 1], cost;
 static struct dsa_pair pairs[MOST];
 static struct dsa_planned planned;
+static struct dsa_resumed resumed;
 static struct dsa_refusal refusal;
 static size_t len;
 static const struct dsa_region regions[2] = {{0, UINT64_C(0x80000000)}, {UINT64_C(0x80000000), 32 * MOST}};
@@ -83,7 +84,8 @@ static void *call(void *which)
         code = dsa_track_complete(words, sizeof words / sizeof *words, slot, &waited, &ready, &refusal);
         break;
     case 11:
-        code = dsa_resume(s, &s->batch, 0, list, len, records, 32 * n, 0, portal, sizeof portal, &cost, &refusal);
+        code = dsa_resume(s, &s->batch, 0, list, len, records, 32 * n, records, 0, 0, portal, sizeof portal, &resumed,
+                          &refusal);
         break;
     default: /* large groups, and many, are refused once they are read */
         code = dsa_track_begin(words, sizeof words / sizeof *words, 64, 1024, 13, 12, &refusal);

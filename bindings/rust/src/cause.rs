@@ -60,8 +60,7 @@ causes! {
     /// or dualcast.
     Opcode = 2,
     /// Descriptor `first`: flags 0x0004 and 0x0008 have to be set; 0x0010 (interrupt), 0x0040 and bits 16
-    /// to 23 may not; 0x0001 (fence) only in fenced lists, which are resumed from one barrier to the next;
-    /// 0x0080 (check) only in compares.
+    /// to 23 may not; 0x0001 (fence) only in lists with barriers; 0x0080 (check) only in compares.
     FlagBits = 3,
     /// Descriptor `first`: a reserved bit or byte is not zero.
     Reserved = 4,
@@ -180,6 +179,12 @@ causes! {
     /// if only groups before it share records; else restore the memory, and run the whole list with a
     /// record for each.
     SharedRecord = 113,
+    /// Piece `first` is given up, but the status in its record is not 3 or above, or there is no such
+    /// piece.
+    NotFailed = 114,
+    /// Piece `second` has begun, piece `first` has not succeeded, a barrier is between: restore memory, run
+    /// the whole list.
+    PassedBarrier = 115,
     /// No slot is free: complete a submission first.
     NoSlot = 120,
     /// The submission may read or write `first` spans, more than the tracker keeps of one.

@@ -506,21 +506,41 @@ pub enum LeftOrder {
     FailedFirst,
 }
 
+/// What is left of a list that has stopped.
+#[derive(Clone, Debug, PartialEq, Eq)]
+pub struct Resumed {
+    /// The list of the pieces that may be done, with the flag 0x0001 after each barrier between them.
+    pub rest: Vec<u8>,
+    /// The pieces after a barrier that may not be done any more, if there are some.
+    pub left_out: Option<LeftOut>,
+}
+
+/// The pieces after a barrier that are left out, because one before it will not succeed.
+#[derive(Clone, Copy, Debug, PartialEq, Eq)]
+pub struct LeftOut {
+    /// How many they are: all from the barrier on.
+    pub pieces: u64,
+    /// The first piece that stops them: a compare that found another result than expected, or one that is given up.
+    pub stopped_by: u64,
+}
+
 /// What is left to submit of a list that was planned with these settings, once a submission has stopped: the list of
 /// the pieces that have not finished, by their completion records, 32 bytes for each piece in their order, whose first
 /// byte is 0 of a piece that waits, and 1 or 2 of one that has finished. The pieces of a move to a higher address
 /// within its own range run from the end: the record at its record address is that of its last piece. Clear the
 /// records of what is left, and plan it; docs/USING.md says when that leaves what the whole list leaves.
 ///
-/// A list with barriers can't be resumed ([`Cause::FlagBits`]): if no two of its pieces share a record, resume what is
-/// between two barriers by itself, and nothing after a barrier before which a record has the status 2; else restore the
-/// memory, and run the whole list.
+/// A piece that failed is not done again if its place in `given_up` is true; `&[]` gives up none. If a piece before a
+/// barrier is given up, or has ended with status 2, all pieces after the barrier are left out; a later call does not
+/// count them.
 ///
 /// # Errors
 /// The first fault of the settings or the list; [`Cause::Records`]; [`Cause::SharedRecord`] if a piece writes into the
-/// record of another, which then does not say how its own piece has ended; [`Cause::Memory`]. Of a list with shared
-/// records give the pieces from the failed entry on, if only pieces of groups share them that have completed by the
-/// records of their batches; else restore the memory, and run the whole list with a record for each piece.
+/// record of another, which then does not say how its own piece has ended; [`Cause::NotFailed`];
+/// [`Cause::PassedBarrier`] if a piece has begun though another has not succeeded and a barrier is between them;
+/// [`Cause::Memory`]. Of a list with shared records give the pieces from the first entry on whose status is not 1, if
+/// only pieces of groups share them that have completed by the records of their batches; else restore the memory, and
+/// run the whole list with a record for each piece.
 ///
 /// ```
 /// # use dsa_planner::{list_of, resume, BatchPrice, Descriptor, LeftOrder, Settings};
@@ -530,20 +550,23 @@ pub enum LeftOrder {
 /// let second = Descriptor::memory_move(0x3000, 0x4000, 64, 0x8020);
 /// let mut records = [0; 64];
 /// (records[0], records[32]) = (1, 3); // success, and a page fault
-/// assert_eq!(resume(&settings, &list_of(&[first, second]), &records, LeftOrder::AsListed)?, list_of(&[second]));
+/// let left = resume(&settings, &list_of(&[first, second]), &records, &[], LeftOrder::AsListed)?;
+/// assert_eq!(left.rest, list_of(&[second]));
 /// # Ok::<(), dsa_planner::Refusal>(())
 /// ```
 pub fn resume(
     settings: &Settings,
     list: &[u8],
     records: &[u8],
+    given_up: &[bool],
     order: LeftOrder,
-) -> Result<Vec<u8>, Refusal> {
+) -> Result<Resumed, Refusal> {
     let (raw, table) = settings.raw();
     let pieces = usize::try_from(count_pieces(settings, list)).map_or(0, |n| n.min(MOST_PIECES));
     let mut rest = vec![0; 64 * pieces];
-    let (mut rest_len, mut refusal) = (0, raw::Refusal::default());
-    // SAFETY: each pointer and length are those of one slice or one struct, and no output overlaps another argument.
+    let (mut resumed, mut refusal) = (raw::Resumed::default(), raw::Refusal::default());
+    // SAFETY: each pointer and length are those of one slice or one struct, and no output overlaps another argument; a
+    // bool is a byte.
     let code = unsafe {
         raw::dsa_resume(
             &raw,
@@ -553,16 +576,25 @@ pub fn resume(
             list.len(),
             records.as_ptr(),
             records.len(),
+            given_up.as_ptr().cast(),
+            given_up.len(),
             u32::from(order == LeftOrder::FailedFirst),
             rest.as_mut_ptr(),
             rest.len(),
-            &mut rest_len,
+            &mut resumed,
             &mut refusal,
         )
     };
-    let rest_len = answer(code, rest_len, refusal)?;
-    rest.truncate(rest_len as usize);
-    Ok(rest)
+    let resumed = answer(code, resumed, refusal)?;
+    rest.truncate(resumed.rest_len as usize);
+    let left_out = LeftOut {
+        pieces: resumed.left_out,
+        stopped_by: resumed.stopped_by,
+    };
+    Ok(Resumed {
+        rest,
+        left_out: (left_out.pieces > 0).then_some(left_out),
+    })
 }
 
 /// What a plan of the caller's costs, a mark for each descriptor of the list, if it is within the limits, each conflict

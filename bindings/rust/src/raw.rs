@@ -31,6 +31,14 @@ pub struct Refusal {
 
 #[repr(C)]
 #[derive(Default)]
+pub struct Resumed {
+    pub rest_len: u64,
+    pub left_out: u64,
+    pub stopped_by: u64,
+}
+
+#[repr(C)]
+#[derive(Default)]
 pub struct Info {
     pub cost: u64,
     pub pieces: u64,
@@ -130,10 +138,12 @@ extern "C" {
         list_len: usize,
         records: *const u8,
         records_len: usize,
+        given_up: *const u8,
+        given_up_len: usize,
         failed_first: u32,
         rest: *mut u8,
         rest_capacity: usize,
-        rest_len: &mut u64,
+        resumed: &mut Resumed,
         refusal: &mut Refusal,
     ) -> u32;
 

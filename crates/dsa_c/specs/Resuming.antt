@@ -1,11 +1,16 @@
 -- What resuming a list from C promises.
-use Rattle.std.specs.Prelude.{◌≡◌, ◌⊎◌, ℕ, ◌<◌, ◌≤◌, ◌==◌, List, length, Ok, Err, if◌then◌else◌}
+use Rattle.std.specs.Prelude.{◌≡◌, ◌⊎◌, ℕ, ◌<◌, ◌≤◌, ◌==◌, List, Option, Some, None, length, map, Ok, Err, if◌then◌else◌}
+use Rattle.dsa_descriptor.specs.Descriptors.{fields}
+use Rattle.dsa_descriptor.specs.Fences.{marked_spelling}
 use Rattle.dsa_calls.specs.declared.fault.PlanFault.TheVariants.{Memory}
 use Rattle.dsa_resume.specs.declared.fault.ResumeFault.{ResumeFault}
-use Rattle.dsa_resume.specs.declared.fault.ResumeFault.TheVariants.{Plan, Records, SharedRecord}
+use Rattle.dsa_resume.specs.declared.fault.ResumeFault.TheVariants.{Plan, NotFailed, PassedBarrier, Records, SharedRecord}
 use Rattle.dsa_resume.specs.declared.left.LeftOrder.{LeftOrder}
 use Rattle.dsa_resume.specs.declared.left.LeftOrder.TheVariants.{AsListed, FailedFirst}
-use Rattle.dsa_resume.specs.Resumed.{CanBePlannedAgain, Resumes}
+use Rattle.dsa_resume.specs.declared.rest.LeftOut.{LeftOut}
+use Rattle.dsa_resume.specs.Rest.{Remainder}
+use Rattle.dsa_resume.specs.Resumed.{CanBeListedAgain, Resumes}
+use Rattle.dsa_c.specs.declared.resuming.RawResumed.{RawResumed}
 use Rattle.dsa_c.specs.declared.settings.RawSettings.{RawSettings}
 use Rattle.dsa_c.specs.declared.refusal.RawRefusal.{RawRefusal}
 use Rattle.dsa_c.specs.Preparing.{refusal_at}
@@ -15,37 +20,64 @@ use Rattle.dsa_c.specs.Raw.{limits_of, AreSettings, RefusesSettings, written, re
 abbrev pub order_of : ℕ → LeftOrder
 order_of failed_first = if failed_first == 0 then AsListed else FailedFirst
 
--- the refusal of a cause why a list is not resumed; number 112 for records of another length, 113 for two pieces that share a
--- record (this project's choice)
+-- the refusal of a cause why a list is not resumed; numbers 112 to 115 (this project's choice)
 abbrev pub resume_refusal_of : ResumeFault → RawRefusal
 resume_refusal_of (Plan fault) = refusal_of fault
 resume_refusal_of Records = refusal_at 112 0 0
 resume_refusal_of (SharedRecord i j) = refusal_at 113 i j
+resume_refusal_of (NotFailed i) = refusal_at 114 i 0
+resume_refusal_of (PassedBarrier i j) = refusal_at 115 i j
 
 -- the refusal of a buffer that is too small for the list: number 93, and the bytes that are needed (this project's choice)
 abbrev pub no_room_for_list : ℕ → RawRefusal
 no_room_for_list bytes = refusal_at 93 bytes 0
 
--- these are the bytes of what is left, which can be planned with the same settings
-pub record IsLeftOf (s : RawSettings) (table list records : List ℕ) (failed_first : ℕ) (bytes : List ℕ) : Type 0 where
+-- the bytes of what is left: a list in which the flag 0x0001 of an operation is a barrier before it
+abbrev pub rest_bytes : Remainder → List ℕ
+rest_bytes rest = marked_spelling (map fields rest.pieces) rest.barriers
+
+-- how many pieces are left out
+abbrev pub left_out_count : Option LeftOut → ℕ
+left_out_count None = 0
+left_out_count (Some out) = out.pieces
+
+-- the first that stops them, 0 if none is left out
+abbrev pub stopped_by : Option LeftOut → ℕ
+stopped_by None = 0
+stopped_by (Some out) = out.stopped_by
+
+-- that and the length of these bytes
+abbrev pub resumed_of : Remainder → RawResumed
+resumed_of rest =
+    record { rest_len = length (rest_bytes rest); left_out = left_out_count rest.left_out; stopped_by = stopped_by rest.left_out }
+
+-- this is what is left, and it can be planned with the same settings
+pub record IsLeftOf (s : RawSettings) (table list records given_up : List ℕ) (failed_first : ℕ) (rest : Remainder) : Type 0 where
   pub settings : AreSettings s table
-  pub resumed : Resumes (limits_of s table) list records (order_of failed_first) (Ok bytes)
-  pub again : CanBePlannedAgain (limits_of s table) bytes
+  pub resumed : Resumes (limits_of s table) list records given_up (order_of failed_first) (Ok rest)
+  pub again : CanBeListedAgain (limits_of s table) rest
+
+-- these are its bytes, and what is said of it
+pub record IsLeftIn (s : RawSettings) (table list records given_up : List ℕ) (failed_first : ℕ) (bytes : List ℕ) (resumed : RawResumed) : Type 0 where
+  pub rest : Remainder
+  pub left : IsLeftOf s table list records given_up failed_first rest
+  pub bytes_are : bytes ≡ rest_bytes rest
+  pub resumed_is : resumed ≡ resumed_of rest
 
 -- they are at the front of the buffer, whose rest is unchanged
-pub record IsResumedInto (s : RawSettings) (table list records : List ℕ) (failed_first : ℕ) (rest new_rest : List ℕ) (count : ℕ) : Type 0 where
+pub record IsResumedInto (s : RawSettings) (table list records given_up : List ℕ) (failed_first : ℕ) (buffer new_buffer : List ℕ) (resumed : RawResumed) : Type 0 where
   pub bytes : List ℕ
-  pub left : IsLeftOf s table list records failed_first bytes
-  pub fits : length bytes ≤ length rest
-  pub rest_is : new_rest ≡ written bytes rest
-  pub count_is : count ≡ length bytes
+  pub left : IsLeftIn s table list records given_up failed_first bytes resumed
+  pub fits : length bytes ≤ length buffer
+  pub buffer_is : new_buffer ≡ written bytes buffer
 
 -- Why nothing is written: the numbers are no settings, and one is named; an allocation failed; resuming refuses the list
 -- for this fault; or what is left does not fit, and so many bytes are needed.
-abbrev pub RefusesResume : RawSettings → List ℕ → List ℕ → List ℕ → ℕ → ℕ → RawRefusal → Type 0
-RefusesResume s table list records failed_first room r =
+abbrev pub RefusesResume : RawSettings → List ℕ → List ℕ → List ℕ → List ℕ → ℕ → ℕ → RawRefusal → Type 0
+RefusesResume s table list records given_up failed_first room r =
     RefusesSettings s table r
     ⊎ ((r ≡ refusal_of Memory) × AreSettings s table)
-    ⊎ ((fault : ResumeFault) × AreSettings s table × Resumes (limits_of s table) list records (order_of failed_first) (Err fault)
+    ⊎ ((fault : ResumeFault) × AreSettings s table × Resumes (limits_of s table) list records given_up (order_of failed_first) (Err fault)
     × (r ≡ resume_refusal_of fault))
-    ⊎ ((bytes : List ℕ) × IsLeftOf s table list records failed_first bytes × (room < length bytes) × (r ≡ no_room_for_list (length bytes)))
+    ⊎ ((rest : Remainder) × IsLeftOf s table list records given_up failed_first rest × (room < length (rest_bytes rest))
+    × (r ≡ no_room_for_list (length (rest_bytes rest))))

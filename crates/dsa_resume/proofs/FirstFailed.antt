@@ -22,12 +22,11 @@ use Rattle.dsa_core.proofs.Within.{done_within}
 use Rattle.dsa_core.proofs.DescriptorSteps.{descriptor_local, done_memory}
 use Rattle.dsa_conflicts.proofs.Spans.{decide_in_some}
 use Rattle.dsa_resume.specs.declared.status.Ended.{Ended}
-use Rattle.dsa_resume.specs.declared.status.Ended.TheVariants.{Waiting, Finished, Failed}
-use Rattle.dsa_resume.specs.Ended.{ended_of, has_finished, is_left, has_failed, is_waiting}
+use Rattle.dsa_resume.specs.Ended.{has_finished, is_left, has_failed, is_waiting}
 use Rattle.dsa_resume.specs.Left.{those}
 use Rattle.dsa_resume.specs.Laws.{FailedFirstHasLeft, IsRewritten, MayComeFirst, Overwrites}
 use Rattle.dsa_resume.proofs.Fine.{IsFine, all_fine, still_fine, swapped}
-use Rattle.dsa_resume.proofs.Parting.{clear_of, fine_after, later, listed_fine, those_fine}
+use Rattle.dsa_resume.proofs.Parting.{Splits, clear_of, failed_or_waiting, fine_after, later, listed_fine, those_fine}
 use Rattle.dsa_resume.proofs.Redone.{data_same}
 
 -- ---- what a piece overwrites
@@ -111,26 +110,10 @@ pushed p (f ∷ fs) ws m a fine (here, all) (apart, clear) rewritten =
 
 -- ---- the failed pieces first
 
--- a piece that is left has either failed or waits
-abbrev Fits : Bool → Bool → Bool → Type 0
-Fits false false false = Unit {0}
-Fits false false true = ⊥
-Fits false true false = ⊥
-Fits false true true = ⊥
-Fits true false false = ⊥
-Fits true false true = Unit {0}
-Fits true true false = Unit {0}
-Fits true true true = ⊥
-
-each_fits : (e : Ended) → Fits (is_left e) (has_failed e) (is_waiting e)
-each_fits Waiting = tt
-each_fits Finished = tt
-each_fits Failed = tt
-
 -- a first piece, by its part
-first_by : (a b c : Bool) (p : Fields) (ps : List Fields) (r : List ℕ) (rs : List (List ℕ)) (m : Memory) (x : ℕ) → is_left (ended_of r) ≡ a → has_failed (ended_of r) ≡ b
-    → is_waiting (ended_of r) ≡ c → Fits a b c → IsFine m p → AllByRecursion (IsFine m) ps
-    → (is_waiting (ended_of r) ≡ true → AllByRecursion (λ (f : Fields). Conflicts p f → ⊥) (those has_failed ps rs))
+first_by : (a b c : Bool) (p : Fields) (ps : List Fields) (r : Ended) (rs : List Ended) (m : Memory) (x : ℕ) → is_left r ≡ a → has_failed r ≡ b
+    → is_waiting r ≡ c → Splits a b c → IsFine m p → AllByRecursion (IsFine m) ps
+    → (is_waiting r ≡ true → AllByRecursion (λ (f : Fields). Conflicts p f → ⊥) (those has_failed ps rs))
     → ((n : Memory) → AllByRecursion (IsFine n) ps → IsRewritten (those is_left ps rs) n x → IsRewritten (those has_failed ps rs ++ those is_waiting ps rs) n x)
     → IsRewritten (those is_left (p ∷ ps) (r ∷ rs)) m x → IsRewritten (those has_failed (p ∷ ps) (r ∷ rs) ++ those is_waiting (p ∷ ps) (r ∷ rs)) m x
 first_by false false false p ps r rs m x ea eb ec fits here fine clear so_far = rw (ea, eb, ec) (so_far m fine)
@@ -149,12 +132,12 @@ first_by true true false p ps r rs m x ea eb ec fits here fine clear so_far =
 first_by true true true p ps r rs m x ea eb ec fits here fine clear so_far = absurd fits
 
 -- all pieces
-failed_first_rewrites : (ps : List Fields) (rs : List (List ℕ)) (m : Memory) (x : ℕ) → MayComeFirst has_failed is_waiting ps rs → AllByRecursion (IsFine m) ps
+failed_first_rewrites : (ps : List Fields) (rs : List Ended) (m : Memory) (x : ℕ) → MayComeFirst has_failed is_waiting ps rs → AllByRecursion (IsFine m) ps
     → IsRewritten (those is_left ps rs) m x → IsRewritten (those has_failed ps rs ++ those is_waiting ps rs) m x
 failed_first_rewrites [] rs m x may fine rewritten = rewritten
 failed_first_rewrites (p ∷ ps) [] m x may fine rewritten = rewritten
 failed_first_rewrites (p ∷ ps) (r ∷ rs) m x may (here, fine) rewritten =
-    first_by (is_left (ended_of r)) (has_failed (ended_of r)) (is_waiting (ended_of r)) p ps r rs m x refl refl refl (each_fits (ended_of r)) here fine
+    first_by (is_left r) (has_failed r) (is_waiting r) p ps r rs m x refl refl refl (failed_or_waiting r) here fine
     (λ is. clear_of has_failed p ps rs (λ j e ended there conflict. may 0 (suc j) (omega arith) (r, refl, is) ended (p, e, refl, there, conflict)))
     (λ n all_n. failed_first_rewrites ps rs n x (later has_failed is_waiting p ps r rs may) all_n) rewritten
 

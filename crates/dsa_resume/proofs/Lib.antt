@@ -5,6 +5,10 @@ pub mod FirstFailed
 pub mod Plans
 pub mod Sharing
 pub mod Storing
-pub mod Resumed
 pub mod Short
+pub mod Places
+pub mod Found
 pub mod Again
+pub mod Listed
+pub mod Resting
+pub mod Resumed

@@ -1,5 +1,5 @@
 -- Pieces that share a record are those that conflict as compares which read where the pieces write data.
-use Rattle.std.proofs.Common.{◌≡◌, ◌⊎◌, inl, inr, ℕ, zero, suc, ◌+◌, ◌*◌, ◌^◌, ◌<◌, ◌≤◌, List, [], ◌∷◌, ◌++◌, length, get_or, map, Option, Some, None, slice_get, refl, sym, ap, ◌∙◌, subst, arith}
+use Rattle.std.proofs.Common.{◌≡◌, ◌⊎◌, inl, inr, ℕ, zero, suc, ◌*◌, ◌<◌, ◌≤◌, List, [], ◌∷◌, length, get_or, map, Option, Some, None, slice_get, refl, sym, ap, ◌∙◌, subst, arith}
 use Rattle.std.specs.Prelude.{option_map}
 use Rattle.std.proofs.lemmas.Bool.{cases_lt}
 use Rattle.std.proofs.lemmas.List.{length-map}
@@ -14,8 +14,8 @@ use Rattle.dsa_descriptor.specs.Spans.{InSome, InSpan, span}
 use Rattle.dsa_ranges.specs.Ranges.{ConflictAt, Conflicts, Touches, Writes}
 use Rattle.dsa_plan.specs.Settings.{Limits}
 use Rattle.dsa_calls.specs.Planned.{CanBePlanned}
-use Rattle.dsa_conflicts.specs.Last.{HasLasts, IsBack, IsLast}
-use Rattle.dsa_resume.specs.Shared.{FindsFirst, FindsShared, IsFirstShared, IsSpare, NoneShare, SharesAt, SharesRecord, WritesRecordOf, reading, reading_op, reading_size}
+use Rattle.dsa_conflicts.specs.Last.{HasLasts, IsLast}
+use Rattle.dsa_resume.specs.Shared.{FindsFirst, FindsShared, IsSpare, SharesAt, SharesRecord, WritesRecordOf, reading, reading_op, reading_size}
 
 -- ---- two conflict exactly if their pieces share a record
 

@@ -1,5 +1,5 @@
 -- What is stored for other pieces changes no record.
-use Rattle.std.proofs.Common.{◌≡◌, ◌⊎◌, inl, inr, ℕ, ◌<◌, Bool, true, false, List, [], ◌∷◌, Some, slice_get, refl, sym, ap, ◌∙◌, subst}
+use Rattle.std.proofs.Common.{◌≡◌, inl, inr, ℕ, Bool, true, false, List, [], ◌∷◌, Some, slice_get, refl, sym, subst}
 use Rattle.std.specs.Prelude.{◌==◌, if◌then◌else◌}
 use Rattle.std.proofs.lemmas.Bool.{cases_order, eqb-false, eqb-true}
 use Rattle.dsa_descriptor.specs.Data.{record_span}
@@ -7,7 +7,7 @@ use Rattle.dsa_descriptor.specs.Fields.{Fields}
 use Rattle.dsa_descriptor.specs.Spans.{InSpan}
 use Rattle.dsa_ranges.specs.Ranges.{Writes}
 use Rattle.dsa_resume.specs.Shared.{NoneShare}
-use Rattle.dsa_resume.specs.Stores.{AreStoresOf, RecordsAreTheirOwn, Store, byte_after, stores_for}
+use Rattle.dsa_resume.specs.Stores.{RecordsAreTheirOwn, Store, byte_after, stores_for}
 
 -- one more store, for this piece or not, at this address or not
 one_more : (own hits : Bool) (i a byte : ℕ) (s : Store) (ss : List Store) → (s.piece == i) ≡ own → (s.address == a) ≡ hits → (own ≡ false → hits ≡ true → ⊥)

@@ -1,22 +1,22 @@
--- What is left of a list of pieces, by their completion records.
-use Rattle.std.specs.Prelude.{ℕ, Bool, List, [], ◌∷◌, ◌++◌, if◌then◌else◌}
+-- What is left of pieces, by how they have ended.
+use Rattle.std.specs.Prelude.{Bool, List, [], ◌∷◌, ◌++◌, if◌then◌else◌}
 use Rattle.dsa_resume.specs.declared.status.Ended.{Ended}
 use Rattle.dsa_resume.specs.declared.left.LeftOrder.{LeftOrder}
 use Rattle.dsa_resume.specs.declared.left.LeftOrder.TheVariants.{AsListed, FailedFirst}
 use Rattle.dsa_resume.specs.declared.left.Part.{Part}
 use Rattle.dsa_resume.specs.declared.left.Part.TheVariants.{Unfinished, Failed, Waiting}
-use Rattle.dsa_resume.specs.Ended.{ended_of, is_left, has_failed, is_waiting}
+use Rattle.dsa_resume.specs.Ended.{is_left, has_failed, is_waiting}
 
--- the pieces that have ended so, in their order, where each has its record
-abbrev pub those : {X : Type 0} → (Ended → Bool) → List X → List (List ℕ) → List X
-those wanted [] completions = []
+-- the pieces that have ended so, in their order
+abbrev pub those : {X : Type 0} → (Ended → Bool) → List X → List Ended → List X
+those wanted [] ends = []
 those wanted (x ∷ xs) [] = []
-those wanted (x ∷ xs) (r ∷ rs) = if wanted (ended_of r) then x ∷ those wanted xs rs else those wanted xs rs
+those wanted (x ∷ xs) (e ∷ es) = if wanted e then x ∷ those wanted xs es else those wanted xs es
 
--- what is left: the pieces that have not finished, as they are listed, or those that failed before those that wait
-abbrev pub left_of : {X : Type 0} → LeftOrder → List X → List (List ℕ) → List X
-left_of AsListed pieces completions = those is_left pieces completions
-left_of FailedFirst pieces completions = those has_failed pieces completions ++ those is_waiting pieces completions
+-- what is left: the pieces that are to be done, as they are listed, or those that failed before those that wait
+abbrev pub left_of : {X : Type 0} → LeftOrder → List X → List Ended → List X
+left_of AsListed pieces ends = those is_left pieces ends
+left_of FailedFirst pieces ends = those has_failed pieces ends ++ those is_waiting pieces ends
 
 -- ---- for private clauses
 

@@ -1,5 +1,8 @@
 pub mod Ended
 pub mod Left
+pub mod Barriers
+pub mod GivenUp
+pub mod Rest
 pub mod Shared
 pub mod Stores
 pub mod Causes

@@ -15,6 +15,10 @@ pub enum ResumeFault {
     Records,
     /// One of these two pieces writes into the completion record of the other.
     SharedRecord(usize, usize),
+    /// This piece is given up, but has not failed, or there is no such piece.
+    NotFailed(usize),
+    /// The second piece has begun, though a barrier is between, and the first has not succeeded.
+    PassedBarrier(usize, usize),
 }
 
 impl ResumeFault {
@@ -26,6 +30,8 @@ impl ResumeFault {
             ResumeFault::Plan(fault) => fault.number(),
             ResumeFault::Records => 112,
             ResumeFault::SharedRecord(_, _) => 113,
+            ResumeFault::NotFailed(_) => 114,
+            ResumeFault::PassedBarrier(_, _) => 115,
         }
     }
 
@@ -38,6 +44,8 @@ impl ResumeFault {
             ResumeFault::Plan(fault) => fault.name(),
             ResumeFault::Records => "Records",
             ResumeFault::SharedRecord(_, _) => "SharedRecord",
+            ResumeFault::NotFailed(_) => "NotFailed",
+            ResumeFault::PassedBarrier(_, _) => "PassedBarrier",
         }
     }
 
@@ -48,7 +56,10 @@ impl ResumeFault {
         match self {
             ResumeFault::Plan(fault) => fault.indices(),
             ResumeFault::Records => Indices::Empty,
-            ResumeFault::SharedRecord(i, j) => Indices::Two(i as u64, j as u64),
+            ResumeFault::NotFailed(i) => Indices::One(i as u64),
+            ResumeFault::SharedRecord(i, j) | ResumeFault::PassedBarrier(i, j) => {
+                Indices::Two(i as u64, j as u64)
+            }
         }
     }
 }

@@ -3,7 +3,7 @@
 ghost use Rattle.std.specs.Prelude.{◌≡◌, ◌++◌, IfOk, OnOk, length, map};
 ghost use Rattle.dsa_resume.specs.Left.{is_in, left_of, those};
 
-use crate::status::{Ended, how_ended};
+use crate::status::Ended;
 use dsa_descriptor::Descriptor;
 use std::alloc::{AllocError, Global};
 
@@ -19,7 +19,7 @@ pub enum LeftOrder {
 /// A part of the pieces.
 #[derive(Clone, Copy)]
 enum Part {
-    /// Those that have not finished.
+    /// Those that failed or wait.
     Unfinished,
     /// Those that failed.
     Failed,
@@ -33,35 +33,37 @@ impl Part {
         ensures { result ≡ is_in self ended }
     {
         match (self, ended) {
-            (Part::Unfinished, Ended::Waiting | Ended::Failed) => true,
-            (Part::Unfinished, Ended::Finished) => false,
-            (Part::Failed, Ended::Failed) => true,
-            (Part::Failed, Ended::Waiting | Ended::Finished) => false,
-            (Part::Waiting, Ended::Waiting) => true,
-            (Part::Waiting, Ended::Finished | Ended::Failed) => false,
+            (Part::Unfinished, Ended::Waiting | Ended::Failed)
+            | (Part::Failed, Ended::Failed)
+            | (Part::Waiting, Ended::Waiting) => true,
+            (Part::Failed, Ended::Waiting) | (Part::Waiting, Ended::Failed) => false,
+            (
+                Part::Unfinished | Part::Failed | Part::Waiting,
+                Ended::Finished | Ended::Unexpected | Ended::GivenUp,
+            ) => false,
         }
     }
 }
 
-/// The pieces that have not finished, of pieces and their completion records, in this order.
+/// The pieces that are left, of pieces that have ended so, in this order.
 ///
 /// # Errors
 /// An allocation failed.
-pub fn left_pieces(
+pub(crate) fn left_pieces(
     alloc: Global,
     pieces: &[Descriptor],
-    records: &[[u8; 32]],
+    ends: &[Ended],
     order: LeftOrder,
 ) -> Result<Vec<Descriptor>, AllocError>
-    requires { length records.now ≡ length pieces.now }
-    ensures { IfOk result (λ rest. rest.items ≡ left_of order pieces.now records.now) }
+    requires { length ends.now ≡ length pieces.now }
+    ensures { IfOk result (λ rest. rest.items ≡ left_of order pieces.now ends.now) }
 {
     let mut rest = Vec::new(alloc);
     match order {
-        LeftOrder::AsListed => add(&mut rest, pieces, records, Part::Unfinished)?,
+        LeftOrder::AsListed => add(&mut rest, pieces, ends, Part::Unfinished)?,
         LeftOrder::FailedFirst => {
-            add(&mut rest, pieces, records, Part::Failed)?;
-            add(&mut rest, pieces, records, Part::Waiting)?;
+            add(&mut rest, pieces, ends, Part::Failed)?;
+            add(&mut rest, pieces, ends, Part::Waiting)?;
         }
     }
     Ok(rest)
@@ -71,15 +73,15 @@ pub fn left_pieces(
 fn add(
     rest: &mut Vec<Descriptor>,
     pieces: &[Descriptor],
-    records: &[[u8; 32]],
+    ends: &[Ended],
     part: Part,
 ) -> Result<(), AllocError>
-    requires { length records.now ≡ length pieces.now }
+    requires { length ends.now ≡ length pieces.now }
     ensures { OnOk result (rest.new.items ≡
-        rest.old.items ++ those (is_in part) pieces.now records.now) }
+        rest.old.items ++ those (is_in part) pieces.now ends.now) }
 {
     for (index, piece) in pieces.iter().enumerate() {
-        if part.has(how_ended(&records[index])) {
+        if part.has(ends[index]) {
             rest.push(*piece)?;
         }
     }

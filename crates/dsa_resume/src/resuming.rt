@@ -1,45 +1,101 @@
-//! The bytes of what is left of a list.
+//! What is left of a list that was submitted and has stopped.
 
-ghost use Rattle.std.specs.Prelude.{◌≡◌, IfOk, length, map};
+ghost use Rattle.std.specs.Prelude.{◌≡◌, ◌⊎◌, ℕ, IfOk, MatchResult, length, map};
 ghost use Rattle.dsa_descriptor.specs.Descriptors.{fields};
-ghost use Rattle.dsa_descriptor.specs.Lists.{list_spelling};
-ghost use Rattle.dsa_resume.specs.Left.{left_of};
-ghost use Rattle.dsa_resume.specs.Resumed.{AnswersResume, CanBePlannedAgain};
+ghost use Rattle.dsa_calls.specs.declared.fault.PlanFault.TheVariants.{Memory};
+ghost use Rattle.dsa_calls.specs.Planned.{CanBePlanned};
+ghost use Rattle.dsa_resume.specs.declared.fault.ResumeFault.TheVariants.{PassedBarrier, Plan};
+ghost use Rattle.dsa_resume.specs.Barriers.{IsFirstPassed};
+ghost use Rattle.dsa_resume.specs.Ended.{ends_of};
+ghost use Rattle.dsa_resume.specs.Rest.{IsLeftOver, remainder_of};
+ghost use Rattle.dsa_resume.specs.Resumed.{CanBePlannedAgain, IsAnswer, Resumes, ResumesOperations, ResumesPieces};
 
+use crate::barriers::{first_passed, front_of};
+use crate::ends::{ends_of, first_idle};
 use crate::fault::ResumeFault;
-use crate::left::{LeftOrder, left_pieces};
+use crate::left::LeftOrder;
+use crate::rest::{Rest, rest_of};
 use crate::shared::first_shared;
-use dsa_calls::{PlanFault, pieces_of};
-use dsa_descriptor::Descriptor;
+use dsa_calls::{PlanFault, fenced_pieces};
+use dsa_descriptor::DescriptorList;
 use dsa_settings::Settings;
-use std::alloc::{AllocError, Global};
+use dsa_splitter::split;
+use std::alloc::Global;
 
-/// What is left to submit of a list that was planned with these settings and submitted, by the completion records of
-/// its pieces, 32 bytes each, in the order of the pieces: the list of the pieces that have not finished, in this order.
-/// They have no fence.
+/// What is left of the list whose pieces have the completion records: the pieces that have not finished, in this order,
+/// with their barriers. A piece that has failed and that `given_up` marks, by a byte other than 0, is not done again;
+/// no bytes give up none.
 ///
-/// A list with a fence is refused [`ListFault::Field`](dsa_descriptor::ListFault::Field): of a list with barriers, if
-/// no two of its pieces share a record, resume what is between two barriers by itself, and nothing after a barrier
-/// before which a record has the status 2; else restore the memory and run the whole list.
+/// A flag 0x0001, fence, of the list is a barrier: what is after it is done only if all before it has succeeded. If a
+/// piece before it has ended with status 2, or is given up, all pieces after it are left out.
 ///
 /// # Errors
 /// What planning refuses of the list before it has pieces; else [`ResumeFault::Records`]; else
-/// [`ResumeFault::SharedRecord`] for the first two pieces of which one writes into the record of the other;
-/// [`PlanFault::Memory`] at the first allocation that fails.
+/// [`ResumeFault::SharedRecord`] for the first two pieces of which one writes into the record of the other; else
+/// [`ResumeFault::NotFailed`] for the first piece that is given up though it has not failed; else
+/// [`ResumeFault::PassedBarrier`] for the first piece that has begun though another has not succeeded and a barrier is
+/// between them; [`PlanFault::Memory`] at the first allocation that fails.
 pub fn resume_list(
     alloc: Global,
     list: &[u8],
     settings: &Settings,
     records: &[u8],
+    given_up: &[u8],
     order: LeftOrder,
-) -> Result<Vec<u8>, ResumeFault>
-    ensures answer { AnswersResume settings.now list.now records.now order result }
-    ensures again { IfOk result (λ bytes. CanBePlannedAgain settings.now bytes.items) }
+) -> Result<Rest, ResumeFault>
+    ensures answer { IsAnswer
+        (Resumes settings.now list.now records.now given_up.now order) result }
+    ensures again { IfOk result (λ rest. CanBePlannedAgain settings.now (remainder_of rest)) }
 {
-    let pieces = match pieces_of(alloc, list, settings) {
+    let pieces = match fenced_pieces(alloc, list, settings) {
         Ok(pieces) => pieces,
         Err(fault) => return Err(ResumeFault::Plan(fault)),
     };
+    resume_pieces(alloc, &pieces, settings, records, given_up, order)
+}
+
+/// The same for operations and their barriers: for callers that have read a list already.
+///
+/// # Errors
+/// Those of [`resume_list`].
+pub fn resume_operations(
+    alloc: Global,
+    operations: &DescriptorList,
+    settings: &Settings,
+    records: &[u8],
+    given_up: &[u8],
+    order: LeftOrder,
+) -> Result<Rest, ResumeFault>
+    ensures answer { IsAnswer (ResumesOperations settings.now
+        (map fields operations.now.descriptors.items) operations.now.barriers.items
+        records.now given_up.now order) result }
+    ensures again { IfOk result (λ rest. CanBePlannedAgain settings.now (remainder_of rest)) }
+{
+    let pieces = match split(alloc, operations, settings) {
+        Ok(pieces) => pieces,
+        Err(fault) => return Err(ResumeFault::Plan(PlanFault::from(fault))),
+    };
+    resume_pieces(alloc, &pieces, settings, records, given_up, order)
+}
+
+// What is left of pieces that can be planned.
+fn resume_pieces(
+    alloc: Global,
+    pieces: &DescriptorList,
+    settings: &Settings,
+    records: &[u8],
+    given_up: &[u8],
+    order: LeftOrder,
+) -> Result<Rest, ResumeFault>
+    requires { CanBePlanned settings.now (map fields pieces.now.descriptors.items) }
+    ensures answer { IsAnswer (ResumesPieces order (record {
+      pieces = pieces.now.descriptors.items;
+      barriers = pieces.now.barriers.items;
+      records = records.now;
+      given_up = given_up.now;
+    })) result }
+    ensures again { IfOk result (λ rest. CanBePlannedAgain settings.now (remainder_of rest)) }
+{
     if records.len() != 32 * pieces.descriptors.len() {
         return Err(ResumeFault::Records);
     }
@@ -50,34 +106,37 @@ pub fn resume_list(
         Err(_) => return Err(ResumeFault::Plan(PlanFault::Memory)),
     }
     let (completions, _) = records.as_chunks::<32>();
-    match left_bytes(alloc, &pieces.descriptors, completions, order) {
-        Ok(bytes) => Ok(bytes),
+    if let Some(i) = first_idle(completions, given_up) {
+        return Err(ResumeFault::NotFailed(i));
+    }
+    left_over(alloc, pieces, completions, given_up, order)
+}
+
+// What is left of pieces whose records say how they have ended.
+fn left_over(
+    alloc: Global,
+    pieces: &DescriptorList,
+    completions: &[[u8; 32]],
+    given_up: &[u8],
+    order: LeftOrder,
+) -> Result<Rest, ResumeFault>
+    requires { length completions.now ≡ length pieces.now.descriptors.items }
+    ensures { let ends = ends_of completions.now given_up.now in MatchResult result
+        (λ rest. IsLeftOver order pieces.now.descriptors.items pieces.now.barriers.items ends
+        (remainder_of rest))
+        (λ fault. (fault ≡ Plan Memory) ⊎ ((i : ℕ) × (j : ℕ) × (fault ≡ PassedBarrier i j)
+        × IsFirstPassed pieces.now.barriers.items ends i j)) }
+{
+    let ends = match ends_of(alloc, completions, given_up) {
+        Ok(ends) => ends,
+        Err(_) => return Err(ResumeFault::Plan(PlanFault::Memory)),
+    };
+    let front = front_of(&pieces.barriers, &ends);
+    if let Some((i, j)) = first_passed(&pieces.barriers, &ends, front) {
+        return Err(ResumeFault::PassedBarrier(i, j));
+    }
+    match rest_of(alloc, pieces, &ends, front.end, order) {
+        Ok(rest) => Ok(rest),
         Err(_) => Err(ResumeFault::Plan(PlanFault::Memory)),
     }
-}
-
-// The bytes of what is left of the pieces.
-fn left_bytes(
-    alloc: Global,
-    pieces: &[Descriptor],
-    completions: &[[u8; 32]],
-    order: LeftOrder,
-) -> Result<Vec<u8>, AllocError>
-    requires { length completions.now ≡ length pieces.now }
-    ensures { IfOk result (λ bytes. bytes.items ≡
-        list_spelling (map fields (left_of order pieces.now completions.now))) }
-{
-    let rest = left_pieces(alloc, pieces, completions, order)?;
-    spelled(alloc, &rest)
-}
-
-// The bytes of a list of descriptors.
-fn spelled(alloc: Global, list: &[Descriptor]) -> Result<Vec<u8>, AllocError>
-    ensures { IfOk result (λ bytes. bytes.items ≡ list_spelling (map fields list.now)) }
-{
-    let mut bytes = Vec::new(alloc);
-    for d in list {
-        bytes.extend_from_slice(&d.write())?;
-    }
-    Ok(bytes)
 }

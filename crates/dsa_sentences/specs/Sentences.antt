@@ -7,7 +7,7 @@ unfoldable pub of_lists : ℕ → List ℕ
 of_lists n =
     if n == 1 then codes "the list's length is no multiple of 64" else
     if n == 2 then codes "descriptor #: the operation code is not one of a move, fill, compare, compare pattern, delta or dualcast" else
-    if n == 3 then codes "descriptor #: flags 0x0004 and 0x0008 have to be set; 0x0010 (interrupt), 0x0040 and bits 16 to 23 may not; 0x0001 (fence) only in fenced lists, which are resumed from one barrier to the next; 0x0080 (check) only in compares" else
+    if n == 3 then codes "descriptor #: flags 0x0004 and 0x0008 have to be set; 0x0010 (interrupt), 0x0040 and bits 16 to 23 may not; 0x0001 (fence) only in lists with barriers; 0x0080 (check) only in compares" else
     if n == 4 then codes "descriptor #: a reserved bit or byte is not zero" else
     if n == 5 then codes "descriptor #: the transfer size is 0" else
     if n == 6 then codes "descriptor #: an address of its data or its record would be 2^64 or more" else
@@ -102,6 +102,8 @@ of_buffers n =
     if n == 111 then codes "the rows do not have the form of a prepared list" else
     if n == 112 then codes "there are not 32 bytes of completion records for each piece" else
     if n == 113 then codes "one of pieces # and $ writes into the other's record: resume from the failed entry on if only groups before it share records; else restore the memory, and run the whole list with a record for each" else
+    if n == 114 then codes "piece # is given up, but the status in its record is not 3 or above, or there is no such piece" else
+    if n == 115 then codes "piece $ has begun, piece # has not succeeded, a barrier is between: restore memory, run the whole list" else
     []
 
 -- of trackers

@@ -16,7 +16,7 @@ fn of_lists(number: u64) -> &'static str
         2 =>
             "descriptor #: the operation code is not one of a move, fill, compare, compare pattern, delta or dualcast",
         3 =>
-            "descriptor #: flags 0x0004 and 0x0008 have to be set; 0x0010 (interrupt), 0x0040 and bits 16 to 23 may not; 0x0001 (fence) only in fenced lists, which are resumed from one barrier to the next; 0x0080 (check) only in compares",
+            "descriptor #: flags 0x0004 and 0x0008 have to be set; 0x0010 (interrupt), 0x0040 and bits 16 to 23 may not; 0x0001 (fence) only in lists with barriers; 0x0080 (check) only in compares",
         4 => "descriptor #: a reserved bit or byte is not zero",
         5 => "descriptor #: the transfer size is 0",
         6 => "descriptor #: an address of its data or its record would be 2^64 or more",
@@ -152,6 +152,10 @@ fn of_buffers(number: u64) -> &'static str
         112 => "there are not 32 bytes of completion records for each piece",
         113 =>
             "one of pieces # and $ writes into the other's record: resume from the failed entry on if only groups before it share records; else restore the memory, and run the whole list with a record for each",
+        114 =>
+            "piece # is given up, but the status in its record is not 3 or above, or there is no such piece",
+        115 =>
+            "piece $ has begun, piece # has not succeeded, a barrier is between: restore memory, run the whole list",
         _ => "",
     }
 }

@@ -1,45 +1,59 @@
 -- What `resume` answers (this project's choice).
-use Rattle.std.specs.Prelude.{◌≡◌, ◌⊎◌, ◌++◌, ℕ, false, List, codes, decimal, map, string_bytes, Ok, Err}
+use Rattle.std.specs.Prelude.{◌≡◌, ◌⊎◌, ◌++◌, ℕ, Bool, false, List, Some, codes, decimal, map, string_bytes, Ok, Err}
 use Rattle.dsa_descriptor.specs.declared.descriptor.Descriptor.{Descriptor}
 use Rattle.dsa_descriptor.specs.Descriptors.{fields}
-use Rattle.dsa_descriptor.specs.Lists.{list_spelling}
+use Rattle.dsa_descriptor.specs.Lists.{HaveOneOwner}
 use Rattle.dsa_plan.specs.Settings.{Limits}
 use Rattle.dsa_lines.specs.declared.fault.TextFault.{TextFault}
-use Rattle.dsa_lines.specs.Texts.{lines_of, list_text}
-use Rattle.dsa_lines.specs.Barriers.{AssemblesMarked, IsMarkedListing}
-use Rattle.dsa_calls.specs.declared.fault.PlanFault.{PlanFault}
+use Rattle.dsa_lines.specs.Assembled.{Assembles}
+use Rattle.dsa_lines.specs.Barriers.{barriers_of, marked_text}
+use Rattle.dsa_lines.specs.Texts.{all_fields, lines_of}
 use Rattle.dsa_calls.specs.declared.fault.PlanFault.TheVariants.{Memory}
-use Rattle.dsa_resume.specs.declared.fault.ResumeFault.TheVariants.{Plan, Records, SharedRecord}
+use Rattle.dsa_calls.specs.Fault.{indices_text}
+use Rattle.dsa_resume.specs.declared.fault.ResumeFault.{ResumeFault}
+use Rattle.dsa_resume.specs.declared.fault.ResumeFault.TheVariants.{Plan, NotFailed, PassedBarrier, Records, SharedRecord}
 use Rattle.dsa_resume.specs.declared.left.LeftOrder.{LeftOrder}
-use Rattle.dsa_resume.specs.Resumed.{Resumes}
+use Rattle.dsa_resume.specs.Causes.{resume_indices, resume_name, resume_number}
+use Rattle.dsa_resume.specs.Rest.{Remainder}
+use Rattle.dsa_resume.specs.Resumed.{ResumesOperations}
 use Rattle.dsa_text.specs.declared.answer.Answer.{Answer}
 use Rattle.dsa_text.specs.Refusals.{IsRefusal, RefusesText}
 
--- the refusal of records of another length
-pub record LacksRecords (a : Answer) : Type 0 where
-  pub status : a.status ≡ 1
-  pub message : string_bytes a.text ≡ codes "error: there are not 32 bytes of completion records for each piece [112 Records]\n"
+-- the number, the name and the places of a refusal, as in the line of `dsa`
+abbrev pub resume_words : ResumeFault → List ℕ
+resume_words fault = decimal (resume_number fault) ++ (codes " " ++ (resume_name fault ++ indices_text (resume_indices fault)))
 
--- the words that name two pieces of which one writes into the record of the other
-abbrev pub shared_text : ℕ → ℕ → List ℕ
-shared_text i j = codes " [113 SharedRecord " ++ (decimal i ++ (codes " " ++ (decimal j ++ codes "]\n")))
+-- after other words the message names the refusal, in brackets
+abbrev pub NamesResume : ResumeFault → List ℕ → Type 0
+NamesResume fault message = (front : List ℕ) × (message ≡ front ++ (codes " [" ++ (resume_words fault ++ codes "]\n")))
 
--- the refusal of two such pieces: after other words it names them
-pub record NamesShared (i j : ℕ) (a : Answer) : Type 0 where
-  pub status : a.status ≡ 1
-  pub front : List ℕ
-  pub message : string_bytes a.text ≡ front ++ shared_text i j
+-- the refusal that planning gives, or one of what is said of the pieces
+abbrev pub IsResumeRefusal : ResumeFault → Answer → Type 0
+IsResumeRefusal (Plan fault) a = IsRefusal fault a
+IsResumeRefusal Records a = (a.status ≡ 1) × NamesResume Records (string_bytes a.text)
+IsResumeRefusal (SharedRecord i j) a = (a.status ≡ 1) × NamesResume (SharedRecord i j) (string_bytes a.text)
+IsResumeRefusal (NotFailed i) a = (a.status ≡ 1) × NamesResume (NotFailed i) (string_bytes a.text)
+IsResumeRefusal (PassedBarrier i j) a = (a.status ≡ 1) × NamesResume (PassedBarrier i j) (string_bytes a.text)
 
--- The answer to a text and to records: the refusal of a text that spells no list, or of its list, which has a fence for
--- each barrier; or the canonical text of what is left.
-pub data ResumesText (text : List ℕ) (s : Limits) (records : List ℕ) (order : LeftOrder) (a : Answer) : Type 0 where
-  is_no_list : (fault : TextFault) → AssemblesMarked (λ (list : List ℕ). list) false (lines_of text) (Err fault) → RefusesText fault a
-      → ResumesText text s records order a
-  is_refused : (list : List ℕ) (fault : PlanFault) → IsMarkedListing false (lines_of text) list → (fault ≡ Memory) ⊎ Resumes s list records order (Err (Plan fault))
-      → IsRefusal fault a → ResumesText text s records order a
-  lacks_records : (list : List ℕ) → IsMarkedListing false (lines_of text) list → Resumes s list records order (Err Records) → LacksRecords a
-      → ResumesText text s records order a
-  shares_record : (list : List ℕ) (i j : ℕ) → IsMarkedListing false (lines_of text) list → Resumes s list records order (Err (SharedRecord i j)) → NamesShared i j a
-      → ResumesText text s records order a
-  has_left : (list : List ℕ) (ds : List Descriptor) → IsMarkedListing false (lines_of text) list → Resumes s list records order (Ok (list_spelling (map fields ds)))
-      → a.status ≡ 0 → string_bytes a.text ≡ list_text (map fields ds) → ResumesText text s records order a
+-- the canonical text of what is left
+pub record IsRestText (rest : Remainder) (a : Answer) : Type 0 where
+  pub status : a.status ≡ 0
+  pub lines : string_bytes a.text ≡ marked_text (map fields rest.pieces) rest.barriers
+
+-- the text spells these operations, of one owner; a line `barrier` is a barrier, and the fences of a plan are none
+pub record IsListedText (text : List ℕ) (ds : List Descriptor) (barriers : List Bool) : Type 0 where
+  pub spelled : all_fields (lines_of text) ≡ Some (map fields ds)
+  pub one_owner : HaveOneOwner (map fields ds)
+  pub barriers_are : barriers ≡ barriers_of false (lines_of text)
+
+-- The answer to a text, to records and to what is given up: the refusal of a text that spells no list, or of its list or
+-- what is said of it; or the text of what is left.
+pub data ResumesText (text : List ℕ) (s : Limits) (records given_up : List ℕ) (order : LeftOrder) (a : Answer) : Type 0 where
+  is_no_list : (fault : TextFault) → Assembles {X = List ℕ} (λ bytes. bytes) (lines_of text) (Err fault) → RefusesText fault a
+      → ResumesText text s records given_up order a
+  is_refused : (ds : List Descriptor) (barriers : List Bool) (fault : ResumeFault) → IsListedText text ds barriers
+      → (fault ≡ Plan Memory) ⊎ ResumesOperations s (map fields ds) barriers records given_up order (Err fault)
+      → IsResumeRefusal fault a → ResumesText text s records given_up order a
+  has_left : (ds : List Descriptor) (barriers : List Bool) (rest : Remainder) → IsListedText text ds barriers
+      → ResumesOperations s (map fields ds) barriers records given_up order (Ok rest)
+      → IsRestText rest a → ResumesText text s records given_up order a

@@ -10,10 +10,6 @@ use dsa_lines::{TextFault, parse_list};
 use dsa_plan::Settings;
 use std::alloc::{AllocError, Global};
 
-/// The note on a list with barriers.
-const BARRIERS: &str =
-    "note: a list with barriers is not resumed: resume what is between two, nothing after a failed check\n";
-
 /// A piece that has begun, though an earlier one of another epoch has not succeeded.
 #[derive(Clone, Copy)]
 struct Early {
@@ -100,9 +96,8 @@ fn early_note(
     Ok(Some(text))
 }
 
-/// The notes and warnings about a list and records: that the list has barriers, or how long the records should be; else
-/// which operations meet the records of others, and that submitting the groups of its plan in turn does not leave such
-/// records.
+/// The notes and warnings about a list and records: how long the records should be; else which operations meet the
+/// records of others, and that submitting the groups of its plan in turn does not leave such records.
 pub(crate) fn resume_notes(
     alloc: Global,
     text: &[u8],
@@ -114,9 +109,6 @@ pub(crate) fn resume_notes(
         Err(TextFault::Memory) => return Err(AllocError),
         Err(TextFault::Grammar(..) | TextFault::List(..)) => return Ok(None),
     };
-    if !list.barriers.is_empty() {
-        return Ok(Some(String::from_str(alloc, BARRIERS)?));
-    }
     let operations = list.descriptors.as_slice();
     let (pieces, given) = (piece_total(operations, settings), records.len());
     let needed = pieces.saturating_mul(32);

@@ -49,11 +49,12 @@ use crate::disassembling::{
 use crate::dumps::dumps_in;
 use crate::files::{audit_files, refusal_together};
 use crate::inputs::{explain, refused_settings};
+use crate::kept::joined;
 use crate::left::resume_notes;
 use crate::messages::message_of;
 use crate::numbers::number_of;
 use crate::options::{settings_words, word};
-use crate::resuming::{order_of, resume_command, resume_text};
+use crate::resuming::{NO_PIECES, given_up_of, order_of, resume_command, resume_text};
 use crate::settings::{limits_of, settings_of};
 use crate::traced::audit_traced;
 use clap::error::ErrorKind;
@@ -665,6 +666,17 @@ fn audited_all(rt: &HostRuntime, matches: &ArgMatches<'_>) -> Result<ExitCode, A
     Ok(ExitCode::from(audit_files(rt, matches, given, names)?))
 }
 
+/// The answer with notes after its own.
+fn with_notes(answer: Answer, notes: Option<String>) -> Result<Answer, AllocError> {
+    let Answer {
+        text,
+        status: _,
+        warnings,
+    } = answer;
+    let all = joined(warnings, notes)?;
+    Ok(Answer::done(text).with_warnings(all))
+}
+
 /// What `resume` answers to a text and the bytes of records, with the notes and warnings about them.
 fn resume_records(
     alloc: Global,
@@ -674,10 +686,13 @@ fn resume_records(
     text: &[u8],
 ) -> Result<Answer, AllocError> {
     let order = order_of(matches.get_flag("failed-first"));
-    let answer = resume_text(alloc, text, settings, records, order)?;
+    let Some(given_up) = given_up_of(alloc, matches.get_str("give-up"))? else {
+        return Ok(Answer::refused(String::from_str(alloc, NO_PIECES)?));
+    };
+    let answer = resume_text(alloc, text, settings, records, &given_up, order)?;
     let notes = resume_notes(alloc, text, settings, records)?;
     if answer.status == 0 {
-        return Ok(answer.with_warnings(notes));
+        return with_notes(answer, notes);
     }
     let mut reason = answer.text;
     if let Some(notes) = notes {

@@ -73,7 +73,11 @@ fn push_place(alloc: Global, text: &mut String, place: u64) -> Result<(), AllocE
 }
 
 /// Writes the indices, a space before each.
-fn push_indices(alloc: Global, text: &mut String, indices: Indices) -> Result<(), AllocError>
+pub(crate) fn push_indices(
+    alloc: Global,
+    text: &mut String,
+    indices: Indices,
+) -> Result<(), AllocError>
     ensures { OnOk result (string_bytes text.new ≡ string_bytes text.old ++ indices_text indices) }
 {
     match indices {

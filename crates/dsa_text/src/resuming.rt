@@ -1,37 +1,40 @@
 //! `resume`: the lines of what is left of a list whose submission stopped.
 
-ghost use Rattle.std.specs.Prelude.{IfOk, ◌≡◌, ◌++◌, OnOk, string_bytes};
-ghost use Rattle.dsa_text.specs.Resumed.{LacksRecords, NamesShared, ResumesText, shared_text};
+ghost use Rattle.std.specs.Prelude.{IfOk, ◌≡◌, ◌≢◌, ◌++◌, OnOk, codes, string_bytes};
+ghost use Rattle.dsa_calls.specs.declared.fault.PlanFault.{PlanFault};
+ghost use Rattle.dsa_resume.specs.Rest.{remainder_of};
+ghost use Rattle.dsa_text.specs.Resumed.{IsRestText, IsResumeRefusal, NamesResume, ResumesText, resume_words};
 
 use crate::answer::Answer;
-use crate::messages::push_sentence;
+use crate::messages::{push_indices, push_sentence};
+use crate::numbers::numbers_of;
 use crate::{file, flag, settings_options};
 use clap::{Arg, ArgAction, Command};
-use dsa_calls::PlanFault;
-use dsa_descriptor::Indices;
-use dsa_lines::{assemble_fenced, disassemble};
+use dsa_descriptor::MOST_PIECES;
+use dsa_lines::{parse_list, text_with_barriers};
 use dsa_plan::Settings;
-use dsa_resume::{LeftOrder, ResumeFault, resume_list};
+use dsa_resume::{LeftOrder, Rest, ResumeFault, resume_operations};
 use std::alloc::{AllocError, Global};
 
 /// What the help of `resume` says of its input.
 const STOPPED: &str =
-    "FILE has the lines of the operations, as they were planned with these options. The records have 32 bytes for each of
-their pieces in the order of the plan, as the device has left them: an operation of n pieces has n records, from its
-record address on. The pieces of a move to a higher address within its own range run from the end: its last record comes
-first, as explain shows. They are read as disassemble reads bytes.
+    "FILE has the lines of the operations, as they were planned with these options. The records have 32 bytes for
+each of their pieces in the order of the plan, as the device has left them: an operation of n pieces has n records,
+from its record address on. The pieces of a move to a higher address within its own range run from the end: its last
+record comes first, as explain shows. They are read as disassemble reads bytes.
 
-What is written are the lines of the pieces that have not finished (status other than 1 and 2): plan these, with
-their records set to zero.
+What is written are the lines of the pieces that have not finished (status other than 1 and 2), with their barriers:
+plan these, with their records set to zero. If a piece before a barrier has status 2, or --give-up names one, what is
+after the barrier is left out, and a note says so.
 
-A list with barriers is refused: if no two of its operations share a record, resume what is between two barriers by
-itself, and nothing after a barrier before which a record has status 2. So is a list in which an operation writes into
-the completion record of another, since such a record does not say how its own operation has ended.
+A list in which an operation writes into the completion record of another is refused, since such a record does not
+say how its own operation has ended. So are records by which a piece has begun although another has not succeeded and
+a barrier is between them.
 Example: dsa_text resume --records records.hex store.txt";
 
-/// The refusal of records of another length.
-const OTHER_RECORDS: &str =
-    "error: there are not 32 bytes of completion records for each piece [112 Records]\n";
+/// What is said of other words after the option.
+pub(crate) const NO_PIECES: &str =
+    "error: --give-up takes the numbers of pieces below 65536, with commas between\n";
 
 /// The command `resume`.
 pub(crate) fn resume_command<'a>(alloc: Global) -> Result<Command<'a>, AllocError> {
@@ -42,12 +45,18 @@ pub(crate) fn resume_command<'a>(alloc: Global) -> Result<Command<'a>, AllocErro
         .action(ArgAction::Set)
         .required(true)
         .help("the completion records of the pieces");
+    let given_up = Arg::new(alloc, "give-up")
+        .long("give-up")
+        .value_name("PIECES")
+        .action(ArgAction::Set)
+        .help("the pieces that failed and are not done again, as 2,5");
     Command::new(alloc, "resume")
         .about("Reads lines and completion records, and writes the lines of what is left to submit")
         .after_help(STOPPED)
         .arg(file(alloc))?
         .arg(records)?
         .arg(flag(alloc, "failed-first", "write the pieces that failed first"))?
+        .arg(given_up)?
         .args(options)
 }
 
@@ -60,53 +69,117 @@ pub(crate) fn order_of(failed_first: bool) -> LeftOrder {
     }
 }
 
+/// A byte for each piece up to the last of these, 1 for each of these; none if one is not below the most pieces.
+fn marked(alloc: Global, pieces: &[u64]) -> Result<Option<Vec<u8>>, AllocError> {
+    let mut marks = Vec::new(alloc);
+    for piece in pieces {
+        let place = usize::try_from(*piece).unwrap_or(MOST_PIECES);
+        if place >= MOST_PIECES {
+            return Ok(None);
+        }
+        if marks.len() <= place {
+            marks.resize(place + 1, 0)?;
+        }
+        if let Some(mark) = marks.get_mut(place) {
+            *mark = 1;
+        }
+    }
+    Ok(Some(marks))
+}
+
+/// The marks of the pieces that the option gives up, if it names pieces.
+pub(crate) fn given_up_of(
+    alloc: Global,
+    word: Option<&str>,
+) -> Result<Option<Vec<u8>>, AllocError> {
+    let Some(word) = word else {
+        return Ok(Some(Vec::new(alloc)));
+    };
+    match numbers_of(alloc, word)? {
+        Some(pieces) => marked(alloc, &pieces),
+        None => Ok(None),
+    }
+}
+
 /// The lines of what is left of the list that a text spells.
 pub(crate) fn resume_text(
     alloc: Global,
     text: &[u8],
     settings: &Settings,
     records: &[u8],
+    given_up: &[u8],
     order: LeftOrder,
 ) -> Result<Answer, AllocError>
-    ensures { IfOk result (ResumesText text.now settings.now records.now order) }
+    ensures { IfOk result (ResumesText text.now settings.now records.now given_up.now order) }
 {
-    // a barrier becomes a fence of the list, which is refused
-    let list = match assemble_fenced(alloc, text, false) {
+    let list = match parse_list(alloc, text, false) {
         Ok(list) => list,
         Err(fault) => return Answer::text_fault(alloc, text, fault),
     };
-    match resume_list(alloc, list.as_slice(), settings, records, order) {
-        // what is left is a list, so only memory is refused
-        Ok(rest) => match disassemble(alloc, rest.as_slice()) {
-            Ok(lines) => Ok(Answer::done(lines)),
-            Err(_) => Err(AllocError),
-        },
-        Err(ResumeFault::Plan(fault)) => Answer::fault(alloc, fault),
-        Err(ResumeFault::Records) => other_records(alloc),
-        Err(ResumeFault::SharedRecord(i, j)) => shared_record(alloc, i, j),
+    match resume_operations(alloc, &list, settings, records, given_up, order) {
+        Ok(rest) => rest_answer(alloc, &rest, records),
+        Err(fault) => fault_answer(alloc, fault),
     }
 }
 
-/// The refusal of records of another length.
-fn other_records(alloc: Global) -> Result<Answer, AllocError>
-    ensures { IfOk result LacksRecords }
+/// The lines of what is left, with a note on what is left out.
+fn rest_answer(alloc: Global, rest: &Rest, records: &[u8]) -> Result<Answer, AllocError>
+    ensures { IfOk result (IsRestText (remainder_of rest.now)) }
 {
-    Ok(Answer::refused(String::from_str(alloc, OTHER_RECORDS)?))
+    let lines = text_with_barriers(alloc, &rest.list.descriptors, &rest.list.barriers)?;
+    let note = left_out_note(alloc, rest, records)?;
+    Ok(Answer::done(lines).with_warnings(note))
 }
 
-/// The refusal of two pieces that share a record.
-fn shared_record(alloc: Global, i: usize, j: usize) -> Result<Answer, AllocError>
-    ensures { IfOk result (NamesShared i j) }
+/// What is said of the pieces that are left out.
+fn left_out_note(alloc: Global, rest: &Rest, records: &[u8]) -> Result<Option<String>, AllocError> {
+    let Some(out) = rest.left_out else {
+        return Ok(None);
+    };
+    let (piece, count) = (out.stopped_by, out.pieces);
+    let (completions, _) = records.as_chunks::<32>();
+    let is_check = completions.get(piece).is_some_and(|record| record[0] == 2);
+    let why = if is_check {
+        "is a check with another result than expected"
+    } else {
+        "is given up"
+    };
+    let noun = if count == 1 { "piece" } else { "pieces" };
+    Ok(Some(format!(in alloc;
+        "note: {count} {noun} after a barrier left out: piece {piece} {why}\n"
+    )?))
+}
+
+/// The refusal of a list or of what is said of it.
+fn fault_answer(alloc: Global, fault: ResumeFault) -> Result<Answer, AllocError>
+    ensures { IfOk result (IsResumeRefusal fault) }
+{
+    match fault {
+        ResumeFault::Plan(cause) => Answer::fault(alloc, cause),
+        ResumeFault::Records
+        | ResumeFault::SharedRecord(_, _)
+        | ResumeFault::NotFailed(_)
+        | ResumeFault::PassedBarrier(_, _) => Ok(Answer::refused(message_of(alloc, fault)?)),
+    }
+}
+
+/// What a refusal means, and its number, name and places in brackets.
+fn message_of(alloc: Global, fault: ResumeFault) -> Result<String, AllocError>
+    ensures { IfOk result (λ text. NamesResume fault (string_bytes text)) }
 {
     let mut text = String::from_str(alloc, "error: ")?;
-    push_sentence(&mut text, 113, Indices::Two(i as u64, j as u64))?;
-    push_shared(alloc, &mut text, i, j)?;
-    Ok(Answer::refused(text))
+    push_sentence(&mut text, fault.number(), fault.indices())?;
+    push_name(alloc, &mut text, fault)?;
+    Ok(text)
 }
 
-/// Writes which pieces share a record.
-fn push_shared(alloc: Global, text: &mut String, i: usize, j: usize) -> Result<(), AllocError>
-    ensures { OnOk result (string_bytes text.new ≡ string_bytes text.old ++ shared_text i j) }
+/// Writes the number, the name and the places, as the program `dsa` does.
+fn push_name(alloc: Global, text: &mut String, fault: ResumeFault) -> Result<(), AllocError>
+    ensures { OnOk result (string_bytes text.new ≡ string_bytes text.old ++
+        (codes " [" ++ (resume_words fault ++ codes "]\n"))) }
 {
-    text.push_str(&format!(in alloc; " [113 SharedRecord {i} {j}]\n")?)
+    let (number, name) = (fault.number(), fault.name());
+    text.push_str(&format!(in alloc; " [{number} {name}")?)?;
+    push_indices(alloc, text, fault.indices())?;
+    text.push_str("]\n")
 }

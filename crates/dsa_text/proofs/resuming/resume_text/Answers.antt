@@ -1,44 +1,26 @@
-use Rattle.std.proofs.Common.{ℕ, false, List, sym, ◌∙◌, subst}
-use Rattle.dsa_lines.specs.Texts.{lines_of}
-use Rattle.dsa_lines.specs.Barriers.{IsMarkedListing}
-use Rattle.dsa_text.specs.Refusals.{IsRefusal, RefusesText}
-use Rattle.dsa_text.specs.Resumed.{LacksRecords, NamesShared, ResumesText}
-use Rattle.dsa_text.proofs.WhatIsLeft.{if_ok_more, resume_no_list, resume_refused, resume_lacks, resume_left, resume_shares}
+use Rattle.std.proofs.Common.{◌≡◌, inl, inr, map}
+use Rattle.dsa_descriptor.specs.Descriptors.{fields}
+use Rattle.dsa_resume.specs.Rest.{remainder_of}
+use Rattle.dsa_text.specs.Refusals.{RefusesText}
+use Rattle.dsa_text.specs.Resumed.{IsResumeRefusal, IsRestText, ResumesText, has_left, is_no_list, is_refused}
+use Rattle.dsa_text.proofs.WhatIsLeft.{if_ok_more, listed}
 use Rattle.dsa_text.proofs.resuming.resume_text.Goals as goal
 
 pub returns-in-Err : goal.returns-in-Err
 returns-in-Err c =
-    if_ok_more (RefusesText c.in-Err.fault) (ResumesText c.args.text.now c.args.settings.now c.args.records.now c.args.order) c.text_fault.result
-    (λ a refusal. resume_no_list c.args.text.now _ _ _ c.in-Err.fault a c.in-Err.ensures refusal) c.text_fault.ensures
+    if_ok_more (RefusesText c.in-Err.fault) (ResumesText c.args.text.now c.args.settings.now c.args.records.now c.args.given_up.now c.args.order) c.text_fault.result
+    (λ a refusal. is_no_list c.in-Err.fault c.in-Err.ensures.answer refusal) c.text_fault.ensures
 
-pub returns-in-Ok-disassemble : goal.returns-in-Ok-disassemble
-returns-in-Ok-disassemble c =
-    let listing : IsMarkedListing false (lines_of c.args.text.now) c.as_slice.result.now =
-    subst (λ (l : List ℕ). IsMarkedListing false (lines_of c.args.text.now) l) (sym c.as_slice.ensures.value) c.in-Ok.ensures in
-    let (ds, is, owner, lines) = c.in-Ok-disassemble.ensures.answer in
-    resume_left c.args.text.now c.as_slice.result.now c.in-Ok-resume_list.rest.items _ _ _ ds c.done.result listing c.in-Ok-resume_list.ensures.answer
-    (sym c.as_slice-in-Ok-resume_list.ensures.value ∙ is) c.done.ensures.status (rw c.done.ensures.text lines)
-
-pub returns-in-Err-Plan : goal.returns-in-Err-Plan
-returns-in-Err-Plan c =
-    let listing : IsMarkedListing false (lines_of c.args.text.now) c.as_slice.result.now =
-    subst (λ (l : List ℕ). IsMarkedListing false (lines_of c.args.text.now) l) (sym c.as_slice.ensures.value) c.in-Ok.ensures in
-    let refused = rw c.in-Err-Plan.field-0-is at c.in-Err-Plan.ensures.answer in
-    if_ok_more (IsRefusal c.in-Err-Plan.fault) (ResumesText c.args.text.now c.args.settings.now c.args.records.now c.args.order) c.fault.result
-    (λ a refusal. resume_refused c.args.text.now c.as_slice.result.now _ _ _ c.in-Err-Plan.fault a listing refused refusal) c.fault.ensures
-
-pub returns-in-Err-Records : goal.returns-in-Err-Records
-returns-in-Err-Records c =
-    let listing : IsMarkedListing false (lines_of c.args.text.now) c.as_slice.result.now =
-    subst (λ (l : List ℕ). IsMarkedListing false (lines_of c.args.text.now) l) (sym c.as_slice.ensures.value) c.in-Ok.ensures in
-    let refused = rw c.in-Err-Records.field-0-is at c.in-Err-Records.ensures.answer in
-    if_ok_more LacksRecords (ResumesText c.args.text.now c.args.settings.now c.args.records.now c.args.order) c.other_records.result
-    (λ a refusal. resume_lacks c.args.text.now c.as_slice.result.now _ _ _ a listing refused refusal) c.other_records.ensures
+pub returns-in-Ok-resume_operations : goal.returns-in-Ok-resume_operations
+returns-in-Ok-resume_operations c =
+    let list = c.in-Ok.list in
+    if_ok_more (IsRestText (remainder_of c.in-Ok-resume_operations.rest)) (ResumesText c.args.text.now c.args.settings.now c.args.records.now c.args.given_up.now c.args.order) c.rest_answer.result
+    (λ a lines. has_left list.descriptors.items list.barriers.items (remainder_of c.in-Ok-resume_operations.rest)
+    (listed c.args.text.now list.descriptors.items list.barriers.items c.in-Ok.ensures.answer list.one_owner c.in-Ok.ensures.barriers) c.in-Ok-resume_operations.ensures.answer lines) c.rest_answer.ensures
 
 pub returns : goal.returns
 returns c =
-    let listing : IsMarkedListing false (lines_of c.args.text.now) c.as_slice.result.now =
-    subst (λ (l : List ℕ). IsMarkedListing false (lines_of c.args.text.now) l) (sym c.as_slice.ensures.value) c.in-Ok.ensures in
-    let refused = rw c.in-Err-SharedRecord.field-0-is at c.in-Err-SharedRecord.ensures.answer in
-    if_ok_more (NamesShared c.in-Err-SharedRecord.i c.in-Err-SharedRecord.j) (ResumesText c.args.text.now c.args.settings.now c.args.records.now c.args.order) c.shared_record.result
-    (λ a refusal. resume_shares c.args.text.now c.as_slice.result.now _ _ _ c.in-Err-SharedRecord.i c.in-Err-SharedRecord.j a listing refused refusal) c.shared_record.ensures
+    let list = c.in-Ok.list in
+    if_ok_more (IsResumeRefusal c.in-Err-resume_operations.fault) (ResumesText c.args.text.now c.args.settings.now c.args.records.now c.args.given_up.now c.args.order) c.fault_answer.result
+    (λ a refusal. is_refused list.descriptors.items list.barriers.items c.in-Err-resume_operations.fault
+    (listed c.args.text.now list.descriptors.items list.barriers.items c.in-Ok.ensures.answer list.one_owner c.in-Ok.ensures.barriers) c.in-Err-resume_operations.ensures.answer refusal) c.fault_answer.ensures

@@ -1,4 +1,4 @@
-"""Wrong definitions and wrong checkers of coq/, and operations that may not be split, for tests/coq.py."""
+"""Wrong definitions and wrong proved parts of coq/, and operations that may not be split, for tests/coq.py."""
 
 import json
 import shutil
@@ -28,12 +28,12 @@ DEFINITIONS = [
     ("records are aligned to 64", "record d mod 32", "record d mod 64"),
     ("a batch has three pieces at the least", "1 <? count g", "2 <? count g"),
 ]
-# The same of the checker, of the quick one that the judges run, and of what engines may do.
-CHECKERS = {
+# Of the checker, of the quick one that the judges run, and of engines: what a proof refuses.
+PROVED = {
     "Checker": [
         ("pairs may come before the piece", "(k <=? a) && (a <? b) &&", "(a <? b) &&"),
         ("pairs of one piece", "(k <=? a) && (a <? b) &&", "(k <=? a) &&"),
-        ("pairs need no conflict", "Some x, Some y => cb x y | _", "Some x, Some y => true | _"),
+        ("pairs need no conflict", "Some x, Some y => cb x y", "Some x, Some y => true"),
         ("each price may be one too high", "(p <=? budget + c) && along", "(p <=? budget + c + 1) && along"),
         ("a pair counts two fences", "then budget + fence s else", "then budget + fence s + fence s else"),
         ("no bound by a lone piece", "(p <=? price + lone s)\n      && along", "along"),
@@ -47,6 +47,8 @@ CHECKERS = {
         ("the pieces are not looked at", " && submittable s (pieces p)", ""),
     ],
     "Quick": [
+        ("a barrier is not seen", "one_section l && clear", "clear"),
+        ("no barrier makes a pair", "clash (snd x) (snd y) || negb (fst x =? fst y)", "clash (snd x) (snd y)"),
         ("reads meet no write", "if is_write m then all else written) (whose m)", "written) (whose m)"),
         ("the second end stays", "second := N.max (second t) e", "second := second t"),
         ("a range of no byte conflicts", "\n    (filter (fun r => 0 <? snd r) l)", " l"),
@@ -57,10 +59,15 @@ CHECKERS = {
         ("each piece has one number", "with_numbers (k + 1) r", "with_numbers k r"),
         ("the rise of the costs is left out", "(b' + rise <=? b)", "(b' <=? b)"),
         ("the last step is left out", "one_step last_cost (raised (b - b') far)", "Some (raised (b - b') far)"),
-        ("bytes 38 and 39 are left out", " && (its_zeros v =? 0)", ""),
+    ],
+    "QuickCheck": [
+        ("bytes 38 and 39 are left out", "  && (its_zeros v =? 0) &&", "  &&"),
         ("more bytes may come after", "| [] => match m with [] => true | _ => false end", "| [] => true"),
-        ("more pieces may come after", "| [] => match ps with [] => true | _ => false end", "| [] => true"),
+        ("more pieces may come after", "| [] => match ps with [] => Some [] | _ => None end", "| [] => Some []"),
         ("the pieces of a move are not turned", "then rev_append ks [] else ks", "then ks else ks"),
+        ("the bytes at the end are left out", "b then Some ([], b)", "b then Some ([], [])"),
+        ("a barrier begins no section", "if f then now + 1 else now", "if f then now else now"),
+        ("an operation is its first piece", "if (n =? 1) &&", "if (1 <=? n) &&"),
     ],
     "Engines": [
         ("no engine takes a piece", "h k = None -> done e = 0", "h k <> h k -> done e = 0"),
@@ -69,13 +76,22 @@ CHECKERS = {
 }
 # Those that each needs to be right about.
 PROOFS = {
-    "Checker": ("Sound", "Unique", "Split"),
-    "Quick": ("QuickConflicts", "QuickPrices", "QuickBytes"),
+    "Checker": ("Sound", "Unique"),
+    "Quick": ("QuickConflicts", "QuickPrices"),
+    "QuickCheck": ("QuickBytes", "QuickLists"),
     "Engines": ("Turns",),
 }
-JUDGE = """From Dsa Require Import Numbers Checker.
-Extraction "checker.ml" check.
+JUDGE = """From Dsa Require Import Numbers Definitions Checker.
+Definition joined s portal staged := check s (concat portal) (concat staged).
+Extraction "checker.ml" joined.
 """
+
+
+def lines_of(program, jobs):
+    """The lines of a program that answers a job on each line."""
+    ran = subprocess.run([program], input="".join(job + "\n" for job in jobs), capture_output=True, text=True)
+    lines = ran.stdout.splitlines()
+    return lines if len(lines) == len(jobs) else [f"no line: {ran.stderr[:200]}"] * len(jobs)
 
 
 def compiled(folder, name):
@@ -94,8 +110,19 @@ def with_edit(folder, file, old, new):
     path.write_text(text.replace(old, new))
 
 
+def built(folder, theories, sources):
+    """The program over what the last of these theories extracts, in the first of these sources."""
+    if not all(compiled(folder, it) for it in theories):
+        common.stop(f"{folder}: {', '.join(theories)} do not compile")
+    for path in Path(folder).glob("*.mli"):
+        path.unlink()
+    words = f"ocamlfind ocamlopt -w -a -package zarith,yojson -linkpkg {' '.join(sources)} -o program"
+    subprocess.run(words.split(), cwd=folder, check=True, capture_output=True)
+    return f"{folder}/program"
+
+
 def judged_by_wrong_definitions(jobs):
-    """Yields the name of each wrong definition, and what a judge over it says of the jobs."""
+    """The name of each wrong definition of plans, and what a judge over it says of the jobs."""
 
     def tried(edit):
         name, old, new = edit
@@ -105,22 +132,16 @@ def judged_by_wrong_definitions(jobs):
             shutil.copy(COQ / "judge/fast.ml", f"{folder}/num.ml")
             text = (COQ / "judge/main.ml").read_text()
             for call in ("quick_check_list s l", "quick_check s"):
-                text = text.replace(f"{call} portal", "check s portal")
+                text = text.replace(f"{call} portal", "joined s portal")
             Path(folder, "main.ml").write_text(text)
-            if not all(compiled(folder, it) for it in ("Definitions", "Checker", "Numbers", "Judge")):
-                common.stop(f"the wrong definition does not compile: {name}")
-            Path(folder, "checker.mli").unlink()
-            words = "ocamlfind ocamlopt -w -a -package zarith,yojson -linkpkg checker.ml num.ml main.ml -o judge"
-            subprocess.run(words.split(), cwd=folder, check=True, capture_output=True)
-            text = "".join(job + "\n" for job in jobs)
-            ran = subprocess.run([f"{folder}/judge"], input=text, capture_output=True, text=True)
-            return name, ran.stdout.splitlines()
+            theories = ("Definitions", "Split", "Checker", "Numbers", "Judge")
+            return name, lines_of(built(folder, theories, ("checker.ml", "num.ml", "main.ml")), jobs)
 
     return common.side_by_side(tried, DEFINITIONS)
 
 
 def is_proved(out, file, old, new):
-    """Whether the proofs of a checker with an edit hold; if both texts are one, of the checker as it is."""
+    """Whether the proofs about a file with an edit hold; if both texts are one, about the file as it is."""
     with tempfile.TemporaryDirectory() as folder:
         with_edit(folder, f"{file}.v", old, new)
         for path in Path(out).glob("*.vo"):
@@ -130,10 +151,10 @@ def is_proved(out, file, old, new):
         return all(compiled(folder, it) for it in PROOFS[file])
 
 
-def proofs_of_checkers(out):
-    """The name of each wrong checker, and whether its proofs hold; and the same of the right ones."""
-    edits = [(file, *edit) for file, edits in CHECKERS.items() for edit in edits]
-    right = [(file, "", edits[0][1], edits[0][1]) for file, edits in CHECKERS.items()]
+def proofs_of_edits(out):
+    """The name of each edit that a proof refuses, and whether the proofs hold; and the same of each file as it is."""
+    edits = [(file, *edit) for file, edits in PROVED.items() for edit in edits]
+    right = [(file, "", edits[0][1], edits[0][1]) for file, edits in PROVED.items()]
     return common.side_by_side(lambda it: (it[1], is_proved(out, it[0], *it[2:])), right + edits)
 
 

@@ -1,5 +1,6 @@
-(* Lines of {"portal", "staging", "base", "bytes"}: how many pieces finish, and the bytes after a complete run. With
-   "list" and "greatest" in place of the first two: the bytes after executing the list in order. *)
+(* Lines of {"portal", "staging", "base", "bytes"}: how many pieces finish, and the bytes after a
+   complete run. With "list" and "greatest" in place of the first two: the bytes after executing the
+   list in order. *)
 open Sim
 let digit c = match c with '0' .. '9' -> Char.code c - 48 | _ -> Char.code c - 87
 let byte_at t i = (16 * digit t.[2 * i]) + digit t.[(2 * i) + 1]
@@ -13,10 +14,14 @@ let () =
       let base = number "base" in
       let image = text "bytes" in
       let n = String.length image / 2 in
-      let b x = let k = Z.sub x base in
-        if Z.sign k >= 0 && Z.lt k (Z.of_int n) then Z.of_int (byte_at image (Z.to_int k)) else failwith "outside" in
+      let b x =
+        let k = Z.sub x base in
+        if Z.sign k < 0 || Z.geq k (Z.of_int n) then failwith "outside";
+        Z.of_int (byte_at image (Z.to_int k)) in
       let print after =
-        for k = 0 to n - 1 do print_string (Printf.sprintf "%02x" (Z.to_int (after (Z.add base (Z.of_int k))))) done;
+        for k = 0 to n - 1 do
+          Printf.printf "%02x" (Z.to_int (after (Z.add base (Z.of_int k))))
+        done;
         print_newline () in
       if Yojson.Safe.Util.member "list" j <> `Null then
         print (executed_list (number "greatest") (bytes (text "list")) b)

@@ -4,8 +4,9 @@
 
 statements: each theorem of coq/theories/Headline.v rests on no axiom. examples, generated: both judges accept what
 `dsa` accepts, with its cost, and refuse what it refuses. lists: beside a list the judge accepts its own plan alone.
-large: 65,536 pieces take it little time and memory. runs: the definitions leave each byte that `dsa` leaves.
-definitions, proofs: wrong ones are seen. Without Coq nothing is tried."""
+barriers: beside a list with barriers it accepts what the call from C does. large: 65,536 pieces take it little time
+and memory. runs: the definitions leave each byte that `dsa` leaves. definitions, proofs: wrong ones are seen. Without
+Coq nothing is tried, and barriers not without a C compiler."""
 
 import json
 import os
@@ -13,13 +14,16 @@ import random
 import resource
 import shutil
 import subprocess
+import sys
 import tempfile
 from glob import glob
 from pathlib import Path
 
 import bench
+import bindings
 import common
 import coq_wrong
+import model
 from campaign import Case
 from common import ROOT, expect
 from coq_wrong import lines_of
@@ -29,8 +33,11 @@ COQ = ROOT / "coq"
 NEEDED = ("coqc", "coqdep", "ocamlfind")
 JOBS = int(os.environ.get("JOBS", "500"))
 SEED = os.environ.get("SEED", "1")
-# Of how many jobs one is a run.
-RUN = 10
+# Of how many jobs one is a run, and two are of a list with barriers.
+RUN, BARRIER = 10, 5
+# The calls from C take two pieces that do not conflict as a pair if a barrier is between them and nothing else. The
+# judges take any two that a barrier parts: then a certificate that the calls refuse so may show the least cost, too.
+PAIR = "refused 62"
 # What the judge may take for the most pieces: processor seconds, several times what it takes, and bytes.
 MOST_TIME, MOST_MEMORY = 8, 600_000_000
 
@@ -188,6 +195,76 @@ def lists(tried):
         expect(line.startswith(begins), f"{name}: the judge says {line}")
 
 
+class Calls:
+    """The two calls from C that this test makes, by the Python module over a shared object of the archive."""
+
+    def __init__(self, out):
+        bindings.make.need_proved("libdsa_c.a")
+        bindings.WORK = str(out)
+        os.environ.update(bindings.with_library())
+        sys.path.insert(0, str(ROOT / "bindings/python"))
+        import dsa_planner
+
+        self.planner = dsa_planner
+
+    def settings(self, numbers):
+        return self.planner.Settings(**{name: it for name, it in numbers.items() if name != "version"})
+
+    def planned(self, settings, listed):
+        """What submits the plan of a list with barriers, and its certificate."""
+        answer = self.planner.plan_fenced_list_certified(self.settings(settings), listed)
+        certificate = {**vars(answer.certificate), "pairs": [it and list(it) for it in answer.certificate.pairs]}
+        return {"portal": answer.portal.hex(), "staging": answer.staging.hex(), "certificate": certificate}
+
+    def least(self, job):
+        """What the plans of the list of a job cost at least, as the line of a judge."""
+        certificate = self.planned(job["settings"], bytes.fromhex(job["list"]))["certificate"]
+        return f'{{"cost":{certificate["prices"][-1]}}}'
+
+    def checked(self, job):
+        """The line that the judge has to give of a job."""
+        area = [bytes.fromhex(job[name]) for name in ("list", "portal", "staging")]
+        try:
+            certificate = self.planner.Certificate(**job["certificate"])
+            return f'{{"cost":{self.planner.check_fenced_list(self.settings(job["settings"]), *area, certificate)}}}'
+        except self.planner.Refusal as refusal:
+            return f"refused {refusal.number}"
+
+
+def with_barriers(draw, case):
+    """The list of a case, with the flag of a barrier in some of its operations."""
+    return b"".join(model.replace(it, flags=it.flags | draw.choice([0, 0, 1])).bytes() for it in case.operations)
+
+
+def barrier_jobs(calls, number):
+    """Jobs with a list that has barriers: its plan, changes of it, and the plan beside the list with other barriers
+    and with none."""
+    case, draw = Case(f"coq/barriers/{SEED}/{number}"), random.Random(f"barriers/{SEED}/{number}")
+    own, other = with_barriers(draw, case), with_barriers(draw, case)
+    none = bytes.fromhex(case.digits(case.operations))
+    job = case.job("check", list=own.hex(), **calls.planned(case.job("")["settings"], own))
+    jobs = [job, {**job, "list": other.hex()}, {**job, "list": none.hex()}]
+    jobs.append({**job, **calls.planned(job["settings"], none)})
+    jobs += [changed(draw, job) for _ in range(4)]
+    return [it for it in jobs if None not in it["certificate"]["prices"] and 0 not in it["certificate"]["pairs"]]
+
+
+def barriers(tried):
+    """Beside a list with barriers a judge accepts what dsa_check_fenced_list accepts, with its cost, and no more."""
+    if not common.compiler():
+        common.skip("there is no C compiler")
+        return
+    calls = Calls(tried.out)
+    jobs = [job for number in range(JOBS // BARRIER * 2) for job in barrier_jobs(calls, number)]
+    theirs, texts = [calls.checked(it) for it in jobs], [json.dumps(it) for it in jobs]
+    costs, causes = {it for it in theirs if it.startswith("{")}, {it for it in theirs if it.startswith("refused")}
+    expect(len(costs) > 8 and len(causes) > 4, f"the lists have {len(costs)} costs and {len(causes)} causes alone")
+    for numbers in ("plain", "fast"):
+        for job, text, wanted, line in zip(jobs, texts, theirs, tried.judged(texts, numbers)):
+            right = agree(wanted, line) or wanted == PAIR and line == calls.least(job)
+            expect(right, f"{numbers} says {line}, the call {wanted}: {text[:2000]}")
+
+
 def large(tried):
     """The plans of 65,536 moves and fills among 64 buffers, in small batches and in the greatest, and by size, each
     also beside the list; and pairs that end near and far by turns."""
@@ -263,7 +340,7 @@ def proofs(tried):
         expect(is_proved == (not name), f"a wrong edit is proved: {name}" if name else "a file is not proved as it is")
 
 
-PARTS = [statements, examples, generated, lists, large, runs, definitions, proofs]
+PARTS = [statements, examples, generated, lists, barriers, large, runs, definitions, proofs]
 
 
 def main(words):

@@ -332,6 +332,10 @@ def definitions(tried):
     for name, lines in coq_wrong.judged_by_wrong_definitions(jobs):
         is_seen = any(not agree(*both) for both in zip(theirs, lines))
         expect(is_seen, f"the definition is wrong, and no answer differs: {name}")
+    _, answers, jobs = run_jobs(tried, 100)
+    for name, lines in coq_wrong.executed_by_wrong_definitions(jobs):
+        is_seen = lines != [left(it) for it in answers]
+        expect(is_seen, f"the definition is wrong, and all runs leave the same: {name}")
 
 
 def proofs(tried):

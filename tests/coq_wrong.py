@@ -12,7 +12,7 @@ from model import CHECKED, COMPARE, DELTA, DUALCAST, MOVE, Op, replace
 
 COQ = ROOT / "coq"
 SOURCE, TARGET = "[(source d, size d)]", "[(target d, size d)]"
-# A name, what Definitions.v has, and what the wrong one has in its place.
+# Of plans: a name, what Definitions.v has, and what the wrong one has in its place.
 DEFINITIONS = [
     ("a move reads nothing", f"| 3 => {SOURCE}  ", "| 3 => []  "),
     ("a compare reads its first range alone", "| 5 => [(source d, size d); (target d, size d)]", f"| 5 => {SOURCE}"),
@@ -28,7 +28,21 @@ DEFINITIONS = [
     ("records are aligned to 64", "record d mod 32", "record d mod 64"),
     ("a batch has three pieces at the least", "1 <? count g", "2 <? count g"),
 ]
-# Of the checker, of the quick one that the judges run, and of engines: what a proof refuses.
+# Of runs: the file too.
+RUNS = [
+    ("Machine", "a false predicate succeeds", "=? field 40 1 d) then 2", "=? field 40 1 d) then 1"),
+    ("Machine", "a compare counts one byte more", "word 4 (c - 1)", "word 4 c"),
+    ("Machine", "a pattern repeats after four bytes", "place + k mod 8", "place + k mod 4"),
+    ("Machine", "a delta writes four bytes further", "8 * offset b j] 0 8", "8 * offset b j + 4] 0 8"),
+    ("Machine", "an offset of a delta may be repeated", "offset b j <=? offset", "offset b j <? offset"),
+    ("Machine", "the faults of a delta are exchanged", "if falls b j then 7 else 8", "if falls b j then 8 else 7"),
+    ("Machine", "a dualcast writes once", "| 9 => put [target d; target2 d] 0", "| 9 => put [target d] 0"),
+    ("Runs", "the stop point is an epoch later", "(fun q => fst q <=? e)", "(fun q => fst q <=? S e)"),
+    ("Runs", "the stop point is an epoch earlier", "(fun q => fst q <=? e)", "(fun q => S (fst q) <=? e)"),
+    ("Definitions", "a group begins no epoch", "| (_, x) :: r => (true, x) :: r", "| (f, x) :: r => (f, x) :: r"),
+]
+# Of the checker, of the quick one that the judges run, of what operations and runs do, and of engines: what a proof
+# refuses.
 PROVED = {
     "Checker": [
         ("pairs may come before the piece", "(k <=? a) && (a <? b) &&", "(a <? b) &&"),
@@ -69,6 +83,13 @@ PROVED = {
         ("a barrier begins no section", "if f then now + 1 else now", "if f then now else now"),
         ("an operation is its first piece", "if (n =? 1) &&", "if (1 <=? n) &&"),
     ],
+    "Machine": [
+        ("a compare looks at one byte less", "difference 0 (size d) b", "difference 0 (size d - 1) b"),
+        ("a move goes up over its own source", "then rev l else l", "then l else l"),
+    ],
+    "Runs": [
+        ("a piece may begin after one that has failed", "finished d /\\ good d = true", "finished d"),
+    ],
     "Engines": [
         ("no engine takes a piece", "h k = None -> done e = 0", "h k <> h k -> done e = 0"),
         ("engines take what others have ended", "h k = None -> done e = 0", "h k = None -> finished e"),
@@ -79,6 +100,8 @@ PROOFS = {
     "Checker": ("Sound", "Unique"),
     "Quick": ("QuickConflicts", "QuickPrices"),
     "QuickCheck": ("QuickBytes", "QuickLists"),
+    "Machine": ("Together", "Locality", "Lines", "Meaning"),
+    "Runs": ("Moments",),
     "Engines": ("Turns",),
 }
 JUDGE = """From Dsa Require Import Numbers Definitions Checker.
@@ -138,6 +161,21 @@ def judged_by_wrong_definitions(jobs):
             return name, lines_of(built(folder, theories, ("checker.ml", "num.ml", "main.ml")), jobs)
 
     return common.side_by_side(tried, DEFINITIONS)
+
+
+def executed_by_wrong_definitions(jobs):
+    """The name of each wrong definition of runs, and what runs leave by it."""
+
+    def tried(edit):
+        file, name, old, new = edit
+        with tempfile.TemporaryDirectory() as folder:
+            with_edit(folder, f"{file}.v", old, new)
+            for path in (COQ / "execute").iterdir():
+                shutil.copy(path, folder)
+            theories = ("Definitions", "Split", "Checker", "Runs", "Machine", "Numbers", "Execute")
+            return name, lines_of(built(folder, theories, ("sim.ml", "main.ml")), jobs)
+
+    return common.side_by_side(tried, RUNS)
 
 
 def is_proved(out, file, old, new):

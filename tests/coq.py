@@ -325,16 +325,21 @@ def runs(tried):
         expect(line == run["image"], f"the list leaves other bytes: {case.digits(case.operations)}")
 
 
+def answered(lines):
+    """Whether a program has answered each job."""
+    return not any(it.startswith("no line") for it in lines)
+
+
 def definitions(tried):
     """With each wrong definition some answer differs."""
     jobs = check_jobs(tried, 300)
     theirs = tried.asked(jobs)
-    for name, lines in coq_wrong.judged_by_wrong_definitions(jobs):
-        is_seen = any(not agree(*both) for both in zip(theirs, lines))
+    for name, lines in coq_wrong.judged_by_wrong_definitions(tried.out, jobs):
+        is_seen = answered(lines) and any(not agree(*both) for both in zip(theirs, lines))
         expect(is_seen, f"the definition is wrong, and no answer differs: {name}")
     _, answers, jobs = run_jobs(tried, 100)
-    for name, lines in coq_wrong.executed_by_wrong_definitions(jobs):
-        is_seen = lines != [left(it) for it in answers]
+    for name, lines in coq_wrong.executed_by_wrong_definitions(tried.out, jobs):
+        is_seen = answered(lines) and lines != [left(it) for it in answers]
         expect(is_seen, f"the definition is wrong, and all runs leave the same: {name}")
 
 

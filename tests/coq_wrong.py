@@ -46,7 +46,7 @@ RUNS = [
 PROVED = {
     "Checker": [
         ("pairs may come before the piece", "(k <=? a) && (a <? b) &&", "(a <? b) &&"),
-        ("pairs of one piece", "(k <=? a) && (a <? b) &&", "(k <=? a) &&"),
+        ("a pair may end before it begins", "(k <=? a) && (a <? b) &&", "(k <=? a) &&"),
         ("pairs need no conflict", "Some x, Some y => cb x y", "Some x, Some y => true"),
         ("each price may be one too high", "(p <=? budget + c) && along", "(p <=? budget + c + 1) && along"),
         ("a pair counts two fences", "then budget + fence s else", "then budget + fence s + fence s else"),
@@ -104,6 +104,8 @@ PROOFS = {
     "Runs": ("Moments",),
     "Engines": ("Turns",),
 }
+# The theories that a judge and the executor read bytes by, each after those that it needs.
+READ = ("Definitions", "Split", "Checker")
 JUDGE = """From Dsa Require Import Numbers Definitions Checker.
 Definition joined s portal staged := check s (concat portal) (concat staged).
 Extraction "checker.ml" joined.
@@ -133,8 +135,11 @@ def with_edit(folder, file, old, new):
     path.write_text(text.replace(old, new))
 
 
-def built(folder, theories, sources):
-    """The program over what the last of these theories extracts, in the first of these sources."""
+def built(out, folder, theories, sources):
+    """The program over what the last of these theories extracts, in the first of these sources. Other theories are
+    those that were built."""
+    for path in Path(out).glob("*.vo"):
+        shutil.copy(path, folder)
     if not all(compiled(folder, it) for it in theories):
         common.stop(f"{folder}: {', '.join(theories)} do not compile")
     for path in Path(folder).glob("*.mli"):
@@ -144,7 +149,7 @@ def built(folder, theories, sources):
     return f"{folder}/program"
 
 
-def judged_by_wrong_definitions(jobs):
+def judged_by_wrong_definitions(out, jobs):
     """The name of each wrong definition of plans, and what a judge over it says of the jobs."""
 
     def tried(edit):
@@ -157,13 +162,13 @@ def judged_by_wrong_definitions(jobs):
             for call in ("quick_check_list s l", "quick_check s"):
                 text = text.replace(f"{call} portal", "joined s portal")
             Path(folder, "main.ml").write_text(text)
-            theories = ("Definitions", "Split", "Checker", "Numbers", "Judge")
-            return name, lines_of(built(folder, theories, ("checker.ml", "num.ml", "main.ml")), jobs)
+            program = built(out, folder, (*READ, "Judge"), ("checker.ml", "num.ml", "main.ml"))
+            return name, lines_of(program, jobs)
 
     return common.side_by_side(tried, DEFINITIONS)
 
 
-def executed_by_wrong_definitions(jobs):
+def executed_by_wrong_definitions(out, jobs):
     """The name of each wrong definition of runs, and what runs leave by it."""
 
     def tried(edit):
@@ -172,8 +177,9 @@ def executed_by_wrong_definitions(jobs):
             with_edit(folder, f"{file}.v", old, new)
             for path in (COQ / "execute").iterdir():
                 shutil.copy(path, folder)
-            theories = ("Definitions", "Split", "Checker", "Runs", "Machine", "Numbers", "Execute")
-            return name, lines_of(built(folder, theories, ("sim.ml", "main.ml")), jobs)
+            theories = (*READ, "Runs", "Machine", "Execute")
+            program = built(out, folder, theories[theories.index(file) :], ("sim.ml", "main.ml"))
+            return name, lines_of(program, jobs)
 
     return common.side_by_side(tried, RUNS)
 

@@ -212,7 +212,7 @@ class Calls:
 
     def planned(self, settings, listed):
         """What submits the plan of a list with barriers, and its certificate."""
-        answer = self.planner.plan_fenced_list_certified(self.settings(settings), listed)
+        answer = self.planner.plan_list_certified(self.settings(settings), listed)
         certificate = {**vars(answer.certificate), "pairs": [it and list(it) for it in answer.certificate.pairs]}
         return {"portal": answer.portal.hex(), "staging": answer.staging.hex(), "certificate": certificate}
 
@@ -226,7 +226,7 @@ class Calls:
         area = [bytes.fromhex(job[name]) for name in ("list", "portal", "staging")]
         try:
             certificate = self.planner.Certificate(**job["certificate"])
-            return f'{{"cost":{self.planner.check_fenced_list(self.settings(job["settings"]), *area, certificate)}}}'
+            return f'{{"cost":{self.planner.check_list(self.settings(job["settings"]), *area, certificate)}}}'
         except self.planner.Refusal as refusal:
             return f"refused {refusal.number}"
 
@@ -250,7 +250,7 @@ def barrier_jobs(calls, number):
 
 
 def barriers(tried):
-    """Beside a list with barriers a judge accepts what dsa_check_fenced_list accepts, with its cost, and no more."""
+    """Beside a list with barriers a judge accepts what dsa_check_list accepts, with its cost, and no more."""
     if not common.compiler():
         common.skip("there is no C compiler")
         return

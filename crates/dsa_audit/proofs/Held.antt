@@ -12,15 +12,20 @@ use Rattle.dsa_audit.specs.declared.repeats.Action.{Action}
 use Rattle.dsa_audit.specs.Members.{PossibleConflict}
 use Rattle.dsa_audit.specs.Repeats.{OrderMatters}
 use Rattle.dsa_audit.specs.Accepted.{IsLeft}
-use Rattle.dsa_audit.specs.Audits.{HasFence, IsMissing, PlaceHolds, CanFail, Shows, IsCorrected, IsReduced, Separates}
+use Rattle.dsa_audit.specs.Audits.{HasFence, IsMissing, PlaceHolds, CanFail, Shows, IsCorrected, IsReduced, Separates, SeparatesAsMuch}
 use Rattle.dsa_audit.specs.Laws.{IsBetween, AllCanFail, Starts, Holds}
 use Rattle.dsa_audit.proofs.Flags.{fence_within}
 
 spare : (ms : List Member) (bs vs ks : List Bool) (T : ℕ → ℕ → Type 0) (h k : Group) (uses : List FenceUse) → ((i j : ℕ) → T i j → PossibleConflict ms i j)
+    → IsReduced (PossibleConflict ms) bs vs ks h uses k → SeparatesAsMuch T h k
+spare ms bs vs ks T h k uses may reduced a b ordered within conflict apart = reduced.separates a b ordered within (may a b conflict) apart
+
+-- so what separates all of them does so too
+spare_all : (ms : List Member) (bs vs ks : List Bool) (T : ℕ → ℕ → Type 0) (h k : Group) (uses : List FenceUse) → ((i j : ℕ) → T i j → PossibleConflict ms i j)
     → IsReduced (PossibleConflict ms) bs vs ks h uses k → Separates T h → Separates T k
-spare ms bs vs ks T h k uses may reduced separates a b ordered within conflict =
-    let inside : b < length h = omega (arith, reduced.less.same_length) in
-    reduced.separates a b ordered inside (may a b conflict) (separates a b ordered inside conflict)
+spare_all ms bs vs ks T h k uses may reduced separates a b ordered within conflict =
+    let inside : b < length h = omega (arith, within, reduced.less.same_length) in
+    spare ms bs vs ks T h k uses may reduced a b ordered inside conflict (separates a b ordered inside conflict)
 
 given_at : (K : ℕ → ℕ → Type 0) (ms : List Member) (bs vs ks : List Bool) (g h k : Group) (uses : List FenceUse) (m : ℕ) (place : FencePlace) → ((i j : ℕ) → K i j → PossibleConflict ms i j)
     → length h ≡ length g → m < length g → IsReduced (PossibleConflict ms) bs vs ks h uses k → HasFence h m → ¬ HasFence k m → PlaceHolds K g h m place → HasFence g m
@@ -56,7 +61,7 @@ held acts ds ms bs vs ks T A g h k places uses between corrected reduced =
       given = λ m here gone.
           let w : m < length g = omega (arith, fence_within h m here, corrected.more.same_length) in
           given_at K ms bs vs ks g h k uses m (get_or places m NoFence) can corrected.more.same_length w reduced here gone (corrected.each m w);
-      legal = spare ms bs vs ks K h k uses can reduced corrected.separates;
+      legal = spare_all ms bs vs ks K h k uses can reduced corrected.separates;
       starts = λ failed b can. same_starts ms bs vs ks h k uses failed b reduced can;
       shows = λ a b shows within. (
         reduced.signals a b shows (omega (arith, within, corrected.more.same_length)),

@@ -12,7 +12,7 @@ use Rattle.dsa_audit.specs.Members.{FitsMemory, PossibleConflict}
 use Rattle.dsa_audit.specs.Repeats.{OrderMatters, AreRepeats}
 use Rattle.dsa_audit.specs.Steps.{AreLasts}
 use Rattle.dsa_audit.specs.Accepted.{AreAccepted, AreHeld, IsLeft}
-use Rattle.dsa_audit.specs.Audits.{HasFence, IsSeparated, CanFail, Shows, IsCorrected, IsReduced, ShareEpoch, Separates}
+use Rattle.dsa_audit.specs.Audits.{HasFence, IsSeparated, CanFail, Shows, IsCorrected, IsReduced, ShareEpoch, Separates, SeparatesAsMuch}
 
 -- what is left without the needless fences of a batch, by the conflicts that are not ruled out by all that its members
 -- touch, by the members that can fail, and by those that show; `places` and `fences` have the missing fences if nothing is
@@ -60,8 +60,8 @@ AllCanFail fallible failed = (a : ℕ) → IsTrue (failed a) → CanFail fallibl
 pub record Holds (T A : ℕ → ℕ → Type 0) (actions : List Action) (operands : List Member) (fallible visible : List Bool) (g h k : Group) (places : List FencePlace) : Type 0 where
   -- each missing fence has a true conflict within an epoch, which is not accepted
   pub missing : (i m : ℕ) → m < length g → get_or places m NoFence ≡ Missing i → (i < m) × T i m × ShareEpoch g i m × (¬ A i m)
-  -- where the corrected batch separates the true conflicts, so does the reduced one
-  pub spared : Separates T h → Separates T k
+  -- each true conflict that the corrected batch separates, the reduced one separates too
+  pub spared : SeparatesAsMuch T h k
   -- only fences that were there may go
   pub given : (m : ℕ) → HasFence h m → ¬ HasFence k m → HasFence g m
   -- the reduced batch separates all conflicts that are known of the operands, whose order matters, and that are not accepted

@@ -200,6 +200,20 @@ def by_hand():
     common.expect((status, kinds) == (0, [("missing", "accepted")]), f"a fence is freed: {status}, {kinds}")
 
 
+def costs_by_hand():
+    """If each missing fence is accepted, no cost has the missing fences."""
+    first, second = move(0x1000, 0x2000, size=64, record_at=0x8000), move(0x2000, 0x3000, size=8, record_at=0x8020)
+    key = "missing fence, read after write; batch of 2; member 1: move, 8 bytes; member 0: move, 64 bytes"
+    for keys, wanted in (([], "cost 14 as submitted, 17 with the missing fences"), ([key], "cost 14 as submitted")):
+        with tempfile.NamedTemporaryFile("w") as file:
+            file.write("".join(f"{it}\n" for it in keys))
+            file.flush()
+            command = [program("dsa_text"), "audit", "--accept", file.name]
+            ran = subprocess.run(command, input=batch(first.bytes(), second.bytes()), capture_output=True)
+        lines = ran.stdout.decode().splitlines()
+        common.expect(wanted in lines, f"{keys}: {lines}, and not {wanted}")
+
+
 def soon_accepted():
     """65,472 members in one batch. Each second conflicts with the one before it, or all conflict; half of the pairs of
     neighbours are accepted. The time is printed; more than ten seconds are a fault."""

@@ -129,20 +129,21 @@ fn unpriced_text(
     format!(in alloc; ", not counting {count} of fewer than 2 or more than {most} members")
 }
 
-/// The line of the costs, of a report with these numbers.
+/// The line of the costs, of a report with these numbers; `lacks`: a fence is missing that is not accepted.
 pub fn costs_text(
     alloc: Global,
     settings: &Settings,
     costs: &Costs,
     totals: &Totals,
+    lacks: bool,
 ) -> Result<String, AllocError> {
     let (recorded, corrected, reduced) = (costs.recorded, costs.corrected, costs.reduced);
     let mut text = format!(in alloc; "cost {recorded} as submitted")?;
-    if totals.missing > 0 {
+    if lacks {
         text.push_str(&format!(in alloc; ", {corrected} with the missing fences")?)?;
     }
     if totals.needless > 0 {
-        let then = if totals.missing > 0 { "then " } else { "" };
+        let then = if lacks { "then " } else { "" };
         text.push_str(&format!(in alloc; ", {then}{reduced} without the needless ones")?)?;
     }
     if costs.unpriced > 0 {

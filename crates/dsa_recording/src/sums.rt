@@ -7,8 +7,10 @@ ghost use Rattle.dsa_recording.specs.Totals.{HasSums};
 
 use crate::assumptions::Assumptions;
 use crate::costs::{Costs, costs_of};
+use crate::detail::has_all_fences;
 use crate::freed::{Freed, freed_by};
 use crate::report::Report;
+use crate::submission::Audited;
 use crate::totals::{Totals, totals_of};
 use dsa_settings::Settings;
 use std::alloc::{AllocError, Global};
@@ -18,6 +20,8 @@ use std::alloc::{AllocError, Global};
 pub(crate) struct Sums {
     /// What was submitted, and what is found.
     pub totals: Totals,
+    /// Whether a fence is missing that is not accepted.
+    pub lacks: bool,
     /// What it costs.
     pub costs: Costs,
     /// How many more fences would be needless under further assumptions; empty if no fence guards or signals.
@@ -38,6 +42,11 @@ fn both_totals(one: Totals, other: Totals) -> Totals {
         signalling: one.signalling.saturating_add(other.signalling),
         flaws: one.flaws.saturating_add(other.flaws),
     }
+}
+
+/// Whether one of the submissions lacks a fence, once the accepted pairs are taken out.
+fn lack_some(audits: &[Audited]) -> bool {
+    audits.iter().any(|audited| !has_all_fences(audited))
 }
 
 /// The costs of two parts.
@@ -77,6 +86,7 @@ impl Sums {
                 signalling: 0,
                 flaws: 0,
             },
+            lacks: false,
             costs: Costs {
                 recorded: 0,
                 corrected: 0,
@@ -101,6 +111,7 @@ impl Sums {
         requires audited { HasAudits all.now report.now }
     {
         self.totals = both_totals(self.totals, totals_of(report));
+        self.lacks = self.lacks || lack_some(&report.audits);
         self.costs = both_costs(self.costs, costs_of(settings, report));
         let freed = freed_by(alloc, all, report, assumptions)?;
         add_freed(&mut self.freed, freed);

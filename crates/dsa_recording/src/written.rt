@@ -229,11 +229,11 @@ impl Written {
             text.push_str(&finding.text)?;
             push_alike(alloc, &mut text, finding.alike)?;
         }
-        let totals = self.sums.totals;
+        let (totals, lacks) = (self.sums.totals, self.sums.lacks);
         text.push_str(&nothing_text(alloc, &totals)?)?;
         text.push_str(&totals_text(alloc, &totals)?)?;
         text.push_str(&flaws_text(alloc, totals.flaws)?)?;
-        text.push_str(&costs_text(alloc, settings, &self.sums.costs, &totals)?)?;
+        text.push_str(&costs_text(alloc, settings, &self.sums.costs, &totals, lacks)?)?;
         text.push_str(&freed_text(alloc, options.assumptions, &self.sums.freed)?)?;
         Ok(text)
     }

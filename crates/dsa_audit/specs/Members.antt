@@ -1,12 +1,13 @@
 -- What is known of the members of a batch, and which of them conflict.
-use Rattle.std.specs.Prelude.{ℕ, ◌≡◌, List, [], slice_get, Some}
+use Rattle.std.specs.Prelude.{ℕ, ◌≡◌, ◌↔◌, IsTrue, List, [], slice_get, Option, Some, None}
 use Rattle.std.specs.List.{AllByRecursion}
 use Rattle.dsa_descriptor.specs.declared.span.Span.{Span}
-use Rattle.dsa_descriptor.specs.Spans.{IsAddressable}
+use Rattle.dsa_descriptor.specs.Spans.{InSome, IsAddressable}
 use Rattle.dsa_ranges.specs.Ranges.{SpansConflict}
 use Rattle.dsa_ranges.specs.declared.span.Touched.{Touched}
 use Rattle.dsa_ranges.specs.declared.hazards.Hazard.{Hazard}
 use Rattle.dsa_ranges.specs.Hazards.{IsHazard}
+use Rattle.dsa_audit.specs.declared.hazard.Hazards.{Hazards}
 use Rattle.dsa_audit.specs.declared.member.Member.{Member}
 use Rattle.dsa_audit.specs.declared.member.Unseen.{Unseen}
 use Rattle.dsa_audit.specs.declared.member.Member.TheVariants.{Known, Unknown}
@@ -20,6 +21,16 @@ reads_of (Unknown why) = []
 abbrev pub writes_of : Member → List Span
 writes_of (Known t) = t.writes.items
 writes_of (Unknown why) = []
+
+-- the same of a member that may not be there, of which nothing is known then
+abbrev pub reads_at : Option Member → List Span
+reads_at None = []
+reads_at (Some m) = reads_of m
+
+-- and what it writes
+abbrev pub writes_at : Option Member → List Span
+writes_at None = []
+writes_at (Some m) = writes_of m
 
 -- all that the member is known to read and write lies below 2 ^ 64
 abbrev pub FitsMemory : Member → Type 0
@@ -62,3 +73,13 @@ abbrev pub IsHazardBetween : List Member → ℕ → ℕ → Hazard → Type 0
 IsHazardBetween ms i j h =
     (t u : Touched) × (slice_get ms i ≡ Some (Known t)) × (slice_get ms j ≡ Some (Known u))
     × IsHazard t.reads.items t.writes.items u.reads.items u.writes.items h.address h.kind
+
+-- some address is in one of each
+abbrev pub ShareAddress : List Span → List Span → Type 0
+ShareAddress ss ts = (address : ℕ) × InSome ss address × InSome ts address
+
+-- these are all hazards between the members at two places of a batch, the first of which is the earlier
+pub record AreHazardsBetween (ms : List Member) (i j : ℕ) (hs : Hazards) : Type 0 where
+  pub read_after_write : IsTrue hs.read_after_write ↔ ShareAddress (writes_at (slice_get ms i)) (reads_at (slice_get ms j))
+  pub write_after_write : IsTrue hs.write_after_write ↔ ShareAddress (writes_at (slice_get ms i)) (writes_at (slice_get ms j))
+  pub write_after_read : IsTrue hs.write_after_read ↔ ShareAddress (reads_at (slice_get ms i)) (writes_at (slice_get ms j))

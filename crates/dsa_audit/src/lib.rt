@@ -18,7 +18,7 @@ pub use audit::{
     Audit, Effects, accepting_frees_none, assumptions_free, audit_fences, audits_hold,
     missing_fences, needed_fences, separated_is_legal,
 };
-pub use hazard::hazard_between;
+pub use hazard::{Hazards, hazard_between, hazards_between};
 pub use lasts::all_lasts;
 pub use member::{Member, Unseen, are_known_to_conflict};
 pub use missing::{Corrected, FencePlace};

@@ -1,9 +1,8 @@
 //! Members of a batch that do what an earlier one does.
 
-ghost use Rattle.std.specs.Prelude.{◌≡◌, ◌↔◌, ◌<◌, ℕ, IfOk, IsTrue, length, slice_get};
-ghost use Rattle.dsa_descriptor.specs.Spans.{InSome};
+ghost use Rattle.std.specs.Prelude.{◌≡◌, ◌↔◌, ◌<◌, IfOk, IsTrue, length, slice_get};
 ghost use Rattle.dsa_conflicts.specs.Access.{IsGreatest};
-ghost use Rattle.dsa_audit.specs.Members.{KnownConflict};
+ghost use Rattle.dsa_audit.specs.Members.{KnownConflict, ShareAddress};
 ghost use Rattle.dsa_audit.specs.Repeats.{AreRepeats, IsLastKnown, IsRepeated, OrderMatters, RepeatsLast, is_whole};
 ghost use Rattle.dsa_audit.specs.Steps.{AreLasts};
 
@@ -29,13 +28,12 @@ fn action_at(actions: &[Action], k: usize) -> Option<Action>
     actions.get(k).copied()
 }
 
-/// Whether some address that is read is written.
-fn some_meet(reads: &[Span], writes: &[Span]) -> bool
-    ensures { IsTrue result ↔
-        ((address : ℕ) × InSome reads.now address × InSome writes.now address) }
+/// Whether some address is in one of each.
+pub(crate) fn some_meet(first: &[Span], second: &[Span]) -> bool
+    ensures { IsTrue result ↔ ShareAddress first.now second.now }
 {
-    for span in reads {
-        if meets_some(*span, writes) {
+    for span in first {
+        if meets_some(*span, second) {
             return true;
         }
     }

@@ -16,8 +16,6 @@ from common import move, program
 from findings import key_of
 from model import COMPARE
 
-HAZARDS = ("read after write", "write after write", "write after read")
-
 
 def with_keys(recording, keys, *words):
     """The report on a recording, and the status, with these keys accepted."""
@@ -49,11 +47,7 @@ class Accepting(Batch):
 
     def key(self, pair):
         """The key of a missing fence between two members that are known to conflict."""
-        (reads, writes), (reads2, writes2) = (self.operands[k] for k in pair)
-        shared = (writes & reads2, writes & writes2, reads & writes2)
-        hazard = next(name for name, some in zip(HAZARDS, shared) if some)
-        what = {"kind": "missing", "hazard": hazard, "earlier": pair[0]}
-        return key_of(what, self.entries, pair[1], 0, len(self.entries))
+        return key_of({"kind": "missing", "earlier": pair[0]}, self.entries, pair[1], 0, len(self.entries))
 
     def missing_before(self):
         """The missing fences if nothing is accepted, each with the last earlier member of its epoch that conflicts."""
@@ -212,6 +206,19 @@ def costs_by_hand():
             ran = subprocess.run(command, input=batch(first.bytes(), second.bytes()), capture_output=True)
         lines = ran.stdout.decode().splitlines()
         common.expect(wanted in lines, f"{keys}: {lines}, and not {wanted}")
+
+
+def hazards_by_hand():
+    """A key names all hazards of its pair, so another hazard of the two is not accepted by it."""
+    first = move(0x1000, 0x2000, size=64, record_at=0x8000).bytes()
+    reads = "missing fence, read after write; batch of 2; member 1: move, 8 bytes; member 0: move, 64 bytes"
+    both = reads.replace("write;", "write, write after write;")
+    for target, keys, wanted in (
+        (0x3000, [], 1), (0x3000, [reads], 0), (0x3000, [both], 1), (0x2020, [reads], 1), (0x2020, [both], 0),
+    ):
+        report, status = with_keys(batch(first, move(0x2000, target, size=8, record_at=0x8020).bytes()), keys)
+        severity = [it["severity"] for it in report["findings"]]
+        common.expect((status, severity) == (wanted, [("accepted", "error")[wanted]]), f"{target:#x}, {keys}: {report}")
 
 
 def soon_accepted():

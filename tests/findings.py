@@ -86,6 +86,15 @@ def overlap(earlier, later, hazard, address):
     return min(ends) - address
 
 
+def hazards(earlier, later):
+    """All hazards between the data of two entries, in their order."""
+    (reads, writes), (reads2, writes2) = operands(earlier), operands(later)
+    sides = {"read after write": (writes, reads2), "write after write": (writes, writes2)}
+    sides["write after read"] = (reads, writes2)
+    meet = lambda one, other: any(max(a.start, b.start) < min(a.stop, b.stop) for a in one for b in other)
+    return [name for name, both in sides.items() if meet(*both)]
+
+
 def others(what):
     """The other members that a finding names."""
     return [what[name] for name in ("earlier", "awaited") if name in what]
@@ -96,7 +105,7 @@ def key_of(what, entries, place, first, size):
     kind = what["kind"]
     text = KINDS.get(kind, kind)
     if kind == "missing":
-        text = f"missing fence, {what['hazard']}"
+        text = ", ".join(["missing fence", *hazards(entries[first + what["earlier"]], entries[first + place])])
     if kind == "unseen":
         text = "not looked at: " + (code_words(what["operation"]) if what["why"] == "operation" else WHY[what["why"]])
 

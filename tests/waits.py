@@ -217,17 +217,19 @@ def places(recording):
     return found
 
 
-def hazard_of(earlier, later):
-    """Why the later entry has to wait for the earlier one, the first that applies."""
-    if meet(earlier[1], later[0]):
-        return "read after write"
-    return "write after write" if meet(earlier[1], later[1]) else "write after read"
+def words_of(earlier, later):
+    """That a wait is missing between two entries, with all their hazards in order."""
+    sides = {
+        "read after write": (earlier[1], later[0]), "write after write": (earlier[1], later[1]),
+        "write after read": (earlier[0], later[1]),
+    }
+    return ", ".join(["missing wait", *(name for name, both in sides.items() if meet(*both))])
 
 
 def keys_of(recording, waits, uses):
     """For each entry that should wait, the key of each that it should wait for."""
     where = places(recording)
-    named = lambda e, a: f"missing wait, {hazard_of(uses[a], uses[e])}{where[e][2]}{where[a][2]}"
+    named = lambda e, a: f"{words_of(uses[a], uses[e])}{where[e][2]}{where[a][2]}"
     return {later: {earlier: named(later, earlier) for earlier in waits[later]} for later in sorted(waits)}
 
 
@@ -242,7 +244,7 @@ def shown_with(keys, known):
     return found
 
 
-def judge_report(recording, events, waits, shown, name):
+def judge_report(recording, events, waits, shown, uses, name):
     """What the report in JSON has of the missing waits, and what the words have; answers their keys."""
     _, out, _ = audited(recording, events, "--json")
     report, where, keys = json.loads(out), places(recording), []
@@ -254,7 +256,7 @@ def judge_report(recording, events, waits, shown, name):
     for it in got["missing"]:
         later, earlier = it["later"]["entry"], waits[it["later"]["entry"]]
         hazard, address, bytes_there = shown[later]
-        key = f"missing wait, {hazard}{where[later][2]}{where[earlier][2]}"
+        key = f"{words_of(uses[earlier], uses[later])}{where[later][2]}{where[earlier][2]}"
         ends = [{"entry": n, "member": where[n][1], "submission": where[n][0]} for n in (earlier, later)]
         wanted = {"address": address, "bytes": bytes_there, "earlier": ends[0], "hazard": hazard, "key": key}
         wanted |= {"later": ends[1], "severity": "error"}
@@ -311,7 +313,8 @@ def judged(seed):
     right = found == waits and wanted in out and (status == 1 or not waits) and status < 2
     common.expect(right, f"seed {seed}: wanted {waits}, found {found}, status {status} {err}")
     if right:
-        shown, keys = judge_report(recording, events, waits, told, f"seed {seed}"), keys_of(recording, every, uses)
+        shown = judge_report(recording, events, waits, told, uses, f"seed {seed}")
+        keys = keys_of(recording, every, uses)
         common.expect(shown == [keys[e][waits[e]] for e in keys], f"seed {seed}: the keys are {shown}, not {keys}")
         judge_keys(recording, events, keys, draw, f"seed {seed}")
     return len(waits) > 0

@@ -5,6 +5,7 @@ use Rattle.std.specs.List.{AllByRecursion}
 use Rattle.std.proofs.lemmas.List.{map-append}
 use Rattle.std.proofs.lemmas.Bool.{eq-eqb, eqb-false, eqb-true, ne_eqb}
 use Rattle.dsa_descriptor.specs.Places.{u32_at, u64_at, code_at}
+use Rattle.dsa_audit.specs.declared.hazard.Hazards.{Hazards}
 use Rattle.dsa_audit.specs.declared.member.Member.{Member as KnownMember}
 use Rattle.dsa_recording.specs.declared.accepted.Accepted.{Accepted}
 use Rattle.dsa_recording.specs.declared.detail.Cause.{Cause}
@@ -158,6 +159,7 @@ module _ (pre es post : List (List ℕ)) where
     pub size : e.size ≡ d.size
     pub place : e.place ≡ d.place
     pub is_batch : e.is_batch ≡ d.is_batch
+    pub hazards : e.hazards ≡ d.hazards
     pub cause : e.cause ≡ d.cause
 
   same_eq_by : (a b c : ℕ) (r : Bool) → (a + b == c) ≡ r → ((n + a) + b == n + c) ≡ (a + b == c)
@@ -191,13 +193,14 @@ module _ (pre es post : List (List ℕ)) where
 
   key_same : (d e : Detail) → IsMoved d e → IsPlaceWithin d.first (length es) d.place → AreWithin d.first (length es) (named_by d.cause) → key_words all e ≡ key_words es d
   key_same d e is at within =
-      let key : cause_key e.code e.cause ≡ cause_key d.code d.cause = ap (λ (k : ℕ). cause_key k e.cause) is.code ∙ ap (cause_key d.code) is.cause in
+      let key : cause_key e.code e.hazards e.cause ≡ cause_key d.code d.hazards d.cause =
+      ap (λ (k : ℕ). cause_key k e.hazards e.cause) is.code ∙ (ap (λ (hs : Hazards). cause_key d.code hs e.cause) is.hazards ∙ ap (cause_key d.code d.hazards) is.cause) in
       let middle : place_key all e e.is_batch e.place ≡ place_key es d d.is_batch d.place =
       ap (λ (b : Bool). place_key all e b e.place) is.is_batch ∙ (ap (place_key all e d.is_batch) is.place ∙ place_same d e d.is_batch d.place is at) in
       let last : others_key all e (named_by e.cause) ≡ others_key es d (named_by d.cause) =
       ap (λ (c : Cause). others_key all e (named_by c)) is.cause ∙ others_same d e (named_by d.cause) is within in
       ap (λ (w : List ℕ). w ++ (place_key all e e.is_batch e.place ++ others_key all e (named_by e.cause))) key
-      ∙ ap (λ (w : List ℕ). cause_key d.code d.cause ++ w)
+      ∙ ap (λ (w : List ℕ). cause_key d.code d.hazards d.cause ++ w)
       (ap (λ (w : List ℕ). w ++ others_key all e (named_by e.cause)) middle ∙ ap (λ (w : List ℕ). place_key es d d.is_batch d.place ++ w) last)
 
   -- whose record has the address
@@ -275,6 +278,7 @@ module _ (pre es post : List (List ℕ)) where
     head_owner = d.head_owner;
     cause = d.cause;
     records = d.records;
+    hazards = d.hazards;
     overlap = d.overlap;
     record_at = d.record_at;
   }
@@ -298,6 +302,7 @@ module _ (pre es post : List (List ℕ)) where
         head_owner = says.head_owner ∙ ap (u32_at 0) (sym first);
         cause = says.cause;
         records = says.records ∙ sym (records_same s.first (entry_at (moved n s) f.place) (entry_at s f.place) (n + s.first) d.cause refl at has.within within);
+        hazards = says.hazards;
         overlap = says.overlap;
         record_at = says.record_at ∙ sym (cause_same s.first (entry_at (moved n s) f.place) (entry_at s f.place) (n + s.first) d.cause refl at has.within within);
       }
@@ -316,6 +321,7 @@ module _ (pre es post : List (List ℕ)) where
     head_owner = e.head_owner;
     cause = e.cause;
     records = e.records;
+    hazards = e.hazards;
     overlap = e.overlap;
     record_at = e.record_at;
   }
@@ -339,6 +345,7 @@ module _ (pre es post : List (List ℕ)) where
         head_owner = says.head_owner ∙ ap (u32_at 0) first;
         cause = says.cause;
         records = says.records ∙ records_same s.first (entry_at (moved n s) f.place) (entry_at s f.place) (n + s.first) e.cause refl at has.within within;
+        hazards = says.hazards;
         overlap = says.overlap;
         record_at = says.record_at ∙ cause_same s.first (entry_at (moved n s) f.place) (entry_at s f.place) (n + s.first) e.cause refl at has.within within;
       }
@@ -352,7 +359,7 @@ module _ (pre es post : List (List ℕ)) where
     accepted_there (d, (t, ns, there, says), known) =
         let same = one_in r f s t ms ns is_in there in
         let says' : Describes es s ms f d = subst (λ (z : Submission). Describes es z ms f d) same.0 (subst (λ (z : List KnownMember). Describes es t z f d) same.1 says) in
-        let moved_is : IsMoved d (detail_there k d) = record { entry = refl; first = refl; code = refl; size = refl; place = refl; is_batch = refl; cause = refl } in
+        let moved_is : IsMoved d (detail_there k d) = record { entry = refl; first = refl; code = refl; size = refl; place = refl; is_batch = refl; hazards = refl; cause = refl } in
         let at : IsPlaceWithin d.first (length es) d.place =
         subst (λ (i : ℕ). IsPlaceWithin i (length es) d.place) (sym says'.first) (subst (IsPlaceWithin s.first (length es)) (sym says'.place) (place_in s f.place has.within)) in
         let within : AreWithin d.first (length es) (named_by d.cause) =
@@ -375,6 +382,7 @@ module _ (pre es post : List (List ℕ)) where
           size = refl;
           place = refl;
           is_batch = refl;
+          hazards = refl;
           cause = refl;
         } in
         let at : IsPlaceWithin s.first (length es) e.place = subst (IsPlaceWithin s.first (length es)) (sym says'.place) (place_in s f.place has.within) in

@@ -2,10 +2,11 @@
 use Rattle.std.specs.Prelude.{ℕ, ◌≡◌, ◌+◌, ◌-◌, ◌<◌, ◌≤◌, ◌&&◌, ◌||◌, ◌==◌, nat_le, nat_lt, max, min, bit_and, not, Bool, true, false, if◌then◌else◌, List, [], ◌∷◌, length, slice_get, slice_index_or, Option, Some, None}
 use Rattle.dsa_descriptor.specs.declared.span.Span.{Span}
 use Rattle.dsa_descriptor.specs.Places.{u32_at, u64_at, flags_at, code_at}
+use Rattle.dsa_audit.specs.declared.hazard.Hazards.{Hazards}
 use Rattle.dsa_audit.specs.declared.member.Member.{Member as KnownMember}
 use Rattle.dsa_audit.specs.declared.missing.FencePlace.{FencePlace}
 use Rattle.dsa_audit.specs.declared.missing.FencePlace.TheVariants as fence_place
-use Rattle.dsa_audit.specs.Members.{KnownConflict, IsHazardBetween}
+use Rattle.dsa_audit.specs.Members.{AreHazardsBetween, KnownConflict, IsHazardBetween}
 use Rattle.dsa_recording.specs.declared.stream.Submission.{Submission}
 use Rattle.dsa_recording.specs.declared.submission.Audited.{Audited}
 use Rattle.dsa_recording.specs.declared.findings.Finding.{Finding}
@@ -208,6 +209,27 @@ abbrev pub overlap_at : List KnownMember → Place → Cause → ℕ
 overlap_at ms Head c = 0
 overlap_at ms (Member k) c = overlap_of ms k c
 
+-- no hazard
+abbrev pub no_hazards : Hazards
+no_hazards = record { read_after_write = false; write_after_write = false; write_after_read = false }
+
+-- of a fence that is missing before member k these are all hazards with the earlier member; nothing else that is found of it
+-- has one
+abbrev pub AreHazardsOf : List KnownMember → ℕ → FindingKind → Hazards → Type 0
+AreHazardsOf ms k (MissingFence earlier) hs = AreHazardsBetween ms earlier k hs
+AreHazardsOf ms k (NotSeen why) hs = hs ≡ no_hazards
+AreHazardsOf ms k (GuardingFence earlier) hs = hs ≡ no_hazards
+AreHazardsOf ms k (SignallingFence awaited) hs = hs ≡ no_hazards
+AreHazardsOf ms k (GuardingAndSignallingFence earlier awaited) hs = hs ≡ no_hazards
+AreHazardsOf ms k NeedlessFence hs = hs ≡ no_hazards
+AreHazardsOf ms k (Repeated earlier) hs = hs ≡ no_hazards
+AreHazardsOf ms k (Flawed flaw) hs = hs ≡ no_hazards
+
+-- and of a place: what is found of a batch's descriptor has none
+abbrev pub AreHazardsAt : List KnownMember → Place → FindingKind → Hazards → Type 0
+AreHazardsAt ms Head kind hs = hs ≡ no_hazards
+AreHazardsAt ms (Member k) kind hs = AreHazardsOf ms k kind hs
+
 -- the entry of a place: the descriptor of the submission, or a member
 abbrev pub entry_at : Submission → Place → ℕ
 entry_at s Head = head_at s
@@ -239,6 +261,7 @@ pub record Describes (es : List (List ℕ)) (s : Submission) (ms : List KnownMem
   pub head_owner : d.head_owner ≡ u32_at 0 (slice_index_or es (head_at s) [])
   pub cause : IsCause ms f.place f.kind d.cause
   pub records : d.records ≡ shared_records es s.first (entry_at s f.place) d.cause
+  pub hazards : AreHazardsAt ms f.place f.kind d.hazards
   pub overlap : d.overlap ≡ overlap_at ms f.place d.cause
   pub record_at : d.record_at ≡ cause_record es s.first (entry_at s f.place) d.cause
 

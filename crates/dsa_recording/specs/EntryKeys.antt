@@ -1,9 +1,8 @@
 -- What missing fences have in common, and the parts of all keys (this project's choice). A key has no address and no number
 -- of an entry, so findings of one kind in like batches have one key, in another run too.
-use Rattle.std.specs.Prelude.{ℕ, ◌+◌, ◌-◌, ◌==◌, nat_lt, List, [], ◌∷◌, ◌++◌, codes, decimal, length, slice_get, Option, Some, None, if◌then◌else◌}
+use Rattle.std.specs.Prelude.{ℕ, ◌+◌, ◌-◌, ◌==◌, nat_lt, Bool, List, [], ◌∷◌, ◌++◌, codes, decimal, length, slice_get, Option, Some, None, if◌then◌else◌}
 use Rattle.dsa_descriptor.specs.Places.{u32_at, code_at}
-use Rattle.dsa_ranges.specs.declared.hazards.HazardKind.{HazardKind}
-use Rattle.dsa_ranges.specs.declared.hazards.HazardKind.TheVariants.{ReadAfterWrite, WriteAfterRead, WriteAfterWrite}
+use Rattle.dsa_audit.specs.declared.hazard.Hazards.{Hazards}
 use Rattle.dsa_recording.specs.declared.stream.Submission.{Submission}
 use Rattle.dsa_recording.specs.EntryWords.{operation_words}
 use Rattle.dsa_recording.specs.Furthers.{code_name}
@@ -45,13 +44,21 @@ key_of_entry es s e =
     then (if nat_lt e s.first then batch_key s.size else batch_key s.size ++ member_key es s.first (e - s.first))
     else codes "; lone: " ++ entry_key (slice_get es e)
 
--- the kind of a hazard
-abbrev pub hazard_key : HazardKind → List ℕ
-hazard_key ReadAfterWrite = codes "missing fence, read after write"
-hazard_key WriteAfterRead = codes "missing fence, write after read"
-hazard_key WriteAfterWrite = codes "missing fence, write after write"
+-- a name, if it is asked for
+abbrev pub asked_name : Bool → List ℕ → List ℕ
+asked_name asked name = if asked then name else []
 
--- a missing fence before member `later` of a batch with these entries, which conflicts with the earlier one so
-abbrev pub fence_key : List (List ℕ) → ℕ → ℕ → HazardKind → List ℕ
-fence_key es earlier later kind =
-    hazard_key kind ++ (batch_key (length es) ++ (member_key es 0 later ++ member_key es 0 earlier))
+-- the names of hazards, each after a comma
+abbrev pub hazard_names : Hazards → List ℕ
+hazard_names hs =
+    asked_name hs.read_after_write (codes ", read after write")
+    ++ (asked_name hs.write_after_write (codes ", write after write") ++ asked_name hs.write_after_read (codes ", write after read"))
+
+-- a missing fence between members with these hazards
+abbrev pub fence_words : Hazards → List ℕ
+fence_words hs = codes "missing fence" ++ hazard_names hs
+
+-- the key of one before member `later` of a batch with these entries, which has these hazards with the earlier one
+abbrev pub fence_key : List (List ℕ) → ℕ → ℕ → Hazards → List ℕ
+fence_key es earlier later hs =
+    fence_words hs ++ (batch_key (length es) ++ (member_key es 0 later ++ member_key es 0 earlier))

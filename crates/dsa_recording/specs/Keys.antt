@@ -1,5 +1,6 @@
 -- What findings of one kind have in common (this project's choice).
 use Rattle.std.specs.Prelude.{ℕ, ◌+◌, ◌==◌, Bool, true, false, List, [], ◌∷◌, ◌++◌, codes, slice_get, if◌then◌else◌}
+use Rattle.dsa_audit.specs.declared.hazard.Hazards.{Hazards}
 use Rattle.dsa_recording.specs.declared.detail.Detail.{Detail}
 use Rattle.dsa_recording.specs.declared.detail.Cause.{Cause}
 use Rattle.dsa_recording.specs.declared.detail.Cause.TheVariants.{NotSeen, MissingFence, GuardingFence, SignallingFence, GuardingAndSignallingFence, NeedlessFence, Repeated, Flawed}
@@ -8,7 +9,7 @@ use Rattle.dsa_recording.specs.declared.findings.Flaw.TheVariants.{SharedRecord,
 use Rattle.dsa_recording.specs.declared.findings.Place.{Place}
 use Rattle.dsa_recording.specs.declared.findings.Place.TheVariants.{Head, Member}
 use Rattle.dsa_recording.specs.Details.{named_by}
-use Rattle.dsa_recording.specs.EntryKeys.{batch_key, entry_key, hazard_key, member_key}
+use Rattle.dsa_recording.specs.EntryKeys.{batch_key, entry_key, fence_words, member_key}
 use Rattle.dsa_recording.specs.Words.{unseen_words}
 
 -- what the finding is of, in a submission of so many members
@@ -30,16 +31,16 @@ flaw_key MisalignedRecord = codes "misaligned record"
 flaw_key (SmallBatch size) = codes "small batch"
 flaw_key FenceWithoutEffect = codes "fence without effect"
 
--- what is found
-abbrev pub cause_key : ℕ → Cause → List ℕ
-cause_key code (NotSeen why) = unseen_words why code
-cause_key code (MissingFence earlier hazard) = hazard_key hazard.kind
-cause_key code (GuardingFence earlier) = codes "guarding fence"
-cause_key code (SignallingFence awaited) = codes "signalling fence"
-cause_key code (GuardingAndSignallingFence earlier awaited) = codes "guarding and signalling fence"
-cause_key code NeedlessFence = codes "needless fence"
-cause_key code (Repeated earlier) = codes "repeated operation"
-cause_key code (Flawed flaw) = flaw_key flaw
+-- what is found; of a missing fence with these hazards
+abbrev pub cause_key : ℕ → Hazards → Cause → List ℕ
+cause_key code hs (NotSeen why) = unseen_words why code
+cause_key code hs (MissingFence earlier hazard) = fence_words hs
+cause_key code hs (GuardingFence earlier) = codes "guarding fence"
+cause_key code hs (SignallingFence awaited) = codes "signalling fence"
+cause_key code hs (GuardingAndSignallingFence earlier awaited) = codes "guarding and signalling fence"
+cause_key code hs NeedlessFence = codes "needless fence"
+cause_key code hs (Repeated earlier) = codes "repeated operation"
+cause_key code hs (Flawed flaw) = flaw_key flaw
 
 -- those of members
 abbrev pub others_key : List (List ℕ) → Detail → List ℕ → List ℕ
@@ -48,4 +49,4 @@ others_key es d (m ∷ ms) = other_key es d m ++ others_key es d ms
 
 -- the key of a finding in these entries
 abbrev pub key_words : List (List ℕ) → Detail → List ℕ
-key_words es d = cause_key d.code d.cause ++ (place_key es d d.is_batch d.place ++ others_key es d (named_by d.cause))
+key_words es d = cause_key d.code d.hazards d.cause ++ (place_key es d d.is_batch d.place ++ others_key es d (named_by d.cause))

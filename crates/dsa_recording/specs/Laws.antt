@@ -4,9 +4,9 @@ use Rattle.dsa_descriptor.specs.declared.descriptor.Descriptor.{Descriptor}
 use Rattle.dsa_descriptor.specs.Descriptors.{fields}
 use Rattle.dsa_descriptor.specs.Lists.{AgreeOnOwner}
 use Rattle.dsa_descriptor.specs.Spelling.{spelling}
-use Rattle.dsa_ranges.specs.declared.hazards.Hazard.{Hazard}
+use Rattle.dsa_audit.specs.declared.hazard.Hazards.{Hazards}
 use Rattle.dsa_ranges.specs.declared.span.Touched.{Touched}
-use Rattle.dsa_audit.specs.Members.{IsHazardBetween}
+use Rattle.dsa_audit.specs.Members.{AreHazardsBetween}
 use Rattle.dsa_ranges.specs.Ranges.{read_spans, written_spans}
 use Rattle.dsa_audit.specs.declared.member.Member.{Member}
 use Rattle.dsa_audit.specs.declared.member.Member.TheVariants.{Known}
@@ -50,4 +50,4 @@ abbrev pub FenceKeysAgree : Type 0
 FenceKeysAgree =
     (es : List (List ℕ)) (s : Submission) (ms : List Member) (f : Finding) (d : Detail) (earlier later : ℕ) →
     s.is_batch ≡ true → IsWithin es s → f.place ≡ Of later → f.kind ≡ MissingFence earlier → HasEntry es s ms f → Describes es s ms f d →
-    (h : Hazard) × IsHazardBetween ms earlier later h × (key_words es d ≡ fence_key (members_in es s) earlier later h.kind)
+    (hs : Hazards) × AreHazardsBetween ms earlier later hs × (key_words es d ≡ fence_key (members_in es s) earlier later hs)

@@ -2,8 +2,8 @@
 use Rattle.std.specs.Prelude.{ℕ, ◌≡◌, ◌<◌, Bool, true, List, length}
 use Rattle.std.specs.BTreeSet.{contains_text}
 use Rattle.dsa_audit.specs.declared.member.Member.{Member}
-use Rattle.dsa_audit.specs.Members.{IsHazardBetween}
-use Rattle.dsa_ranges.specs.declared.hazards.Hazard.{Hazard}
+use Rattle.dsa_audit.specs.declared.hazard.Hazards.{Hazards}
+use Rattle.dsa_audit.specs.Members.{AreHazardsBetween, KnownConflict}
 use Rattle.dsa_recording.specs.declared.accepted.Accepted.{Accepted}
 use Rattle.dsa_recording.specs.declared.assumptions.Assumptions.{Assumptions}
 use Rattle.dsa_recording.specs.EntryKeys.{fence_key}
@@ -12,11 +12,12 @@ use Rattle.dsa_recording.specs.EntryKeys.{fence_key}
 abbrev pub has_key : Accepted → List ℕ → Bool
 has_key accepted key = contains_text accepted.keys key
 
--- of members with these entries and data, two conflict so that the key of a missing fence between them is accepted
+-- of members with these entries and data, two conflict, and the key of a missing fence between them, with all their hazards,
+-- is accepted
 abbrev pub IsListedPair : Accepted → List (List ℕ) → List Member → ℕ → ℕ → Type 0
 IsListedPair accepted es ms earlier later =
-    (earlier < later) × (later < length ms) × ((h : Hazard) × IsHazardBetween ms earlier later h
-    × (has_key accepted (fence_key es earlier later h.kind) ≡ true))
+    (earlier < later) × (later < length ms) × KnownConflict ms earlier later
+    × ((hs : Hazards) × AreHazardsBetween ms earlier later hs × (has_key accepted (fence_key es earlier later hs) ≡ true))
 
 -- what an audit rests on beside the recording: what is assumed of the software, and which keys are accepted
 pub record Terms : Type 0 where

@@ -5,7 +5,7 @@ ghost use Rattle.std.specs.List.{AllByRecursion};
 ghost use Rattle.dsa_audit.specs.declared.member.Member.{Member};
 ghost use Rattle.dsa_recording.specs.declared.findings.Place.TheVariants as Place;
 ghost use Rattle.dsa_recording.specs.Reports.{reported_by};
-ghost use Rattle.dsa_recording.specs.Details.{any_meets, cause_record, finding_at, flaw_record, is_in_record, meets_record, named_by, overlap_of, shared_at, shared_records, touches_record, IsBehind, IsFlawAt, IsOfHead, IsOfMember, IsHeadCause, IsMemberCause, HasEntry, Describes, IsPlaced, IsDetail, IsRight};
+ghost use Rattle.dsa_recording.specs.Details.{AreHazardsOf, any_meets, cause_record, finding_at, flaw_record, is_in_record, meets_record, named_by, no_hazards, overlap_of, shared_at, shared_records, touches_record, IsBehind, IsFlawAt, IsOfHead, IsOfMember, IsHeadCause, IsMemberCause, HasEntry, Describes, IsPlaced, IsDetail, IsRight};
 
 use crate::entry::Header;
 use crate::findings::{Finding, FindingKind, Flaw, Place};
@@ -16,7 +16,7 @@ use crate::stream::Submission;
 use crate::submission::{Audited, head_at};
 use arrayvec::ArrayVec;
 use bitflags::Flags;
-use dsa_audit::{FencePlace, Member, Unseen, hazard_between};
+use dsa_audit::{FencePlace, Hazards, Member, Unseen, hazard_between, hazards_between};
 use dsa_descriptor::{FlagWord, Span};
 use dsa_ranges::Hazard;
 
@@ -75,6 +75,8 @@ pub struct Detail {
     pub cause: Cause,
     /// Of a missing fence, whose completion record has the address; else none has.
     pub records: Records,
+    /// Of a missing fence, all hazards between the two members; else none.
+    pub hazards: Hazards,
     /// Of a missing fence, how many bytes conflict from the address on; else 0.
     pub overlap: u64,
     /// Of a flaw that is about a completion record, the address of that; else 0.
@@ -316,6 +318,33 @@ fn cause_record(all: &[[u8; 64]], first: usize, at: usize, cause: Cause) -> u64
     }
 }
 
+/// None.
+fn no_hazards() -> Hazards
+    ensures { result ≡ no_hazards }
+{
+    Hazards {
+        read_after_write: false,
+        write_after_write: false,
+        write_after_read: false,
+    }
+}
+
+/// Of a fence that is missing before the member, all hazards with the earlier one.
+fn hazards_of(operands: &[Member], member: usize, kind: FindingKind) -> Hazards
+    ensures { AreHazardsOf operands.now member kind result }
+{
+    match kind {
+        FindingKind::MissingFence(earlier) => hazards_between(operands, earlier, member),
+        FindingKind::NotSeen(_)
+        | FindingKind::GuardingFence(_)
+        | FindingKind::SignallingFence(_)
+        | FindingKind::GuardingAndSignallingFence(_, _)
+        | FindingKind::NeedlessFence
+        | FindingKind::Repeated(_)
+        | FindingKind::Flawed(_) => no_hazards(),
+    }
+}
+
 /// Of a missing fence before the member, how many bytes conflict from the address on.
 fn overlap_of(operands: &[Member], member: usize, cause: Cause) -> u64
     ensures { result ≡ overlap_of operands.now member cause }
@@ -371,6 +400,7 @@ fn head_detail(
             earlier: false,
             later: false,
         },
+        hazards: no_hazards(),
         overlap: 0,
         record_at: cause_record(all, submission.first, entry, cause),
     })
@@ -412,6 +442,7 @@ fn member_detail(
         head_owner: Header::of(&all[head]).owner,
         cause,
         records: shared_records(all, submission.first, entry, cause),
+        hazards: hazards_of(operands, member, kind),
         overlap: overlap_of(operands, member, cause),
         record_at: cause_record(all, submission.first, entry, cause),
     })

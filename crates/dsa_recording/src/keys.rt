@@ -3,7 +3,7 @@
 ghost use Rattle.std.specs.Prelude.{◌≡◌, ◌++◌, IfOk, OnOk, codes, slice_get, string_bytes};
 ghost use Rattle.dsa_recording.specs.Details.{named_by};
 ghost use Rattle.dsa_recording.specs.Furthers.{code_name};
-ghost use Rattle.dsa_recording.specs.EntryKeys.{batch_key, entry_key, fence_key, hazard_key, key_of_entry, member_key, name_or_code, operation_name};
+ghost use Rattle.dsa_recording.specs.EntryKeys.{asked_name, batch_key, entry_key, fence_key, fence_words, hazard_names, key_of_entry, member_key, name_or_code, operation_name};
 ghost use Rattle.dsa_recording.specs.Keys.{cause_key, flaw_key, key_words, other_key, others_key, place_key};
 
 use crate::detail::{Cause, Detail, named_by};
@@ -13,7 +13,7 @@ use crate::findings::{Flaw, Place};
 use crate::further::code_name;
 use crate::stream::Submission;
 use crate::words::unseen_text;
-use dsa_ranges::HazardKind;
+use dsa_audit::Hazards;
 use std::alloc::{AllocError, Global};
 
 /// The name of an operation that no plan has, or its code if it has none.
@@ -167,29 +167,43 @@ fn push_others(
     Ok(())
 }
 
-/// A missing fence, by the kind of its hazard.
-fn hazard_key(kind: HazardKind) -> &'static str
-    ensures { result.now ≡ hazard_key kind }
+/// A name, if it is asked for.
+fn asked_name(asked: bool, name: &'static str) -> &'static str
+    ensures { result.now ≡ asked_name asked name.now }
 {
-    match kind {
-        HazardKind::ReadAfterWrite => "missing fence, read after write",
-        HazardKind::WriteAfterRead => "missing fence, write after read",
-        HazardKind::WriteAfterWrite => "missing fence, write after write",
-    }
+    if asked { name } else { "" }
 }
 
-/// The key of a missing fence before member `later` of a batch with these entries, which conflicts so with the earlier
-/// one.
+/// The names of hazards, each after a comma.
+pub fn hazard_names(alloc: Global, hazards: Hazards) -> Result<String, AllocError>
+    ensures { IfOk result (λ s. string_bytes s ≡ hazard_names hazards) }
+{
+    let first = asked_name(hazards.read_after_write, ", read after write");
+    let second = asked_name(hazards.write_after_write, ", write after write");
+    let third = asked_name(hazards.write_after_read, ", write after read");
+    format!(in alloc; "{first}{second}{third}")
+}
+
+/// A missing fence between members with these hazards.
+fn fence_words(alloc: Global, hazards: Hazards) -> Result<String, AllocError>
+    ensures { IfOk result (λ s. string_bytes s ≡ fence_words hazards) }
+{
+    let names = hazard_names(alloc, hazards)?;
+    format!(in alloc; "missing fence{names}")
+}
+
+/// The key of a missing fence before member `later` of a batch with these entries, which has these hazards with the
+/// earlier one.
 pub fn fence_key(
     alloc: Global,
     entries: &[[u8; 64]],
     earlier: usize,
     later: usize,
-    kind: HazardKind,
+    hazards: Hazards,
 ) -> Result<String, AllocError>
-    ensures { IfOk result (λ s. string_bytes s ≡ fence_key entries.now earlier later kind) }
+    ensures { IfOk result (λ s. string_bytes s ≡ fence_key entries.now earlier later hazards) }
 {
-    let mut text = String::from_str(alloc, hazard_key(kind))?;
+    let mut text = fence_words(alloc, hazards)?;
     text.push_str(&batch_key(alloc, entries.len())?)?;
     text.push_str(&member_key(alloc, entries, 0, later)?)?;
     text.push_str(&member_key(alloc, entries, 0, earlier)?)?;
@@ -202,9 +216,9 @@ pub(crate) fn fence_keys_begin(
     alloc: Global,
     entries: &[[u8; 64]],
     later: usize,
-    kind: HazardKind,
+    hazards: Hazards,
 ) -> Result<String, AllocError> {
-    let mut text = String::from_str(alloc, hazard_key(kind))?;
+    let mut text = fence_words(alloc, hazards)?;
     text.push_str(&batch_key(alloc, entries.len())?)?;
     text.push_str(&member_key(alloc, entries, 0, later)?)?;
     text.push_str("; member ")?;
@@ -225,13 +239,13 @@ fn flaw_key(flaw: Flaw) -> &'static str
     }
 }
 
-/// What is found.
-fn cause_key(alloc: Global, code: u8, cause: Cause) -> Result<String, AllocError>
-    ensures { IfOk result (λ s. string_bytes s ≡ cause_key code cause) }
+/// What is found; of a missing fence with these hazards.
+fn cause_key(alloc: Global, code: u8, hazards: Hazards, cause: Cause) -> Result<String, AllocError>
+    ensures { IfOk result (λ s. string_bytes s ≡ cause_key code hazards cause) }
 {
     match cause {
         Cause::NotSeen(why) => unseen_text(alloc, why, code),
-        Cause::MissingFence(_, hazard) => String::from_str(alloc, hazard_key(hazard.kind)),
+        Cause::MissingFence(_, _) => fence_words(alloc, hazards),
         Cause::GuardingFence(_) => String::from_str(alloc, "guarding fence"),
         Cause::SignallingFence(_) => String::from_str(alloc, "signalling fence"),
         Cause::GuardingAndSignallingFence(_, _) => {
@@ -248,7 +262,7 @@ fn cause_key(alloc: Global, code: u8, cause: Cause) -> Result<String, AllocError
 pub fn key_text(alloc: Global, all: &[[u8; 64]], detail: &Detail) -> Result<String, AllocError>
     ensures { IfOk result (λ s. string_bytes s ≡ key_words all.now detail.now) }
 {
-    let mut text = cause_key(alloc, detail.code, detail.cause)?;
+    let mut text = cause_key(alloc, detail.code, detail.hazards, detail.cause)?;
     push_place(alloc, &mut text, all, detail)?;
     push_others(alloc, &mut text, all, detail)?;
     Ok(text)

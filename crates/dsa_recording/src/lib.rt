@@ -57,7 +57,7 @@ pub use forms::{Form, Part, bytes_of_text, first_part, form_of, is_passed, is_te
 pub use freed::Freed;
 pub use further::{Further, further_at};
 pub use input::{audit, one_recording};
-pub use keys::{fence_key, key_of_entry, key_text};
+pub use keys::{fence_key, hazard_names, key_of_entry, key_text};
 pub use laws::{fence_keys_agree, findings_are_placed, listed_are_known, statuses_join};
 pub use listing::{listing_is_read, stand_ins_conflict};
 pub use member::{member_of, operands_member, record_member, status_member, unseen_reason};

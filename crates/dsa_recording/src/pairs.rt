@@ -4,8 +4,7 @@ ghost use Rattle.dsa_recording.specs.Pairs.{IsListedPair};
 
 use crate::accepted::Accepted;
 use crate::keys::{fence_key, fence_keys_begin};
-use dsa_audit::{Acceptance, Member, hazard_between};
-use dsa_ranges::HazardKind;
+use dsa_audit::{Acceptance, Hazards, Member, are_known_to_conflict, hazards_between};
 use std::alloc::{AllocError, Global};
 
 /// The members of a batch, and the keys of missing fences that are accepted.
@@ -19,12 +18,14 @@ pub(crate) struct AcceptedPairs<'a> {
     pub operands: &'a [Member],
 }
 
-/// The kinds of hazards.
-const KINDS: [HazardKind; 3] = [
-    HazardKind::ReadAfterWrite,
-    HazardKind::WriteAfterRead,
-    HazardKind::WriteAfterWrite,
-];
+/// The hazards of this number: a bit for each.
+fn hazards_by(number: u8) -> Hazards {
+    Hazards {
+        read_after_write: number & 1 != 0,
+        write_after_write: number & 2 != 0,
+        write_after_read: number & 4 != 0,
+    }
+}
 
 /// The number at the start of a text, up to a colon.
 fn number_before(text: &str) -> Option<usize> {
@@ -58,17 +59,18 @@ impl<'a> Acceptance for AcceptedPairs<'a> {
         if later >= self.operands.len() {
             return Ok(false);
         }
-        let Some(hazard) = hazard_between(self.operands, earlier, later) else {
+        if !are_known_to_conflict(&self.operands[earlier], &self.operands[later]) {
             return Ok(false);
-        };
-        let key = fence_key(alloc, self.entries, earlier, later, hazard.kind)?;
+        }
+        let hazards = hazards_between(self.operands, earlier, later);
+        let key = fence_key(alloc, self.entries, earlier, later, hazards)?;
         Ok(self.accepted.has(&key))
     }
 
     fn listed_with(&self, alloc: Global, later: usize) -> Result<Vec<usize>, AllocError> {
         let mut earlier = Vec::new(alloc);
-        for kind in KINDS {
-            let begin = fence_keys_begin(alloc, self.entries, later, kind)?;
+        for number in 1..8 {
+            let begin = fence_keys_begin(alloc, self.entries, later, hazards_by(number))?;
             self.push_earlier(&mut earlier, begin)?;
         }
         Ok(earlier)

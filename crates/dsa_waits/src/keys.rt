@@ -2,13 +2,12 @@
 
 ghost use Rattle.std.specs.Prelude.{◌≡◌, ◌↔◌, ◌<◌, ℕ, IfOk, IsTrue, List, MatchOption, None, get_or, length, string_bytes};
 ghost use Rattle.dsa_waits.specs.Recorded.{submission_at};
-ghost use Rattle.dsa_waits.specs.Keys.{IsWaitAccepted, IsWaitKey, hazard_key, wait_key};
+ghost use Rattle.dsa_waits.specs.Keys.{IsWaitAccepted, IsWaitKey, wait_key};
 
 use crate::course::{Course, entry_at};
 use crate::fitting::Found;
-use dsa_audit::hazard_between;
-use dsa_ranges::HazardKind;
-use dsa_recording::{Accepted, Submission, key_of_entry};
+use dsa_audit::{Hazards, are_known_to_conflict, hazards_between};
+use dsa_recording::{Accepted, Submission, hazard_names, key_of_entry};
 use std::alloc::{AllocError, Global};
 
 /// What the keys of waits rest on, and which of them are accepted.
@@ -38,18 +37,8 @@ fn submission_at(submissions: &[Submission], n: usize) -> Submission
     }
 }
 
-/// A missing wait, by the kind of its hazard.
-fn hazard_key(kind: HazardKind) -> &'static str
-    ensures { result.now ≡ hazard_key kind }
-{
-    match kind {
-        HazardKind::ReadAfterWrite => "missing wait, read after write",
-        HazardKind::WriteAfterRead => "missing wait, write after read",
-        HazardKind::WriteAfterWrite => "missing wait, write after write",
-    }
-}
-
-/// The key of a missing wait of an entry of submission `second` for an earlier one of submission `first`.
+/// The key of a missing wait of an entry of submission `second` for an earlier one of submission `first`, which have
+/// these hazards.
 fn wait_key(
     alloc: Global,
     all: &[[u8; 64]],
@@ -57,12 +46,13 @@ fn wait_key(
     second: Submission,
     earlier: usize,
     later: usize,
-    kind: HazardKind,
+    hazards: Hazards,
 ) -> Result<String, AllocError>
     ensures { IfOk result (λ s. string_bytes s ≡
-        wait_key all.now first second earlier later kind) }
+        wait_key all.now first second earlier later hazards) }
 {
-    let mut text = String::from_str(alloc, hazard_key(kind))?;
+    let mut text = String::from_str(alloc, "missing wait")?;
+    text.push_str(&hazard_names(alloc, hazards)?)?;
     text.push_str(&key_of_entry(alloc, all, second, later)?)?;
     text.push_str(&key_of_entry(alloc, all, first, earlier)?)?;
     Ok(text)
@@ -84,12 +74,13 @@ pub(crate) fn key_of_wait(
     if earlier >= later || later >= course.members.len() {
         return Ok(None);
     }
-    let Some(hazard) = hazard_between(&course.members, earlier, later) else {
+    if !are_known_to_conflict(&course.members[earlier], &course.members[later]) {
         return Ok(None);
-    };
+    }
+    let hazards = hazards_between(&course.members, earlier, later);
     let first = submission_at(submissions, entry_at(course, earlier).submission);
     let second = submission_at(submissions, entry_at(course, later).submission);
-    let key = wait_key(alloc, all, first, second, earlier, later, hazard.kind)?;
+    let key = wait_key(alloc, all, first, second, earlier, later, hazards)?;
     Ok(Some(key))
 }
 

@@ -78,13 +78,15 @@ uint32_t dsa_planner_version(void);
 /* The most pieces of a planned list. An operation longer than greatest_transfer is several pieces. */
 #define DSA_MOST_PIECES 65536u
 
-/* Bytes that are always enough for portal and staging of n pieces. */
+/* For n pieces: the bytes that are always enough for portal and staging, and those to reserve at settings.staging. */
 #ifdef __cplusplus
 #define DSA_PORTAL_ROOM(n) (sizeof(uint8_t[64]) * static_cast<size_t>(n))
 #define DSA_STAGING_ROOM(n) (sizeof(uint8_t[80]) * static_cast<size_t>(n))
+#define DSA_STAGING_AREA(n) (sizeof(uint8_t[96]) * static_cast<size_t>(n))
 #else
 #define DSA_PORTAL_ROOM(n) ((size_t)64 * (size_t)(n))
 #define DSA_STAGING_ROOM(n) ((size_t)80 * (size_t)(n))
+#define DSA_STAGING_AREA(n) ((size_t)96 * (size_t)(n))
 #endif
 
 /*

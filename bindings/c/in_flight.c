@@ -32,7 +32,7 @@ enum { SPANS = 4, LOG2_ROWS = 10, LOG2_PAGE = 12, WORDS = DSA_TRACKER_WORDS(PLAC
 /* What a request has of memory while it is in flight. */
 struct place {
     uint8_t data[PAGE], undo[PAGE];
-    _Alignas(64) uint8_t staging[96 * MOVES];
+    _Alignas(64) uint8_t staging[DSA_STAGING_AREA(MOVES)];
     _Alignas(64) uint8_t records[32 * MOVES];
 };
 

@@ -12,7 +12,7 @@ enum { SLOTS = 3, SIZE = 4096, PIECES = 2 };
 struct slot {
     uint8_t in[SIZE], copy[SIZE], out[SIZE];
     _Alignas(32) uint8_t records[32 * PIECES];
-    _Alignas(64) uint8_t staging[96 * PIECES];
+    _Alignas(64) uint8_t staging[DSA_STAGING_AREA(PIECES)];
 };
 
 static struct slot ring[SLOTS];

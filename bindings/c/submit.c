@@ -115,8 +115,8 @@ int main(int argc, char **argv)
     /* a, b and c hold data; b is copied from a and c from b, so the second move waits for the first */
     uint8_t *a = aligned_alloc(4096, BYTES), *b = aligned_alloc(4096, BYTES), *c = aligned_alloc(4096, BYTES);
     uint8_t *records = aligned_alloc(64, 64), list[128], portal[128];
-    /* the staging area is 96 bytes for each piece, at a multiple of 64, and the device writes the batch's record there */
-    uint8_t *staging = aligned_alloc(64, 192);
+    /* the staging area is at a multiple of 64, and the device writes the batch's record there */
+    uint8_t *staging = aligned_alloc(64, DSA_STAGING_AREA(2));
     if (!a || !b || !c || !records || !staging)
         return 1;
     memset(a, 0x5a, BYTES);
@@ -135,8 +135,8 @@ int main(int argc, char **argv)
     };
     struct dsa_planned planned;
     struct dsa_refusal refusal;
-    uint32_t code = dsa_plan_list(&settings, &settings.batch, 0, list, sizeof list, portal, sizeof portal, staging, 192,
-                                  &planned, &refusal);
+    uint32_t code = dsa_plan_list(&settings, &settings.batch, 0, list, sizeof list, portal, sizeof portal, staging,
+                                  DSA_STAGING_ROOM(2), &planned, &refusal);
     if (code != DSA_OK) {
         char text[DSA_REFUSAL_TEXT_ROOM];
         fprintf(stderr, "refused %" PRIu32 ": %.*s\n", code, (int)dsa_refusal_text(&refusal, text, sizeof text), text);

@@ -22,7 +22,7 @@ enum { VALUES = 7, VALUE = 6000, HEADER = 64, OPERATIONS = VALUES + 5, LIST = 64
 
 static uint8_t values[VALUES][VALUE], header[HEADER], journal[VALUES][VALUE], journal_header[HEADER];
 static uint8_t checksums[2][8], head[8], valid_head[8], flag[8];
-static _Alignas(64) uint8_t records[OPERATIONS][32], staging[96 * OPERATIONS];
+static _Alignas(64) uint8_t records[OPERATIONS][32], staging[DSA_STAGING_AREA(OPERATIONS)];
 static const struct dsa_settings settings = {
     .version = 1, .greatest_batch = 32, .greatest_transfer = 1 << 21, .lone = 10, .batch = 14, .fence = 3};
 

@@ -19,7 +19,7 @@
 enum { VALUE = 4096, HEADER = 64, CHECKSUM = 56, OPERATIONS = 4 };
 
 static uint8_t value[VALUE], header[HEADER], journal[HEADER + VALUE], checksum[8], head[8], published[8];
-static _Alignas(64) uint8_t records[32 * OPERATIONS], staging[96 * OPERATIONS];
+static _Alignas(64) uint8_t records[32 * OPERATIONS], staging[DSA_STAGING_AREA(OPERATIONS)];
 
 static uint64_t at(const void *memory) { return (uintptr_t)memory; }
 

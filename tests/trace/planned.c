@@ -110,7 +110,7 @@ static long difference(const struct list_case *c, const uint8_t *portal, uint64_
 
 static void try_case(void *page, const struct list_case *c)
 {
-    uint8_t portal[64 * MOST], planned_staging[96 * MOST];
+    uint8_t portal[64 * MOST], planned_staging[DSA_STAGING_AREA(MOST)];
     struct dsa_planned planned;
     struct dsa_refusal refusal;
     long differs = -1;

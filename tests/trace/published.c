@@ -13,7 +13,7 @@ enum { PAGE = 4096, PAGES = 6, PUBLIC = 4, MOVES = 4, MOST = MOVES + 1 + PUBLIC 
 /* The device's memory: pages that are moved about, two that differ, and those that are published. */
 struct world {
     uint8_t pages[PAGES][PAGE], unequal[2][PAGE], public[PUBLIC][PAGE];
-    _Alignas(64) uint8_t staging[96 * MOST];
+    _Alignas(64) uint8_t staging[DSA_STAGING_AREA(MOST)];
     _Alignas(64) uint8_t records[32 * MOST];
 };
 

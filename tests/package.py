@@ -237,6 +237,19 @@ def pages():
         expect(is_plain, f"{page} has marks of Markdown")
 
 
+def documents():
+    """What the installed pages for users name is installed, and the audit with events runs from their folder as it is shown."""
+    docs = Path(PREFIX, "share/doc/dsa-planner")
+    for page in ("USING", "FORMATS", "PRICES", "SPEED", "TRACE"):
+        text = Path(docs, f"{page}.md").read_text().replace("trace/README.md", "TRACE.md").replace("docs/", "")
+        for name in set(re.findall(r"\b(?:[A-Z]{3,}\.md|examples/\w[\w/.]*\w)", text)):
+            expect(Path(docs, name).exists(), f"{page}.md names {name}, which is not installed")
+    command, *shown = block_after("docs/USING.md", "Two queues, and no wait between").splitlines()
+    words = [Path(docs, it) if "/" in it else it for it in command.partition("|")[0].split()[2:]]
+    end = ran(f"{PREFIX}/bin/dsa_text", *words)
+    expect(end.returncode == 1 and "\n".join(shown) in end.stdout, f"the audit with events prints {end.stdout}")
+
+
 def completion():
     """How bash completes the beginning of a line."""
     script = f"{PREFIX}/share/bash-completion/completions/dsa_text"
@@ -534,7 +547,7 @@ def threads():
         tried(f"threads {kind}", "./threads", os.environ.get("LISTS", "100"), 8, 20261124)
 
 
-PARTS = [version, reproduced, unproved, installed, debian, symbols, pages, completion, device, said]
+PARTS = [version, reproduced, unproved, installed, debian, symbols, pages, documents, completion, device, said]
 PARTS += [c, cmake, rust, python, sentences, readme, threads]
 
 

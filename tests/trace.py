@@ -112,6 +112,7 @@ def seeds():
     told("words with blanks and quotes", ran("sh", "-c", end.stderr.splitlines()[-1]), 3)
     words = ["-O2", "-mmovdir64b", "-o", client("copy_twice"), "examples/trace/copy_twice.c"]
     told("the example", ran("gcc", *STRICT, *words), 0)
+    told("the example without a device", ran(client("copy_twice")), 1, "/dev/dsa/wq0.0: No such file or directory")
     told("many seeds of the example", traced("--seeds", 40, "--", client("copy_twice")), 1, 'c is ""', "the same again")
     end = traced("--seeds", 2, "--no-namespace", "--", client("ordered"), "fenced")
     told("two seeds without a namespace", end, 0, "2 runs, all with status 0")

@@ -207,9 +207,10 @@ def tree(root, places, records):
     write(docs / "PROVED", proved(records))
     shutil.copy(HERE / "dsa_trace.bash", root / "share/bash-completion/completions/dsa_trace")
     schemas = [f"{name}.schema.json" for name in ("jobs", "explain", "audit")]
-    for page in ("USING.md", "FORMATS.md", "PRICES.md", *schemas):
+    for page in ("USING.md", "FORMATS.md", "PRICES.md", "SPEED.md", "PROOF.md", *schemas):
         shutil.copy(ROOT / f"docs/{page}", docs)
-    shutil.copy(ROOT / "CHANGELOG.md", docs)
+    for page in ("README.md", "CHANGELOG.md"):
+        shutil.copy(ROOT / page, docs)
     shutil.copy(ROOT / "trace/README.md", docs / "TRACE.md")
     examples(docs / "examples")
     crate = root / "share/dsa-planner/rust"
@@ -243,10 +244,11 @@ def examples(to):
     for names in ("*.job", "trace/*.c", "barrier/*.c"):
         for path in (ROOT / "examples").glob(names):
             shutil.copy(path, to)
-    for folder, names in (("text", "*.txt"), ("barrier", "*.txt"), ("audit", "*.xxd")):
+    for folder, endings in (("text", ["txt"]), ("barrier", ["txt", "svg"]), ("audit", ["xxd", "events"])):
         (to / folder).mkdir()
-        for path in (ROOT / "examples" / folder).glob(names):
-            shutil.copy(path, to / folder)
+        for path in (ROOT / "examples" / folder).iterdir():
+            if path.suffix[1:] in endings:
+                shutil.copy(path, to / folder)
     for path in (ROOT / "tests/package").glob("rows.*"):
         shutil.copy(path, to)
     write(to / "rows.txt", rows.rows(ROOT / "tests/jobs"))

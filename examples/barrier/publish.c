@@ -54,7 +54,8 @@ static void submit(void *page, const uint8_t *portal, uint64_t len)
 int main(int argc, char **argv)
 {
     const int is_right = argc == 2 && strcmp(argv[1], "right") == 0;
-    void *page = mmap(NULL, 4096, PROT_WRITE, MAP_SHARED, open("/dev/dsa/wq0.0", O_RDWR), 0);
+    const int queue = open("/dev/dsa/wq0.0", O_RDWR);
+    void *page = queue < 0 ? MAP_FAILED : mmap(NULL, 4096, PROT_WRITE, MAP_SHARED, queue, 0);
     if (page == MAP_FAILED)
         return perror("/dev/dsa/wq0.0"), 2;
     memset(header, 0x5a, sizeof header);

@@ -19,7 +19,8 @@ static _Alignas(64) struct dsa_hw_desc list[2];
 
 int main(void)
 {
-    void *portal = mmap(NULL, 4096, PROT_WRITE, MAP_SHARED, open("/dev/dsa/wq0.0", O_RDWR), 0);
+    const int queue = open("/dev/dsa/wq0.0", O_RDWR);
+    void *portal = queue < 0 ? MAP_FAILED : mmap(NULL, 4096, PROT_WRITE, MAP_SHARED, queue, 0);
     if (portal == MAP_FAILED)
         return perror("/dev/dsa/wq0.0"), 1;
     list[0] = (struct dsa_hw_desc){

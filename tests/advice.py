@@ -237,7 +237,7 @@ def words():
         ("--await signals,batches", "error: --await takes writes, signals or batches\n"),
         (
             "--deny missing",
-            "error: --deny takes needless, guarding, signalling, unseen and waits, with commas between\n",
+            "error: --deny takes needless, guarding, signalling, unseen, waits and stale, with commas between\n",
         ),
     ]:
         ran = audit(CASES["plain"][0], options)

@@ -16,7 +16,8 @@ import time
 import audit_model
 import common
 from audit_accepted import (
-    accepting, by_hand, costs_by_hand, hazards_by_hand, padded_accepting, soon_accepted, till_none_is_left,
+    accepting, by_hand, costs_by_hand, hazards_by_hand, padded_accepting, soon_accepted, stale_by_hand,
+    till_none_is_left,
 )
 from audit_drawn import alike, counted, known_beside_unknown, no_effect, pictures, sizes, soon_drawn, too_large
 from audit_entries import (
@@ -241,7 +242,8 @@ def main(words):
     if numbers:
         audit_model.COUNT = numbers[-1]
     parts = [brute_force, padded, accepting, till_none_is_left, padded_accepting, by_hand, costs_by_hand]
-    parts += [hazards_by_hand, soon_accepted, pictures, sizes, no_effect, known_beside_unknown, alike, too_large]
+    parts += [hazards_by_hand, stale_by_hand, soon_accepted, pictures, sizes, no_effect, known_beside_unknown, alike]
+    parts += [too_large]
     parts += [planned, staged, lines, lists, unseen]
     parts += [ends, in_parts, small_memory, forms, speed, soon_drawn]
     for part in named(parts, [it for it in words if not it.isdigit()]):

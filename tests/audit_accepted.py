@@ -2,6 +2,7 @@
 accepted, are judged by a model of the definition (docs/FORMATS.md) that tries every set of fences; and recordings made
 by hand."""
 
+import json
 import random
 import subprocess
 import tempfile
@@ -15,6 +16,11 @@ from audit_model import Batch, Maker, all_separated, audited, fewest, separated,
 from common import move, program
 from findings import key_of
 from model import COMPARE
+
+
+# Two keys that fit nothing, and two lines that are no keys.
+UNFIT = ("missing fence, read after write; batch of 9999; member 1: move, 8 bytes; member 0: move, 8 bytes",)
+UNFIT += ("of last week", "# a comment", "")
 
 
 def with_keys(recording, keys, *words):
@@ -111,17 +117,19 @@ def drawn_keys(chosen, recording):
 
 def accepting():
     """Random recordings with random pairs accepted; and with all errors accepted, one after another, none is left."""
-    sums = {"accepted": 0, "missing": 0}
+    sums = {"accepted": 0, "missing": 0, "stale": 0}
     for seed in range(audit_model.COUNT // 2):
         chosen, recording = random.Random(seed), Maker(seed).recording()
         if first_foreign(recording):
             continue
         assumed = chosen.choice([("writes", False), ("signals", True), ("batches", True)])
         words = ["--await", assumed[0]] + ["--resident"] * assumed[1]
-        keys = drawn_keys(chosen, recording)
+        keys = [*drawn_keys(chosen, recording), *UNFIT]
+        chosen.shuffle(keys)
         report, status = with_keys(recording, keys, *words)
         errors = any(it["severity"] == "error" for it in report["findings"])
         common.expect(status == int(errors), f"seed {seed}: status {status}")
+        used = {key for key in written_keys(recording) if not key.startswith("missing fence")}
         found = {}
         for finding in report["findings"]:
             found.setdefault(finding["submission"], []).append(finding)
@@ -129,8 +137,14 @@ def accepting():
             judged = Accepting(it, keys, found.get(it.number, []), assumed)
             for fault in judged.accepting_faults():
                 common.expect(False, f"seed {seed} {' '.join(words)}, submission {it.number}: {fault}")
+            used |= {judged.key(pair) for pair in judged.accepted}
             sums["accepted"] += len(judged.accepted)
             sums["missing"] += len(judged.found["missing"])
+        stale = [key for key in keys if key[:1].islower() and key not in used]
+        common.expect(report["stale"] == stale, f"seed {seed}: stale are {report['stale']}, and not {stale}")
+        sums["stale"] += len(stale) - 2
+        denied = with_keys(recording, keys, *words, "--deny", "stale")[1]
+        common.expect(denied == 1, f"seed {seed}: status {denied} with stale keys that are denied")
     print("accepting: " + ", ".join(f"{number} {name}" for name, number in sums.items()))
     common.expect(sums["accepted"] > audit_model.COUNT // 10, f"too few pairs are accepted: {sums}")
 
@@ -219,6 +233,44 @@ def hazards_by_hand():
         report, status = with_keys(batch(first, move(0x2000, target, size=8, record_at=0x8020).bytes()), keys)
         severity = [it["severity"] for it in report["findings"]]
         common.expect((status, severity) == (wanted, [("accepted", "error")[wanted]]), f"{target:#x}, {keys}: {report}")
+
+
+def stale_by_hand():
+    """A key that takes a pair out is not stale, though no finding shows it: member 2 reads what both others write, and
+    its conflict with member 1 alone is named. Several files are judged together."""
+    first, second = move(0x1000, 0x2000, size=64, record_at=0x8000), move(0x3000, 0x4000, size=8, record_at=0x8020)
+    recording = batch(first.bytes(), second.bytes(), entry(COMPARE, 0x0E, 0x8040, 0x2000, 0x4000, 8))
+    key = "missing fence, read after write; batch of 3; member 2: compare, 8 bytes; member "
+    of_0, of_1, other = f"{key}0: move, 64 bytes", f"{key}1: move, 8 bytes", f"{key}0: move, 63 bytes"
+    of_wait = "missing wait, read after write; lone: move, 8 bytes; lone: move, 64 bytes"  # it needs events
+    with tempfile.TemporaryDirectory() as folder:
+        known, one, two, many = (Path(folder, name) for name in ("known.txt", "one.bin", "two.bin", "many.bin"))
+        one.write_bytes(recording)
+        two.write_bytes(first.bytes())
+        many.write_bytes(recording * 5000)  # 1.28 million bytes, which are audited in parts
+        for lines, files, wanted in (
+            ([of_0], [one], []), ([of_1, other, of_0], [one], [2]), (["# known", "", of_0, other], [two, one], [4]),
+            ([of_0, of_1], [two], [1, 2]), ([other, other], [one], [1, 2]), ([of_wait, of_0, other], [one], [3]),
+            ([of_0, of_1, other], [many], [3]), ([other], [many], [1]),
+        ):
+            known.write_text("\n".join(lines))
+            for denied in ("needless", "stale"):
+                words = [program("dsa_text"), "audit", "--deny", denied, "--accept", known, *files]
+                ran = subprocess.run(words, capture_output=True)
+                severity = "error" if denied == "stale" else "note"
+                said = [f"{known}: line {n}: {severity}: this fits nothing: {lines[n - 1]}" for n in wanted]
+                got = [line for line in ran.stdout.decode().splitlines() if "this fits nothing" in line]
+                common.expect(got == said, f"{lines}, {files}: {got}, and not {said}")
+                has_pairs = one in files or many in files
+                is_error = denied == "stale" and wanted != [] or has_pairs and not {of_0, of_1} <= {*lines}
+                common.expect(ran.returncode == int(is_error), f"{lines}, {files}, {denied}: {ran.returncode}")
+            ran = subprocess.run([*words, "--json"], capture_output=True)
+            got = json.loads(ran.stdout)["stale"]
+            common.expect(got == [lines[n - 1] for n in wanted], f"{lines}, {files}: {got}")
+            ran = subprocess.run([*words, "--write-accept"], capture_output=True)
+            common.expect((ran.returncode, b"fits nothing" in ran.stdout) == (0, False), f"{lines}: {ran.stdout}")
+        missing = subprocess.run([*words, "nowhere.bin"], capture_output=True)
+        common.expect((missing.returncode, b"fits nothing" in missing.stdout) == (2, False), f"{missing.stdout}")
 
 
 def soon_accepted():

@@ -32,13 +32,13 @@ passed = failed = skipped = 0
 
 
 def expect(right, fault):
-    """Counts a case, and prints its fault where it is wrong."""
+    """Counts a case, and prints its fault where it is wrong, with the word by which the gate finds it."""
     global passed, failed
     if right:
         passed += 1
     else:
         failed += 1
-        print(fault, flush=True)
+        print(f"FAILED: {fault}", flush=True)
 
 
 def expect_line(command, text, line):
@@ -136,6 +136,19 @@ def program(name):
 def compiler():
     """The C compiler, or None where there is none."""
     return shutil.which(os.environ.get("CC", "cc"))
+
+
+SANITIZE = ["-fsanitize=address,undefined", "-fno-sanitize-recover=all"]
+SANITIZE_THREADS = ["-fsanitize=thread"]
+
+
+def sanitizers(flags=SANITIZE):
+    """Whether the compiler has them, and what it builds with them runs."""
+    with tempfile.TemporaryDirectory() as folder:
+        Path(folder, "empty.c").write_text("int main(void) { return 0; }\n")
+        how = {"stdout": subprocess.DEVNULL, "stderr": subprocess.DEVNULL}
+        built = subprocess.run([compiler(), *flags, f"{folder}/empty.c", "-o", f"{folder}/empty"], **how)
+        return built.returncode == 0 and subprocess.run([f"{folder}/empty"], **how).returncode == 0
 
 
 @contextmanager

@@ -9,6 +9,7 @@ import re
 import struct
 import subprocess
 import tempfile
+import time
 from pathlib import Path
 
 import common
@@ -19,6 +20,7 @@ COUNT = 400
 TEXT = []
 NAMES = {0x00: "no-op", 0x01: "batch", 0x02: "drain", 0x03: "move", 0x04: "fill", 0x05: "compare", 0x10: "CRC"}
 NO_OP, BATCH, DRAIN, MOVE, FILL, COMPARE, CRC = 0x00, 0x01, 0x02, 0x03, 0x04, 0x05, 0x10
+FETCH, INSERT, FLUSH = 0x0A, 0x13, 0x20
 VALID, REQUESTED, FENCE = 0x04, 0x08, 0x01
 KINDS = {("reads", "writes"): "read after write", ("writes", "writes"): "write after write"}
 KINDS |= {("writes", "reads"): "write after read"}
@@ -283,7 +285,10 @@ def judge_keys(recording, events, keys, draw, name):
     every = sorted({key for named in keys.values() for key in named.values()})
     some = [key for key in every if draw.random() < 0.5]
     for known in (of_waits, of_waits[:-1], some, every):
-        status, out, _ = audited(recording, events, known=[*others, *known])
+        unfit = "missing wait, read after write; lone: move, 9 bytes; lone: move, 9 bytes"
+        status, out, _ = audited(recording, events, known=[*others, unfit, *known])
+        stale = re.findall(r": line (\d+): note: this fits nothing: (.*)\n", out)
+        common.expect(stale == [(str(len(others) + 1), unfit)], f"{name}, accepting {known}: stale are {stale}")
         found = re.findall(r"entry (\d+) \(.*?\): (\w+): missing wait, .*? what entry (\d+) ", out)
         got, wanted = [(int(later), int(earlier), kind) for later, kind, earlier in found], shown_with(keys, known)
         is_error = any(kind == "error" for _, _, kind in wanted)
@@ -381,6 +386,44 @@ def drains():
         common.expect(got == wanted, f"status {status}, {looks!r}, reading {source:#x}: status {got}, {out}")
 
 
+def touched():
+    """What entries of other operations read and write: a second entry reads, or flushes, where the first has been."""
+    move_to = lambda source: entry(MOVE, record=0x8020, first=source, second=0x6000, size=8)
+    flush = lambda address: entry(FLUSH, record=0x8020, second=address, size=64)
+    fetch = entry(FETCH, record=0x8020, first=0x2000, size=64)
+    move, insert = {"first": 0x1000, "second": 0x2000, "size": 64}, {"first": 0x1000, "second": 0x2000, "size": 512}
+    for name, first, second, number in (
+        ("a flush of what a move writes", entry(MOVE, **move), flush(0x2000), 1),
+        ("a flush of what it reads", entry(MOVE, **move), flush(0x1000), 0),
+        ("a record that only errors write", entry(MOVE, VALID, **move), move_to(0x8000), 1),
+        ("no record", entry(MOVE, 0, **move), move_to(0x8000), 0),
+        ("the record of a checksum", entry(CRC, first=0x1000, size=64), move_to(0x8000), 1),
+        ("a fetch of translations", entry(MOVE, **move), fetch, 0),
+        ("data past the last address", entry(MOVE, **move | {"first": 2**64 - 16}), move_to(0x2000), 0),
+        ("no bytes", entry(MOVE, **move | {"size": 0}), move_to(0x8000), 0),
+        ("an operation that is not known", entry(0x50, **move), move_to(0x8000), 0),
+        ("a drain that reads back", entry(DRAIN, VALID | REQUESTED | 0x010000), move_to(0x8000), 0),
+        ("fields after a block of 512 bytes", entry(INSERT, **insert), move_to(0x2000 + 512), 1),
+        ("what comes after them", entry(INSERT, **insert), move_to(0x2000 + 520), 0),
+        ("fields after no whole block", entry(INSERT, **insert | {"size": 513}), move_to(0x2000), 0),
+    ):
+        events = f"S 0 wq0.0 op {first[7]} members 0\nS 1 wq0.0 op {second[7]} members 0\n"
+        status, out, err = audited(first + second, events)
+        wanted = f"\n{number} missing wait{'s' * (number != 1)}, 2 submissions\n"
+        common.expect(status == number and wanted in out, f"{name}: not {number} missing waits: {status} {out} {err}")
+
+
+def many():
+    """200,000 moves apart, whose ends nothing shows, are compared in time."""
+    count = range(200000)
+    recording = b"".join(entry(MOVE, 0, 0, 128 * k, 128 * k + 64, 64) for k in count)
+    start = time.monotonic()
+    status, out, err = audited(recording, "".join(f"S {k} wq0.0 op 3 members 0\nC {k} 1\n" for k in count))
+    took = time.monotonic() - start
+    right = status == 0 and "\n0 missing waits, 200000 submissions\n" in out and took < 20
+    common.expect(right, f"apart moves: status {status} after {took:.0f} s, {out[-300:]} {err}")
+
+
 def refusals():
     """Events that are none, or do not fit."""
     move = entry(MOVE, first=0x1000, second=0x2000, size=64)
@@ -410,7 +453,8 @@ def main(words):
     TEXT = [program("dsa_text")]
     numbers = [int(word) for word in words if word.isdigit()]
     COUNT = numbers[-1] if numbers else COUNT
-    for part in named([by_hand, accepted, drains, refusals, brute_force], [it for it in words if not it.isdigit()]):
+    parts = [by_hand, accepted, drains, touched, many, refusals, brute_force]
+    for part in named(parts, [it for it in words if not it.isdigit()]):
         part()
 
 

@@ -1,5 +1,5 @@
 -- The lines of a text, cut off one by one.
-use Rattle.std.proofs.Common.{◌≡◌, ◌≢◌, ℕ, suc, zero, ◌<◌, ◌==◌, ◌||◌, Bool, true, false, List, [], ◌∷◌, ◌++◌, length, get_or, cond, arith, sym, ap, refl, ◌∙◌, eqb-true}
+use Rattle.std.proofs.Common.{◌≡◌, ◌≢◌, ℕ, suc, zero, ◌<◌, ◌==◌, ◌||◌, Bool, true, false, List, [], ◌∷◌, ◌++◌, length, get_or, cond, arith, sym, ap, refl, ◌∙◌, eqb-true, append_assoc}
 use Rattle.std.specs.List.{list_any}
 use Rattle.std.specs.Str.{bytes_eq}
 use Rattle.dsa_lines.specs.Texts.{lines_of, with_byte}
@@ -62,3 +62,16 @@ key_last text rest q old new differ is so_far =
     let lines : lines_of rest ≡ rest ∷ [] = lines_whole rest differ in
     let any : is_line_of q rest ≡ (bytes_eq rest q || false) = ap (list_any (λ other. bytes_eq other q)) lines in
     is ∙ (swap_last (bytes_eq rest q) old ∙ (ap (λ (b : Bool). old || b) (sym any) ∙ so_far))
+
+-- ---- the lines themselves
+
+-- with a line of the text among the lines, those of what comes after it are left
+pub line_added : (text rest line after : List ℕ) (old new : List (List ℕ)) → rest ≡ line ++ (10 ∷ after) → HasNoNewline line → new ≡ old ++ (line ∷ [])
+    → old ++ lines_of rest ≡ lines_of text → new ++ lines_of after ≡ lines_of text
+line_added text rest line after old new e differ is so_far =
+    let cut : lines_of rest ≡ line ∷ lines_of after = ap lines_of e ∙ lines_cut line after differ in
+    ap (λ (l : List (List ℕ)). l ++ lines_of after) is ∙ (append_assoc old (line ∷ []) (lines_of after) ∙ (ap (λ (l : List (List ℕ)). old ++ l) (sym cut) ∙ so_far))
+
+-- with the last one, all lines are there
+pub line_last : (text rest : List ℕ) (old new : List (List ℕ)) → HasNoNewline rest → new ≡ old ++ (rest ∷ []) → old ++ lines_of rest ≡ lines_of text → new ≡ lines_of text
+line_last text rest old new differ is so_far = is ∙ (ap (λ (l : List (List ℕ)). old ++ l) (sym (lines_whole rest differ)) ∙ so_far)

@@ -26,4 +26,6 @@ pub mod ListingLines
 pub mod StandIns
 pub mod ListingRead
 pub mod FenceKeys
+pub mod NamedPairs
+pub mod Using
 mod Flawed

@@ -14,7 +14,8 @@ use Rattle.dsa_recording.specs.Failures.{AreFallible}
 use Rattle.dsa_recording.specs.Showing.{AreVisible}
 use Rattle.dsa_recording.specs.Entries.{action_of}
 use Rattle.dsa_recording.specs.Streams.{submission_at, end_of, ReadsUpTo}
-use Rattle.dsa_recording.specs.Submissions.{is_fenced, head_at, members_in, AreMembers, AreOperands, AreShared, IsAudited, AreAudited}
+use Rattle.dsa_descriptor.specs.Fences.{is_fenced}
+use Rattle.dsa_recording.specs.Submissions.{head_at, members_in, AreMembers, AreOperands, AreShared, IsAudited, AreAudited}
 use Rattle.dsa_recording.proofs.Within.{head_of}
 
 -- ---- entries of bytes

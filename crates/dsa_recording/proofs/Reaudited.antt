@@ -344,3 +344,8 @@ audit_at assumed es (s ∷ ss) (a ∷ audits) zero d e (first, all) lt = first
 audit_at assumed es (s ∷ ss) (a ∷ audits) (suc i) d e (first, all) lt = audit_at assumed es ss audits i d e all (omega (arith, lt))
 audit_at assumed es [] (a ∷ audits) i d e all lt = absurd all
 audit_at assumed es (s ∷ ss) [] i d e all lt = absurd all
+
+-- the same of what was found at a place of both lists
+pub audited_there : (assumed : Terms) (es : List (List ℕ)) (ss : List Submission) (audits : List Audited) (k : ℕ) (s : Submission) (a : Audited) → AreAudited assumed es ss audits → k < length ss
+    → s ≡ get_or ss k s → a ≡ get_or audits k a → IsAudited assumed es s a
+audited_there assumed es ss audits k s a all lt one other = rw (one, other) (audit_at assumed es ss audits k s a all lt)

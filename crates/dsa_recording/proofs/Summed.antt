@@ -12,7 +12,8 @@ use Rattle.dsa_recording.specs.declared.stream.Submission.{Submission}
 use Rattle.dsa_recording.specs.declared.submission.Audited.{Audited}
 use Rattle.dsa_recording.specs.declared.report.Report.{Report}
 use Rattle.dsa_recording.specs.Streams.{submission_at, end_of, ReadsUpTo}
-use Rattle.dsa_recording.specs.Submissions.{is_fenced, members_in, IsAudited, AreAudited}
+use Rattle.dsa_descriptor.specs.Fences.{is_fenced}
+use Rattle.dsa_recording.specs.Submissions.{members_in, IsAudited, AreAudited}
 use Rattle.dsa_recording.specs.Reports.{IsReport, reported_by}
 use Rattle.dsa_recording.specs.Totals.{member_count, set_count, HasSums}
 

@@ -10,7 +10,8 @@ use Rattle.dsa_recording.specs.Pairs.{Terms}
 use Rattle.dsa_recording.specs.declared.stream.Submission.{Submission}
 use Rattle.dsa_recording.specs.declared.submission.Audited.{Audited}
 use Rattle.dsa_recording.specs.Streams.{submission_at, end_of, ReadsUpTo, ReadsStream}
-use Rattle.dsa_recording.specs.Submissions.{is_fenced, head_at, members_in, IsWithin, IsAudited, AreAudited}
+use Rattle.dsa_descriptor.specs.Fences.{is_fenced}
+use Rattle.dsa_recording.specs.Submissions.{head_at, members_in, IsWithin, IsAudited, AreAudited}
 use Rattle.dsa_recording.specs.Findings.{HasAll}
 
 head_by : (b : Bool) (n at : ℕ) → head_at (if b then record { first = at + 1; size = n; is_batch = true } else record { first = at; size = 1; is_batch = false }) ≡ at
@@ -62,3 +63,7 @@ each_has assumed es (s ∷ ss) [] all = absurd all
 
 pub all_have : (assumed : Terms) (es : List (List ℕ)) (ss : List Submission) (audits : List Audited) → AreAudited assumed es ss audits → All HasAll audits
 all_have assumed es ss audits all = All-from_recursion HasAll audits (each_has assumed es ss audits all)
+
+-- its fences and the data of its members are as many
+pub has_operands : (assumed : Terms) (es : List (List ℕ)) (s : Submission) (a : Audited) → IsAudited assumed es s a → length a.fences.items ≡ length a.operands.items
+has_operands assumed es s a is = ap length is.fences ∙ (length-map (members_in es s) is_fenced ∙ sym is.operands.count)

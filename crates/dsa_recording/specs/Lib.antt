@@ -17,6 +17,7 @@ pub mod Words
 pub mod Keys
 pub mod Accepted
 pub mod Answers
+pub mod Uses
 pub mod Foreign
 pub mod Inputs
 pub mod Parts

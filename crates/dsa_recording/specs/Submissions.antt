@@ -1,6 +1,6 @@
 -- The audit of a recorded submission.
-use Rattle.std.specs.Prelude.{ℕ, ◌≡◌, ◌⊎◌, ◌↔◌, IsTrue, ◌-◌, ◌%◌, ◌<◌, ◌≤◌, Bool, List, [], ◌∷◌, Option, length, map, get_or, slice_index_or, slice_range, if◌then◌else◌, ◌==◌}
-use Rattle.dsa_descriptor.specs.Places.{flags_at}
+use Rattle.std.specs.Prelude.{ℕ, ◌≡◌, ◌⊎◌, ◌↔◌, IsTrue, ◌-◌, ◌<◌, ◌≤◌, List, [], ◌∷◌, Option, length, map, get_or, slice_index_or, slice_range, if◌then◌else◌}
+use Rattle.dsa_descriptor.specs.Fences.{is_fenced}
 use Rattle.dsa_audit.specs.declared.member.Member.{Member}
 use Rattle.dsa_audit.specs.declared.member.Member.TheVariants.{Unknown}
 use Rattle.dsa_audit.specs.declared.member.Unseen.TheVariants.{Operation}
@@ -15,10 +15,6 @@ use Rattle.dsa_recording.specs.Flaws.{AreAllFlaws, HasMisalignedRecord}
 use Rattle.dsa_recording.specs.Failures.{AreFallible}
 use Rattle.dsa_recording.specs.Showing.{AreVisible}
 use Rattle.dsa_recording.specs.Pairs.{IsListedPair, Terms}
-
--- the flag 0x0001 is set (specification 341204, flags)
-abbrev pub is_fenced : List ℕ → Bool
-is_fenced e = flags_at e % 2 == 1
 
 -- the entry of a submission's descriptor: before the members of a batch, else the only one
 abbrev pub head_at : Submission → ℕ

@@ -1,7 +1,8 @@
 //! Findings that are accepted.
 
-ghost use Rattle.std.specs.Prelude.{◌≡◌, ◌↔◌, ℕ, List, false, IfOk, IsTrue};
-ghost use Rattle.dsa_recording.specs.Accepted.{AcceptsLines, IsAccepted};
+ghost use Rattle.std.specs.Prelude.{◌≡◌, ◌↔◌, ℕ, List, true, false, cond, IfOk, IsTrue, OnOk, string_bytes};
+ghost use Rattle.std.specs.Str.{bytes_eq};
+ghost use Rattle.dsa_recording.specs.Accepted.{AcceptsLines, HasLines, IsAccepted};
 ghost use Rattle.dsa_recording.specs.Details.{IsPlaced};
 ghost use Rattle.dsa_recording.specs.Pairs.{has_key};
 ghost use Rattle.dsa_recording.specs.Reports.{reported_by};
@@ -18,6 +19,8 @@ use std::collections::BTreeSet;
 pub struct Accepted {
     /// The keys.
     pub keys: BTreeSet<String>,
+    /// The lines of the file that has them, in order.
+    pub lines: Vec<String>,
 }
 
 impl Accepted {
@@ -27,21 +30,43 @@ impl Accepted {
     {
         Accepted {
             keys: BTreeSet::new(alloc),
+            lines: Vec::new(alloc),
         }
     }
 
     /// Those whose keys are the lines of the text. Other lines, as comments, are no keys, and change nothing.
     pub fn read(alloc: Global, text: &str) -> Result<Accepted, AllocError>
-        ensures { IfOk result (AcceptsLines text.now) }
+        ensures keys { IfOk result (AcceptsLines text.now) }
+        ensures lines { IfOk result (HasLines text.now) }
     {
         let mut keys = BTreeSet::new(alloc);
+        let mut lines = Vec::new(alloc);
         let mut rest = text;
         while let Some((line, after)) = rest.split_once('\n') {
             keys.insert(String::from_str(alloc, line)?)?;
+            lines.push(String::from_str(alloc, line)?)?;
             rest = after;
         }
         keys.insert(String::from_str(alloc, rest)?)?;
-        Ok(Accepted { keys })
+        lines.push(String::from_str(alloc, rest)?)?;
+        Ok(Accepted { keys, lines })
+    }
+
+    /// Adds a key that has no line.
+    pub fn add(&mut self, alloc: Global, key: &str) -> Result<(), AllocError>
+        ensures { OnOk result ((other : List ℕ) → has_key self.new other ≡
+            cond (bytes_eq key.now other) true (has_key self.old other)) }
+    {
+        self.keys.insert(String::from_str(alloc, key)?)?;
+        Ok(())
+    }
+
+    /// Adds all keys of another set.
+    pub fn add_all(&mut self, alloc: Global, other: &Accepted) -> Result<(), AllocError> {
+        for key in &other.keys {
+            self.add(alloc, key)?;
+        }
+        Ok(())
     }
 
     /// Whether the key is accepted.

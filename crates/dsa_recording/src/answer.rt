@@ -13,6 +13,7 @@ ghost use Rattle.dsa_recording.specs.Words.{severity_of, severity_with};
 ghost use Rattle.dsa_recording.specs.Listings.{AreEntries};
 ghost use Rattle.dsa_recording.specs.Submissions.{IsWithin};
 ghost use Rattle.dsa_recording.specs.Totals.{HasSums};
+ghost use Rattle.dsa_recording.specs.Uses.{AreUsed};
 
 use crate::accepted::{Accepted, is_accepted};
 use crate::assumptions::Assumptions;
@@ -25,6 +26,7 @@ use crate::listing::listing_text;
 use crate::picture::{draw_report, is_too_large, too_large_text};
 use crate::report::{Report, audit_recording};
 use crate::stream::StreamFault;
+use crate::uses::used_in;
 use crate::words::{Denied, Severity, severity_of, severity_with};
 use crate::written::Written;
 use dsa_settings::Settings;
@@ -68,6 +70,8 @@ pub struct AuditAnswer {
     /// 0 if nothing is an error, 1 if something is: a missing fence, a fence, record or batch that is wrong, or what is
     /// denied; 2 if there is no recording or it is too large for a picture. Of a list it is 0 or 2.
     pub status: u8,
+    /// The accepted keys that are used; of a refusal, of a picture that is too large and of a list none.
+    pub used: Accepted,
 }
 
 /// Of each submission whether none of its fences is missing.
@@ -85,7 +89,7 @@ pub(crate) fn is_complete(complete: &[bool], submission: usize) -> bool {
 }
 
 /// Whether what was found is neither a missing fence nor a flaw, nor denied.
-fn is_harmless(denied: Denied, kind: FindingKind) -> bool
+pub(crate) fn is_harmless(denied: Denied, kind: FindingKind) -> bool
     ensures { result ≡ is_harmless denied kind }
 {
     match kind {
@@ -179,13 +183,18 @@ fn written(
     report: &Report,
     text: String,
 ) -> Result<AuditAnswer, AllocError>
-    requires { ArePlaced all.now (reported_by report.now) }
+    requires within { All (IsWithin all.now) report.now.submissions.items }
+    requires audited { HasAudits all.now report.now }
+    requires placed { ArePlaced all.now (reported_by report.now) }
     ensures text { IfOk result (λ answer. answer.text ≡ text) }
     ensures status { IfOk result
         (λ answer. IsStatusOf options.entry all.now (reported_by report.now) answer.status) }
+    ensures used { IfOk result
+        (λ answer. AreUsed options.entry all.now (reported_by report.now) answer.used) }
 {
     let status = status_of(alloc, options, all, report)?;
-    Ok(AuditAnswer { text, status })
+    let used = used_in(alloc, options, all, report)?;
+    Ok(AuditAnswer { text, status, used })
 }
 
 /// The answer of a report as a picture, or why it has none.
@@ -197,12 +206,18 @@ fn answer_picture(
     options: AuditOptions<'_>,
 ) -> Result<AuditAnswer, AllocError>
     requires sums { HasSums report.now }
+    requires within { All (IsWithin all.now) report.now.submissions.items }
+    requires audited { HasAudits all.now report.now }
     requires placed { ArePlaced all.now (reported_by report.now) }
     ensures { IfOk result (AnswersFormat Picture options.entry all.now (reported_by report.now)) }
 {
     if is_too_large(all, report) {
         let text = too_large_text(alloc, all, report)?;
-        return Ok(AuditAnswer { text, status: 2 });
+        return Ok(AuditAnswer {
+            text,
+            status: 2,
+            used: Accepted::none(alloc),
+        });
     }
     let picture = draw_report(alloc, all, report, settings, options)?;
     written(alloc, options, all, report, picture)
@@ -220,7 +235,11 @@ fn answer_list(
     ensures { IfOk result (AnswersFormat Listed options.entry all.now (reported_by report.now)) }
 {
     let text = listing_text(alloc, all, report)?;
-    Ok(AuditAnswer { text, status: 0 })
+    Ok(AuditAnswer {
+        text,
+        status: 0,
+        used: Accepted::none(alloc),
+    })
 }
 
 /// The answer of a report.
@@ -248,7 +267,12 @@ fn answer_report(
         AuditFormat::List => answer_list(alloc, all, report, options),
         AuditFormat::Keys => {
             let text = report_text(alloc, all, report, settings, options)?;
-            Ok(AuditAnswer { text, status: 0 })
+            let used = used_in(alloc, options, all, report)?;
+            Ok(AuditAnswer {
+                text,
+                status: 0,
+                used,
+            })
         }
     }
 }
@@ -301,7 +325,11 @@ pub(crate) fn audit_bytes(
         }
         Err(fault) => {
             let text = fault_text(alloc, 0, bytes, fault)?;
-            Ok(AuditAnswer { text, status: 2 })
+            Ok(AuditAnswer {
+                text,
+                status: 2,
+                used: Accepted::none(alloc),
+            })
         }
     }
 }

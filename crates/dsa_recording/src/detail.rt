@@ -488,14 +488,16 @@ fn is_right(place: FencePlace) -> bool
     }
 }
 
+/// Whether no fence is missing at these places.
+pub(crate) fn are_right(places: &[FencePlace]) -> bool
+    ensures { IsTrue result ↔ AllByRecursion IsRight places.now }
+{
+    places.iter().all(|place| is_right(*place))
+}
+
 /// Whether no fence of a submission is missing.
 pub fn has_all_fences(audited: &Audited) -> bool
     ensures { IsTrue result ↔ AllByRecursion IsRight audited.now.audit.corrected.places.items }
 {
-    audited
-        .audit
-        .corrected
-        .places
-        .iter()
-        .all(|place| is_right(*place))
+    are_right(&audited.audit.corrected.places)
 }

@@ -6,6 +6,7 @@ ghost use Rattle.dsa_recording.specs.Foreign.{AnswersEntries};
 ghost use Rattle.dsa_recording.specs.Forms.{IsText};
 ghost use Rattle.dsa_recording.specs.Inputs.{AnswersInput, IsInLines, IsRefused, OneRecording, SpellsRecording};
 
+use crate::accepted::Accepted;
 use crate::answer::{AuditAnswer, AuditOptions, audit_bytes};
 use crate::foreign::{find_foreign, foreign_text};
 use crate::forms::{begins_with_digits, form_of, is_text};
@@ -18,10 +19,14 @@ use std::alloc::{AllocError, Global};
 const MOST_NAMED: usize = 20;
 
 /// The answer where there is no recording.
-pub(crate) fn refusal(text: String) -> AuditAnswer
+pub(crate) fn refusal(alloc: Global, text: String) -> AuditAnswer
     ensures { result.status ≡ 2 }
 {
-    AuditAnswer { text, status: 2 }
+    AuditAnswer {
+        text,
+        status: 2,
+        used: Accepted::none(alloc),
+    }
 }
 
 /// What a recording has at the column where a line leaves the grammar.
@@ -103,7 +108,7 @@ fn bytes_of_lines(alloc: Global, text: &[u8]) -> Result<Result<Vec<u8>, AuditAns
         Ok(bytes) => Ok(Ok(bytes)),
         Err(TextFault::Grammar(_, _, _)) => {
             let reason = mistakes_text(alloc, text)?;
-            Ok(Err(refusal(reason)))
+            Ok(Err(refusal(alloc, reason)))
         }
         // the lines of a recording are no list, so the first does not come
         Err(TextFault::List(_, _)) | Err(TextFault::Memory) => Err(AllocError),
@@ -130,7 +135,7 @@ fn bytes_of_digits(alloc: Global, text: &[u8]) -> Result<Result<Vec<u8>, AuditAn
         ) => {
             let words = fault.words();
             let reason = format!(in alloc; "line {line}, column {column}: error: {words}\n")?;
-            Ok(Err(refusal(reason)))
+            Ok(Err(refusal(alloc, reason)))
         }
     }
 }
@@ -166,7 +171,7 @@ fn audit_entries(
     match find_foreign(alloc, bytes)? {
         Some(foreign) => {
             let reason = foreign_text(alloc, foreign)?;
-            Ok(refusal(reason))
+            Ok(refusal(alloc, reason))
         }
         None => audit_bytes(alloc, bytes, settings, options),
     }

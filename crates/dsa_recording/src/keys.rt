@@ -44,7 +44,11 @@ fn operation_name(alloc: Global, code: u8) -> Result<String, AllocError>
 }
 
 /// The operation of the entry of this number, and its size.
-fn entry_key(alloc: Global, all: &[[u8; 64]], number: usize) -> Result<String, AllocError>
+pub(crate) fn entry_key(
+    alloc: Global,
+    all: &[[u8; 64]],
+    number: usize,
+) -> Result<String, AllocError>
     ensures { IfOk result (λ s. string_bytes s ≡ entry_key (slice_get all.now number)) }
 {
     let Some(entry) = all.get(number) else {

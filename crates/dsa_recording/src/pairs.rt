@@ -1,5 +1,6 @@
 //! Pairs of members that are accepted.
 
+ghost use Rattle.std.specs.Prelude.{◌≡◌, ◌<◌, ◌^◌, ◌++◌, ◌∷◌, ℕ, List, MatchOption, decimal};
 ghost use Rattle.dsa_recording.specs.Pairs.{IsListedPair};
 
 use crate::accepted::Accepted;
@@ -27,10 +28,18 @@ fn hazards_by(number: u8) -> Hazards {
     }
 }
 
-/// The number at the start of a text, up to a colon.
-fn number_before(text: &str) -> Option<usize> {
-    let (digits, _) = text.split_once(':')?;
-    digits.parse().ok()
+/// The number that a text has before its first colon, and what comes after that.
+pub(crate) fn number_before(text: &str) -> Option<(usize, &str)>
+    ensures { (n : ℕ) (rest : List ℕ) → n < 2 ^ 64 → text.now ≡ decimal n ++ (58 ∷ rest) →
+        MatchOption result ⊥ (λ found. (found.0 ≡ n) × (found.1.now ≡ rest)) }
+{
+    let Some((digits, rest)) = text.split_once(':') else {
+        return None;
+    };
+    match digits.parse() {
+        Ok(number) => Some((number, rest)),
+        Err(_) => None,
+    }
 }
 
 impl<'a> AcceptedPairs<'a> {
@@ -41,7 +50,7 @@ impl<'a> AcceptedPairs<'a> {
             let Some(rest) = key.strip_prefix(front.as_str()) else {
                 return Ok(());
             };
-            if let Some(number) = number_before(rest) {
+            if let Some((number, _)) = number_before(rest) {
                 earlier.push(number)?;
             }
         }

@@ -7,11 +7,13 @@ ghost use Rattle.dsa_recording.specs.declared.stream.Submission.{Submission};
 ghost use Rattle.dsa_recording.specs.Streams.{ReadsStream};
 ghost use Rattle.dsa_recording.specs.Parts.{HasStatusAfter, IsSoFar, IsStreamed};
 
+use crate::accepted::Accepted;
 use crate::answer::{AuditAnswer, AuditFormat, AuditOptions, fault_text, status_of};
 use crate::foreign::{Foreign, find_foreign, foreign_text};
 use crate::input::refusal;
 use crate::report::audit_recording;
 use crate::stream::{read_stream, submission_at};
+use crate::uses::use_report;
 use crate::written::Written;
 use dsa_settings::Settings;
 use std::alloc::{AllocError, Global};
@@ -25,6 +27,8 @@ pub(crate) struct Parts {
     foreign: Option<Foreign>,
     /// 1 if some finding is an error, else 0.
     status: u8,
+    /// The accepted keys that are used.
+    used: Accepted,
     written: Written,
 }
 
@@ -62,6 +66,7 @@ impl Parts {
             entries: 0,
             foreign: None,
             status: 0,
+            used: Accepted::none(alloc),
             written: Written::new(alloc),
         }
     }
@@ -82,6 +87,7 @@ impl Parts {
             Ok(report) => {
                 let (all, _) = part.as_chunks::<64>();
                 self.written.add(alloc, all, &report, settings, options)?;
+                use_report(alloc, options, all, &report, &mut self.used)?;
                 let status = status_of(alloc, options, all, &report)?;
                 if status > self.status {
                     self.status = status;
@@ -136,7 +142,7 @@ impl Parts {
         match self.foreign {
             Some(foreign) => {
                 let reason = foreign_text(alloc, foreign)?;
-                Ok(refusal(reason))
+                Ok(refusal(alloc, reason))
             }
             None => {
                 let status = if options.format == AuditFormat::Keys {
@@ -144,8 +150,9 @@ impl Parts {
                 } else {
                     self.status
                 };
+                let used = self.used;
                 let text = self.written.into_text(alloc, settings, options)?;
-                Ok(AuditAnswer { text, status })
+                Ok(AuditAnswer { text, status, used })
             }
         }
     }
@@ -170,7 +177,7 @@ impl Parts {
             }
             Err(fault) => {
                 let reason = fault_text(alloc, self.entries, last, fault)?;
-                Ok(refusal(reason))
+                Ok(refusal(alloc, reason))
             }
         }
     }

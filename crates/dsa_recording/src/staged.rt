@@ -55,7 +55,7 @@ fn audit_portal(
         Ok(stream) => audit_bytes(alloc, &stream, settings, options),
         Err(fault) => {
             let reason = staging_text(alloc, portal, fault)?;
-            Ok(refusal(reason))
+            Ok(refusal(alloc, reason))
         }
     }
 }

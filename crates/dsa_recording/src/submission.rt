@@ -3,11 +3,11 @@
 ghost use Rattle.std.specs.Prelude.{◌≡◌, All, map, IfOk};
 ghost use Rattle.dsa_recording.specs.Entries.{action_of};
 ghost use Rattle.dsa_recording.specs.Pairs.{terms};
-ghost use Rattle.dsa_recording.specs.Submissions.{head_at, is_fenced, IsWithin, AreMembers, AreOperands, IsAudited, AreAudited};
+ghost use Rattle.dsa_descriptor.specs.Fences.{is_fenced};
+ghost use Rattle.dsa_recording.specs.Submissions.{head_at, IsWithin, AreMembers, AreOperands, IsAudited, AreAudited};
 
 use crate::accepted::Accepted;
 use crate::assumptions::Assumptions;
-use crate::entry::Header;
 use crate::failure::fallible_of;
 use crate::flaws::{Flaws, all_flaws, has_misaligned_record};
 use crate::member::{action_of, member_of, operands_member};
@@ -15,9 +15,8 @@ use crate::pairs::AcceptedPairs;
 use crate::shared::shared_in;
 use crate::showing::visible_of;
 use crate::stream::Submission;
-use bitflags::Flags;
 use dsa_audit::{Action, Audit, Effects, Member, audit_fences};
-use dsa_descriptor::FlagWord;
+use dsa_descriptor::is_fenced;
 use std::alloc::{AllocError, Global};
 
 /// A submission whose fences are audited.
@@ -50,7 +49,7 @@ pub struct Audited {
 }
 
 /// The entry of a submission's descriptor.
-pub(crate) fn head_at(submission: Submission) -> usize
+pub fn head_at(submission: Submission) -> usize
     ensures { result ≡ head_at submission }
 {
     if submission.is_batch {
@@ -58,13 +57,6 @@ pub(crate) fn head_at(submission: Submission) -> usize
     } else {
         submission.first
     }
-}
-
-/// Whether the entry is fenced.
-fn is_fenced(entry: &[u8; 64]) -> bool
-    ensures { result ≡ is_fenced entry.now }
-{
-    Header::of(entry).flags.contains(FlagWord::FENCE)
 }
 
 /// Whether each of the entries is fenced.

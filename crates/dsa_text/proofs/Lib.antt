@@ -4,6 +4,5 @@ pub mod PlannedNeeded
 pub mod Refused
 pub mod Answered
 pub mod Spelled
-pub mod Fenced
 pub mod WhatIsLeft
 pub mod Named

@@ -32,7 +32,7 @@ times_named name words = count_by (λ word. bytes_eq word name) words
 abbrev pub findings_named : List (List ℕ) → ℕ
 findings_named words =
     times_named (codes "needless") words + times_named (codes "guarding") words + times_named (codes "signalling") words
-    + times_named (codes "unseen") words + times_named (codes "waits") words
+    + times_named (codes "unseen") words + times_named (codes "waits") words + times_named (codes "stale") words
 
 -- the findings that words name, if each word names some; missing waits are always errors
 abbrev pub denied_by : List (List ℕ) → Option Denied
@@ -54,6 +54,15 @@ denied_of (Some names) = denied_by (slice_split (λ c. c == 44) names)
 -- the findings that the option `deny` names
 abbrev pub denied_in : ArgMatches → Option Denied
 denied_in m = denied_of (first_value (found_of m) (codes "deny"))
+
+-- whether the option's value names stale lines
+abbrev pub denies_stale_of : Option (List ℕ) → Bool
+denies_stale_of None = false
+denies_stale_of (Some names) = nat_lt 0 (times_named (codes "stale") (slice_split (λ c. c == 44) names))
+
+-- whether the option `deny` does
+abbrev pub denies_stale : ArgMatches → Bool
+denies_stale m = denies_stale_of (first_value (found_of m) (codes "deny"))
 
 -- ---- what is assumed of the software
 

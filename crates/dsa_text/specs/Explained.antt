@@ -1,5 +1,5 @@
 -- What explaining a text, a list, a given plan or the bytes of an emission answers (this project's choice).
-use Rattle.std.specs.Prelude.{◌≡◌, ◌⊎◌, ◌-◌, ◌==◌, ℕ, Bool, List, [], ◌∷◌, ◌++◌, codes, decimal, map, string_bytes, Option, Some, None, Result, Ok, Err, if◌then◌else◌}
+use Rattle.std.specs.Prelude.{◌≡◌, ◌⊎◌, ◌-◌, ◌==◌, ℕ, Bool, List, [], ◌++◌, codes, decimal, map, string_bytes, Option, Some, None, Ok, Err, if◌then◌else◌}
 use Rattle.dsa_descriptor.specs.declared.descriptor.Descriptor.{Descriptor}
 use Rattle.dsa_descriptor.specs.Fields.{Fields}
 use Rattle.dsa_descriptor.specs.Descriptors.{fields}

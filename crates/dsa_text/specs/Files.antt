@@ -8,6 +8,7 @@ use Rattle.dsa_recording.specs.declared.answer.AuditOptions.{AuditOptions}
 use Rattle.dsa_recording.specs.Inputs.{AnswersInput}
 use Rattle.dsa_text.specs.Audited.{times_named}
 use Rattle.dsa_text.specs.Options.{IsGiven}
+use Rattle.dsa_text.specs.Stale.{IsRaised}
 
 -- an option is given that goes with a single file only
 abbrev pub TakesOneFile : ArgMatches → Type 0
@@ -41,10 +42,11 @@ abbrev pub greatest : List ℕ → ℕ
 greatest [] = 0
 greatest (status ∷ statuses) = max status (greatest statuses)
 
--- the status for so many files is the greatest of theirs; or 2, if the options are refused or a report can't be written
-abbrev pub AuditsFiles : (List ℕ → AuditAnswer → Type 0) → ℕ → ℕ → Type 0
-AuditsFiles Answers files status =
-    (status ≡ 2) ⊎ ((statuses : List ℕ) × AreFileStatuses Answers files statuses × (status ≡ greatest statuses))
+-- the status for so many files is the greatest of theirs, or 1 if that is 0 and stale lines are denied; or 2, if the options
+-- are refused or a report can't be written
+abbrev pub AuditsFiles : ArgMatches → (List ℕ → AuditAnswer → Type 0) → ℕ → ℕ → Type 0
+AuditsFiles m Answers files status =
+    (status ≡ 2) ⊎ ((statuses : List ℕ) × AreFileStatuses Answers files statuses × IsRaised m (greatest statuses) status)
 
 -- the last line: how many files there are, how many of them have errors, and how many are refused
 abbrev pub summary_words : List ℕ → List ℕ

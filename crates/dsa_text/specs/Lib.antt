@@ -9,6 +9,7 @@ pub mod SettingsWords
 pub mod Options
 pub mod Inputs
 pub mod Audited
+pub mod Stale
 pub mod Files
 pub mod Laws
 pub mod Traced

@@ -1,10 +1,13 @@
 //! `assemble`: a text as the bytes of its list, or as a job.
 
 use crate::answer::Answer;
+use crate::inputs::refused_settings;
 use crate::kept::{fence_lines, fenced_in};
-use crate::settings::push_settings;
+use crate::options::settings_words;
+use crate::settings::{push_settings, settings_of};
 use crate::unplanned::{Source, unplanned};
 use crate::words::line_of_operation;
+use clap::ArgMatches;
 use dsa_calls::PlanFault;
 use dsa_descriptor::{FieldFault, ListFault, read_list};
 use dsa_lines::{assemble, assemble_fenced, text_barriers};
@@ -14,7 +17,7 @@ use std::alloc::{AllocError, Global};
 
 /// The list of a text in hexadecimal, in which an operation after a barrier has the flag fence.
 /// `fence` in a line is a barrier if fences are kept.
-pub fn assemble_list(alloc: Global, text: &[u8], keep_fences: bool) -> Result<Answer, AllocError> {
+fn assemble_list(alloc: Global, text: &[u8], keep_fences: bool) -> Result<Answer, AllocError> {
     match assemble_fenced(alloc, text, keep_fences) {
         Ok(bytes) => {
             let mut list = hex::encode(alloc, bytes)?;
@@ -84,7 +87,7 @@ fn barrier_in_job(alloc: Global, text: &[u8], operation: usize) -> Result<Answer
 
 /// The job to plan the list of a text. A list that can't be planned, or has barriers, is refused
 /// here, where its lines are known.
-pub fn assemble_job(
+fn assemble_job(
     alloc: Global,
     text: &[u8],
     keep_fences: bool,
@@ -101,4 +104,22 @@ pub fn assemble_job(
     let answer = job_of_text(alloc, text, &list, settings)?;
     let notes = passed_over(alloc, text, keep_fences)?;
     Ok(answer.with_warnings(notes))
+}
+
+/// What `assemble` answers.
+pub(crate) fn assemble_text(
+    alloc: Global,
+    matches: &ArgMatches<'_>,
+    text: &[u8],
+) -> Result<Answer, AllocError> {
+    let words = settings_words(matches);
+    let Some(settings) = settings_of(alloc, &words)? else {
+        return refused_settings(alloc, &words);
+    };
+    let keep_fences = matches.get_flag("keep-fences");
+    if matches.get_flag("job") {
+        assemble_job(alloc, text, keep_fences, &settings)
+    } else {
+        assemble_list(alloc, text, keep_fences)
+    }
 }

@@ -6,11 +6,11 @@ ghost use Rattle.std.specs.Str.{bytes_eq};
 ghost use Rattle.dsa_text.specs.Options.{IsFlag};
 ghost use Rattle.dsa_text.specs.Audited.{AnswersWith, AreAuditWords, AuditsInput, AuditsReader, IsFormat, Refuses, RefusesWith, Settle, SettleWith, awaited_by, awaited_in, denied_by, denied_in, format_of};
 
+use crate::commands::{batches, flag, value};
 use crate::messages::message_with;
 use crate::numbers::parts_of;
 use crate::options::word;
 use crate::settings::{SettingsWords, settings_fault, settings_of};
-use crate::{batches, flag, value};
 use clap::{Arg, ArgAction, ArgMatches, Command};
 use dsa_calls::PlanFault;
 use dsa_plan::Settings;
@@ -61,7 +61,9 @@ Drop needless fences of one audit together, and never with those of an audit und
 Each finding names its entries and what they do. Of findings of one kind in like batches the first is written, and how many
 more there are; --all writes each. --write-accept writes a line for each kind of error that there is; with such a file
 --accept takes errors of these kinds as known, so that others alone make the status 1. Repeat both until nothing is
-written, since each member is named with one fence alone that it lacks, and each entry with one wait:
+written, since each member is named with one fence alone that it lacks, and each entry with one wait. A line that fits
+nothing in all files is named at the end, and is an error with --deny stale. A line that begins with no small letter is
+a comment:
   dsa_text audit --write-accept recording.bin > known.txt && dsa_text audit --accept known.txt recording.bin
 
 Each submission is taken to be waited for before the next one. With --events it also reports missing waits: an entry
@@ -93,7 +95,7 @@ fn deny<'a>(alloc: Global) -> Arg<'a> {
         .value_name("KIND,..")
         .action(ArgAction::Set)
         .help(
-            "findings that are errors too: needless, guarding, signalling, unseen; waits always are",
+            "what counts as an error too: needless, guarding, signalling, unseen, stale; waits always do",
         )
 }
 
@@ -220,11 +222,13 @@ fn denied_by(words: &[&str]) -> Option<Denied>
     let signalling = times_named("signalling", words);
     let unseen = times_named("unseen", words);
     let waits = times_named("waits", words);
+    let stale = times_named("stale", words);
     let named = needless as u128
         + guarding as u128
         + signalling as u128
         + unseen as u128
-        + waits as u128;
+        + waits as u128
+        + stale as u128;
     if named != words.len() as u128 {
         return None;
     }
@@ -334,10 +338,14 @@ fn audit_words<'a>(matches: &ArgMatches<'a>) -> SettingsWords<'a>
 }
 
 /// The answer if the options of `audit` are invalid.
-fn refusal(text: String) -> AuditAnswer
+fn refusal(alloc: Global, text: String) -> AuditAnswer
     ensures { result.status ≡ 2 }
 {
-    AuditAnswer { text, status: 2 }
+    AuditAnswer {
+        text,
+        status: 2,
+        used: Accepted::none(alloc),
+    }
 }
 
 /// The answer if the options spell no settings.
@@ -345,7 +353,7 @@ fn refused_settings(alloc: Global, words: &SettingsWords<'_>) -> Result<AuditAns
     ensures { IfOk result (λ a. a.status ≡ 2) }
 {
     let message = settings_fault(alloc, words)?;
-    Ok(refusal(message_with(alloc, PlanFault::Settings, &message)?))
+    Ok(refusal(alloc, message_with(alloc, PlanFault::Settings, &message)?))
 }
 
 /// The report on an input: a recording, or, if there are dumps, what was written to a portal.
@@ -410,14 +418,14 @@ pub(crate) fn options_in<'a>(
 {
     let Some(denied) = denied_in(alloc, matches)? else {
         let reason =
-            "error: --deny takes needless, guarding, signalling, unseen and waits, with commas between\n";
-        return Ok(Err(refusal(String::from_str(alloc, reason)?)));
+            "error: --deny takes needless, guarding, signalling, unseen, waits and stale, with commas between\n";
+        return Ok(Err(refusal(alloc, String::from_str(alloc, reason)?)));
     };
     match awaited_in(matches) {
         Some(awaited) => options_denying(alloc, matches, given, denied, awaited),
         None => {
             let reason = "error: --await takes writes, signals or batches\n";
-            Ok(Err(refusal(String::from_str(alloc, reason)?)))
+            Ok(Err(refusal(alloc, String::from_str(alloc, reason)?)))
         }
     }
 }

@@ -1,9 +1,9 @@
 //! The dumps of memory that options name.
 
 use crate::bytes::bytes_or_refusal;
-use crate::messages::message_of;
+use crate::ending::{failed, without_audit};
 use crate::numbers::number_of;
-use crate::{NoText, failed, input, unread};
+use crate::reading::input;
 use clap::ArgMatches;
 use dsa_recording::{Dump, is_text};
 use std::alloc::{AllocError, Global};
@@ -53,8 +53,7 @@ fn read_dump(rt: &HostRuntime, word: &str) -> Result<Result<Dump, ExitCode>, All
             Ok(bytes) => Ok(Ok(Dump { address, bytes })),
             Err(message) => Ok(Err(failed(rt, &message))),
         },
-        Err(NoText::Refused(fault)) => Ok(Err(failed(rt, &message_of(alloc, fault)?))),
-        Err(NoText::Failed(what)) => Ok(Err(unread(rt, Some(file), what)?)),
+        Err(reason) => Ok(Err(without_audit(rt, Some(file), reason)?)),
     }
 }
 

@@ -4,15 +4,18 @@ ghost use Rattle.std.specs.Prelude.{◌≡◌, ◌↔◌, ◌==◌, [], IfOk, Is
 ghost use Rattle.std.specs.List.{count_by};
 ghost use Rattle.dsa_recording.specs.Inputs.{AnswersInput};
 ghost use Rattle.dsa_text.specs.Audited.{AuditsInput};
+ghost use Rattle.dsa_text.specs.Stale.{DeniesAs};
 ghost use Rattle.dsa_text.specs.Files.{AnswersFile, AreFileStatuses, AreRefusedTogether, AuditsFiles, IsFileAnswer, TakesOneFile, greatest, summary_words};
 
 use crate::auditing::{Given, options_in, times_named};
+use crate::ending::{UNWRITTEN, say};
 use crate::messages::message_of;
 use crate::options::is_either_given;
-use crate::{NoText, UNWRITTEN, file_at, say, unanswered};
+use crate::reading::{NoText, file_at, unanswered};
+use crate::stale::{Stale, stale_in};
 use clap::ArgMatches;
 use dsa_plan::Settings;
-use dsa_recording::{AuditAnswer, AuditFormat, AuditOptions, audit_read};
+use dsa_recording::{Accepted, AuditAnswer, AuditFormat, AuditOptions, audit_read};
 use dsa_report::write_line;
 use serde_json::Value;
 use std::alloc::{AllocError, Global};
@@ -55,7 +58,11 @@ fn refused(alloc: Global, reason: NoText) -> Result<AuditAnswer, AllocError>
         NoText::Refused(fault) => message_of(alloc, fault)?,
         NoText::Failed(what) => format!(in alloc; "error: the file {what}\n")?,
     };
-    Ok(AuditAnswer { text, status: 2 })
+    Ok(AuditAnswer {
+        text,
+        status: 2,
+        used: Accepted::none(alloc),
+    })
 }
 
 /// The answer to all that the reader of a file gives.
@@ -173,12 +180,14 @@ fn write_answer(
     }
 }
 
-/// Audits each file, in order, and writes its report; the status of each, if all could be written.
+/// Audits each file, in order, and writes its report; the status of each, if all could be written. Adds the accepted
+/// keys that are used.
 fn audit_each(
     rt: &HostRuntime,
     settings: &Settings,
     options: AuditOptions<'_>,
     names: &[&str],
+    used: &mut Accepted,
 ) -> Result<Option<Vec<u8>>, AllocError>
     ensures { IfOk result (λ statuses. MatchOption statuses Unit
         (λ s. AreFileStatuses (AnswersInput options.entry) (length names.now) s.items)) }
@@ -189,6 +198,7 @@ fn audit_each(
         if !write_answer(rt, options.format, statuses.is_empty(), name, &answer)? {
             return Ok(None);
         }
+        used.add_all(rt.alloc(), &answer.used)?;
         statuses.push(answer.status)?;
     }
     Ok(Some(statuses))
@@ -223,36 +233,81 @@ fn summary_text(alloc: Global, statuses: &[u8]) -> Result<String, AllocError>
     format!(in alloc; "{files} files: {faulty} with errors, {refused} refused\n")
 }
 
-/// Writes what follows the reports, and returns whether all was written.
-fn write_end(rt: &HostRuntime, format: AuditFormat, statuses: &[u8]) -> Result<bool, AllocError> {
-    match format {
-        AuditFormat::Json => Ok(write_text(rt, "]}\n")),
-        AuditFormat::Keys => Ok(true),
-        AuditFormat::Text | AuditFormat::Picture | AuditFormat::List => {
-            let text = summary_text(rt.alloc(), statuses)?;
-            Ok(write_text(rt, &text))
+/// What follows the reports: lines that are stale, and the summary.
+fn end_text(
+    alloc: Global,
+    format: AuditFormat,
+    accepted: &Accepted,
+    stale: Option<&Stale<'_>>,
+    statuses: &[u8],
+) -> Result<String, AllocError> {
+    match (format, stale) {
+        (AuditFormat::Json, Some(stale)) => {
+            let lines = stale.in_json(alloc, accepted)?;
+            format!(in alloc; "],\"stale\":{lines}}}\n")
+        }
+        (AuditFormat::Json, None) => String::from_str(alloc, "]}\n"),
+        (AuditFormat::Keys, Some(_) | None) => Ok(String::new(alloc)),
+        (AuditFormat::Text | AuditFormat::Picture | AuditFormat::List, Some(stale)) => {
+            let mut text = stale.in_words(alloc, accepted)?;
+            text.push_str(&summary_text(alloc, statuses)?)?;
+            Ok(text)
+        }
+        (AuditFormat::Text | AuditFormat::Picture | AuditFormat::List, None) => {
+            summary_text(alloc, statuses)
         }
     }
+}
+
+/// The lines that are stale, unless a file has no report: they may fit that.
+fn stale_of<'a>(
+    alloc: Global,
+    matches: &ArgMatches<'a>,
+    accepted: &Accepted,
+    used: &Accepted,
+    statuses: &[u8],
+) -> Result<Option<Stale<'a>>, AllocError>
+    ensures { IfOk result (λ found. MatchOption found Unit (DeniesAs matches.now)) }
+{
+    if greatest(statuses) == 2 {
+        return Ok(None);
+    }
+    stale_in(alloc, matches, accepted, used)
 }
 
 /// Audits files with these options; the status is the greatest, or 2 if the reports can't be written.
 fn audit_named(
     rt: &HostRuntime,
+    matches: &ArgMatches<'_>,
     settings: &Settings,
     options: AuditOptions<'_>,
     names: &[&str],
 ) -> Result<u8, AllocError>
-    ensures { IfOk result (AuditsFiles (AnswersInput options.entry) (length names.now)) }
+    ensures { IfOk result
+        (AuditsFiles matches.now (AnswersInput options.entry) (length names.now)) }
 {
-    let Some(statuses) = audit_each(rt, settings, options, names)? else {
+    let mut used = Accepted::none(rt.alloc());
+    let Some(statuses) = audit_each(rt, settings, options, names, &mut used)? else {
         say(rt, UNWRITTEN);
         return Ok(2);
     };
-    if !write_end(rt, options.format, &statuses)? {
+    let accepted = options.accepted;
+    let stale = stale_of(rt.alloc(), matches, accepted, &used, &statuses)?;
+    let end = end_text(
+        rt.alloc(),
+        options.format,
+        accepted,
+        stale.as_ref(),
+        &statuses,
+    )?;
+    if !write_text(rt, &end) {
         say(rt, UNWRITTEN);
         return Ok(2);
     }
-    Ok(greatest(&statuses))
+    match stale {
+        Some(stale) => Ok(stale.status(greatest(&statuses))),
+        None => Ok(greatest(&statuses)),
+    }
 }
 
 /// Runs `audit` of several files, in order: each is opened, read and reported by itself. The status is the greatest; it
@@ -264,10 +319,10 @@ pub(crate) fn audit_files(
     names: &[&str],
 ) -> Result<u8, AllocError>
     ensures { given.entry.dumps.now ≡ [] → IfOk result
-        (AuditsFiles (AuditsInput matches.now given.entry) (length names.now)) }
+        (AuditsFiles matches.now (AuditsInput matches.now given.entry) (length names.now)) }
 {
     match options_in(rt.alloc(), matches, given)? {
-        Ok((settings, options)) => audit_named(rt, &settings, options, names),
+        Ok((settings, options)) => audit_named(rt, matches, &settings, options, names),
         Err(refused) => {
             say(rt, &refused.text);
             Ok(2)

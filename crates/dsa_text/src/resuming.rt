@@ -6,15 +6,25 @@ ghost use Rattle.dsa_resume.specs.Rest.{remainder_of};
 ghost use Rattle.dsa_text.specs.Resumed.{IsRestText, IsResumeRefusal, NamesResume, ResumesText, resume_words};
 
 use crate::answer::Answer;
+use crate::bytes::bytes_or_refusal;
+use crate::commands::{file, flag, settings_options};
+use crate::ending::{ended, without_text};
+use crate::inputs::refused_settings;
+use crate::kept::joined;
+use crate::left::resume_notes;
 use crate::messages::{push_indices, push_sentence};
 use crate::numbers::numbers_of;
-use crate::{file, flag, settings_options};
-use clap::{Arg, ArgAction, Command};
+use crate::options::settings_words;
+use crate::reading::{file_in, input};
+use crate::settings::settings_of;
+use clap::{Arg, ArgAction, ArgMatches, Command};
 use dsa_descriptor::MOST_PIECES;
 use dsa_lines::{parse_list, text_with_barriers};
 use dsa_plan::Settings;
+use dsa_recording::is_text;
 use dsa_resume::{LeftOrder, Rest, ResumeFault, resume_operations};
 use std::alloc::{AllocError, Global};
+use std::process::ExitCode;
 
 /// What the help of `resume` says of its input.
 const STOPPED: &str =
@@ -33,7 +43,7 @@ a barrier is between them.
 Example: dsa_text resume --records records.hex store.txt";
 
 /// What is said of other words after the option.
-pub(crate) const NO_PIECES: &str =
+const NO_PIECES: &str =
     "error: --give-up takes the numbers of pieces below 65536, with commas between\n";
 
 /// The command `resume`.
@@ -61,7 +71,7 @@ pub(crate) fn resume_command<'a>(alloc: Global) -> Result<Command<'a>, AllocErro
 }
 
 /// The order that the flag asks for.
-pub(crate) fn order_of(failed_first: bool) -> LeftOrder {
+fn order_of(failed_first: bool) -> LeftOrder {
     if failed_first {
         LeftOrder::FailedFirst
     } else {
@@ -88,10 +98,7 @@ fn marked(alloc: Global, pieces: &[u64]) -> Result<Option<Vec<u8>>, AllocError> 
 }
 
 /// The marks of the pieces that the option gives up, if it names pieces.
-pub(crate) fn given_up_of(
-    alloc: Global,
-    word: Option<&str>,
-) -> Result<Option<Vec<u8>>, AllocError> {
+fn given_up_of(alloc: Global, word: Option<&str>) -> Result<Option<Vec<u8>>, AllocError> {
     let Some(word) = word else {
         return Ok(Some(Vec::new(alloc)));
     };
@@ -102,7 +109,7 @@ pub(crate) fn given_up_of(
 }
 
 /// The lines of what is left of the list that a text spells.
-pub(crate) fn resume_text(
+fn resume_text(
     alloc: Global,
     text: &[u8],
     settings: &Settings,
@@ -182,4 +189,84 @@ fn push_name(alloc: Global, text: &mut String, fault: ResumeFault) -> Result<(),
     text.push_str(&format!(in alloc; " [{number} {name}")?)?;
     push_indices(alloc, text, fault.indices())?;
     text.push_str("]\n")
+}
+
+/// The answer with notes after its own.
+fn with_notes(answer: Answer, notes: Option<String>) -> Result<Answer, AllocError> {
+    let Answer {
+        text,
+        status: _,
+        warnings,
+    } = answer;
+    let all = joined(warnings, notes)?;
+    Ok(Answer::done(text).with_warnings(all))
+}
+
+/// What `resume` answers to a text and the bytes of records, with the notes and warnings about them.
+fn resume_records(
+    alloc: Global,
+    matches: &ArgMatches<'_>,
+    settings: &Settings,
+    records: &[u8],
+    text: &[u8],
+) -> Result<Answer, AllocError> {
+    let order = order_of(matches.get_flag("failed-first"));
+    let Some(given_up) = given_up_of(alloc, matches.get_str("give-up"))? else {
+        return Ok(Answer::refused(String::from_str(alloc, NO_PIECES)?));
+    };
+    let answer = resume_text(alloc, text, settings, records, &given_up, order)?;
+    let notes = resume_notes(alloc, text, settings, records)?;
+    if answer.status == 0 {
+        return with_notes(answer, notes);
+    }
+    let mut reason = answer.text;
+    if let Some(notes) = notes {
+        reason.push_str(&notes)?;
+    }
+    Ok(Answer::refused(reason))
+}
+
+/// What `resume` answers to this input of records and this text, as `disassemble` reads bytes.
+fn resume(
+    alloc: Global,
+    matches: &ArgMatches<'_>,
+    input: &[u8],
+    text: &[u8],
+) -> Result<Answer, AllocError> {
+    let words = settings_words(matches);
+    let Some(settings) = settings_of(alloc, &words)? else {
+        return refused_settings(alloc, &words);
+    };
+    if !is_text(input) {
+        return resume_records(alloc, matches, &settings, input, text);
+    }
+    match bytes_or_refusal(alloc, input)? {
+        Ok(records) => resume_records(alloc, matches, &settings, &records, text),
+        Err(refusal) => Ok(refusal),
+    }
+}
+
+/// Answers `resume` of these records.
+fn resumed(
+    rt: &HostRuntime,
+    matches: &ArgMatches<'_>,
+    records: &[u8],
+) -> Result<ExitCode, AllocError> {
+    let file = file_in(matches);
+    match input(rt, file) {
+        Ok(text) => Ok(ended(rt, &resume(rt.alloc(), matches, records, &text)?)),
+        Err(reason) => without_text(rt, file, reason),
+    }
+}
+
+/// Runs `resume`.
+pub(crate) fn run_resume(
+    rt: &HostRuntime,
+    matches: &ArgMatches<'_>,
+) -> Result<ExitCode, AllocError> {
+    let file = matches.get_str("records");
+    match input(rt, file) {
+        Ok(records) => resumed(rt, matches, &records),
+        Err(reason) => without_text(rt, file, reason),
+    }
 }

@@ -28,9 +28,24 @@ fn waits_of(
         Err(BytesFault::Digit { .. }) => {
             let reason = "error: with these the recording has to be bytes, or a text of digits\n";
             let text = String::from_str(alloc, reason)?;
-            Ok(AuditAnswer { text, status: 2 })
+            Ok(AuditAnswer {
+                text,
+                status: 2,
+                used: Accepted::none(alloc),
+            })
         }
     }
+}
+
+/// A report in JSON, one line with an object, with one more member at its end.
+pub(crate) fn with_member(
+    alloc: Global,
+    report: &str,
+    name: &str,
+    value: &str,
+) -> Result<String, AllocError> {
+    let object = report.strip_suffix("}\n").unwrap_or("{");
+    format!(in alloc; "{object},\"{name}\":{value}}}\n")
 }
 
 /// A report with its missing waits: in JSON as a last member of its object, else after it.
@@ -42,10 +57,7 @@ fn with_waits(
 ) -> Result<String, AllocError> {
     let mut text = report;
     match format {
-        AuditFormat::Json => {
-            let object = text.strip_suffix("}\n").unwrap_or("{");
-            format!(in alloc; "{object},\"waits\":{waits}}}\n")
-        }
+        AuditFormat::Json => with_member(alloc, &text, "waits", waits),
         AuditFormat::Text | AuditFormat::Picture | AuditFormat::List | AuditFormat::Keys => {
             text.push_str(waits)?;
             Ok(text)
@@ -66,11 +78,17 @@ fn joined(
     if waits.status == 2 {
         let reason = waits.text;
         let text = format!(in alloc; "{file}: {reason}")?;
-        return Ok(AuditAnswer { text, status: 2 });
+        return Ok(AuditAnswer {
+            text,
+            status: 2,
+            used: Accepted::none(alloc),
+        });
     }
     let status = report.status.max(waits.status);
+    let mut used = report.used;
+    used.add_all(alloc, &waits.used)?;
     let text = with_waits(alloc, format, report.text, &waits.text)?;
-    Ok(AuditAnswer { text, status })
+    Ok(AuditAnswer { text, status, used })
 }
 
 /// What `audit` answers to an input, options, and the events of a file.

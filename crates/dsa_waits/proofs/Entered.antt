@@ -11,7 +11,8 @@ use Rattle.dsa_audit.specs.declared.member.Unseen.TheVariants.{Operation}
 use Rattle.dsa_descriptor.specs.Places.{code_at}
 use Rattle.dsa_recording.specs.declared.stream.Submission.{Submission}
 use Rattle.dsa_recording.specs.Streams.{end_of, ReadsUpTo}
-use Rattle.dsa_recording.specs.Submissions.{head_at, is_fenced}
+use Rattle.dsa_descriptor.specs.Fences.{is_fenced}
+use Rattle.dsa_recording.specs.Submissions.{head_at}
 use Rattle.dsa_waits.specs.declared.course.Course.{Course}
 use Rattle.dsa_waits.specs.declared.course.Entry.{Entry}
 use Rattle.dsa_waits.specs.declared.event.Event.{Event}

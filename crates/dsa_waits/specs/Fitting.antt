@@ -1,5 +1,5 @@
 -- Which events fit a recording, and what is found of both (this project's choice).
-use Rattle.std.specs.Prelude.{ℕ, ◌≡◌, ◌<◌, ◌==◌, nat_lt, not, false, List, [], ◌∷◌, length, map, get_or, Option, Some, None, if◌then◌else◌}
+use Rattle.std.specs.Prelude.{ℕ, ◌≡◌, ◌<◌, ◌==◌, nat_lt, not, List, [], ◌∷◌, length, map, get_or, Option, Some, None, if◌then◌else◌}
 use Rattle.dsa_descriptor.specs.Places.{code_at}
 use Rattle.dsa_audit.specs.Steps.{AreLasts}
 use Rattle.dsa_recording.specs.declared.accepted.Accepted.{Accepted}

@@ -8,7 +8,8 @@ use Rattle.dsa_audit.specs.declared.member.Member.TheVariants.{Known, Unknown}
 use Rattle.dsa_audit.specs.declared.member.Unseen.TheVariants.{Operation}
 use Rattle.dsa_recording.specs.declared.stream.Submission.{Submission}
 use Rattle.dsa_recording.specs.Streams.{end_of}
-use Rattle.dsa_recording.specs.Submissions.{head_at, is_fenced}
+use Rattle.dsa_descriptor.specs.Fences.{is_fenced}
+use Rattle.dsa_recording.specs.Submissions.{head_at}
 use Rattle.dsa_recording.specs.Entries.{IsMember, records_of}
 use Rattle.dsa_waits.specs.declared.course.Course.{Course}
 use Rattle.dsa_waits.specs.declared.course.Entry.{Entry}

@@ -42,18 +42,24 @@ fn found_answer(
         submissions,
         accepted,
     };
+    let mut used = Accepted::none(alloc);
+    used.add_all(alloc, &found.used)?;
     match format {
         AuditFormat::Text | AuditFormat::Picture | AuditFormat::List => {
             let text = waits_text(keyed, found)?;
-            Ok(AuditAnswer { text, status })
+            Ok(AuditAnswer { text, status, used })
         }
         AuditFormat::Json => {
             let text = waits_json(keyed, found)?;
-            Ok(AuditAnswer { text, status })
+            Ok(AuditAnswer { text, status, used })
         }
         AuditFormat::Keys => {
             let text = waits_keys(keyed, found)?;
-            Ok(AuditAnswer { text, status: 0 })
+            Ok(AuditAnswer {
+                text,
+                status: 0,
+                used,
+            })
         }
     }
 }
@@ -76,7 +82,11 @@ pub fn answer_waits(
         Err(StreamFault::Memory) => return Err(AllocError),
         Err(StreamFault::Length | StreamFault::CutOff(_)) => {
             let text = String::from_str(alloc, "error: the recording is cut off\n")?;
-            return Ok(AuditAnswer { text, status: 2 });
+            return Ok(AuditAnswer {
+                text,
+                status: 2,
+                used: Accepted::none(alloc),
+            });
         }
     };
     let (all, _) = bytes.as_chunks::<64>();
@@ -87,7 +97,11 @@ pub fn answer_waits(
         }
         Err(fault) => {
             let text = fault_text(alloc, fault)?;
-            Ok(AuditAnswer { text, status: 2 })
+            Ok(AuditAnswer {
+                text,
+                status: 2,
+                used: Accepted::none(alloc),
+            })
         }
     }
 }

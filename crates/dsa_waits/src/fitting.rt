@@ -14,9 +14,9 @@ use crate::course::Course;
 use crate::event::{Event, Queue};
 use crate::keys::Keyed;
 use crate::lines::{Line, LinesFault, Submitting, read_lines};
-use crate::recorded::{course_of, head_at};
-use crate::search::missing_waits;
-use dsa_recording::{Accepted, Header, Submission};
+use crate::recorded::course_of;
+use crate::search::{Missing, missing_waits};
+use dsa_recording::{Accepted, Header, Submission, head_at};
 use std::alloc::{AllocError, AllocFailed, Global};
 
 /// Why the line of an event does not fit a recording.
@@ -52,6 +52,8 @@ pub struct Found {
     pub waits: Vec<Option<usize>>,
     /// For each the last one for which a wait is missing that is not accepted.
     pub left: Vec<Option<usize>>,
+    /// The accepted keys of all missing waits.
+    pub used: Accepted,
 }
 
 impl From<AllocError> for WaitsFault {
@@ -217,12 +219,12 @@ fn waits_in<'a>(
     submissions: &'a [Submission],
     accepted: &'a Accepted,
     course: &Course,
-) -> Result<Vec<Option<usize>>, AllocError>
+) -> Result<Missing, AllocError>
     requires { IsCourse course.now }
     ensures count { IfOk result
-        (λ waits. length waits.items ≡ length course.now.entries.items) }
-    ensures waits { IfOk result (λ waits. AreLasts
-        (IsLeftWait accepted.now all.now submissions.now course.now) waits.items) }
+        (λ missing. length missing.waits.items ≡ length course.now.entries.items) }
+    ensures waits { IfOk result (λ missing. AreLasts
+        (IsLeftWait accepted.now all.now submissions.now course.now) missing.waits.items) }
 {
     let keyed = Keyed {
         alloc,
@@ -265,7 +267,8 @@ pub fn find_waits(
     let left = waits_in(alloc, all, submissions, accepted, &course)?;
     Ok(Found {
         course,
-        waits,
-        left,
+        waits: waits.waits,
+        left: left.waits,
+        used: left.used,
     })
 }

@@ -22,4 +22,4 @@ pub use keys::Keyed;
 pub use laws::waits_suffice;
 pub use lines::{Line, LinesFault, Submitting, read_lines};
 pub use recorded::course_of;
-pub use search::missing_waits;
+pub use search::{Missing, missing_waits};

@@ -3,7 +3,8 @@
 ghost use Rattle.std.specs.Prelude.{◌≡◌, ◌<◌, ◌≤◌, All, IfOk, OnOk, if◌then◌else◌, length};
 ghost use Rattle.dsa_recording.specs.Entries.{records_of};
 ghost use Rattle.dsa_recording.specs.Streams.{ReadsUpTo, end_of};
-ghost use Rattle.dsa_recording.specs.Submissions.{head_at, is_fenced};
+ghost use Rattle.dsa_descriptor.specs.Fences.{is_fenced};
+ghost use Rattle.dsa_recording.specs.Submissions.{head_at};
 ghost use Rattle.dsa_waits.specs.Recorded.{FitsRecording, IsAccess, IsCourseOf, IsHeadAccess, asks_record, list_spans};
 ghost use Rattle.dsa_waits.specs.RecordedSteps.{AreMade, AreMarked, HasEntries, WithEntries, made_with};
 ghost use Rattle.dsa_waits.specs.Waits.{IsCourse, failed_by, made_before, watched_by};
@@ -13,9 +14,9 @@ use crate::event::{Event, Queue, mark};
 use arrayvec::ArrayVec;
 use bitflags::Flags;
 use dsa_audit::Member;
-use dsa_descriptor::{FlagWord, Span, record_span, u64_at};
+use dsa_descriptor::{FlagWord, Span, is_fenced, record_span, u64_at};
 use dsa_ranges::Touched;
-use dsa_recording::{Header, RECORD_REQUESTED, Submission, member_of};
+use dsa_recording::{Header, RECORD_REQUESTED, Submission, head_at, member_of};
 use std::alloc::{AllocError, Global};
 
 /// Whether the entry asks for a completion record.
@@ -23,24 +24,6 @@ fn asks_record(entry: &[u8; 64]) -> bool
     ensures { result ≡ asks_record entry.now }
 {
     Header::of(entry).flags.contains(RECORD_REQUESTED)
-}
-
-/// Whether the entry has a fence.
-fn is_fenced(entry: &[u8; 64]) -> bool
-    ensures { result ≡ is_fenced entry.now }
-{
-    Header::of(entry).flags.contains(FlagWord::FENCE)
-}
-
-/// The entry of a submission's descriptor.
-pub(crate) fn head_at(submission: Submission) -> usize
-    ensures { result ≡ head_at submission }
-{
-    if submission.is_batch {
-        submission.first.saturating_sub(1)
-    } else {
-        submission.first
-    }
 }
 
 /// What the descriptor of a batch reads: its list, if it asks for a record.

@@ -11,8 +11,9 @@ ghost use Rattle.dsa_waits.specs.Steps.{AreBelow, AreOutstanding, HasSubmission,
 
 use crate::course::{Course, Told, is_told, made_at, told_by};
 use crate::event::{Event, mark};
-use crate::keys::{Keyed, is_accepted};
+use crate::keys::{Keyed, is_accepted, key_of_wait};
 use dsa_audit::{KnownConflicts, Relation, all_lasts};
+use dsa_recording::Accepted;
 use std::alloc::{AllocError, Global};
 
 /// What is in flight after some events.
@@ -24,8 +25,19 @@ struct Flying {
     outstanding: Vec<usize>,
     /// For each of their entries the last one for which a wait is missing.
     waits: Vec<Option<usize>>,
+    /// The accepted keys of missing waits so far.
+    used: Accepted,
     /// Of each submission of the course, whether it has ended.
     ended: Vec<bool>,
+}
+
+/// The missing waits of a course.
+#[derive(Drop)]
+pub struct Missing {
+    /// For each entry the last one for which a wait is missing that is not accepted.
+    pub waits: Vec<Option<usize>>,
+    /// The accepted keys of all missing waits.
+    pub used: Accepted,
 }
 
 /// Whether the earlier of two entries conflicts with the later one so that a wait is not accepted; `last` is the last
@@ -119,6 +131,43 @@ fn push_waits(
     Ok(())
 }
 
+/// Adds the key of the missing wait of an entry for each outstanding one, if it is accepted.
+fn use_waits(
+    used: &mut Accepted,
+    course: &Course,
+    keyed: Keyed<'_>,
+    outstanding: &[usize],
+    entry: usize,
+) -> Result<(), AllocError> {
+    let (all, submissions) = (keyed.all, keyed.submissions);
+    for earlier in outstanding {
+        if let Some(key) = key_of_wait(keyed.alloc, all, submissions, course, *earlier, entry)?
+            && keyed.accepted.has(&key)
+        {
+            used.add(keyed.alloc, &key)?;
+        }
+    }
+    Ok(())
+}
+
+/// Adds the accepted keys of all missing waits of the entries from `from` up to `end`.
+fn use_all_waits(
+    used: &mut Accepted,
+    course: &Course,
+    keyed: Keyed<'_>,
+    outstanding: &[usize],
+    from: usize,
+    end: usize,
+) -> Result<(), AllocError> {
+    if keyed.accepted.keys.is_empty() {
+        return Ok(());
+    }
+    for entry in from..end {
+        use_waits(used, course, keyed, outstanding, entry)?;
+    }
+    Ok(())
+}
+
 /// Adds the entries from `from` up to `end`.
 fn push_entries(outstanding: &mut Vec<usize>, from: usize, end: usize) -> Result<(), AllocError>
     requires rising { IsRising outstanding.old.items }
@@ -181,6 +230,7 @@ impl Flying {
             self.number,
             end,
         )?;
+        use_all_waits(&mut self.used, course, keyed, &self.outstanding, from, end)?;
         push_entries(&mut self.outstanding, from, end)?;
         self.number += 1;
         Ok(())
@@ -220,22 +270,26 @@ pub fn missing_waits(
     alloc: Global,
     course: &Course,
     keyed: Keyed<'_>,
-) -> Result<Vec<Option<usize>>, AllocError>
+) -> Result<Missing, AllocError>
     requires { IsCourse course.now }
     ensures count { IfOk result
-        (λ waits. length waits.items ≡ length course.now.entries.items) }
-    ensures waits { IfOk result (λ waits. AreLasts (IsLeftWait keyed.entry.accepted.now
-        keyed.entry.all.now keyed.entry.submissions.now course.now) waits.items) }
+        (λ missing. length missing.waits.items ≡ length course.now.entries.items) }
+    ensures waits { IfOk result (λ missing. AreLasts (IsLeftWait keyed.entry.accepted.now
+        keyed.entry.all.now keyed.entry.submissions.now course.now) missing.waits.items) }
 {
     let lasts = all_lasts(alloc, &course.members)?;
     let mut flying = Flying {
         number: 0,
         outstanding: Vec::new(alloc),
         waits: Vec::new(alloc),
+        used: Accepted::none(alloc),
         ended: vec![in alloc; false; course.made.len()]?,
     };
     for k in 0..course.events.len() {
         flying.follow(course, keyed, &lasts, k)?;
     }
-    Ok(flying.waits)
+    Ok(Missing {
+        waits: flying.waits,
+        used: flying.used,
+    })
 }

@@ -106,11 +106,15 @@ fn engines_are_woken_in_vain(rt: HostRuntime) -> Result<(), Fail> {
     meet(&rt, alloc, &fences, 200, 3)
 }
 
-/// Refuses the finish of the first piece once the second was finished, whose engine asks for its next piece just then,
-/// after so many pauses. Notes whether the third piece, which is fenced, is taken all the same.
+/// The pieces beside the first one that no fence comes before, each with an engine of its own.
+const OTHERS: u32 = 3;
+
+/// Refuses the finish of the first piece once all others before the fence were finished, whose engines ask for their next
+/// piece just then, each a little later than the one before. Notes whether the piece after the fence is taken all the same.
 #[derive(Drop)]
 struct RefusesFinish {
     pauses: u32,
+    finished: AtomicU32,
     waits: AtomicBool,
     refused: AtomicBool,
     goes_on: AtomicBool,
@@ -137,37 +141,41 @@ impl Gate for RefusesFinish {
     }
 
     fn after(&self, event: &Event) -> Result<(), GateShut> {
-        if event.kind == Kind::Finish && event.piece == 1 {
-            self.waits.store(true, Ordering::SeqCst);
+        if event.piece == OTHERS + 1 {
+            self.goes_on.store(true, Ordering::SeqCst);
+            return Ok(());
+        }
+        if event.kind == Kind::Finish {
+            if self.finished.fetch_add(1, Ordering::SeqCst) + 1 == OTHERS {
+                self.waits.store(true, Ordering::SeqCst);
+            }
             spin_for(&self.refused);
-            for _ in 0..self.pauses {
+            for _ in 0..self.pauses.wrapping_mul(event.piece) {
                 spin_loop();
             }
-        }
-        if event.piece == 2 {
-            self.goes_on.store(true, Ordering::SeqCst);
         }
         Ok(())
     }
 }
 
 /// If a refused finish were done all the same, an engine could take what comes after the fence before the room is
-/// halted. That takes less than a microsecond, so it is tried often, with the other engine a little later each time.
+/// halted. That takes less than a microsecond, so three engines ask for it, and it is tried with many pauses.
 #[test]
 fn a_refused_finish_is_not_done(rt: HostRuntime) -> Result<(), Fail> {
     let alloc = rt.alloc();
-    let fences = [false, false, true];
+    let fences = [false, false, false, false, true];
     let moves = moves_apart(alloc, &fences)?;
     let image = image_of(vec![in alloc; 1u8; 1024]?)?;
     let plan = batch(alloc, &fences)?;
-    for turn in 0..240u32 {
+    for turn in 0..400u32 {
         let gate = RefusesFinish {
-            pauses: turn % 60,
+            pauses: turn % 40,
+            finished: AtomicU32::new(0),
             waits: AtomicBool::new(false),
             refused: AtomicBool::new(false),
             goes_on: AtomicBool::new(false),
         };
-        let ended = run_plan(&rt, alloc, &image, &plan, &moves, 2, &gate)?;
+        let ended = run_plan(&rt, alloc, &image, &plan, &moves, 4, &gate)?;
         assert!(rt; matches!(ended, Err(RoomFault::GateShut)));
         assert!(rt; !gate.goes_on.load(Ordering::SeqCst));
     }

@@ -7,6 +7,7 @@ use Rattle.dsa_recording.proofs.ListingLines.{report_entries}
 use Rattle.dsa_recording.proofs.Status.{reported}
 use Rattle.dsa_recording.proofs.Summed.{has_sums}
 use Rattle.dsa_recording.proofs.Within.{within}
+use Rattle.dsa_recording.specs.Submissions.{AreAudited}
 use Rattle.dsa_recording.proofs.answer.audit_bytes.Goals as goal
 
 pub answer_report-requires-clause-sums : goal.answer_report-requires-clause-sums
@@ -28,3 +29,10 @@ pub returns-in-Ok : goal.returns-in-Ok
 returns-in-Ok c =
     reported c.answer_report.result c.args.options c.args.bytes.now c.as_chunks.result.0.now (reported_by c.in-Ok.report) c.as_chunks.ensures.front
     c.in-Ok.ensures.answer c.answer_report.ensures
+
+pub answer_report-requires-clause-audited : goal.answer_report-requires-clause-audited
+answer_report-requires-clause-audited c = (
+  terms c.args.options.accepted.now c.args.options.assumptions,
+  subst (λ es. AreAudited (terms c.args.options.accepted.now c.args.options.assumptions) es c.in-Ok.report.submissions.items c.in-Ok.report.audits.items) (sym c.as_chunks.ensures.front)
+      c.in-Ok.ensures.answer.audits,
+)

@@ -1,5 +1,5 @@
 use Rattle.std.proofs.Common.{◌≡◌, ◌++◌, map, drop}
-use Rattle.dsa_recording.specs.Submissions.{is_fenced}
+use Rattle.dsa_descriptor.specs.Fences.{is_fenced}
 use Rattle.dsa_recording.proofs.submission.fences_of.Given as goal
 
 -- the fences so far, and those of what is left, are all

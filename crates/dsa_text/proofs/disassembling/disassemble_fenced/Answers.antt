@@ -1,18 +1,21 @@
-use Rattle.std.proofs.Common.{map, ap, sym, ◌∙◌}
+use Rattle.std.proofs.Common.{map, ap, subst, ◌∙◌}
 use Rattle.std.specs.Prelude.{string_bytes}
+use Rattle.std.proofs.lemmas.Result.{IfOk-weaker}
 use Rattle.dsa_descriptor.specs.Descriptors.{fields}
+use Rattle.dsa_calls.specs.declared.fault.PlanFault.{PlanFault}
 use Rattle.dsa_lines.specs.Barriers.{marked_text}
-use Rattle.dsa_text.specs.Disassembled.{is_listed}
-use Rattle.dsa_text.proofs.Fenced.{refused_fenced}
+use Rattle.dsa_text.specs.Refusals.{IsRefusal}
+use Rattle.dsa_text.specs.Disassembled.{is_listed, is_refused}
 use Rattle.dsa_text.proofs.disassembling.disassemble_fenced.Goals as goal
 
-pub returns-in-Ok : goal.returns-in-Ok
-returns-in-Ok c =
+pub returns-in_ok-text-in-Ok : goal.returns-in_ok-text-in-Ok
+returns-in_ok-text-in-Ok c =
     let found = c.in-Ok.ensures.found in
-    is_listed c.in-Ok.operations.items (record { spelled = sym (c.deref.ensures.value ∙ c.in_ok-plain.ensures) ∙ found.0; owner = found.1 }) c.done.ensures.status
-    (ap string_bytes c.done.ensures.text ∙ c.in_ok-text_with_barriers-in-Ok.ensures
-    ∙ (λ i. marked_text (map fields (c.deref-in-Ok.ensures.value i)) ((c.deref-in-Ok-2.ensures.value ∙ c.in_ok-fences.ensures) i)))
+    is_listed c.in-Ok.read.descriptors.items (record { spelled = found.0; owner = found.1 }) c.done.ensures.status
+    (ap string_bytes c.done.ensures.text ∙ c.in_ok-text-in-Ok.ensures
+    ∙ (λ i. marked_text (map fields (c.deref.ensures.value i)) ((c.deref-in-Ok.ensures.value ∙ c.in-Ok.ensures.barriers) i)))
 
-pub returns : goal.returns
-returns c =
-    refused_fenced c.fault.result c.args.list.now c.deref.result.now c.in-Err.fault c.from.result (c.deref.ensures.value ∙ c.in_ok-plain.ensures) c.from.ensures c.in-Err.ensures.fault c.fault.ensures
+pub returns-in-Err : goal.returns-in-Err
+returns-in-Err c =
+    IfOk-weaker c.fault.result _ _
+    (λ a x. is_refused c.in-Err.fault c.in-Err.ensures.fault (subst (λ (f : PlanFault). IsRefusal f a) c.from.ensures x)) c.fault.ensures

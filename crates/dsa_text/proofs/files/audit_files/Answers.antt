@@ -9,5 +9,5 @@ pub returns-in-Ok : goal.returns-in-Ok
 returns-in-Ok c none =
     let settle = rw c.in-Ok.is at c.in_ok-settings.ensures in
     IfOk-weaker c.audit_named.result _ _ (λ status h.
-    files_weaker (AnswersInput c.in-Ok.options) (AuditsInput c.args.matches.now c.args.given) (length c.args.names.now) status
+    files_weaker c.args.matches.now (AnswersInput c.in-Ok.options) (AuditsInput c.args.matches.now c.args.given) (length c.args.names.now) status
     (as_audited c.args.matches.now c.args.given c.in-Ok.options none settle) h) c.audit_named.ensures

@@ -1,4 +1,4 @@
-use Rattle.std.proofs.Common.{Bool, List, Ok, Err, subst, refl, map}
+use Rattle.std.proofs.Common.{Bool, List, Ok, subst, refl, map}
 use Rattle.dsa_descriptor.specs.Descriptors.{fields}
 use Rattle.dsa_calls.specs.Fenced.{PlansWith}
 use Rattle.dsa_calls.specs.Planned.{submission_of}

@@ -1,4 +1,3 @@
-use Rattle.std.specs.Prelude.{string_bytes}
 use Rattle.dsa_text.proofs.WhatIsLeft.{named_refusal}
 use Rattle.dsa_text.proofs.resuming.fault_answer.Goals as goal
 

@@ -1,5 +1,3 @@
-use Rattle.std.proofs.Common.{◌≡◌, inl, inr, map}
-use Rattle.dsa_descriptor.specs.Descriptors.{fields}
 use Rattle.dsa_resume.specs.Rest.{remainder_of}
 use Rattle.dsa_text.specs.Refusals.{RefusesText}
 use Rattle.dsa_text.specs.Resumed.{IsResumeRefusal, IsRestText, ResumesText, has_left, is_no_list, is_refused}

@@ -32,7 +32,7 @@ returns-clause-ok c =
       fitted = record { fit = f.fit; queues_are = f.queues_are; events_are = refl };
       recorded = recorded;
       count = c.in_ok-waits.ensures.count ∙ recorded.entries;
-      missing = unaccepted c.none-none.result c.args.all.now c.args.submissions.now c.in_ok-course.course c.in_ok-waits.waits.items c.none-none.ensures c.in_ok-waits.ensures.waits;
+      missing = unaccepted c.none-none.result c.args.all.now c.args.submissions.now c.in_ok-course.course c.in_ok-waits.waits.waits.items c.none-none.ensures c.in_ok-waits.ensures.waits;
       count_left = c.in_ok-left.ensures.count ∙ recorded.entries;
       left = c.in_ok-left.ensures.waits;
     }

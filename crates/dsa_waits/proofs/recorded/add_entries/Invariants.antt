@@ -1,5 +1,6 @@
 use Rattle.std.proofs.Common.{◌≡◌, ℕ, ◌<◌, ◌≤◌, ◌⊎◌, true, false}
-use Rattle.dsa_recording.specs.Submissions.{head_at, is_fenced}
+use Rattle.dsa_descriptor.specs.Fences.{is_fenced}
+use Rattle.dsa_recording.specs.Submissions.{head_at}
 use Rattle.dsa_waits.specs.Recorded.{bytes_of}
 use Rattle.dsa_waits.specs.RecordedSteps.{WithEntries}
 use Rattle.dsa_waits.proofs.recorded.add_entries.Given as goal

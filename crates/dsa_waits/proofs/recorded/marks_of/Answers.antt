@@ -1,5 +1,4 @@
 use Rattle.std.proofs.Common.{ℕ, Option, refl, subst}
-use Rattle.dsa_waits.specs.declared.event.Event.TheVariants.{Submitted}
 use Rattle.dsa_waits.specs.Steps.{Marks}
 use Rattle.dsa_waits.specs.Waits.{failed_by, watched_by}
 use Rattle.dsa_waits.proofs.Entered.{marked_more}

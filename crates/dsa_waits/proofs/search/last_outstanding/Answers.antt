@@ -1,4 +1,4 @@
-use Rattle.std.proofs.Common.{◌≡◌, ℕ, ◌-◌, ◌<◌, false, true, length, get_or, Some, None, sym, subst, ◌∙◌, arith}
+use Rattle.std.proofs.Common.{◌≡◌, ◌-◌, ◌<◌, false, true, length, get_or, None, sym, subst, ◌∙◌, arith}
 use Rattle.dsa_audit.specs.Members.{KnownConflict}
 use Rattle.dsa_conflicts.specs.Access.{IsGreatest}
 use Rattle.dsa_waits.specs.Keys.{IsLeftConflict}

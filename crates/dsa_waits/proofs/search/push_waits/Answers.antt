@@ -1,4 +1,4 @@
-use Rattle.std.proofs.Common.{◌∷◌, [], List, length, length-append, get_or, None, sym, ap, subst, arith}
+use Rattle.std.proofs.Common.{◌∷◌, [], length, length-append, get_or, None, sym, ap, subst, arith}
 use Rattle.std.proofs.lemmas.Option.{slice_get-get_or}
 use Rattle.dsa_audit.specs.Steps.{AreLasts}
 use Rattle.dsa_audit.proofs.LastConflicts.{more_lasts}

@@ -17,7 +17,7 @@ returns c =
     ∙ told_same c.args.course.now flags (has_ended c.args.course.now c.args.k) (event_at c.args.course.now c.args.k) (c.requires.course.fit c.args.k c.requires.within)
     (λ n lt. ap (λ (xs : List Bool). get_or xs n false) c.deref.ensures.value ∙ c.requires.sofar.ended n lt) in
     told c.args.keyed.accepted.now c.args.keyed.all.now c.args.keyed.submissions.now c.args.course.now c.args.k c.args.self.now c.requires.course c.requires.within c.requires.sofar
-    (record { number = c.args.self.now.number; outstanding = c.drop_told.new.outstanding; waits = c.args.self.now.waits; ended = c.mark.new.flags })
+    (record { number = c.args.self.now.number; outstanding = c.drop_told.new.outstanding; waits = c.args.self.now.waits; used = c.args.self.now.used; ended = c.mark.new.flags })
     (λ is. c.if-made_by-eq1.false (c.made_by.ensures ∙ ap is_made at ∙ is)) refl refl
     (subst (λ (t : Told). c.drop_told.new.outstanding.items ≡ filter (λ e. not (is_told c.args.course.now t e)) c.args.self.now.outstanding.items)
     tells c.drop_told.ensures)

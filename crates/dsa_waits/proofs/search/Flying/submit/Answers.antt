@@ -50,7 +50,7 @@ returns c =
     let E : c.made_at-end.result.end ≡ (made_at c.args.course.now.made.items c.args.self.now.number).end =
     ap (λ m. m.end) c.made_at-end.ensures ∙ ap (λ (made : List Made). (made_at made c.args.self.now.number).end) c.deref.ensures.value in
     submitted c.args.keyed.accepted.now c.args.keyed.all.now c.args.keyed.submissions.now c.args.course.now c.args.k c.args.self.now c.requires.course c.requires.within c.requires.sofar
-    (record { number = c.args.self.now.number + 1; outstanding = c.push_entries.new.outstanding; waits = c.push_waits.new.waits; ended = c.args.self.now.ended }) c.requires.event refl
+    (record { number = c.args.self.now.number + 1; outstanding = c.push_entries.new.outstanding; waits = c.push_waits.new.waits; used = c.use_all_waits.new.used; ended = c.args.self.now.ended }) c.requires.event refl
     (c.in_ok-push_waits.ensures.count ∙ E) c.in_ok-push_waits.ensures.waits
     (subst (λ (n : ℕ). WithRange c.args.self.now.outstanding.items (length c.args.self.now.waits.items) n c.push_entries.new.outstanding.items) E
     (subst (λ (n : ℕ). WithRange c.args.self.now.outstanding.items n c.made_at-end.result.end c.push_entries.new.outstanding.items) (c.len-from.ensures ∙ c.args.self.now.waits.ok.0)

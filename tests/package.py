@@ -181,7 +181,7 @@ def debian():
     tried("Python from the Debian package", "python3", "-c", "import dsa_planner", **module)
     pages = {path.name for path in root.rglob("*.gz")}
     wanted = {f"{name}.1.gz" for name in ("dsa", "dsa_jobs", "dsa_text", "dsa_trace", "dsa_prices")}
-    expect(pages == wanted | {"dsa_planner.3.gz"}, f"the Debian package has the pages {pages}")
+    expect(pages == wanted | {"dsa_planner.3.gz", "dsa_queue.3.gz"}, f"the Debian package has the pages {pages}")
     tried("dpkg --purge", *dpkg, "--purge", "dsa-planner", **tools)
     rest = {path for path in {*root.rglob("*")} - before if "var/lib/dpkg" not in str(path)}
     expect(not rest, f"dpkg --purge leaves {rest}")
@@ -199,6 +199,9 @@ def symbols():
         notes = tried("readelf", "readelf", "-SW", library / file)
         stack = re.findall(r"\.note\.GNU-stack.*", notes)
         expect(stack and not any(" X " in note for note in stack), f"{file} asks for an executable stack")
+    listed = tried("nm", "nm", "-g", "--defined-only", library / "libdsa_queue.a")
+    defined = set(re.findall(r" [A-TV-Z] (\S+)", listed))
+    expect(defined == set(make.exported(make.QUEUE / "dsa_queue.h")), f"libdsa_queue.a defines {defined}")
     shared = library / "libdsa_planner.so.1"
     dynamic = set(re.findall(r" [B-TV-Z] (\S+?)(?:@|$)", tried("nm", "nm", "-D", "--defined-only", shared), re.M))
     expect(dynamic == names, f"the shared object exports {dynamic}")
@@ -220,7 +223,7 @@ def pages():
         return
     shown = {}
     programs = ("dsa", "dsa_jobs", "dsa_text", "dsa_trace", "dsa_prices")
-    for page in (*(f"man1/{name}.1" for name in programs), "man3/dsa_planner.3"):
+    for page in (*(f"man1/{name}.1" for name in programs), "man3/dsa_planner.3", "man3/dsa_queue.3"):
         source = Path(FOLDER, Path(page).name)
         source.write_bytes(gzip.decompress(Path(PREFIX, f"share/man/{page}.gz").read_bytes()))
         end = ran("man", "--warnings", "-l", source, MANWIDTH="200", LC_ALL="C.UTF-8")
@@ -230,6 +233,7 @@ def pages():
     words["man1/dsa_text.1"] = ["--greatest-batch", "--svg", "--at", "dualcast"]
     words["man1/dsa_jobs.1"] = ["no arguments", "67,108,864", "before it reads on"]
     words |= {"man1/dsa_trace.1": ["--seeds", "--no-namespace"], "man1/dsa_prices.1": ["--options"]}
+    words["man3/dsa_queue.3"] = [*make.exported(make.QUEUE / "dsa_queue.h"), "dsa_list_check"]
     for page, wanted in words.items():
         missing = [word for word in wanted if word not in shown[page]]
         expect(not missing, f"{page} does not say {missing}")
@@ -282,6 +286,14 @@ def device():
     words = ["cc", "-O2", "-mmovdir64b", EXAMPLES / "publish.c", *linking("dsa_planner_static"), "-o", "publish"]
     tried("the build of the example with a barrier", *words)
     tried("a list that publishes", trace, "--", "./publish", "right", printed="published\n")
+    words = ["cc", *STRICT, EXAMPLES / "queue_journal.c", *linking("dsa_queue"), "-o", "queue_journal"]
+    tried("the build of the example of a queue", *words)
+    for how in ("right", "wrong"):
+        words = [trace, "--audit", "--seeds", 5, "--", "./queue_journal", how]
+        tried(f"a journal that is {how}", *words, LD_LIBRARY_PATH=f"{PREFIX}/lib")
+    words = ["cc", *STRICT, "-D_GNU_SOURCE", EXAMPLES / "queue_threads.c", *linking("dsa_queue"), "-o", "queue_threads"]
+    tried("the build of the example of threads", *words)
+    tried("threads on a queue", trace, "--audit", "--", "./queue_threads", LD_LIBRARY_PATH=f"{PREFIX}/lib")
     refused("a missing wait", ["missing wait, read after write"], trace, "--audit", "--", "./ordered", "wait")
     if not Path("/dev/dsa").exists():
         refused("prices without a device", ["there is no such queue"], prices)
@@ -355,7 +367,8 @@ def cmake():
         return
     folder = Path(FOLDER, "cmake")
     folder.mkdir()
-    for source in (ROOT / "tests/package/CMakeLists.txt", EXAMPLES / "rows.c", EXAMPLES / "own_memory.c"):
+    sources = [EXAMPLES / f"{name}.c" for name in ("rows", "own_memory", "queue_journal")]
+    for source in (ROOT / "tests/package/CMakeLists.txt", *sources):
         shutil.copy(source, folder)
     shutil.copy(EXAMPLES / "rows.c", folder / "rows.cpp")
     where = f"-DCMAKE_PREFIX_PATH={PREFIX}"
@@ -363,6 +376,7 @@ def cmake():
     tried("cmake --build", "cmake", "--build", folder / "out")
     for name in ("rows_shared", "rows_static", "rows_cxx_shared", "rows_cxx_static"):
         tried(f"{name} by CMake", folder / "out" / name, ROWS, printed=WANTED)
+    tried("the journal by CMake", f"{PREFIX}/bin/dsa_trace", "--", folder / "out/queue_journal", "right")
     tried("own_memory by CMake", folder / "out/own_memory", printed=Path("bindings/c/own_memory.stdout").read_text())
     text = (folder / "CMakeLists.txt").read_text()
     major, minor, _ = make.version()

@@ -6,6 +6,7 @@ _dsa_trace()
     for ((at = 1; at < COMP_CWORD; at++)); do
         case ${COMP_WORDS[at]} in
             --out | --seed | --seeds | --order | --delay | --retry | --fault | --watch | --queue) ((at++)) ;;
+            --accept | --await | --deny | --junit | --report | --timeout) ((at++)) ;;
             --) ((at++)); break ;;
             -*) ;;
             *) break ;;
@@ -18,12 +19,16 @@ _dsa_trace()
     case $before in
         --order) COMPREPLY=($(compgen -W "fifo members data all" -- "$word")) ;;
         --queue) COMPREPLY=($(compgen -W "dedicated,16,name shared,16,name" -- "$word")) ;;
-        --out) COMPREPLY=($(compgen -d -- "$word")) ;;
-        --seed | --seeds | --delay | --retry | --fault | --watch) ;;
+        --out | --report) COMPREPLY=($(compgen -d -- "$word")) ;;
+        --accept | --junit) COMPREPLY=($(compgen -f -- "$word")) ;;
+        --await) COMPREPLY=($(compgen -W "writes signals batches" -- "$word")) ;;
+        --deny) COMPREPLY=($(compgen -W "needless guarding signalling unseen" -- "$word")) ;;
+        --seed | --seeds | --delay | --retry | --fault | --timeout | --watch) ;;
         *)
             if [[ $word == -* ]]; then
-                COMPREPLY=($(compgen -W "--audit --cpuid --delay --fault --help --no-namespace --no-wait --no-watch
-                    --order --out --queue --retry --seed --seeds --signals --verbose --watch" -- "$word"))
+                COMPREPLY=($(compgen -W "--accept --audit --await --cpuid --delay --deny --fault --help --json
+                    --junit --no-namespace --no-wait --no-watch --order --out --queue --report --resident --retry
+                    --seed --seeds --signals --timeout --verbose --watch --write-accept" -- "$word"))
             else
                 COMPREPLY=($(compgen -c -- "$word"))
             fi

@@ -28,13 +28,16 @@ import rows
 HERE = Path(__file__).resolve().parent
 ROOT = HERE.parent.parent
 HEADER = ROOT / "bindings/c/dsa_planner.h"
+QUEUE = ROOT / "bindings/queue"
+# The layer, and the device in software that it shares with dsa_trace.
+QUEUE_OF = [*sorted(QUEUE.glob("*.c")), *(ROOT / f"trace/{name}.c" for name in ("crc", "device", "dif", "valid"))]
 PROVED = {
     "libdsa_c.a": ROOT / "crates/dsa_c/out/libdsa_c.a",
     "dsa": ROOT / "crates/dsa/out/dsa",
     "dsa_jobs": ROOT / "crates/dsa_jobs/out/dsa_jobs",
     "dsa_text": ROOT / "crates/dsa_text/out/dsa_text",
 }
-COMPILE = ["-std=c11", "-O2", "-fPIC", "-Wall", "-Wextra", "-Werror", "-ffunction-sections"]
+COMPILE = ["-std=c11", "-D_GNU_SOURCE", "-O2", "-fPIC", "-Wall", "-Wextra", "-Werror", "-ffunction-sections"]
 HARDEN = ["-Wl,-z,relro,-z,now,-z,noexecstack,-z,defs,-z,text"]
 # Where the package has its files, unpacked anywhere or installed by dpkg.
 ANYWHERE = {"prefix": "${pcfiledir}/../..", "lib": "lib", "python": "share/dsa-planner/python"}
@@ -61,9 +64,9 @@ def version():
     return tuple(map(int, found))
 
 
-def exported():
+def exported(header=HEADER):
     """The functions that callers may use."""
-    return sorted(set(re.findall(r"^(?:uint32_t|uint64_t) (dsa_\w+)\(", HEADER.read_text(), re.M)))
+    return sorted(set(re.findall(r"^(?!static)\w[\w ]*[ *](dsa_\w+)\(", header.read_text(), re.M)))
 
 
 def need_proved(*files):
@@ -77,26 +80,39 @@ def need_proved(*files):
     return {name: (kit, summed) for name, kit, summed in map(str.split, ran.stdout.splitlines())}
 
 
+def compiled(source, to):
+    """Compiles a file in C; answers the object."""
+    made = f"{to}/{source.stem}.o"
+    flags = [*COMPILE, f"-ffile-prefix-map={ROOT}=.", "-I", HEADER.parent, "-I", ROOT / "trace"]
+    run(os.environ.get("CC", "cc"), *flags, "-c", source, "-o", made)
+    return made
+
+
+def archive(to, objects, names, work):
+    """An archive of one object, in which all but these names are hidden."""
+    joined = f"{work}/{to.stem.removeprefix('lib')}.o"
+    run("ld", "-r", "-o", joined, *objects)
+    run("objcopy", *(f"--keep-global-symbol={name}" for name in names), "--remove-section=.llvm_addrsig", joined)
+    run("ar", "rcsD", to, joined)
+
+
 def libraries(to):
-    """Both archives and the shared object. Each archive has one object, in which all but the header's names are hidden."""
+    """Both archives of the planner, its shared object, and the archive of the queue."""
     numbers, names = version(), exported()
     with tempfile.TemporaryDirectory() as work:
-        for source in ("memory", "version"):
-            flags = [*COMPILE, "-ffile-prefix-map=" + str(ROOT) + "=.", "-I", HEADER.parent]
-            run(os.environ.get("CC", "cc"), *flags, "-c", HEADER.parent / f"{source}.c", "-o", f"{work}/{source}.o")
+        memory, of_version = (compiled(HEADER.parent / f"{source}.c", work) for source in ("memory", "version"))
         run("ar", "x", PROVED["libdsa_c.a"], cwd=work)
-        for name, members in {"": ["dsa_c.o", "memory.o", "version.o"], "_own_memory": ["dsa_c.o", "version.o"]}.items():
-            joined = f"{work}/dsa_planner{name}.o"
-            run("ld", "-r", "-o", joined, *(f"{work}/{member}" for member in members))
-            keep = [f"--keep-global-symbol={symbol}" for symbol in names]
-            run("objcopy", *keep, "--remove-section=.llvm_addrsig", joined)
-            run("ar", "rcsD", to / f"libdsa_planner{name}.a", joined)
+        for name, more in {"": [memory], "_own_memory": []}.items():
+            archive(to / f"libdsa_planner{name}.a", [f"{work}/dsa_c.o", *more, of_version], names, work)
         shared = to / f"libdsa_planner.so.{'.'.join(map(str, numbers))}"
         soname = f"libdsa_planner.so.{numbers[0]}"
         script = [f"-Wl,-soname,{soname}", f"-Wl,--version-script={HERE}/dsa_planner.map"]
-        linked = [f"{work}/{name}.o" for name in ("dsa_c", "memory", "version")]
+        linked = [f"{work}/dsa_c.o", memory, of_version]
         run(os.environ.get("CC", "cc"), "-shared", *script, *HARDEN, *linked, "-o", shared)
         run("strip", "--strip-unneeded", shared)
+    with tempfile.TemporaryDirectory() as work:
+        objects = [compiled(source, work) for source in QUEUE_OF]
+        archive(to / "libdsa_queue.a", objects, exported(QUEUE / "dsa_queue.h"), work)
     (to / soname).symlink_to(shared.name)
     (to / "libdsa_planner.so").symlink_to(soname)
 
@@ -111,6 +127,9 @@ def device(root):
         for name, place in places.items():
             run("strip", "--strip-unneeded", f"{work}/{name}")
             shutil.copy(f"{work}/{name}", root / place)
+    shared = root / "share/dsa-planner"
+    shared.mkdir(parents=True, exist_ok=True)
+    shutil.copy(ROOT / "trace/libdsa_trace.supp", shared)
 
 
 def filled(template, **values):
@@ -122,15 +141,18 @@ def build_files(to, places):
     """What pkg-config and CMake look for."""
     numbers = version()
     common = {"version": ".".join(map(str, numbers)), "major": numbers[0], **places}
-    archive = "${libdir}/lib%s.a"
+    in_archive = "${libdir}/lib%s.a"
     kinds = {
         "dsa_planner": ("the shared object", "-L${libdir} -ldsa_planner"),
-        "dsa_planner_static": ("the archive", archive % "dsa_planner"),
+        "dsa_planner_static": ("the archive", in_archive % "dsa_planner"),
         "dsa_planner_own_memory": ("the archive for programs with memory functions of their own", None),
     }
     for name, (what, libs) in kinds.items():
-        text = filled("pkgconfig.in", name=name, what=what, libs=libs or archive % name, **common)
+        text = filled("pkgconfig.in", name=name, what=what, libs=libs or in_archive % name, requires="", **common)
         write(to / f"pkgconfig/{name}.pc", text)
+    what, libs = "lists on a work queue, experimental", in_archive % "dsa_queue" + " -pthread"
+    text = filled("pkgconfig.in", name="dsa_queue", what=what, libs=libs, requires="Requires: dsa_planner\n", **common)
+    write(to / "pkgconfig/dsa_queue.pc", text)
     up = "/".join([".."] * (len(Path(places["lib"]).parts) + 2))
     write(to / "cmake/dsa_planner/dsa_planner-config.cmake", filled("config.cmake.in", up=up, **common))
     write(to / "cmake/dsa_planner/dsa_planner-config-version.cmake", filled("config-version.cmake.in", **common))
@@ -177,7 +199,7 @@ compiled them. Their SHA-256 sums:
 libdsa_planner.a, libdsa_planner_own_memory.a and libdsa_planner.so have the code of libdsa_c.a as it is. Not proved, and
 in this package beside it: memory.c (three functions over malloc, realloc and free; not in libdsa_planner_own_memory.a),
 version.c (one function), the Rust crate, the Python module, and that a caller in C keeps what dsa_planner.h asks of it.
-Nor are dsa_trace, its library and dsa_prices.
+Nor are libdsa_queue.a, dsa_trace, its library and dsa_prices.
 
 Promises, for all inputs, with the functions whose clauses carry them:
 
@@ -196,7 +218,7 @@ def tree(root, places, records):
         copied = Path(shutil.copy(PROVED[name], root / "bin" / name))
         if hashlib.sha256(copied.read_bytes()).hexdigest() != records[name][1]:
             sys.exit(f"make.py: {name} changed while it was packaged")
-    for header in (HEADER, HEADER.parent / "dsa_descriptors.h"):
+    for header in (HEADER, HEADER.parent / "dsa_descriptors.h", QUEUE / "dsa_queue.h"):
         shutil.copy(header, root / "include")
     libraries(library)
     device(root)
@@ -206,7 +228,7 @@ def tree(root, places, records):
     write(root / "share/bash-completion/completions/dsa_text", script)
     write(docs / "PROVED", proved(records))
     shutil.copy(HERE / "dsa_trace.bash", root / "share/bash-completion/completions/dsa_trace")
-    schemas = [f"{name}.schema.json" for name in ("jobs", "explain", "audit")]
+    schemas = [f"{name}.schema.json" for name in ("jobs", "explain", "audit", "runs")]
     for page in ("USING.md", "FORMATS.md", "PRICES.md", "SPEED.md", "PROOF.md", *schemas):
         shutil.copy(ROOT / f"docs/{page}", docs)
     for page in ("README.md", "CHANGELOG.md"):
@@ -227,7 +249,8 @@ def manuals(to, numbers):
         "dsa.1": manual.dsa(head),
         "dsa_jobs.1": manual.dsa_jobs(head),
         "dsa_text.1": manual.dsa_text(head, str(PROVED["dsa_text"])),
-        "dsa_planner.3": manual.dsa_planner(head),
+        "dsa_planner.3": manual.of_header(head, "bindings/c/dsa_planner.h", "dsa", "dsa_text"),
+        "dsa_queue.3": manual.of_header(head, "bindings/queue/dsa_queue.h", "dsa_planner", "dsa_trace"),
         "dsa_trace.1": filled("dsa_trace.1", **head),
         "dsa_prices.1": filled("dsa_prices.1", **head),
     }
@@ -241,7 +264,7 @@ def examples(to):
     """Examples of the calls, of jobs, of operations as text and of recordings, and rows for tests of a caller's own, with three readers."""
     for name in ("two_moves.c", "own_memory.c", "submit.c", "ring.c", "tracker.c", "in_flight.c"):
         shutil.copy(ROOT / "bindings/c" / name, to)
-    for names in ("*.job", "trace/*.c", "barrier/*.c"):
+    for names in ("*.job", "trace/*.c", "barrier/*.c", "queue/*.c"):
         for path in (ROOT / "examples").glob(names):
             shutil.copy(path, to)
     for folder, endings in (("text", ["txt"]), ("barrier", ["txt", "svg"]), ("audit", ["xxd", "events"])):

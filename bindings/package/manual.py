@@ -176,32 +176,41 @@ def options(text):
     return "\n".join(out) + "\n"
 
 
-def dsa_planner(head):
-    """dsa_planner(3), from the comments of the header and what follows each."""
-    header = (ROOT / "bindings/c/dsa_planner.h").read_text()
+def of_header(head, path, *see):
+    """A page of section 3, from the comments of a header and what follows each."""
+    header, title = (ROOT / path).read_text(), Path(path).stem
     blocks = re.findall(r"^/\*(.*?)\*/\n(.*?)(?=^/\*|\Z)", header, re.M | re.S)
     about, rest = blocks[0][0], blocks[1:]
-    name, about = re.match(r"\s*\* dsa_planner\.h: (.*?)\n \*\n(.*)", about, re.S).groups()
+    name, about = re.match(rf"\s*\* {title}\.h: (.*?)\n \*\n(.*)", about, re.S).groups()
     calls = []
     for comment, code in rest:
         code = re.sub(r"^#ifdef __cplusplus\n#define.*?^#else\n", "", code, flags=re.M | re.S)
+        code = re.sub(r"^static inline (.*?)\n\{.*?^\}\n\n?", r"\1;\n", code, flags=re.M | re.S)
         code = re.sub(r"^#(ifdef|else|endif|if).*\n|^extern \"C\" \{\n|^}\n", "", code, flags=re.M).strip("\n")
         if code:
             calls.append("\n".join(shown(code.split("\n"))) + "\n" + paragraphs(comment))
-    return PAGE.format(title="DSA_PLANNER", section=3, **head) + sections(
-        NAME=plain(f"dsa_planner - {name.split(',')[0]}") + "\n",
-        SYNOPSIS=".B #include <dsa_planner.h>\n",
+    sections_of = {"dsa_planner": 3}
+    return PAGE.format(title=title.upper(), section=3, **head) + sections(
+        NAME=plain(f"{title} - {name.split(',')[0].rstrip('.')}") + "\n",
+        SYNOPSIS=f".B #include <{title}.h>\n",
         DESCRIPTION=paragraphs(about),
         CALLS="".join(calls),
-        SEE_ALSO=".BR dsa (1),\n.BR dsa_text (1)\n",
+        SEE_ALSO=",\n".join(f".BR {other} ({sections_of.get(other, 1)})" for other in see) + "\n",
     )
 
 
 def paragraphs(comment):
-    """A comment of C: its paragraphs, its lists, and the lines that begin with a word and a colon as tags."""
+    """A comment of C: its paragraphs, its lists, code that is indented after an empty line, and the lines that begin with
+    a word and a colon as tags."""
     out, is_open, in_tag = [], False, False
-    for line in comment.strip().split("\n"):
-        line = re.sub(r"^ ?\* ?", "", line).rstrip()
+    lines = [re.sub(r"^ ?\* ?", "", line).rstrip() for line in comment.strip().split("\n")]
+    while lines:
+        if not is_open and lines[0].startswith("  ") and not lines[0].startswith("  - "):
+            end = lines.index("") if "" in lines else len(lines)
+            out += shown(line[2:] for line in lines[:end])
+            lines = lines[end:]
+            continue
+        line = lines.pop(0)
         tag = re.match(r"([A-Z]\w+): +(.*)", line)
         words = line.strip()
         if not words:

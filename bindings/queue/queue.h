@@ -1,0 +1,156 @@
+/* What the files of the layer share. open.c opens a queue, room.c has its memory and its lists, list.c adds operations,
+ * run.c plans and submits, flight.c has several lists in flight, portal.c writes entries and waits for them, software.c
+ * does them without a device, fault.c goes on after a failure, and why.c says how a list has ended. */
+#ifndef QUEUE_H
+#define QUEUE_H
+
+#include <pthread.h>
+#include <stdatomic.h>
+#include <stdbool.h>
+
+#include "dsa_queue.h"
+
+enum { PAGE = 4096, MOST_LISTS = 64, RECORD = 32, ENTRY = 64 };
+enum { STATUS_SUCCESS = 1, STATUS_CHECK = 2, STATUS_FAULT = 3, STATUS_FAULT_BLOCKED = 4 };
+enum { STATUS_BATCH = 5, STATUS_BATCH_FAULT = 6, IS_WRITE = 0x80 };
+enum { OPCODE_BATCH = 1, OPCODE_MOVE = 3, OPCODE_FILL = 4, OPCODE_COMPARE = 5, OPCODE_COMPARE_PATTERN = 6,
+       OPCODE_DELTA = 8, OPCODE_DUALCAST = 9 };
+
+/* Why a list was refused, or has failed; the sentences are in why.c. */
+enum reason {
+    NO_REASON,
+    NO_ROOM, TOO_LONG, MAY_NOT_OVERLAP,             /* of what was added; kept until the list is cleared */
+    NOT_RUN, EMPTY, FORKED, WITH_DEVICE, UNPLANNED, /* nothing was begun */
+    NOT_TRACKED, AFTER_FAILED, AFTER_LOST,          /* the same of a list that was started */
+    OPERATION, BATCH, NOT_RESUMED, NO_PROGRESS, NOT_ACCEPTED, NOT_ANSWERED
+};
+
+/* How long something has taken; the clock is looked at once in so many turns. */
+struct patience { uint64_t turns, until; };
+
+/* Of a list that was started. It is IDLE before, and after a call has answered that it has ended. */
+enum state { IDLE, WAITING, READY, RUNG, ENDED };
+
+struct dsa_list {
+    struct dsa_queue *queue;
+    void *tag;
+    enum state state;                /* this and the next four under the lock of the queue */
+    uint32_t slot;                   /* of the tracker */
+    uint64_t after;                  /* a bit for each list that it comes after */
+    struct patience patience;        /* of its next entry, or of the one that is rung */
+    _Atomic(const uint8_t *) watched; /* the record of the entry that is rung, or NULL */
+    enum dsa_end end;
+    enum reason trouble, reason;     /* what adding met first; of the last run */
+    bool is_after_barrier;           /* a barrier comes before the next operation */
+    bool is_planned;                 /* portal and staging submit the operations as they are */
+    bool is_resumed;                 /* `left` has what is left of them */
+    bool has_failed_check, is_lost;
+    uint32_t operations, pieces, entries, entry; /* `entry`: the next, or the one that has failed */
+    uint32_t at_fault;               /* the operation of `trouble` */
+    uint64_t size_at_fault;
+    uint64_t left_len, left_bytes;   /* of `left`, and of its transfers */
+    uint32_t fruitless;              /* how often in a row resuming has left as much as before */
+    uint8_t *records, *staging;      /* what the device touches, and the child of a fork has not */
+    uint8_t *list, *left, *rest;     /* the operations; what is left of them after a failure; and room for that */
+    uint8_t *portal, *gathered;      /* entries; records in the order of the pieces that are left */
+    uint32_t *first;                 /* of each operation its first record, and one more */
+    struct dsa_refusal refusal;
+};
+
+struct dsa_queue {
+    void *portal; /* NULL: in software */
+    bool is_shared, may_overlap, has_waitpkg;
+    uint32_t flags, lists, most, wait_ms;
+    struct dsa_settings settings;
+    char name[256];
+    uint8_t *shared, *own;   /* the memory of all lists: what the device touches, which a child of fork has not, and
+                                the rest, whose first byte is 0 in a child of fork */
+    size_t shared_size, own_size;
+    _Atomic long credits;   /* how many entries a dedicated queue still takes */
+    _Atomic uint64_t taken; /* a bit for each list that somebody has */
+    pthread_mutex_t lock;   /* of lists in flight, and the tracker, which is NULL if there are none */
+    uint64_t *tracker;
+    size_t words;
+    uint64_t ready, rung, ended; /* a bit for each list */
+    uint64_t lost;               /* a bit for each slot of a list that is lost */
+    struct dsa_list *of_slot[MOST_LISTS];
+    struct dsa_list list[MOST_LISTS];
+};
+
+/* A number of a descriptor or a record. */
+static inline uint64_t number_at(const uint8_t *at, int bytes)
+{
+    uint64_t value = 0;
+    memcpy(&value, at, (size_t)bytes);
+    return value;
+}
+
+static inline uint64_t address_of(const void *at) { return (uintptr_t)at; }
+
+/* The record of a descriptor. */
+static inline uint8_t *record_of(const uint8_t *d) { return (uint8_t *)(uintptr_t)number_at(d + 8, 8); }
+
+/* The status in a record, without the bit of a write. */
+static inline uint8_t status_of(const uint8_t *record) { return __atomic_load_n(record, __ATOMIC_ACQUIRE) & 0x7f; }
+
+/* How many pieces an operation is split into. */
+static inline uint64_t pieces_of(const struct dsa_queue *queue, const uint8_t *d)
+{
+    const uint64_t size = number_at(d + 32, 4);
+    return size ? (size - 1) / queue->settings.greatest_transfer + 1 : 1;
+}
+
+static inline bool ranges_meet(uint64_t one, uint64_t other, uint64_t size)
+{
+    return one - other < size || other - one < size;
+}
+
+/* ---- open.c ---- */
+enum { STATE_ROOM = 64 };
+/* What the driver says of the queue now: enabled, disabled, .. */
+const char *open_state(const struct dsa_queue *queue, char state[STATE_ROOM]);
+
+/* ---- room.c ---- */
+bool room_take(struct dsa_queue *queue, char why[DSA_WHY_ROOM]);
+/* Whether this process has opened the queue, and is not a child of the one that has. */
+bool room_is_own(const struct dsa_queue *queue);
+/* Whether the device has still not answered the entry that the list has lost. */
+bool room_is_lost(struct dsa_list *list);
+
+/* ---- portal.c ---- */
+enum answer { ANSWERED, REFUSED_FULL, SILENT };
+/* Writes an entry to the portal and waits until its record, which was clear, has a status. */
+enum answer portal_do(struct dsa_queue *queue, const uint8_t *entry, uint8_t *status);
+/* Writes an entry once; false if the queue has no room. */
+bool portal_accepts(struct dsa_queue *queue, const uint8_t *entry);
+/* Sleeps until the line of the record is written, or for a moment. */
+void portal_rest(const struct dsa_queue *queue, const uint8_t *record);
+/* One more turn: whether the limit has passed. */
+bool portal_is_over(struct patience *patience, uint32_t limit_ms);
+
+/* ---- software.c ---- */
+/* Does an entry, a batch or a lone descriptor, by the processor, and writes its records. */
+void software_do(const uint8_t *entry, const struct dsa_settings *limits);
+
+/* ---- flight.c ---- */
+/* The device has answered a list that was lost: others need not wait for it any more. */
+void flight_recover(struct dsa_list *list);
+/* Waits for a list that is in flight, before it is changed. */
+void flight_settle(struct dsa_list *list);
+
+/* ---- run.c ---- */
+/* Makes the list ready for its first entry; else why it can't be run. */
+enum reason run_begin(struct dsa_list *list);
+/* Writes what submits these operations, whose records are clear. */
+bool run_plan(struct dsa_list *list, const uint8_t *operations, uint64_t len);
+
+/* ---- fault.c ---- */
+/* After an entry that has failed: makes pages present, and plans what is left, which may be nothing. False: the list
+ * has failed for good, and its reason says why. */
+bool fault_resume(struct dsa_list *list);
+
+/* ---- why.c ---- */
+/* Writes a sentence; false, for the caller to answer. */
+bool why_not(char why[DSA_WHY_ROOM], const char *format, ...) __attribute__((format(printf, 2, 3)));
+
+#endif

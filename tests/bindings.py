@@ -15,15 +15,13 @@ import tempfile
 from pathlib import Path
 
 import measure
-from common import ROOT, block_after, compiler, expect, named, program, run_test
+from common import ROOT, SANITIZE, SANITIZE_THREADS, block_after, compiler, expect, named, program, run_test, sanitizers
 
 sys.path.insert(0, str(ROOT / "bindings/package"))
 import make
 
 ARCHIVE = ROOT / "crates/dsa_c/out/libdsa_c.a"
 WARN = ["-Wall", "-Wextra", "-Werror"]
-SANITIZE = ["-fsanitize=address,undefined", "-fno-sanitize-recover=all"]
-SANITIZE_THREADS = ["-fsanitize=thread"]
 # The most instructions for each of 32 moves. Without the short ways of such lists they take 100 to 490 more.
 MOST_INSTRUCTIONS = {"apart": 330, "two areas": 335, "shuffled": 410, "chained": 530, "random": 525}
 
@@ -69,14 +67,6 @@ def examples():
     tried("own_memory", [compiled("bindings/c/own_memory.c", memory=False)], golden)
     compiled("bindings/c/submit.c")
     compiled("bindings/c/in_flight.c", "-pthread")
-
-
-def sanitizers(flags=SANITIZE):
-    """Whether the compiler has them, and what it builds with them runs."""
-    Path(WORK, "empty.c").write_text("int main(void) { return 0; }\n")
-    how = {"stdout": subprocess.DEVNULL, "stderr": subprocess.DEVNULL}
-    built = subprocess.run([compiler(), *flags, f"{WORK}/empty.c", "-o", f"{WORK}/empty"], **how)
-    return built.returncode == 0 and subprocess.run([f"{WORK}/empty"], **how).returncode == 0
 
 
 def calls():

@@ -27,7 +27,7 @@ OTHERS = set(
     Net Processes alloc apt cargo gcc git nice patch python3 rt rustfmt rustup valgrind
     binutils clang cmake ctypes dpkg find_package flockfile man pthread_attr_setstacksize toml
     ops.txt dsa_trace dsa_prices dsa_planner dsa_planner_static dsa_planner_own_memory
-    libdsa_planner libdsa_planner_own_memory libdsa_c
+    libdsa_planner libdsa_planner_own_memory libdsa_c libdsa_queue dsa_queue
     """.split()
 )
 # Paths that a reader makes, or that a build does.
@@ -69,7 +69,8 @@ def known():
         found |= {path.name, path.stem, *path.parent.parts}
         if path.suffix == ".py" or path.suffix in COMMENTS:
             found |= names_in(path)
-    declared = {name for name in names_in(Path("bindings/c/dsa_planner.h")) if name.startswith("dsa_")}
+    headers = [Path("bindings/c/dsa_planner.h"), Path("bindings/queue/dsa_queue.h")]
+    declared = {name for header in headers for name in names_in(header) if name.startswith("dsa_")}
     return {name for name in found if not name.startswith("dsa_")} | set(crates()) | declared | OTHERS
 
 

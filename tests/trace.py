@@ -7,21 +7,18 @@ parts."""
 import itertools
 import json
 import os
-import random
 import re
 import shutil
 import signal
-import struct
 import subprocess
 import tempfile
 import time
 from pathlib import Path
 
 from common import ROOT, expect, named, run_test, side_by_side, skip
-from trace_cases import REFUSED, SYSFS, TOUCHED, launched, made_anew, rewriting
+from trace_cases import REFUSED, SYSFS, launched, made_anew, rewriting
 from trace_forms import OTHERS, PLACE, instructions, wrong_forms
-from trace_runs import STRICT, WORK, built_all, client, ran, told, traced
-from waits import places, random_course
+from trace_runs import KNOWN, STRICT, TEXT, WORK, audited, built_all, client, has_text, ran, told, traced
 
 SEEDS = int(os.environ.get("SEEDS", "100"))
 CLIENTS = ("ordered", "threads", "odd", "operations", "ends", "registers", "rewritten")
@@ -313,35 +310,49 @@ def full_disk():
     expect(end.stderr.count("not recorded") == 1, f"on a full disk it is said again: {end.stderr}")
 
 
-def waits():
-    """--audit names submissions that conflict with one in flight, whatever dsa_text says: here /bin/true says nothing."""
-    known = os.environ | {"DSA_TEXT": "/bin/true"}
-    end = traced("--audit", "--", client("ordered"), "wait", env=known)
-    wanted = "submission 1: error: missing wait, read after write: reads what submission 0, in flight, writes, at 0x"
-    told("a missing wait", end, 1, wanted)
-    told("which operations", end, 1, "(move on wq0.0 after move on wq0.0)")
-    expect(end.stdout.count("error") == 1, f"of one missing wait is said {end.stdout}")
-    end = traced("--audit", "--order", "data", "--", client("ordered"), "early", env=known)
+def audits():
+    """--audit names the missing fence or wait, with status 1, and nothing else of a right program."""
+    if not has_text():
+        return
+    end = audited("--", client("ordered"), "fence")
+    told("a missing fence", end, 1, "entry 2 (submission 0, member 1): error: missing fence, read after write: reads what",
+         "(8192 bytes)\n  entry 2, byte 128: move 0x", "0 missing waits, 1 submission\n")
+    end = audited("--", client("ordered"), "wait")
+    wanted = "error: missing wait, read after write: reads what entry 0 (submission 0) writes, in flight, at 0x"
+    told("a missing wait", end, 1, f"entry 1 (submission 1): {wanted}", "(8192 bytes)\n  entry 1, byte 64: move 0x",
+         "1 missing wait, 2 submissions\n")
+    expect(end.stdout.count("error: ") == 1, f"of one missing wait is said {end.stdout}")
+    end = audited("--order", "data", "--", client("ordered"), "early")
     words = "the audits find no errors; if the program does not fail with --order fifo"
     told("a program that reads early", end, 3, words)
-    for mode in ("fence", "fenced", "waited", "member", "drain", "polled", "after"):
+    for mode in ("fenced", "waited", "member", "drain", "polled", "after"):
         for order in ("data", "all"):
-            end = traced("--audit", "--order", order, "--", client("ordered"), mode, env=known)
-            expect("error" not in end.stdout, f"{mode} in the order {order}: {end.stdout}")
-    told("threads", traced("--audit", "--", client("threads"), env=known), 0)
-    told("a sleep after a move without a record", traced("--audit", "--", client("ordered"), "blind", env=known), 1,
-         "missing wait")
-    audited_runs(known)
-    told("an audit that fails", traced("--audit", "--", client("ordered"), "waited", env={"DSA_TEXT": "/bin/false"}), 1)
+            told(f"{mode} in the order {order}", audited("--order", order, "--", client("ordered"), mode), 0,
+                 " 0 missing", "0 missing waits")
+    told("threads", audited("--", client("threads")), 0)
+    told("a sleep after a move without a record", audited("--", client("ordered"), "blind"), 1, "error: missing wait")
+    end = audited("--", client("odd"), "members")
+    told("a batch and another PASID in a batch", end, 1, "the batch: status 0x5,", "the member: status 0x10\n",
+         "entry 2 (submission 0, member 1): warning: nested batch: the device refuses a batch in a batch",
+         "entry 3 (submission 0, member 2): warning: another owner: it has another PASID or privilege than its batch",
+         "entry 4 (submission 0, member 3): error: missing fence, read after write: reads what member 0 writes",
+         "4 descriptors in 1 batch and 0 lone submissions, 0 not looked at\n")
+    audited_runs()
+
+
+def found_text():
+    """Where dsa_text is found, and what its failures come to."""
+    told("an audit that fails", audited("--", client("ordered"), "waited", env={"DSA_TEXT": "/bin/false"}), 1)
     for dies in ("exit 2", "kill -9 $$"):
         Path(WORK, "dies").write_text(f"#!/bin/sh\n{dies}\n")
         Path(WORK, "dies").chmod(0o755)
-        end = traced("--audit", "--seeds", 3, "--", client("ordered"), "waited", env={"DSA_TEXT": f"{WORK}/dies"})
+        end = audited("--seeds", 3, "--", client("ordered"), "waited", env={"DSA_TEXT": f"{WORK}/dies"})
         told(f"dsa_text that ends by {dies}", end, 125, f"{WORK}/dies does not audit ")
         expect(end.stderr.count("does not audit") == 1, f"after an audit that fails there are others: {end.stderr}")
-    told("no such program", traced("--audit", "--", "/bin/true", env={"DSA_TEXT": "/nowhere"}), 125,
-         "DSA_TEXT names /nowhere")
-    told("--audit without dsa_text", traced("--audit", "--", "/bin/true", env={"PATH": "/nowhere"}), 125,
+    end = audited("--seeds", 3, "--", client("ordered"), "waited", env={"DSA_TEXT": "/bin/false"})
+    told("audits of several runs that fail", end, 1, "3 of 3")
+    told("no such program", audited("--", "/bin/true", env={"DSA_TEXT": "/nowhere"}), 125, "DSA_TEXT names /nowhere")
+    told("--audit without dsa_text", audited("--", "/bin/true", env={"PATH": "/nowhere"}), 125,
          "needs the program dsa_text")
     shutil.copytree(f"{WORK}/gcc", f"{WORK}/clone/trace/out")
     built_text = Path(WORK, "clone/crates/dsa_text/out/dsa_text")
@@ -351,87 +362,22 @@ def waits():
     told("--audit in a clone where dsa_text is built", ran(*words, env={"PATH": "/nowhere"}), 1)
 
 
-def named_waits(name, entries, events):
-    """The submissions that the audit of waits names of a recording, and how many it counts."""
-    Path(WORK, f"{name}.dsa").write_bytes(entries)
-    Path(WORK, f"{name}.events").write_text("".join(line + "\n" for line in events))
-    end = ran(client("waits"), WORK, name)
-    expect(end.returncode == 0, f"the waits of {name} end with status {end.returncode}: {end.stderr}")
-    named = [int(it) for it in re.findall(r"^(?:member \d+ of )?submission (\d+): error", end.stdout, re.M)]
-    more = re.search(r"^and (\d+) more missing waits$", end.stdout, re.M)
-    return named, len(named) + (int(more[1]) if more else 0)
-
-
-def waits_of_any():
-    """Missing waits of random recordings beside the brute force that judges those of dsa_text; what operations touch,
-    beyond that; and, in time, of submissions whose end is not told."""
-    sources = [f"trace/{name}.c" for name in ("waits", "touched", "spans", "random", "fail")]
-    words = ["-O2", "-I", "trace", "-o", client("waits"), "tests/trace/waits.c"]
-    told("the build of waits", ran("gcc", *STRICT, *words, *sources), 0)
-    lacking = 0
-    for seed in range(600):
-        recording, events, missing, _ = random_course(random.Random(seed))
-        numbers = places(recording)
-        right = sorted({numbers[entry][0] for entry in missing})
-        named, count = named_waits("random", recording, events.splitlines())
-        lacking += len(right)
-        expect(named == right[:20] and count == len(right), f"seed {seed}: {named} of {count}, not {right}")
-    expect(lacking > 600, f"only {lacking} waits are missing in random recordings")
-    for name, (first, second, number) in TOUCHED.items():
-        codes = enumerate((first[7], second[7]))
-        events = [f"S {k} wq0.0 op {code} members 0 tid 1 part 1 entry {k}" for k, code in codes]
-        expect(named_waits("touched", first + second, events)[1] == number, f"{name}: not {number} missing waits")
-    many = range(200000)
-    entries = b"".join(struct.pack("<IIQQQI28x", 0, 3 << 24, 0, 128 * k, 128 * k + 64, 64) for k in many)
-    events = [line for k in many for line in (f"S {k} wq0.0 op 3 members 0 tid 1 part 1 entry {k}", f"C {k} 1")]
-    start = time.monotonic()
-    expect(named_waits("many", entries, events) == ([], 0), "apart moves lack waits")
-    took = time.monotonic() - start
-    expect(took < 20, f"the waits of 200,000 submissions take {took:.0f} s")
-
-
-def audited_runs(known):
+def audited_runs():
     """Of several runs each is audited: here the program lacks a wait in the second of three, and ends well in all."""
     for lacking, how, status, words in (
             (2, [], 1, ["the audits of 1 of 3 runs find errors; to repeat seed 2:", "dsa_trace --seed 2 --audit -- sh",
-                        "submission 1: error: missing wait"]),
+                        "(submission 1): error: missing wait"]),
             (9, [], 0, ["the audits of 3 runs find no errors; the last:"]),
             (2, ["--out", f"{WORK}/audited"], 1, ["find errors"])):
         program = f"[ $DSA_TRACE_SEED = {lacking} ] && exec {client('ordered')} blind; exec {client('ordered')} waited"
-        end = traced("--audit", "--seeds", 3, *how, "--", "sh", "-c", program, env=known)
+        end = audited("--seeds", 3, *how, "--", "sh", "-c", program)
         told(f"audits of three runs, of which {lacking} lacks a wait", end, status, "3 runs, all with status 0", *words)
-        expect(end.stdout.count("missing wait") == status, f"of three runs is said {end.stdout}")
-    end = traced("--audit", "--seeds", 60, "--", client("ordered"), "wait", env=known)
-    told("runs up to the first that fails", end, 1, "runs find errors; that of seed", "missing wait")
-    expect(end.stderr.count("dsa_trace --seed") == 1, f"it is said twice how to repeat a run: {end.stderr}")
-    end = traced("--audit", "--seeds", 3, "--", client("ordered"), "waited", env={"DSA_TEXT": "/bin/false"})
-    told("audits of several runs that fail", end, 1, "3 of 3")
-
-
-def audited():
-    """--audit names the missing fence or wait, with status 1, and nothing else of a right program."""
-    text = os.environ.get("DSA_TEXT") or ROOT / "crates/dsa_text/out/dsa_text"
-    if not Path(text).exists():
-        skip("audits: crates/dsa_text is not built")
-        return
-    known = os.environ | {"DSA_TEXT": str(text)}
-    told("a missing fence", traced("--audit", "--", client("ordered"), "fence", env=known), 1,
-         "missing fence, read after write")
-    told("a missing wait", traced("--audit", "--", client("ordered"), "wait", env=known), 1,
-         "missing wait, read after write", "submission 1: error: missing wait",
-         "reads what submission 0, in flight, writes", "0 missing")
-    for mode in ("fenced", "waited", "member", "drain", "polled"):
-        end = traced("--audit", "--", client("ordered"), mode, env=known)
-        told(mode, end, 0, " 0 missing")
-        expect("missing wait" not in end.stdout, f"{mode}: {end.stdout}")
-    end = traced("--audit", "--", client("odd"), "members", env=known)
-    told("a batch and another PASID in a batch", end, 1, "the batch: status 0x5,", "the member: status 0x10\n",
-         "entry 2 (submission 0, member 1): warning: a batch in a batch",
-         "entry 3 (submission 0, member 2): warning: another PASID",
-         "entry 4 (submission 0, member 3): error: missing fence, read after write: reads what member 0 writes",
-         "4 descriptors in 1 batch and 0 lone submissions, 0 not looked at\n")
-    end = traced("--audit", "--seeds", 60, "--", client("ordered"), "fence", env=known)
-    told("an audit of many seeds", end, 1, "the same again", "missing fence")
+        expect(end.stdout.count("error: missing wait") == status, f"of three runs is said {end.stdout}")
+    for mode in ("wait", "fence"):
+        end = audited("--seeds", 60, "--", client("ordered"), mode)
+        told("runs up to the first that fails", end, 1, "the same again", "runs find errors; the first is seed",
+             f"error: missing {mode}")
+        expect(end.stderr.count("dsa_trace --seed") == 1, f"it is said twice how to repeat a run: {end.stderr}")
 
 
 # ---- the launcher
@@ -441,7 +387,7 @@ def statuses():
     """The statuses of programs, and those of env for what can't be run, with sentences."""
     told("the program's status", traced("--", client("odd"), "status", 7), 7)
     told("a program that is not there", traced("--", "/nowhere/at_all"), 127, "/nowhere/at_all")
-    for case, (command, status, *lines) in launched(WORK).items():
+    for case, (command, status, *lines) in launched(WORK, TEXT if has_text() else "").items():
         told(case, ran("sh", "-c", command), status, *lines)
     told("a name that is not found", traced("--", "no_such_program_at_all"), 127, "is not found")
     told("a folder", traced("--", "/tmp"), 126, "/tmp")
@@ -474,7 +420,7 @@ def options():
         told(f"the options {words}", traced(*words, *(["--", "true"] if words else [])), 125, why)
     told("a value after =", traced("--seed=7", "--order=all", "true"), 0)
     names = re.findall(r"^ +(?:-h, )?(--[a-z-]+)", end.stdout, re.M)
-    expect(len(names) == 17, f"--help names {names}")
+    expect(len(names) == 26, f"--help names {names}")
     page = Path("bindings/package/dsa_trace.1").read_text().replace("\\-", "-")
     completion = Path("bindings/package/dsa_trace.bash").read_text()
     missing = [name for name in names if name not in page or name not in completion]
@@ -656,18 +602,17 @@ def in_flight():
     if not example("in_flight") or not example("without_waits", "-DWITHOUT_WAITS", source="in_flight"):
         return
     told("in_flight without a queue", ran(client("in_flight"), "/dev/null", "shared"), 1, "/dev/null")
-    text, wrong = ROOT / "crates/dsa_text/out/dsa_text", 0
-    known = os.environ | {"DSA_TEXT": text if text.exists() else "/bin/true"}
-    for (queue, kind), seed in itertools.product(QUEUES, range(1, 21)):
+    wrong = 0
+    for (queue, kind), seed in itertools.product(QUEUES if has_text() else (), range(1, 21)):
         words = [f"/dev/dsa/{queue}", kind, 200]
-        end = traced("--audit", "--seed", seed, "--", client("in_flight"), *words, env=known)
+        end = audited("--seed", seed, "--", client("in_flight"), *words)
         told(f"requests in flight to {queue}", end, 0, ": 0 differ")
         done, failed, left_out = map(int, re.findall(r"(\d+) (?:done|failed|left out)", end.stdout) or (0, 0, 0))
         expect(done + failed + left_out == 200 and 1 <= failed <= 3, f"seed {seed}: {end.stdout[-200:]}")
-        end = traced("--audit", "--seed", seed, "--delay", 100, "--", client("without_waits"), *words, env=known)
+        end = audited("--seed", seed, "--delay", 100, "--", client("without_waits"), *words)
         wrong += ": 0 differ" not in end.stdout
-        expect("missing wait" in end.stdout, f"seed {seed}: no missing wait is found: {end.stdout[-500:]}")
-    expect(wrong > 10, f"without waits {wrong} of 40 runs leave something else")
+        expect("error: missing wait" in end.stdout, f"seed {seed}: no missing wait is found: {end.stdout[-500:]}")
+    expect(wrong > 10 or not has_text(), f"without waits {wrong} of 40 runs leave something else")
 
 
 def sanitized():
@@ -692,6 +637,8 @@ def sanitized():
 
 def undefined():
     """The library with the sanitizer of undefined behaviour, and the launcher with that of addresses too, find nothing."""
+    if not has_text():
+        return
     folder = f"{WORK}/undefined"
     flags = ["-O1 -g -Wno-error -fsanitize=undefined -static-libubsan",
              "-O1 -g -Wno-error -fsanitize=address,undefined"]
@@ -700,12 +647,11 @@ def undefined():
         if end.returncode:
             skip(f"sanitizers, with which gcc does not build here: {end.stderr[-300:]}")
             return
-    known = os.environ | {"DSA_TEXT": "/bin/true"}
     runs = [["operations"], ["threads"], ["odd", "large", "70"], ["odd", "killed", "50"], ["ordered", "wait"],
             ["ordered", "after"], ["registers"], ["rewritten", "threads", "all800"], ["rewritten", "unreadable"]]
     for words in [*runs, *(["odd", case] for case in [*REFUSED, "child", "unreadable", "written", "full", "maps"])]:
         for how in ([], ["--order", "fifo"], ["--watch", "5", "--fault", "2", "--no-namespace"]):
-            end = ran(f"{folder}/dsa_trace", "--audit", *how, "--", client(words[0]), *words[1:], env=known)
+            end = ran(f"{folder}/dsa_trace", "--audit", *how, "--", client(words[0]), *words[1:], env=KNOWN)
             said = [line for line in end.stderr.splitlines() if "runtime error" in line or "Sanitizer" in line]
             expect(not said, f"{words} {how}: {said[:3]}")
 
@@ -717,15 +663,17 @@ def runner():
     if not script.exists() or not shutil.which("accel-config"):
         skip("dsa_user_test_runner.sh: there is no package accel-config or accel-config-test")
         return
+    if not has_text():
+        return
     stubs = Path(WORK, "stubs")
     stubs.mkdir()
     for name, does in (("modprobe", "accel-config disable-device dsa0 > /dev/null 2>&1"), ("rmmod", ":"), ("lsmod", ":")):
         (stubs / name).write_text(f"#!/bin/sh\n{does}\nexit 0\n")
         (stubs / name).chmod(0o755)
-    known = os.environ | {"PATH": f"{stubs}:{os.environ['PATH']}", "DSA_TEXT": "/bin/true"}
-    end = traced("--audit", "--out", f"{WORK}/runner", "--", script, env=known, timeout=600)
+    known = KNOWN | {"PATH": f"{stubs}:{os.environ['PATH']}"}
+    end = audited("--out", f"{WORK}/runner", "--", script, env=known, timeout=600)
     told("dsa_user_test_runner.sh", end, 0)
-    expect("missing wait" not in end.stdout, f"dsa_test lacks a wait: {end.stdout[-500:]}")
+    expect("error: missing wait" not in end.stdout, f"dsa_test lacks a wait: {end.stdout[-500:]}")
     index = Path(WORK, "runner/seed-1/processes.txt").read_text().splitlines()
     expect(len(index) >= 400, f"the script ran {len(index)} programs that submit")
 
@@ -741,7 +689,7 @@ def large():
 
 
 PARTS = [built, decoder, ordered, orders, repeated, seeds, operations, queues, refused, died, other_cpus, rewritten]
-PARTS += [recordings, killed_at_any_time, full_disk, waits, waits_of_any, audited, statuses]
+PARTS += [recordings, killed_at_any_time, full_disk, audits, found_text, statuses]
 PARTS += [options, files, killed, prices, submit, in_flight, sanitized, undefined, cost, large]
 
 

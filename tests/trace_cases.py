@@ -1,6 +1,4 @@
-"""What clients of tests/trace.py print, and recordings of two entries."""
-
-import struct
+"""What clients of tests/trace.py print."""
 
 # What a shell does to the driver's files.
 SYSFS = """
@@ -26,6 +24,10 @@ REFUSED = {
     "stops": ["a copy: status 0x4, 4096 bytes, at 0x2000", "its page: status 0x1,", "of the same checksum 1",
               "a delta: status 0x3, 4096 bytes, at 0x2000", "a record of 10 bytes",
               "from its end: status 0x4, 4096 bytes, at", "result 1, at its first page 1"],
+    "edges": ["a fill over pages: status 0x1,", "a fill: status 0x84, 99 bytes, at 0x2000",
+              "before it 0x55, wrong 0\n",
+              "a move onto itself: status 0x4, 4096 bytes, at 0x2000", "alone: status 0x84, 0 bytes, at 0x1000",
+              "a flush: status 0x3, 4086 bytes, at 0x2000", "a wrong field: status 0x9, 520 bytes"],
     "sent": ["failed 0, seen 1"],
     "record": ["no multiple of 32", "the next: status 0x1,", "moved 0, record 0"],
     "refused": ["reserved flag: status 0x11,", "invalid flags 0x40\n", "check result of a move: status 0x11,",
@@ -60,39 +62,14 @@ def made_anew(is_on):
     }
 
 
-def launched(work):
-    """Commands of a shell, how each ends, and what is said: what is around the launcher, and the program's name."""
+def launched(work, text):
+    """Commands of a shell, how each ends, and what is said: what is around the launcher, and the program's name. The
+    last needs dsa_text."""
     trace = f"{work}/gcc/dsa_trace"
-    return {
+    cases = {
         "a caller that ignores SIGCHLD": (f"trap '' CHLD; {trace} -- sh -c 'exit 3'", 3),
         "a folder with a blank": (f"cp -r {work}/gcc '{work}/a b' && '{work}/a b/dsa_trace' true", 125,
                                   "the loader takes no path with a blank"),
-        "a program that is named as a part": (f"cp {work}/ordered {work}/a.part && DSA_TEXT=/bin/true {trace} --audit "
-                                              f"-- {work}/a.part wait", 1, "missing wait"),
     }
-
-
-def two(code, flags, first, second, size, other):
-    """An entry with a record, and a later one that reads: a move, or what is given."""
-    entry = struct.pack("<IIQQQI28x", 0, code << 24 | flags, 0x8000, first, second, size)
-    later = other if isinstance(other, tuple) else (3, 0x0C, 0x8020, other, 0x6000, 8)
-    return entry, struct.pack("<IIQQQI28x", 0, later[0] << 24 | later[1], *later[2:])
-
-
-# Recordings of two entries and how many waits they lack, by docs/FORMATS.md, "Recordings and audits": 0x20 is a flush
-# of caches, 0x0a a translation fetch, 0x13 inserts a field of 8 bytes after each block of 512.
-TOUCHED = {
-    "a flush of what a move writes": (*two(3, 0x0C, 0x1000, 0x2000, 64, (0x20, 0x0C, 0x8020, 0, 0x2000, 64)), 1),
-    "a flush of what it reads": (*two(3, 0x0C, 0x1000, 0x2000, 64, (0x20, 0x0C, 0x8020, 0, 0x1000, 64)), 0),
-    "a record that only errors write": (*two(3, 0x04, 0x1000, 0x2000, 64, 0x8000), 1),
-    "no record": (*two(3, 0, 0x1000, 0x2000, 64, 0x8000), 0),
-    "the record of a checksum": (*two(0x10, 0x0C, 0x1000, 0, 64, 0x8000), 1),
-    "a fetch of translations": (*two(3, 0x0C, 0x1000, 0x2000, 64, (0x0A, 0x0C, 0x8020, 0x2000, 0, 64)), 0),
-    "data past the last address": (*two(3, 0x0C, 2**64 - 16, 0x2000, 64, 0x2000), 0),
-    "no bytes": (*two(3, 0x0C, 0x1000, 0x2000, 0, 0x8000), 0),
-    "an operation that is not known": (*two(0x50, 0x0C, 0x1000, 0x2000, 64, 0x8000), 0),
-    "a drain that reads back": (*two(2, 0x01000C, 0, 0, 0, 0x8000), 0),
-    "fields after a block": (*two(0x13, 0x0C, 0x1000, 0x2000, 512, 0x2000 + 512), 1),
-    "what comes after them": (*two(0x13, 0x0C, 0x1000, 0x2000, 512, 0x2000 + 520), 0),
-    "fields after no whole block": (*two(0x13, 0x0C, 0x1000, 0x2000, 513, 0x2000), 0),
-}
+    as_a_part = f"cp {work}/ordered {work}/a.part && DSA_TEXT={text} {trace} --audit -- {work}/a.part wait"
+    return cases | ({"a program that is named as a part": (as_a_part, 1, "error: missing wait")} if text else {})

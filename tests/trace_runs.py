@@ -1,16 +1,20 @@
 """What tests of dsa_trace share: a folder for what is built, the builds, and runs."""
 
+import os
 import shutil
 import subprocess
 import sys
 import tempfile
+from pathlib import Path
 
 import common
-from common import ROOT, expect
+from common import ROOT, expect, skip
 
 STRICT = ["-std=c11", "-D_GNU_SOURCE", "-Wall", "-Wextra", "-Werror"]
 FOLDER = tempfile.TemporaryDirectory()  # it goes at the end of the test
 WORK = FOLDER.name
+TEXT = os.environ.get("DSA_TEXT") or str(ROOT / "crates/dsa_text/out/dsa_text")
+KNOWN = os.environ | {"DSA_TEXT": TEXT}
 
 
 def ran(*command, **how):
@@ -25,6 +29,19 @@ def ran(*command, **how):
 def traced(*words, **how):
     """How dsa_trace ended."""
     return ran(f"{WORK}/gcc/dsa_trace", *words, **how)
+
+
+def has_text():
+    """Whether there is a dsa_text for audits: the one that is built, or the one that DSA_TEXT names."""
+    is_there = Path(TEXT).exists()
+    if not is_there:
+        skip("audits: crates/dsa_text is not built")
+    return is_there
+
+
+def audited(*words, **how):
+    """How an audit ended."""
+    return traced("--audit", *words, **({"env": KNOWN} | how))
 
 
 def client(name):

@@ -1,7 +1,7 @@
 """What an audit of dsa_trace may not pass over: recordings that break off or go, processes in the background, lists and
 records that change in flight, waits that threads lack, programs that submit nothing; and the paces that seeds choose.
-The programs are tests/trace/unseen.c and tests/trace/stages.c; in place of dsa_text comes /bin/true. It uses the rights
-of root and watchpoints where they are, and says so where they aren't. The words are names of parts."""
+The programs are tests/trace/unseen.c and tests/trace/stages.c. It uses the rights of root and watchpoints where they
+are, and says so where they aren't. The words are names of parts."""
 
 import os
 import re
@@ -12,16 +12,10 @@ import time
 from pathlib import Path
 
 from common import expect, named, run_test, skip
-from trace_runs import WORK, built_all, client, ran, told, traced
+from trace_runs import KNOWN, WORK, audited, built_all, client, has_text, ran, told, traced
 
-KNOWN = os.environ | {"DSA_TEXT": "/bin/true"}
 PART = "the audit has seen a part of the run"
 EMPTY = "nothing was submitted, so nothing was audited"
-
-
-def audited(*words, **how):
-    """How an audit ended."""
-    return traced("--audit", *words, **({"env": KNOWN} | how))
 
 
 def unseen(*words):
@@ -87,15 +81,44 @@ def counted():
     shell = f"ulimit -n 4; exec {client('unseen')} right"
     told("a queue that can't be read", audited("--", "sh", "-c", shell), 4,
          "the files of wq0.0 can't be read (Too many open files)", "/dev/dsa/wq0.0: Too many open files")
-    for order in ("data", "fifo"):
-        told(f"little stack in the order {order}", audited("--order", order, *unseen("small")), 0)
     told("a process that is killed", audited("--", client("odd"), "killed", 500), 128 + signal.SIGKILL)
     with tempfile.TemporaryDirectory(dir=WORK) as folder:
         end = audited("--out", folder, *unseen("late"))
         told("a thread that submits while the process ends", end, 0)
-        before, after = map(int, re.findall(r"\d+", end.stdout))
+        before, after = map(int, re.search(r"(\d+) before, (\d+) after", end.stdout).groups())
         [size] = [path.stat().st_size // 64 for path in Path(folder, "seed-1").glob("*.dsa")]
         expect(before < after <= size, f"of {after} submissions, {before} before the end, {size} are recorded")
+
+
+def in_parts():
+    """A recording in parts is audited as one: here a submission that ends the first part is not waited for. One of many
+    parts is audited in the two minutes that a run of a test has."""
+    end = audited(*unseen("parts"))
+    told("a missing wait between two parts", end, 1,
+         "entry 65536 (submission 65): error: missing wait, read after write: reads what entry 65535 (submission 64) "
+         "writes, in flight, at 0x", "1 missing wait, 66 submissions\n")
+    expect(end.stdout.count("descriptors in ") == 1, f"the parts have reports of their own: {end.stdout}")
+    told("many parts", audited("--order", "fifo", "--", client("odd"), "left", 400000), 0, "waits, 400000 submissions")
+
+
+def cut():
+    """A recording that ends within a submission, or has fewer than its events name, is audited up to there, and the
+    audit says that it has seen a part. Here a shell changes it after the program's end, as a kill could leave it. An
+    event that is cut off is none, and dsa_text's limits are said."""
+    middle, up_to = "ends in the middle of a submission", " is audited up to its submission "
+    cases = {
+        "its last event": ("printf 'S 2 wq0.0 op 3 members' >> $R.events", 125, 2, middle),
+        "its last entry": ("printf %064d 1 >> $R.dsa", 125, 2, middle),
+        "a part without events": ("printf %064d 1 > $R.part2.dsa", 125, 2, middle),
+        "an end": ("printf 'C 1' >> $R.events", 0, 2, ""),
+        "its entries": ("truncate -s 64 $R.dsa", 125, 1, f"{up_to}1, since the events name more than is recorded"),
+        "too many events": ("yes 'K 0' | head -c 67108864 >> $R.events", 125, 2,
+                            f"{up_to}2, since dsa_text reads at most 67,108,864 bytes of events"),
+    }
+    for name, (command, status, count, said) in cases.items():
+        shell = f"{client('unseen')} right; R=$(ls $DSA_TRACE_OUT/*.events); R=${{R%.events}}; {command}"
+        part = [PART] if status else []
+        told(name, audited("--", "sh", "-c", shell), status, f"0 missing waits, {count} submission", said, *part)
 
 
 # ---- processes in the background
@@ -119,7 +142,8 @@ def background():
     """A process that the program leaves is waited for, and its recording is audited. With --no-wait those that still
     run are named, and a recording of theirs is not audited."""
     for how in ([], ["--no-namespace"], ["--seeds", 2]):
-        told(f"a process in the background {how}", audited(*how, *unseen("background")), 1, "missing wait")
+        told(f"a process in the background {how}", audited(*how, *unseen("background")), 1,
+             "error: missing wait")
     end = audited("--no-wait", *staying())
     told("one that is not waited for", end, 1, "the program has ended, but not process ", "(unseen)", EMPTY)
     ended(int(re.search(r"process (\d+) \(unseen\)", end.stderr)[1]))
@@ -141,7 +165,8 @@ def waited_for():
                           stdout=subprocess.PIPE, stderr=subprocess.PIPE) as child:
         said = child.stderr.readline()
         ended(int(re.search(r"process (\d+) \(unseen\)", said)[1]))
-        expect("missing wait" in child.stdout.read() and child.wait() == 1, "after it has ended there is no audit")
+        is_found = "error: missing wait" in child.stdout.read()
+        expect(is_found and child.wait() == 1, "after it has ended there is no audit")
 
 
 # ---- lists and records that change in flight
@@ -150,7 +175,7 @@ def waited_for():
 def lists():
     """What a batch does is what its list has when the device comes to it; a list that has changed since its submission
     is an error, with each pace but that of a device that is done at once."""
-    wanted = "of submission 0: error: descriptor list changed after submission: when the device came to it, another"
+    wanted = "): error: descriptor list changed: when the device came to it after the submission, another descriptor"
     for how in (["--seed", 1], ["--seed", 3], ["--order", "all"], ["--seed", 4, "--delay", 100]):
         told(f"a list that is filled anew {how}", audited(*how, *unseen("list")), 1, wanted)
         told(f"what it does {how}", traced(*how, *unseen("list")), 3)
@@ -158,7 +183,8 @@ def lists():
         none(f"a list that is filled anew {how}", audited(*how, *unseen("list")))
     end = audited(*unseen("gone"))
     told("a list that is unmapped", end, 1, "status 0x6, 0 members, at the list 1, moved 0",
-         "of submission 0: error: descriptor list changed after submission: when the device came to it, nothing could")
+         "entry 1 (submission 0, member 0): error: descriptor list gone: when the device came to it after the ",
+         ", nothing could be read at 0x")
     with tempfile.TemporaryDirectory(dir=WORK) as folder:
         traced("--out", folder, *unseen("list"))
         [errors] = Path(folder, "seed-1").glob("*.errors")
@@ -170,20 +196,23 @@ def lists():
 
 
 def records():
-    """A record that is not zero when submitted, or is changed in flight, is an error that names it. Two members may
-    share one, with a fence between. With a fast device a record that is cleared late is lost."""
+    """A record that is not zero when submitted, or is changed in flight, is an error that names it; that the device
+    changes one which two members share is none of these. With a fast device a record that is cleared late is lost."""
     late = ("--delay", 2000)  # the program may take its time to clear the record
     end = audited(*late, *unseen("record"))
     told("a record that is cleared late", end, 1,
-         "submission 1: error: record not zero: its completion record, at 0x", ", was not zero when it was submitted",
-         "submission 1: error: record changed: its completion record, at 0x")
-    expect("submission 0: error" not in end.stdout, f"the first record was zero: {end.stdout}")
+         "entry 1 (submission 1): error: record not zero: its completion record, at 0x", ", was not zero when it was ",
+         "entry 1 (submission 1): error: record changed: its completion record, at 0x")
+    expect("(submission 0): error" not in end.stdout, f"the first record was zero: {end.stdout}")
     end = audited(*unseen("stale"))
-    told("a record that is never cleared", end, 1, "submission 1: error: record not zero")
+    told("a record that is never cleared", end, 1, "entry 1 (submission 1): error: record not zero")
     expect("record changed" not in end.stdout, f"nobody has changed the record: {end.stdout}")
-    for word in ("right", "shared", "reuse"):
-        for seed in (1, 2, 3, 4):
+    for seed in (1, 2, 3, 4):
+        for word in ("right", "reuse"):
             none(f"{word} under seed {seed}", audited("--seed", seed, *unseen(word)))
+        end = audited("--seed", seed, *unseen("shared"))
+        told(f"a record that two members share under seed {seed}", end, 1, "error: shared record, use another")
+        expect(end.stdout.count("error: ") == 1, f"of a record that two members share is said {end.stdout}")
     told("a record that is cleared late, and a fast device", traced("--seed", 4, *unseen("record")), 7)
     told("and a device that is not", traced(*late, *unseen("record")), 0)
 
@@ -214,12 +243,12 @@ def threads():
         return
     for how in ([], ["--watch", 5], ["--watch", 100]):
         end = audited(*how, "--", client("ordered"), "sleep")
-        told(f"a sleep is no wait {how}", end, 1, "missing wait")
+        told(f"a sleep is no wait {how}", end, 1, "error: missing wait")
     for seed in (1, 2, 3):
         told(f"a wait that is missing for long, seed {seed}", audited("--seed", seed, *unseen("gap", 10000)), 1,
-             "submission 1: error: missing wait, read after write: reads what submission 0, in flight, writes")
+             "(submission 1): error: missing wait, read after write: reads what entry 0 (submission 0) writes, in ")
         end = audited("--seed", seed, "--", client("stages"), "omits")
-        told(f"a stage that does not wait, seed {seed}", end, 1, "missing wait, read after write")
+        told(f"a stage that does not wait, seed {seed}", end, 1, "error: missing wait, read after write")
         none(f"stages that wait, seed {seed}", audited("--seed", seed, "--", client("stages")))
         none(f"--no-watch, seed {seed}", audited("--no-watch", "--seed", seed, *unseen("gap", 10000)))
 
@@ -256,12 +285,28 @@ def paces():
     expect(took("--seed", 3, "--delay", 100) in usual, "--delay does not fix the pace of a slow device")
 
 
-PARTS = [lost, full_folder, counted, background, waited_for, lists, records, threads, empty, paces]
+def long_runs():
+    """After 10,000 submissions most parts of 256 are done at once, and some have the delay: the same for a seed."""
+    def parts(*words, count=80):
+        return traced(*words, *unseen("long", 256 * count)).stdout[1:]  # in the first one the place is rewritten
+
+    found = parts("--seed", 1)
+    expect(found[:38] == 38 * "0" and set(found[39:]) == {"0", "1"} and found[39:].count("0") < 15,
+           f"of a long run these parts are done at once: {found}")
+    expect(parts("--seed", 1) == found, "another run of the same seed has other parts")
+    expect(parts("--seed", 2) != found, "another seed has the same parts")
+    expect(parts("--seed", 4) == 79 * "1", "a fast device does not do all at once")
+    for how in (["--delay", 100], ["--watch", 5], ["--seed", 4, "--delay", 100]):
+        expect(parts(*how, count=44) == 43 * "0", f"with {how} some are done at once")
+
+
+PARTS = [lost, full_folder, counted, in_parts, cut, background, waited_for, lists, records, threads, empty, paces]
+PARTS += [long_runs]
 
 
 def main(words):
     parts = named(PARTS, words)
-    for part in parts if built_all(["unseen", "stages", "odd", "ordered"]) else []:
+    for part in parts if has_text() and built_all(["unseen", "stages", "odd", "ordered"]) else []:
         part()
 
 

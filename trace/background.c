@@ -3,6 +3,7 @@
  * which it would not in a namespace of processes. */
 #include <dirent.h>
 #include <errno.h>
+#include <signal.h>
 #include <stdio.h>
 #include <stdlib.h>
 #include <string.h>
@@ -66,6 +67,18 @@ static void name_all(const char *sentence)
     if (count > MOST_NAMED)
         fprintf(stderr, " and %d more", count - MOST_NAMED);
     fputc('\n', stderr);
+    if (list)
+        closedir(list);
+}
+
+/// Sends a signal to all processes of the run.
+void background_signal(int number)
+{
+    struct process p;
+    DIR *list = opendir("/proc");
+    for (struct dirent *e; list && (e = readdir(list));)
+        if (*e->d_name >= '1' && *e->d_name <= '9' && read_process(e->d_name, &p) && is_below(&p))
+            kill(p.number, number);
     if (list)
         closedir(list);
 }

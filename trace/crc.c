@@ -1,5 +1,5 @@
 /* The two checksums of the device. */
-#include "trace.h"
+#include "operations.h"
 
 enum { T10_DIF = 0x8bb7 };
 static const uint32_t castagnoli_reflected = 0x82f63b78;

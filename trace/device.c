@@ -2,15 +2,13 @@
  * sanitizers see what the device does to memory that is freed. */
 #include <string.h>
 
-#include "trace.h"
+#include "operations.h"
 
 enum { PAGE = 4096, DELTA_ENTRY = 10, WORD = 8 };
+enum { TIMES = 64 }; /* so often is a pattern written down, and no more, since there may be little stack */
 /* Flags of a checksum, as in Intel's specification 341204: the seed is read from memory; the checksum is neither
  * inverted nor reflected; the data is not reflected. */
 enum { SEED_IS_READ = 0x10000, PLAIN_CHECKSUM = 0x20000, PLAIN_DATA = 0x40000 };
-
-/* An operation on its way. `size` is less than the descriptor's where --fault stops it early. */
-struct work { const descriptor *d; completion *r; uint32_t size; volatile uint32_t done; };
 
 static size_t least(size_t one, size_t other) { return one < other ? one : other; }
 
@@ -21,9 +19,18 @@ static size_t within_pages(uint64_t one, uint64_t other, size_t left)
     return least(least(PAGE - one % PAGE, PAGE - other % PAGE), left);
 }
 
+/// Reads a byte of a page, and writes it again, so that a page that is missing is found where the C library would touch
+/// nothing: in a move onto itself, and in a flush.
+static void touch(const uint8_t *at, bool writes)
+{
+    const volatile uint8_t byte = *(const volatile uint8_t *)at;
+    if (writes)
+        *(volatile uint8_t *)at = byte;
+}
+
 /// Whether a move goes from its end, as one to a higher address within its own range, which else overwrites what it has
 /// to read. If it stops, the result is 1, and the last bytes are done.
-static bool is_from_end(const descriptor *d)
+bool device_is_from_end(const descriptor *d)
 {
     return d->opcode == DSA_OPCODE_MEMMOVE && d->dst_addr > d->src_addr && d->dst_addr - d->src_addr < d->xfer_size;
 }
@@ -33,12 +40,13 @@ static uint8_t move(struct work *w)
     const descriptor *d = w->d;
     uint8_t *to = (uint8_t *)d->dst_addr, *second = (uint8_t *)d->dest2;
     const uint8_t *from = (const uint8_t *)d->src_addr;
-    const bool is_backward = is_from_end(d);
+    const bool is_backward = device_is_from_end(d);
     for (size_t n; w->done < w->size; w->done += n) {
         size_t at = is_backward ? d->xfer_size - w->done : w->done;
         const uint64_t source = d->src_addr + at, target = d->dst_addr + at;
         n = within_pages(is_backward ? -source : source, is_backward ? -target : target, w->size - w->done);
         at -= is_backward ? n : 0;
+        touch(from + at, to == from);
         memmove(to + at, from + at, n);
         if (d->opcode == DSA_OPCODE_DUALCAST)
             memcpy(second + at, from + at, n);
@@ -48,26 +56,34 @@ static uint8_t move(struct work *w)
 
 static uint8_t fill(struct work *w)
 {
-    enum { TIMES = 64 };
     uint64_t pattern[TIMES];
     uint8_t *to = (uint8_t *)w->d->dst_addr;
     for (int i = 0; i < TIMES; i++)
         pattern[i] = w->d->pattern;
     for (size_t n; w->done < w->size; w->done += n) {
-        n = least(w->size - w->done, sizeof pattern);
-        memcpy(to + w->done, pattern, n);
+        n = least(within_pages(w->d->dst_addr + w->done, 0, w->size - w->done), sizeof pattern - WORD);
+        memcpy(to + w->done, (const uint8_t *)pattern + w->done % WORD, n);
     }
     return DSA_COMP_SUCCESS;
 }
 
+/// Caches are as if they were always flushed.
+static uint8_t flush(struct work *w)
+{
+    const uint64_t start = w->d->dst_addr;
+    for (; w->done < w->size; w->done += within_pages(start + w->done, 0, w->size - w->done))
+        touch((const uint8_t *)start + w->done, false);
+    return DSA_COMP_SUCCESS;
+}
+
 /// The offset of the first byte at which `one` differs from what is compared with it; else the size. `other` is a
-/// region, or, for a pattern, a page of it over and over.
+/// region, or, for a pattern, so many of it over and over.
 static uint32_t first_difference(struct work *w, const uint8_t *one, const uint8_t *other, bool is_pattern)
 {
     for (size_t n; w->done < w->size; w->done += n) {
         const uint8_t *second = is_pattern ? other + w->done % WORD : other + w->done;
         n = within_pages((uint64_t)one + w->done, is_pattern ? 0 : (uint64_t)second, w->size - w->done);
-        n = least(n, PAGE - WORD);
+        n = least(n, (TIMES - 1) * WORD);
         if (memcmp(one + w->done, second, n) == 0)
             continue;
         for (; n-- && one[w->done] == *second; second++) /* the program may write there meanwhile */
@@ -81,8 +97,8 @@ static uint8_t compare(struct work *w)
 {
     const descriptor *d = w->d;
     const bool is_pattern = d->opcode == DSA_OPCODE_COMPVAL;
-    uint64_t pattern[PAGE / WORD];
-    for (int i = 0; i < PAGE / WORD; i++)
+    uint64_t pattern[TIMES];
+    for (int i = 0; i < TIMES; i++)
         pattern[i] = d->comp_pattern;
     const uint8_t *other = is_pattern ? (const uint8_t *)pattern : (const uint8_t *)d->src2_addr;
     const uint32_t at = first_difference(w, (const uint8_t *)d->src_addr, other, is_pattern);
@@ -106,7 +122,7 @@ static uint8_t create_delta(struct work *w)
         if (w->r->result == TOO_LONG)
             break;
         memcpy(to + used, &at, sizeof at);
-        memcpy(to + used + sizeof at, other + w->done, WORD);
+        memmove(to + used + sizeof at, other + w->done, WORD); /* the record may lie over the data */
         used += DELTA_ENTRY;
         w->r->delta_rec_size = used;
     }
@@ -132,7 +148,7 @@ static uint8_t apply_delta(struct work *w)
             if ((uint32_t)WORD * at + WORD > w->size)
                 return DSA_COMP_DR_OFFSET_ERANGE;
             if (is_used)
-                memcpy(to + WORD * at, entry + sizeof at, WORD);
+                memmove(to + WORD * at, entry + sizeof at, WORD);
         }
     }
     return DSA_COMP_SUCCESS;
@@ -161,7 +177,7 @@ static uint8_t checksum(struct work *w)
     return DSA_COMP_SUCCESS;
 }
 
-static uint8_t operate(struct work *w)
+uint8_t device_do(struct work *w)
 {
     switch (w->d->opcode) {
     case DSA_OPCODE_MEMMOVE:
@@ -169,6 +185,7 @@ static uint8_t operate(struct work *w)
     case DSA_OPCODE_COPY_CRC:
     case DSA_OPCODE_CRCGEN: return checksum(w);
     case DSA_OPCODE_MEMFILL: return fill(w);
+    case DSA_OPCODE_CFLUSH: return flush(w);
     case DSA_OPCODE_COMPARE:
     case DSA_OPCODE_COMPVAL: return compare(w);
     case DSA_OPCODE_CR_DELTA: return create_delta(w);
@@ -177,42 +194,6 @@ static uint8_t operate(struct work *w)
     case DSA_OPCODE_DIF_INS:
     case DSA_OPCODE_DIF_STRP:
     case DSA_OPCODE_DIF_UPDT: return dif_run(w->d, w->r, &w->done);
-    default: return DSA_COMP_SUCCESS; /* a no-op, a drain, a flush of caches */
-    }
-}
-
-/// For --fault: how much of a move without block-on-fault is done before a page of its source is missing.
-static uint32_t size_to_do(const descriptor *d, uint64_t draw)
-{
-    const uint64_t start = is_from_end(d) ? -(d->src_addr + d->xfer_size) : d->src_addr;
-    const uint32_t first = PAGE - start % PAGE;
-    const bool may_stop = d->opcode == DSA_OPCODE_MEMMOVE && !(d->flags & IDXD_OP_FLAG_BOF) && d->xfer_size > first;
-    if (!settings.fault || !may_stop || draw % settings.fault)
-        return d->xfer_size;
-    const uint32_t pages = (d->xfer_size - first - 1) / PAGE + 1;
-    return first + PAGE * (draw / settings.fault % pages);
-}
-
-/// Does one operation and fills its record; a page that is missing ends it as a page fault.
-void device_run(const descriptor *d, completion *r, uint64_t draw)
-{
-    struct work w = {d, r, size_to_do(d, draw), 0};
-    memset(r, 0, sizeof *r);
-    const uint8_t page_fault = d->flags & IDXD_OP_FLAG_BOF ? DSA_COMP_PAGE_FAULT_IR : DSA_COMP_PAGE_FAULT_NOBOF;
-    if (sigsetjmp(guard.escape, 0)) {
-        r->fault_addr = guard.fault.address & -(uint64_t)PAGE;
-        r->bytes_completed = w.done;
-        r->result = is_from_end(d);
-        r->status = page_fault | (guard.fault.is_write ? DSA_COMP_STATUS_WRITE : 0);
-        return;
-    }
-    guard.is_set = 1;
-    r->status = operate(&w);
-    guard.is_set = 0;
-    if (w.size < d->xfer_size && r->status == DSA_COMP_SUCCESS) {
-        r->fault_addr = is_from_end(d) ? d->src_addr + d->xfer_size - w.size - PAGE : d->src_addr + w.size;
-        r->bytes_completed = w.size;
-        r->result = is_from_end(d);
-        r->status = page_fault;
+    default: return DSA_COMP_SUCCESS; /* a no-op, a drain */
     }
 }

@@ -5,7 +5,7 @@
 #include <stdatomic.h>
 #include <string.h>
 
-#include "trace.h"
+#include "operations.h"
 
 enum { FIELD = 8 };
 /* byte 42 */
@@ -119,10 +119,12 @@ uint8_t dif_run(const descriptor *d, completion *r, volatile uint32_t *done)
     note_tags(r, d->opcode, &old, &new);
     for (; *done < d->xfer_size; source += from, target += to, *done += from) {
         r->dif_status = is_insert ? 0 : check(source, block, flags, &old);
-        if (r->dif_status)
+        if (r->dif_status) {
+            r->bytes_completed = *done;
             return DSA_COMP_DIF_ERR;
+        }
         if (d->opcode != DSA_OPCODE_DIF_CHECK)
-            memcpy(target, source, block);
+            memmove(target, source, block); /* they may overlap */
         if (d->opcode != DSA_OPCODE_DIF_CHECK && to > block)
             put_field(target + block, guard_of(source, block, flags), &new, is_update ? source + block : NULL);
         next_block(&old);

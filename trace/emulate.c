@@ -28,10 +28,10 @@ static enum outcome move_64(struct registers *r, struct emulated *e)
         return FAULTED;
     if (!memory_copy(&d, (const void *)e->in.address, sizeof d, &e->fault))
         return UNREADABLE;
-    if (!queue && is_enqueued)
-        return NO_PORTAL;
-    if (!queue)
-        return memory_copy((void *)e->to, &d, sizeof d, &e->fault) ? DONE : FAULTED;
+    if (!queue && !is_enqueued && memory_copy((void *)e->to, &d, sizeof d, &e->fault))
+        return DONE;
+    if (!queue && !(queue = portals_adopt(e->to)))
+        return is_enqueued ? NO_PORTAL : FAULTED;
     const enum accepted accepted = order_submit(queue, &d, is_enqueued);
     if (is_enqueued)
         r->flags = (r->flags & ~(uint64_t)CARRY_AND_LIKE) | (accepted == FULL ? ZERO_FLAG : 0);

@@ -2,72 +2,93 @@
  * or were changed, and lists of batches that were. Each line of NAME.errors is one (bindings/package/dsa_trace.1). */
 #include <errno.h>
 #include <inttypes.h>
-#include <stdio.h>
+#include <linux/idxd.h>
 #include <string.h>
 
 #include "launcher.h"
 
-enum { MOST_SHOWN = 20 };
+enum { ENTRY = sizeof(struct dsa_hw_desc) };
 
-/// What a letter means, before and after the address; false if it is none of these.
-static bool words_of(char letter, const char *words[2])
+/// The kind of a letter; false if it is none of these.
+static bool kind_of(char letter, enum finding_kind *kind)
 {
-    static const struct { char letter; const char *words[2]; } all[] = {
-        {'Z',
-         {"record not zero: its completion record, at ",
-          ", was not zero when it was submitted, so it says at once that the operation has ended"}},
-        {'X',
-         {"record changed: its completion record, at ",
-          ", was changed in flight, so its end can be lost: clear it before the submission, and use it after the end"}},
-        {'L',
-         {"descriptor list changed after submission: when the device came to it, another descriptor was at ", ""}},
-        {'U',
-         {"descriptor list changed after submission: when the device came to it, nothing could be read at ", ""}},
-    };
-    for (size_t i = 0; i < sizeof all / sizeof *all; i++)
-        if (all[i].letter == letter) {
-            memcpy(words, all[i].words, sizeof all[i].words);
-            return true;
-        }
-    return false;
+    static const char letters[] = {[RECORD_NOT_ZERO] = 'Z', [RECORD_CHANGED] = 'X', [LIST_CHANGED] = 'L',
+                                   [LIST_UNREADABLE] = 'U'};
+    const char *at = memchr(letters, letter, sizeof letters);
+    *kind = at ? (enum finding_kind)(at - letters) : RECORD_NOT_ZERO;
+    return at;
 }
 
-/// One line, in the form of dsa_text's findings; false if it is none.
-static bool show(const char *line, FILE *report)
+static bool read_entry(FILE *recording, unsigned long entry, struct dsa_hw_desc *d)
 {
-    const char *words[2];
-    char letter, member[16], of[32] = "";
-    uint64_t number, address;
-    if (sscanf(line, "%c %" SCNu64 " %15s %" SCNu64, &letter, &number, member, &address) != 4)
+    return fseek(recording, (long)entry * ENTRY, SEEK_SET) == 0 && fread(d, sizeof *d, 1, recording) == 1;
+}
+
+/// Says of a finding what its entry is; false if the recording does not have it.
+static bool describe(struct finding *f, const struct gathered *g)
+{
+    struct dsa_hw_desc d;
+    f->entry = g->first[f->submission];
+    if (!read_entry(g->recording, f->entry, &d))
         return false;
-    if (!words_of(letter, words))
+    f->members = d.opcode == DSA_OPCODE_BATCH ? (int)d.desc_count : -1;
+    if (f->member >= f->members && f->member >= 0)
         return false;
-    if (strcmp(member, "-"))
-        snprintf(of, sizeof of, "member %s of ", member);
-    if (report)
-        fprintf(report, "%ssubmission %" PRIu64 ": error: %s%#" PRIx64 "%s\n", of, number, words[0], address, words[1]);
+    f->entry += f->member + 1;
+    if (f->member >= 0 && !read_entry(g->recording, f->entry, &d))
+        return false;
+    f->operation = d.opcode;
+    f->size = d.xfer_size;
     return true;
 }
 
-/// The errors of one recording.
-long errors_noted(const char *records, const char *base, FILE *report)
+/// Adds the finding of a line; false if it is none.
+static bool add(const char *line, const struct gathered *g, struct findings *to)
+{
+    struct finding f;
+    char letter, member[16];
+    if (sscanf(line, "%c %" SCNu64 " %15s %" SCNu64, &letter, &f.submission, member, &f.address) != 4 ||
+        !kind_of(letter, &f.kind))
+        return false;
+    if (strcmp(member, "-") == 0)
+        f.member = -1;
+    else if (sscanf(member, "%d", &f.member) != 1 || f.member < 0)
+        return false;
+    if (f.submission >= g->submissions)
+        return g->why; /* of one that is not audited nothing is said */
+    if (!describe(&f, g))
+        return false;
+    findings_add(to, &f);
+    return true;
+}
+
+/// A line: that the recording breaks off, or an error.
+static bool take(const char *line, struct gathered *g, struct findings *to)
+{
+    if (strncmp(line, "B ", 2))
+        return add(line, g, to);
+    snprintf(g->marked, sizeof g->marked, "%.*s", (int)strcspn(line + 2, "\n"), line + 2);
+    g->why = g->why ? g->why : g->marked;
+    return true;
+}
+
+/// Adds the errors of one recording; false, after a sentence, if they can't be read.
+bool errors_noted(const char *records, const char *base, struct gathered *g, struct findings *to)
 {
     char path[PATH_MAX], name[NAME_MAX + 32], line[256];
-    long found = 0;
+    bool is_read = true;
     snprintf(name, sizeof name, "%s.errors", base);
     FILE *errors = fopen(joined(path, records, name), "r");
-    if (!errors)
-        return errno == ENOENT ? 0 : -1;
-    while (found >= 0 && fgets(line, sizeof line, errors))
-        found = show(line, found < MOST_SHOWN ? report : NULL) ? found + 1 : -1;
-    if (found < 0)
-        fprintf(stderr, "dsa_trace: %s has a line that is no error: %s", path, line);
-    if (ferror(errors)) {
+    if (!errors && errno == ENOENT)
+        return true;
+    while (errors && is_read && fgets(line, sizeof line, errors))
+        is_read = take(line, g, to);
+    if (!is_read)
+        fprintf(stderr, "dsa_trace: %s has a line that is no error of the recording: %s", path, line);
+    else if (!errors || ferror(errors))
         fprintf(stderr, "dsa_trace: %s can't be read\n", path);
-        found = -1;
-    }
-    if (found > MOST_SHOWN)
-        fprintf(report, "and %ld more errors of records and lists\n", found - MOST_SHOWN);
-    fclose(errors);
-    return found;
+    is_read &= errors && !ferror(errors);
+    if (errors)
+        fclose(errors);
+    return is_read;
 }

@@ -4,13 +4,15 @@
 
 #include "order.h"
 
+enum { PAGE = 4096 };
+
 /// Copies the members of a batch as they are now; answers the status of the batch.
 uint8_t execute_take(struct submission *s, completion *r)
 {
     uint32_t bad = 0;
     struct fault fault;
     memset(r, 0, sizeof *r);
-    r->status = valid_descriptor(&s->entry, s->queue, false, &bad);
+    r->status = valid_descriptor(&s->entry, &s->queue->limits, false, &bad);
     r->invalid_flags = bad;
     if (r->status != DSA_COMP_SUCCESS)
         return r->status;
@@ -61,15 +63,51 @@ static void say_refused(const struct submission *s, unsigned index, uint8_t stat
         s->members[index].opcode, status, valid_name(status), what, said == MOST ? "; more are not said" : "");
 }
 
+/// For --fault: how much of a move without block-on-fault is done before a page of its source is missing.
+static uint32_t size_to_do(const descriptor *d, uint64_t draw)
+{
+    const uint64_t start = device_is_from_end(d) ? -(d->src_addr + d->xfer_size) : d->src_addr;
+    const uint32_t first = PAGE - start % PAGE;
+    const bool may_stop = d->opcode == DSA_OPCODE_MEMMOVE && !(d->flags & IDXD_OP_FLAG_BOF) && d->xfer_size > first;
+    if (!settings.fault || !may_stop || draw % settings.fault)
+        return d->xfer_size;
+    const uint32_t pages = (d->xfer_size - first - 1) / PAGE + 1;
+    return first + PAGE * (draw / settings.fault % pages);
+}
+
+/// Does one operation and fills its record; a page that is missing ends it as a page fault. `draw` is for --fault.
+void execute_operation(const descriptor *d, completion *r, uint64_t draw)
+{
+    struct work w = {d, r, size_to_do(d, draw), 0};
+    memset(r, 0, sizeof *r);
+    const uint8_t page_fault = d->flags & IDXD_OP_FLAG_BOF ? DSA_COMP_PAGE_FAULT_IR : DSA_COMP_PAGE_FAULT_NOBOF;
+    if (sigsetjmp(guard.escape, 0)) {
+        r->fault_addr = guard.fault.address & -(uint64_t)PAGE;
+        r->bytes_completed = w.done;
+        r->result = device_is_from_end(d);
+        r->status = page_fault | (guard.fault.is_write ? DSA_COMP_STATUS_WRITE : 0);
+        return;
+    }
+    guard.is_set = 1;
+    r->status = device_do(&w);
+    guard.is_set = 0;
+    if (w.size < d->xfer_size && r->status == DSA_COMP_SUCCESS) {
+        r->fault_addr = device_is_from_end(d) ? d->src_addr + d->xfer_size - w.size - PAGE : d->src_addr + w.size;
+        r->bytes_completed = w.size;
+        r->result = device_is_from_end(d);
+        r->status = page_fault;
+    }
+}
+
 /// Does a member of a batch, or the lone descriptor, and fills its record.
 void execute(const struct submission *s, unsigned index, completion *r)
 {
     const descriptor *d = &s->members[index];
     uint32_t bad = 0;
     memset(r, 0, sizeof *r);
-    r->status = valid_descriptor(d, s->queue, s->is_batch, &bad);
+    r->status = valid_descriptor(d, &s->queue->limits, s->is_batch, &bad);
     if (r->status == DSA_COMP_SUCCESS) {
-        device_run(d, r, random_at(settings.seed, s->number << 11 | index));
+        execute_operation(d, r, random_at(settings.seed, s->number << 11 | index));
         return;
     }
     r->invalid_flags = bad;
@@ -86,13 +124,11 @@ static bool publish(uint64_t address, const completion *r)
     return false;
 }
 
-/// Writes the record of a submission or of a member, if it has one: one that is not requested is written on failures
-/// alone. Answers whether it was written.
+/// Writes the record of a submission or of a member, if it has one. Answers whether it was written.
 bool execute_record(const struct submission *s, int member, const completion *r)
 {
     const descriptor *d = member < 0 ? &s->entry : &s->members[member];
-    const bool is_wanted = d->flags & IDXD_OP_FLAG_RCR || r->status != DSA_COMP_SUCCESS;
-    if (!(d->flags & IDXD_OP_FLAG_CRAV) || !is_wanted)
+    if (!valid_has_record(d, r->status))
         return false;
     if (!valid_is_misplaced(d)) {
         records_check(s, member, d);

@@ -3,6 +3,7 @@
 #include <stdio.h>
 #include <stdlib.h>
 #include <string.h>
+#include <sys/mman.h>
 #include <sys/stat.h>
 
 #include "launcher.h"
@@ -12,6 +13,25 @@ void fail(const char *what)
 {
     fprintf(stderr, "dsa_trace: %s: %s\n", what, strerror(errno));
     exit(FAILED);
+}
+
+/// Opens a file of our own.
+FILE *opened(const char *path, const char *how)
+{
+    FILE *file = fopen(path, how);
+    if (!file)
+        fail(path);
+    return file;
+}
+
+/// A file in memory, since a disk may be full.
+FILE *in_memory(const char *what)
+{
+    const int fd = memfd_create(what, MFD_CLOEXEC); /* not for the program */
+    FILE *file = fd < 0 ? NULL : fdopen(fd, "a+"); /* a child may write to it too */
+    if (!file)
+        fail(what);
+    return file;
 }
 
 /// Joins a folder and a name.

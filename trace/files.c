@@ -11,6 +11,7 @@
 #include <sys/syscall.h>
 #include <unistd.h>
 
+#include "maps.h"
 #include "trace.h"
 
 static const char *const drivers[] = {"idxd", "user", "dmaengine"};
@@ -43,14 +44,17 @@ static void write_plain(const char *folder, const char *name, const char *text)
 const char *files_turned(const char *path, char room[PATH_MAX])
 {
     static const char *const places[] = {"/dev/dsa", "/sys/bus/dsa", "/sys/module/idxd"};
-    if (!settings.root[0] || !path || path[0] != '/')
+    if (!path || path[0] != '/')
         return path;
     for (size_t i = 0; i < sizeof places / sizeof *places; i++) {
         const size_t length = strlen(places[i]);
-        if (strncmp(path, places[i], length) == 0 && (path[length] == 0 || path[length] == '/')) {
-            snprintf(room, PATH_MAX, "%s%s", settings.root, path);
-            return room;
-        }
+        if (strncmp(path, places[i], length) || (path[length] && path[length] != '/'))
+            continue;
+        library_begin();
+        if (!settings.root[0])
+            return path;
+        snprintf(room, PATH_MAX, "%s%s", settings.root, path);
+        return room;
     }
     return path;
 }
@@ -106,14 +110,12 @@ static void bind(const char *name, const char *driver, bool is_on)
     }
 }
 
-/// Applies what is in the bind and unbind files, and empties them. A program that writes there by stdio does it in
-/// the C library, where we do not see it; so this is done when the next of the device's files is opened.
-void files_settle(const char *path)
+/// Applies what is in the bind and unbind files, and empties them.
+void files_settle_now(void)
 {
     char file[PATH_MAX], name[32];
-    if (!path || !strstr(path, "/dsa"))
-        return;
     const int kept = errno;
+    library_begin();
     for (size_t i = 0; i < 2 * sizeof drivers / sizeof *drivers; i++) {
         const char *driver = drivers[i / 2];
         const bool is_on = i % 2 == 0;
@@ -125,6 +127,14 @@ void files_settle(const char *path)
         bind(name, driver, is_on);
     }
     errno = kept;
+}
+
+/// Before one of the device's files is opened: a program that writes to others by stdio does it in the C library, where
+/// we do not see it.
+void files_settle(const char *path)
+{
+    if (path && strstr(path, "/dsa"))
+        files_settle_now();
 }
 
 /// A number of a queue's folder, or the other one if there is none.
@@ -144,11 +154,11 @@ static bool fill(struct queue *q)
         return false;
     q->is_shared = mode[0] == 's';
     q->size = attribute(q, "size", 16);
-    q->may_block = attribute(q, "block_on_fault", 1);
-    q->greatest_transfer = attribute(q, "max_transfer_size", 1ull << 31);
-    q->greatest_batch = attribute(q, "max_batch_size", GREATEST_BATCH);
-    if (q->greatest_batch > GREATEST_BATCH)
-        q->greatest_batch = GREATEST_BATCH;
+    q->limits.may_block = attribute(q, "block_on_fault", 1);
+    q->limits.greatest_transfer = attribute(q, "max_transfer_size", 1ull << 31);
+    q->limits.greatest_batch = attribute(q, "max_batch_size", GREATEST_BATCH);
+    if (q->limits.greatest_batch > GREATEST_BATCH)
+        q->limits.greatest_batch = GREATEST_BATCH;
     return true;
 }
 
@@ -162,77 +172,48 @@ static bool path_of(int fd, char path[PATH_MAX])
     return length > 0;
 }
 
-/// The queue of an open file, or NULL. A map of a queue's file that is none of a portal would take what is submitted
-/// without a word, so a queue that can't be read is an error.
-struct queue *files_queue(int fd, bool *is_broken)
+/// Whether an open file may be one of the device's: these are small plain files. Names of others are not looked up.
+static bool may_be_of_device(int fd)
+{
+    struct stat s;
+    return fd >= 0 && fstat(fd, &s) == 0 && S_ISREG(s.st_mode) && s.st_size < LONGEST_ATTRIBUTE;
+}
+
+/// The queue whose file has this path, or NULL; false if it is the file of none.
+static bool queue_of(const char *path, struct queue **queue)
+{
+    int device, id;
+    const char *name = strstr(path, "/dev/dsa/wq");
+    if (!name || sscanf(name, "/dev/dsa/wq%d.%d", &device, &id) != 2)
+        return false;
+    library_begin();
+    *queue = portals_queue(device, id, fill);
+    if (!*queue)
+        say("the files of wq%d.%d can't be read (%s), so nothing can be submitted to it", device, id, strerror(errno));
+    return true;
+}
+
+struct queue *files_mapped(uintptr_t at)
+{
+    struct mapping m;
+    struct queue *found = NULL;
+    return maps_find(at, &m) && queue_of(m.line, &found) ? found : NULL;
+}
+
+/// What an open file is. A map of a queue's file that is none of a portal would take what is submitted without a word,
+/// so a queue that can't be read is none. The path is off the stack when this answers.
+__attribute__((noinline)) struct opened files_opened(int fd)
 {
     char path[PATH_MAX];
-    int device, id;
     const int kept = errno;
-    const char *name = path_of(fd, path) ? strstr(path, "/dev/dsa/wq") : NULL;
-    const bool is_queue = name && sscanf(name, "/dev/dsa/wq%d.%d", &device, &id) == 2;
-    struct queue *found = is_queue ? portals_queue(device, id, fill) : NULL;
-    *is_broken = is_queue && !found;
-    if (*is_broken)
-        say("the files of wq%d.%d can't be read (%s), so nothing can be submitted to it", device, id, strerror(errno));
-    else
+    struct opened found = {.kind = OF_OTHERS};
+    if (may_be_of_device(fd) && path_of(fd, path)) {
+        if (queue_of(path, &found.queue))
+            found.kind = OF_QUEUE;
+        else if (strstr(path, "/sys/bus/dsa/"))
+            found.kind = OF_ATTRIBUTE;
+    }
+    if (found.kind != OF_QUEUE || found.queue)
         errno = kept;
     return found;
-}
-
-/// Submits one entry, with signals blocked as in our handler: so none finds its thread with a lock of ours, and a fault
-/// of the copy leaves them as they are. Answers 0, or the error.
-static int submit_blocked(struct queue *q, const uint8_t *from)
-{
-    sigset_t all, old;
-    descriptor d;
-    int error = EFAULT;
-    sigfillset(&all);
-    pthread_sigmask(SIG_BLOCK, &all, &old);
-    order_arrive();
-    if (memory_copy(&d, from, sizeof d, NULL))
-        error = order_submit(q, &d, q->is_shared) == ACCEPTED ? 0 : EAGAIN;
-    order_leave();
-    pthread_sigmask(SIG_SETMASK, &old, NULL);
-    return error;
-}
-
-/// Submits what is written to a queue's file, as newer drivers take descriptors.
-static ssize_t write_entries(struct queue *q, const uint8_t *from, size_t size)
-{
-    if (!board_is_there()) {
-        errno = EACCES;
-        return -1;
-    }
-    for (size_t at = 0; at + sizeof(descriptor) <= size; at += sizeof(descriptor)) {
-        const int error = submit_blocked(q, from + at);
-        if (!error)
-            continue;
-        errno = error;
-        return at ? (ssize_t)at : -1;
-    }
-    return size;
-}
-
-ssize_t write(int fd, const void *from, size_t size)
-{
-    char path[PATH_MAX];
-    const bool may_be = fd > STDERR_FILENO && size && size % sizeof(descriptor) == 0;
-    bool is_broken = false;
-    struct queue *queue = may_be ? files_queue(fd, &is_broken) : NULL;
-    if (queue)
-        return write_entries(queue, from, size);
-    if (is_broken)
-        return -1;
-    const bool is_small = fd > STDERR_FILENO && size && size < 4096;
-    const int kept = errno;
-    if (!is_small || !path_of(fd, path) || !strstr(path, "/sys/bus/dsa/")) {
-        errno = kept;
-        return syscall(SYS_write, fd, from, size);
-    }
-    (void)!syscall(SYS_ftruncate, fd, 0); /* an attribute has what was written last, and nothing after it */
-    const ssize_t written = syscall(SYS_pwrite64, fd, from, size, 0);
-    if (written > 0)
-        files_settle(path);
-    return written;
 }

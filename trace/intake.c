@@ -61,6 +61,7 @@ static void take_in(struct queue *q, const descriptor *d)
     s->entry = *d;
     s->is_batch = d->opcode == DSA_OPCODE_BATCH;
     s->has_failed = s->is_done = s->is_changed = false;
+    s->is_at_once = order_is_at_once(s);
     s->watch = -1;
     s->begun = 0;
     s->count = 1;
@@ -75,26 +76,38 @@ static void take_in(struct queue *q, const descriptor *d)
     order.members += s->is_batch ? s->count : 0;
     record_submission(&(struct submitted){s->number, q, d, s->members, s->is_batch ? s->count : 0});
     put_in(s);
-    if (order_is_async()) {
-        pace_begin(&order.pace, process_thread());
-        if (order.sleeps)
-            pthread_cond_signal(&order.work);
-        return;
-    }
-    while (!s->is_done)
+    while (s->is_at_once && !s->is_done)
         order_step(s);
+    if (!order.head) /* nothing is left for the worker */
+        return;
+    pace_begin(&order.pace, process_thread());
+    if (order.sleeps)
+        pthread_cond_signal(&order.work);
 }
 
-/// Whether the queue has room for it; MOVDIR64B does not learn that it has none.
+/// Whether ENQCMD finds the queue full. It asks without the lock: threads that ask again and again would have it all
+/// the time, and what is in flight would wait for them.
+static bool is_full(struct queue *q)
+{
+    if (q->in_flight < q->size)
+        return false;
+    order.wants_room = true;
+    order.retried++;
+    return true;
+}
+
+/// Whether the queue has room for it, once more with the lock; MOVDIR64B does not learn that it has none.
 static bool has_room(struct queue *q, bool is_enqueued)
 {
-    if (q->in_flight < q->size && !(is_enqueued && settings.retry && random_next(&order.retries) % settings.retry == 0))
-        return true;
-    if (is_enqueued)
+    if (is_enqueued && is_full(q))
+        return false;
+    if (is_enqueued && settings.retry && random_next(&order.retries) % settings.retry == 0) {
         order.retried++;
-    else if (!order.dropped++)
+        return false;
+    }
+    if (q->in_flight >= q->size && !order.dropped++)
         say("wq%d.%d is full (%u in flight): MOVDIR64B is lost", q->device, q->id, q->size);
-    return false;
+    return q->in_flight < q->size;
 }
 
 /// Says once of a queue that a device would not take what is submitted so; here it is taken.
@@ -110,6 +123,8 @@ static void note_mode(struct queue *q, bool is_enqueued)
 enum accepted order_submit(struct queue *q, const descriptor *d, bool is_enqueued)
 {
     order_start();
+    if (is_enqueued && is_full(q))
+        return FULL;
     pthread_mutex_lock(&order.lock);
     note_mode(q, is_enqueued);
     const bool is_taken = has_room(q, is_enqueued);

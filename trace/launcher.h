@@ -7,14 +7,25 @@
 
 #include "settings.h"
 
-/* Statuses as those of env: this program fails, the other can't be run, the other is not found. */
-enum { FAILED = 125, NOT_RUN = 126, NOT_FOUND = 127 };
-enum { MOST_QUEUES = 8 };
+/* Statuses as those of timeout and env: the program ran for too long; this program fails, the other can't be run, the
+ * other is not found. */
+enum { TIMED_OUT = 124, FAILED = 125, NOT_RUN = 126, NOT_FOUND = 127 };
+enum { MOST_QUEUES = 8, LONGEST_KEY = 128 };
+
+/* What an audit takes of the options of dsa_text, NULL if they are not given. `is_there`: one of them is given. */
+struct audit_options {
+    const char *accept, *deny, *await;
+    bool is_resident, is_json, writes_keys, is_there;
+};
 
 struct options {
     struct settings settings;
     uint64_t seeds;     /* how many runs, from the seed of the settings on */
+    uint64_t timeout;   /* seconds after which a run is ended; 0: it is not */
     const char *out;    /* the folder of the recordings, or NULL */
+    const char *junit;  /* the file of test cases, or NULL */
+    const char *report; /* a folder of --out that is audited in place of a program, or NULL */
+    struct audit_options audit;
     const char *queues[MOST_QUEUES];
     int queue_count;
     bool has_namespace, audits, waits, watches;
@@ -30,8 +41,16 @@ void options_repeat(const struct options *o, uint64_t seed);
 
 /* ---- run.c: one run ---- */
 /* A run with this seed: its recordings go to `records`, NULL for none. Then `status` is that of the program, 128 and
- * more if a signal ended it, and `is_over` is false if it was waited for processes that still run. */
-struct run { uint64_t seed; const char *records; const struct board *board; int status; bool is_over; };
+ * more if a signal ended it, or TIMED_OUT, and it took so many seconds. `is_over` is false if it was waited for
+ * processes that still run. `board` is NULL of a run that is kept in a folder. */
+struct run {
+    uint64_t seed;
+    const char *records;
+    const struct board *board;
+    int status;
+    double seconds;
+    bool is_over, is_timed_out;
+};
 void run_once(const struct options *o, const char *folder, struct run *run);
 /* Removes a folder and what is in it, on its own file system. */
 void run_remove(const char *folder);
@@ -39,6 +58,8 @@ void run_remove(const char *folder);
 /* ---- program.c: whether the library can be loaded into a program ---- */
 /* 0, or the status with which to end; then a sentence says why. */
 int program_check(const char *name);
+/* A sentence, if programs end with this status that can't be traced. */
+void program_explain(int status);
 
 /* ---- tree.c: the device's files ---- */
 void tree_make(const char *tree, const char *const *queues, int count);
@@ -52,12 +73,14 @@ void namespace_mount(const char *tree);
 /* ---- background.c: processes that a program leaves ---- */
 /* Before the first run. */
 void background_begin(void);
-/* Waits for them; false if some still run after a minute. Unless `waits`, it does not wait. A sentence names those that
- * still run. */
+/* Waits for them; false if some still run after a minute. Unless `waits`, it does not wait. A
+ * sentence names those that still run. */
 bool background_end(bool waits);
+/* Sends a signal to all processes of the run. */
+void background_signal(int number);
 
 /* ---- tidy.c: recordings of processes that were killed ---- */
-void tidy(const char *records);
+void tidy(const char *records, const struct board *board);
 /* Whether the process of the recording with this name, without its end, still runs. */
 bool tidy_is_alive(const char *base);
 
@@ -68,34 +91,120 @@ void seen_end(const struct board *b);
 bool seen_whole(const struct run *run);
 /* How many submissions the processes of the run have made. */
 uint64_t seen_submitted(const struct run *run);
+/* Whether the board says that a recording breaks off. */
+bool seen_is_lost(const struct board *b, const char *recording);
+/* Notes among the errors of a recording that it breaks off; false if that can't be written. */
+bool seen_mark(const char *records, const char *recording, const char *why);
 
-/* ---- audit.c, members.c, waits.c and errors.c: what is missing ---- */
-/* The program dsa_text; NULL, after a sentence, if there is none. */
+/* ---- keys.c: what findings of one kind have in common ---- */
+struct keys { char **all; size_t count, room; };
+bool keys_has(const struct keys *k, const char *key);
+/* The place of a key, which is added if it is not there. */
+size_t keys_place(struct keys *k, const char *key);
+/* Adds each line of a file. */
+void keys_read(struct keys *k, FILE *from);
+void keys_forget(struct keys *k);
+
+/* ---- stale.c: lines of the file of --accept that fit nothing ---- */
+struct accepted_line { char *text; bool is_named, is_used; };
+/* `others` has the words of --deny but ours, or is NULL. */
+struct stale { const char *file; char *others; struct accepted_line *lines; size_t count; bool is_denied; };
+void stale_begin(struct stale *s, const struct audit_options *o);
+void stale_read(struct stale *s, struct keys *accepted);
+/* Answers a report without what it says of these lines, and closes the other. */
+FILE *stale_take(struct stale *s, FILE *report);
+FILE *stale_cut(FILE *report);
+void stale_use(struct stale *s, const char *key);
+/* Writes the lines that no recording has used, and answers whether they are errors. */
+bool stale_end(const struct stale *s, bool is_json, FILE *to);
+void stale_forget(struct stale *s);
+
+/* ---- findings.c: findings of our own, beside those of dsa_text ---- */
+/* The first four are errors, and have an address. */
+enum finding_kind { RECORD_NOT_ZERO, RECORD_CHANGED, LIST_CHANGED, LIST_UNREADABLE, NESTED_BATCH, OTHER_OWNER };
+/* `member` is -1 for the descriptor that was submitted, `members` is -1 if that is no batch. */
+struct finding {
+    enum finding_kind kind;
+    uint64_t submission, address;
+    unsigned long entry;
+    int member, members;
+    uint8_t operation;
+    uint32_t size;
+};
+struct findings { struct finding *at; size_t count, room; };
+void findings_add(struct findings *all, const struct finding *it);
+/* As lines, or as an array of JSON; errors whose key is accepted are none. */
+void findings_text(const struct findings *all, const struct keys *accepted, FILE *to);
+void findings_json(const struct findings *all, const struct keys *accepted, FILE *to);
+/* Marks the lines with keys of these errors as used. */
+void findings_use(const struct findings *all, struct stale *s);
+/* Adds the keys of the errors; answers whether there is one. */
+bool findings_errors(const struct findings *all, const struct keys *accepted, struct keys *to);
+
+/* ---- gather.c and errors.c: what is audited of a process ---- */
+/* What dsa_text reads, and at which entry each submission begins. `why` is NULL, or says why these are not all
+ * submissions of the process. */
+struct gathered {
+    FILE *recording, *events;
+    char marked[224];
+    uint64_t submissions;
+    uint32_t *first;
+    const char *why;
+};
+void gather(const char *records, const char *base, struct gathered *g, struct findings *changed);
+void gather_end(struct gathered *g);
+/* Adds what the library has noted; false, after a sentence, if it can't be read. It sets `why` of a recording that
+ * breaks off. */
+bool errors_noted(const char *records, const char *base, struct gathered *g, struct findings *to);
+
+/* ---- audit.c: the program dsa_text ---- */
+/* Where it is; NULL, after a sentence, if there is none. */
 const char *audit_find(void);
-/* What the audits of the runs found. `status` is 0, 1 if fences or waits are missing, or 125 if a recording can't be
- * audited; `report` is that of the run with `seed`. */
+/* What it says in a form (an option, NULL for text) of a recording, NULL for an empty one: 0, 1 if it has errors, 2 if
+ * it can't be audited. */
+int audit_text(const char *dsa_text, const struct audit_options *o, const char *form, const struct gathered *g,
+               FILE *to);
+
+/* ---- audits.c: the audits of all runs ---- */
+enum verdict { CLEAN, ERRORS, PART, EMPTY }; /* PART: a part of the run was seen; EMPTY: nothing was submitted */
+/* `report` has the reports that are kept, `last` that of the last run; `seed` is the first with errors; `status` is 0,
+ * 1 if there are errors, or 125 if a part of a run was seen. */
 struct audits {
     const char *dsa_text;
-    unsigned long long runs, faulty, partial, empty; /* of `partial` runs a part was seen, of `empty` no submission */
+    struct audit_options options; /* without the word stale, since dsa_text sees one recording at a time */
+    struct stale stale;
+    struct keys accepted, keys;
+    unsigned long long runs, faulty, partial, empty, kept;
     uint64_t seed;
     int status;
-    FILE *report;
+    bool has_keyless; /* a report is kept whose errors have no keys, as what --deny names */
+    FILE *report, *last;
 };
-/* Audits the recordings of a run; a folder is for its report. */
-void audit_run(struct audits *a, const struct run *run, const char *folder);
-/* Prints a report and says of which run, after a program that has failed or not; answers the status. */
-int audit_end(struct audits *a, const struct options *o, bool has_failed);
-/* The path by which dsa_text can read a recording: its own, or that of a copy in the folder, of which the report says
- * what differs. */
-const char *members_audited(const char *path, const char *folder, char room[PATH_MAX], FILE *report);
-/* How many conflicts one recording has between submissions in flight at once; -1 if it can't be read. The number of its
- * submissions is added to *count. */
-long waits_missing(const char *records, const char *name, FILE *report, uint64_t *count);
-/* How many errors the library has noted of one recording; -1 if they can't be read. */
-long errors_noted(const char *records, const char *name, FILE *report);
+/* False, after a sentence, if dsa_text is not there or does not take the options. */
+bool audits_begin(struct audits *a, const struct audit_options *o);
+enum verdict audit_run(struct audits *a, const struct run *run, bool is_one_of_many);
+/* Prints the report and says of which run, after a program with this status; answers the status of the audits. */
+int audits_end(struct audits *a, const struct options *o, int program);
+
+/* ---- junit.c: the runs as test cases ---- */
+struct junit { FILE *to; const char *program; };
+void junit_begin(struct junit *j, const char *path, const char *program);
+void junit_add(const struct junit *j, const struct run *run, enum verdict verdict, FILE *report);
+void junit_end(const struct junit *j);
+
+/* ---- report.c: audits of runs that are kept ---- */
+/* Audits each run of the folder; false, after a sentence, if it has none. */
+bool report_runs(const struct options *o, struct audits *a, const struct junit *j);
+
+/* ---- escape.c ---- */
+void escape_json(FILE *to, const char *text);
+void escape_xml(FILE *to, char c);
 
 /* ---- fail.c ---- */
 void fail(const char *what) __attribute__((noreturn)); /* with the reason that errno has */
+FILE *opened(const char *path, const char *how);
+/* A file in memory, which has no name and goes when it is closed. */
+FILE *in_memory(const char *what);
 void make_folders(const char *path);
 /* Joins a folder and a name; the path is too long only with a sentence and the end. */
 const char *joined(char room[PATH_MAX], const char *folder, const char *name);

@@ -65,8 +65,16 @@ static bool place_records(const struct options *o, uint64_t seed, const char *fo
     return true;
 }
 
+/// Says how a run has failed, and how to run it again.
+static void say_failure(const struct options *o, const struct run *run, uint64_t number)
+{
+    fprintf(stderr, "dsa_trace: seed %llu, run %llu of %llu: the program ends with status %d; the same again:\n",
+            (unsigned long long)run->seed, (unsigned long long)number, (unsigned long long)o->seeds, run->status);
+    options_repeat(o, run->seed);
+}
+
 /// Runs the program with one seed after another, up to the first that fails, and audits each run. Answers its status.
-static int run_all(const struct options *o, const char *folder, struct audits *a)
+static int run_all(const struct options *o, const char *folder, struct audits *a, const struct junit *j)
 {
     char records[PATH_MAX];
     int status = 0;
@@ -75,16 +83,13 @@ static int run_all(const struct options *o, const char *folder, struct audits *a
         struct run run = {.seed = seed, .records = place_records(o, seed, folder, records) ? records : NULL};
         run_once(o, folder, &run);
         status = run.status;
-        if (status && o->seeds > 1) {
-            fprintf(stderr,
-                    "dsa_trace: seed %llu, run %llu of %llu: the program ends with status %d; the same again:\n",
-                    (unsigned long long)seed, (unsigned long long)i + 1, (unsigned long long)o->seeds, status);
-            options_repeat(o, seed);
-        }
-        if (o->audits)
-            audit_run(a, &run, folder);
-        else
+        if (status && o->seeds > 1)
+            say_failure(o, &run, i + 1);
+        const enum verdict verdict = o->audits ? audit_run(a, &run, o->seeds > 1) : CLEAN;
+        if (!o->audits)
             seen_whole(&run);
+        if (o->junit)
+            junit_add(j, &run, verdict, a->last);
         seen_end(run.board);
     }
     if (status == 0 && o->seeds > 1 && a->status != FAILED)
@@ -96,18 +101,26 @@ int main(int argc, char **argv)
 {
     struct options o;
     struct audits a = {0};
+    struct junit j = {0};
     (void)argc;
     signal(SIGCHLD, SIG_DFL); /* where whoever runs us ignores it, no status could be waited for */
     options_read(argv, &o);
-    const int refused = program_check(o.program[0]);
-    a.dsa_text = o.audits && !refused ? audit_find() : NULL;
-    if (refused || (o.audits && !a.dsa_text))
-        return refused ? refused : FAILED;
+    const int refused = o.report ? 0 : program_check(o.program[0]);
+    if (refused)
+        return refused;
     if (access("/proc/self/fd", X_OK))
         fail("/proc, by which the library knows the files of a queue");
     make_own_folder();
+    if (o.audits && !audits_begin(&a, &o.audit))
+        return FAILED;
+    if (o.junit)
+        junit_begin(&j, o.junit, o.report ? o.report : o.program[0]);
     background_begin();
-    const int status = run_all(&o, own.folder, &a);
-    const int missing = o.audits ? audit_end(&a, &o, status != 0) : 0;
-    return missing ? missing : status;
+    if (o.report && !report_runs(&o, &a, &j))
+        return FAILED;
+    const int status = o.report ? 0 : run_all(&o, own.folder, &a, &j);
+    const int missing = o.audits ? audits_end(&a, &o, status) : 0;
+    if (o.junit)
+        junit_end(&j);
+    return missing && status != TIMED_OUT ? missing : status;
 }

@@ -3,6 +3,8 @@
 #include <dirent.h>
 #include <errno.h>
 #include <fcntl.h>
+#include <ftw.h>
+#include <glob.h>
 #include <stdarg.h>
 #include <stdio.h>
 #include <stdlib.h>
@@ -42,8 +44,11 @@ OPENING(openat, (int at, const char *path, int flags, ...), (at, TURNED, flags, 
 OPENING(openat64, (int at, const char *path, int flags, ...), (at, TURNED, flags, mode))
 ONE(FILE *, fopen, (const char *path, const char *mode), (TURNED, mode))
 ONE(FILE *, fopen64, (const char *path, const char *mode), (TURNED, mode))
+ONE(FILE *, freopen, (const char *path, const char *mode, FILE *file), (TURNED, mode, file))
+ONE(FILE *, freopen64, (const char *path, const char *mode, FILE *file), (TURNED, mode, file))
 ONE(DIR *, opendir, (const char *path), (TURNED))
 ONE(int, access, (const char *path, int mode), (TURNED, mode))
+ONE(int, euidaccess, (const char *path, int mode), (TURNED, mode))
 ONE(int, faccessat, (int at, const char *path, int mode, int flags), (at, TURNED, mode, flags))
 ONE(int, stat, (const char *path, struct stat *s), (TURNED, s))
 ONE(int, lstat, (const char *path, struct stat *s), (TURNED, s))
@@ -59,6 +64,9 @@ ONE(int, chdir, (const char *path), (TURNED))
 typedef int filter(const struct dirent *);
 typedef int compare(const struct dirent **, const struct dirent **);
 ONE(int, scandir, (const char *path, struct dirent ***list, filter *f, compare *c), (TURNED, list, f, c))
+typedef int filter64(const struct dirent64 *);
+typedef int compare64(const struct dirent64 **, const struct dirent64 **);
+ONE(int, scandir64, (const char *path, struct dirent64 ***list, filter64 *f, compare64 *c), (TURNED, list, f, c))
 
 /* The names by which programs that were built with _FORTIFY_SOURCE open files. */
 int __open_2(const char *path, int flags) { return open(path, flags); }
@@ -78,6 +86,54 @@ char *__realpath_chk(const char *path, char *to, size_t size)
     (void)size;
     return realpath(path, to);
 }
+
+char *canonicalize_file_name(const char *path) { return realpath(path, NULL); }
+
+/* The names by which programs for a C library before 2.33 ask for a file's status. */
+int __xstat(int version, const char *path, struct stat *s) { return (void)version, stat(path, s); }
+int __xstat64(int version, const char *path, struct stat64 *s) { return (void)version, stat64(path, s); }
+int __lxstat(int version, const char *path, struct stat *s) { return (void)version, lstat(path, s); }
+int __lxstat64(int version, const char *path, struct stat64 *s) { return (void)version, lstat64(path, s); }
+
+/* Names that a pattern has, of which those of the tree are as the program knows them. */
+#define GLOB(name, type)                                                                                               \
+    int name(const char *path, int flags, int (*failed)(const char *, int), type *found)                               \
+    {                                                                                                                  \
+        REAL_OF(name);                                                                                                 \
+        char room[PATH_MAX];                                                                                           \
+        files_settle(path);                                                                                            \
+        const int status = REAL(name)(TURNED, flags, failed, found);                                                   \
+        for (size_t i = 0; status == 0 && i < found->gl_pathc; i++)                                                    \
+            files_unturned(found->gl_pathv[i + (flags & GLOB_DOOFFS ? found->gl_offs : 0)]);                           \
+        return status;                                                                                                 \
+    }
+GLOB(glob, glob_t)
+GLOB(glob64, glob64_t)
+
+/* A walk through folders calls the program for each file, with the path as it knows it. */
+#define WALK(name, status)                                                                                             \
+    static __thread int (*called_by_##name)(const char *, const struct status *, int, struct FTW *);                   \
+    static int from_##name(const char *path, const struct status *s, int kind, struct FTW *at)                         \
+    {                                                                                                                  \
+        char room[PATH_MAX];                                                                                           \
+        snprintf(room, sizeof room, "%s", path);                                                                       \
+        files_unturned(room);                                                                                          \
+        struct FTW there = {at->base - (int)(strlen(path) - strlen(room)), at->level};                                 \
+        return called_by_##name(room, s, kind, &there);                                                                \
+    }                                                                                                                  \
+    int name(const char *path, __typeof__(called_by_##name) call, int files, int flags)                                \
+    {                                                                                                                  \
+        REAL_OF(name);                                                                                                 \
+        char room[PATH_MAX];                                                                                           \
+        __typeof__(call) const before = called_by_##name;                                                              \
+        files_settle(path);                                                                                            \
+        called_by_##name = call;                                                                                       \
+        const int result = REAL(name)(TURNED, from_##name, files, flags);                                              \
+        called_by_##name = before; /* of a walk in which this one is */                                                \
+        return result;                                                                                                 \
+    }
+WALK(nftw, stat)
+WALK(nftw64, stat64)
 
 /// The path without links, of the tree's own files.
 bool files_real_path(const char *path, char *to, size_t room)

@@ -10,10 +10,21 @@ static const char help[] =
     "Runs a program for Intel DSA without the device: records what it submits, and does it in software.\n"
     "\n"
     "Usage: dsa_trace [OPTIONS] [--] PROGRAM [ARGUMENTS]\n"
+    "       dsa_trace --report DIR [OPTIONS]\n"
     "\n"
     "Options:\n"
     "      --audit          at the end, what the recordings lack: fences and waits, and what else is wrong; status 1\n"
     "                       if any run has errors or submits nothing, 125 if the audit has seen a part of it\n"
+    "      --accept <FILE>  of an audit: errors of the kinds that this file has, a line each, are known and no errors\n"
+    "      --write-accept   of an audit: write the kinds of the errors of all runs, for --accept; status 0\n"
+    "      --deny <KIND,..> of an audit: findings that are errors too: needless, guarding, signalling, unseen, and\n"
+    "                       stale, lines of --accept that fit nothing\n"
+    "      --await <WHAT>   of an audit: what the program looks at: writes, signals or batches [default: writes]\n"
+    "      --resident       of an audit: all memory is resident, so no member page-faults\n"
+    "      --json           of an audit: write the reports of all runs as JSON\n"
+    "      --report <DIR>   run no program: audit the runs that --out DIR has kept\n"
+    "      --junit <FILE>   write the runs to a file as test cases for continuous integration\n"
+    "      --timeout <SEC>  end each run after so many seconds, with status 124; 0: never [default: 0]\n"
     "      --out <DIR>      keep the recordings, those of each run in DIR/seed-N\n"
     "      --seed <N>       the order that this number draws [default: 1]\n"
     "      --seeds <N>      run the program N times, each with the next seed, up to the first that fails\n"
@@ -80,6 +91,7 @@ static uint64_t *number_at(struct options *o, const char *name)
     struct { const char *name; uint64_t *at; } numbers[] = {
         {"--seed", &o->settings.seed},   {"--seeds", &o->seeds},          {"--delay", &o->settings.delay},
         {"--retry", &o->settings.retry}, {"--fault", &o->settings.fault}, {"--watch", &o->settings.hold},
+        {"--timeout", &o->timeout},
     };
     for (size_t i = 0; i < sizeof numbers / sizeof *numbers; i++)
         if (strcmp(name, numbers[i].name) == 0)
@@ -87,11 +99,38 @@ static uint64_t *number_at(struct options *o, const char *name)
     return NULL;
 }
 
+/// The text that an option gives, or NULL; *is_of_audit says whether an audit alone takes it.
+static const char **text_at(struct options *o, const char *name, bool *is_of_audit)
+{
+    struct { const char *name; const char **at; bool is_of_audit; } texts[] = {
+        {"--out", &o->out, false},           {"--junit", &o->junit, false},   {"--report", &o->report, false},
+        {"--accept", &o->audit.accept, true}, {"--deny", &o->audit.deny, true}, {"--await", &o->audit.await, true},
+    };
+    for (size_t i = 0; i < sizeof texts / sizeof *texts; i++)
+        if (strcmp(name, texts[i].name) == 0) {
+            *is_of_audit = texts[i].is_of_audit;
+            return texts[i].at;
+        }
+    return NULL;
+}
+
+/// An option of an audit without a value; false if it is none.
+static bool take_audit_flag(struct audit_options *o, const char *name)
+{
+    bool *const flag = !strcmp(name, "--resident") ? &o->is_resident : !strcmp(name, "--json") ? &o->is_json :
+                       !strcmp(name, "--write-accept") ? &o->writes_keys : NULL;
+    if (flag)
+        *flag = o->is_there = true;
+    return flag;
+}
+
 /// An option without a value; false if it is none.
 static bool take_flag(struct options *o, const char *name)
 {
     if (strcmp(name, "--audit") == 0)
         o->audits = true;
+    else if (take_audit_flag(&o->audit, name))
+        return true;
     else if (strcmp(name, "--cpuid") == 0)
         o->settings.cpuid = 1;
     else if (strcmp(name, "--no-namespace") == 0)
@@ -112,17 +151,19 @@ static bool take_flag(struct options *o, const char *name)
 /// An option with its value.
 static void take_value(struct options *o, const char *name, const char *value)
 {
+    bool is_of_audit = false;
     uint64_t *number = number_at(o, name);
-    const bool is_known = number || !strcmp(name, "--out") || !strcmp(name, "--order") || !strcmp(name, "--queue");
-    if (!is_known)
+    const char **text = text_at(o, name, &is_of_audit);
+    if (!number && !text && strcmp(name, "--order") && strcmp(name, "--queue"))
         refuse("there is no such option", name);
     if (!value)
         refuse("a value comes after this option", name);
     o->has_delay |= strcmp(name, "--delay") == 0;
+    o->audit.is_there |= is_of_audit;
     if (number)
         *number = number_of(name, value);
-    else if (strcmp(name, "--out") == 0)
-        o->out = value;
+    else if (text)
+        *text = value;
     else if (strcmp(name, "--order") == 0)
         o->settings.order = order_of(value);
     else
@@ -150,11 +191,18 @@ void options_read(char **words, struct options *o)
         word += !equals;
     }
     o->program = *word && strcmp(*word, "--") == 0 ? word + 1 : word;
-    if (!*o->program)
+    o->audits |= o->report != NULL;
+    if (!*o->program && !o->report)
         refuse("the program to run is missing", words[0]);
+    if (*o->program && o->report)
+        refuse("no program is run", "--report");
     o->settings.watch = o->watches && (o->audits || o->settings.hold);
     if (o->seeds == 0)
         refuse("at least one run is needed", "--seeds");
+    if (o->audit.is_there && !o->audits)
+        refuse("an audit alone takes --accept, --write-accept, --deny, --await, --resident and --json", "--audit");
+    if (o->audit.is_json && o->audit.writes_keys)
+        refuse("--write-accept writes keys alone", "--json");
 }
 
 /// A word as a shell reads it, and what comes before it.

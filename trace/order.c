@@ -1,6 +1,6 @@
 /* The order in which submissions in flight are done. FIFO and MEMBERS do each at once, on the thread that submits
- * (intake.c). DATA and ALL leave it to a thread of ours, which waits until the program has run on for a while (pace.c)
- * and then draws what comes next from all that fences and drains allow. */
+ * (intake.c); so are most of a long run. DATA and ALL leave it to a thread of ours, which waits until the program has
+ * run on for a while (pace.c) and then draws what comes next from all that fences and drains allow. */
 #include "order.h"
 
 #include <errno.h>
@@ -14,9 +14,37 @@
 struct order_state order = {.lock = PTHREAD_MUTEX_INITIALIZER, .tail = &order.head};
 
 static __thread bool is_arriving; /* this thread is counted by `arriving` */
+static __thread uint32_t keys;    /* those that it may use otherwise */
 static __thread volatile int postponed; /* a signal that came meanwhile, or 0 */
 
 bool order_is_async(void) { return settings.order >= ORDER_DATA; }
+
+/// In a long run most submissions are done at once, as by a fast device: else each that a program waits for would take
+/// the delay. A part of the run is drawn by the number and the seed alone, so it is the same each time.
+static bool is_drawn(uint64_t number)
+{
+    enum { PART = 256, ONE_IN = 16 };
+    return !settings.drawn || settings.hold || number < settings.drawn ||
+           random_at(~settings.seed, number / PART) % ONE_IN == 0;
+}
+
+static bool has_older_of_queue(const struct submission *s)
+{
+    for (const struct submission *o = order.head; o && o != s; o = o->next)
+        if (o->queue == s->queue)
+            return true;
+    return false;
+}
+
+static bool waits_for_older(const struct submission *s)
+{
+    return s->entry.opcode == DSA_OPCODE_DRAIN && has_older_of_queue(s);
+}
+
+bool order_is_at_once(const struct submission *s)
+{
+    return !order_is_async() || (!is_drawn(s->number) && !waits_for_older(s));
+}
 
 static void give_back(struct submission *s)
 {
@@ -36,6 +64,7 @@ static void take_out(struct submission *s)
     if (!*at)
         order.tail = at;
     s->queue->in_flight--;
+    order.wants_room = false;
     give_back(s);
     if (!order.head)
         pthread_cond_broadcast(&order.idle);
@@ -46,7 +75,7 @@ static void take_out(struct submission *s)
 void order_watch(struct submission *s)
 {
     const unsigned asks = IDXD_OP_FLAG_CRAV | IDXD_OP_FLAG_RCR;
-    if (!settings.watch || !order_is_async() || (s->entry.flags & asks) != asks)
+    if (!settings.watch || s->is_at_once || (s->entry.flags & asks) != asks)
         return;
     s->watch = watch_open(s->entry.completion_addr, order.worker);
     if (s->watch >= 0)
@@ -103,10 +132,10 @@ void order_step(struct submission *s)
         order_complete(s, &r);
         return;
     }
-    if (order_is_async())
+    if (!s->is_at_once)
         pthread_mutex_unlock(&order.lock);
     execute(s, index, &r);
-    if (order_is_async())
+    if (!s->is_at_once)
         pthread_mutex_lock(&order.lock);
     s->begun++;
     if (!s->is_batch) {
@@ -128,18 +157,7 @@ void order_step(struct submission *s)
     order_complete(s, &r);
 }
 
-static bool has_older_of_queue(const struct submission *s)
-{
-    for (const struct submission *o = order.head; o != s; o = o->next)
-        if (o->queue == s->queue)
-            return true;
-    return false;
-}
-
-static bool may_go(const struct submission *s)
-{
-    return !s->is_done && !(s->entry.opcode == DSA_OPCODE_DRAIN && has_older_of_queue(s));
-}
+static bool may_go(const struct submission *s) { return !s->is_done && !waits_for_older(s); }
 
 /// For --watch MS: whether all waits until the program looks at a record that is watched. Until then it does not wait
 /// for it.
@@ -192,6 +210,15 @@ static void rest(unsigned *rests)
     order.sleeps = false;
 }
 
+/// Whether something in flight may be done now; else *wait has the nanoseconds after which to ask again. A program that
+/// asks a full queue again and again waits for the device: of its threads one is always about to submit.
+static bool may_work(int64_t *wait)
+{
+    enum { SOON = 10000 }; /* for a thread that is about to submit */
+    *wait = SOON;
+    return order.pace.waits || order.wants_room || (!order.arriving && pace_is_quiet(&order.pace, wait));
+}
+
 /// The thread that does the work. Signals are not for it.
 static void *work(void *unused)
 {
@@ -201,6 +228,7 @@ static void *work(void *unused)
     prctl(PR_SET_TIMERSLACK, 1);
     prctl(PR_SET_NAME, "dsa_trace");
     order.worker = (pid_t)syscall(SYS_gettid);
+    memory_permit();
     pthread_mutex_lock(&order.lock);
     for (;;) {
         struct submission *s = NULL;
@@ -210,8 +238,7 @@ static void *work(void *unused)
             continue;
         }
         rests = 0;
-        wait = AGAIN / 10; /* for a thread that is about to submit */
-        if (!order.pace.waits && (order.arriving || !pace_is_quiet(&order.pace, &wait)))
+        if (!may_work(&wait))
             wait_for_work(wait);
         else if (!(s = choose()))
             wait_for_work(AGAIN);
@@ -237,14 +264,15 @@ static void begin_process(void)
     order.head = NULL;
     order.tail = &order.head;
     order.unused = NULL;
-    order.has_worker = order.sleeps = false;
+    order.has_worker = order.wants_room = order.sleeps = false;
     order.worker = 0;
     order.arriving = is_arriving;
     order.choices = (struct random){settings.seed, 0};
     order.retries = (struct random){~settings.seed, 0};
     watch_forget();
     records_forget();
-    order.submitted = order.batches = order.members = order.retried = order.dropped = order.records = 0;
+    order.submitted = order.batches = order.members = order.dropped = order.records = 0;
+    order.retried = 0;
     record_forget();
     order.pid = getpid();
 }
@@ -261,15 +289,13 @@ void order_begin(void)
 void order_start(void)
 {
     pthread_t thread;
-    sigset_t all, old;
     if (process_is_new())
         begin_process();
     if (!order_is_async() || atomic_exchange(&order.has_worker, true))
         return;
-    sigfillset(&all);
-    pthread_sigmask(SIG_BLOCK, &all, &old);
+    const uint64_t before = signals_block();
     const int fault = pthread_create(&thread, NULL, work, NULL);
-    pthread_sigmask(SIG_SETMASK, &old, NULL);
+    signals_restore(before);
     if (fault) {
         say("no thread for the device (%s), so submissions are done as they come", strerror(fault));
         settings.order = ORDER_MEMBERS;
@@ -277,7 +303,7 @@ void order_start(void)
     }
     pthread_detach(thread);
     while (!order.worker)
-        usleep(10);
+        sched_yield();
 }
 
 /// This thread is about to submit, from before it takes the lock on: the program does not wait meanwhile.
@@ -285,6 +311,7 @@ void order_arrive(void)
 {
     is_arriving = true;
     order.arriving++;
+    keys = memory_permit();
 }
 
 /// Whether a signal that was sent waits: a handler of the program's may submit, jump away or end the process, and this
@@ -301,6 +328,7 @@ bool order_postpones(int signal)
 
 void order_leave(void)
 {
+    memory_permit_as(keys);
     is_arriving = false;
     order.arriving--;
     const int signal = postponed;

@@ -17,6 +17,7 @@ struct submission {
     uint32_t count, begun, end;
     bool is_batch, has_failed, is_done;
     bool is_changed; /* that its list was changed is said */
+    bool is_at_once; /* the thread that submits does it */
     int watch; /* a watchpoint, or -1 */
     completion last;
     uint16_t turn[GREATEST_BATCH];
@@ -29,6 +30,7 @@ bool execute_fetch(struct submission *s, unsigned index, completion *r);
 void execute(const struct submission *s, unsigned index, completion *r);
 /* The member, or -1 for the submission's own record. */
 bool execute_record(const struct submission *s, int member, const completion *r);
+void execute_operation(const descriptor *d, completion *r, uint64_t draw);
 
 /* ---- records.c: completion records of what is in flight ---- */
 void records_enter(const struct submission *s, int member, const descriptor *d);
@@ -58,16 +60,20 @@ struct order_state {
     pid_t pid;                /* the process whose state this is */
     _Atomic bool has_worker;
     bool sleeps;              /* the worker waits for a signal on `work` */
+    _Atomic bool wants_room;  /* ENQCMD has found a queue full, and nothing has left one since */
     _Atomic pid_t worker;
     _Atomic int arriving;     /* threads that are about to submit */
     struct submission *head, **tail, *unused;
     struct random choices, retries;
     struct pace pace;
-    uint64_t submitted, batches, members, retried, dropped, records;
+    uint64_t submitted, batches, members, dropped, records;
+    _Atomic uint64_t retried;
 };
 extern struct order_state order;
 /* Whether a thread of ours does the work. */
 bool order_is_async(void);
+/* Whether this submission, not yet among those in flight, is done by the thread that submits it. */
+bool order_is_at_once(const struct submission *s);
 /* The following are called with the lock. */
 void order_find_epoch(struct submission *s);
 void order_watch(struct submission *s);

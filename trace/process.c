@@ -9,10 +9,13 @@
 /* `mark` is NULL if the kernel can't empty it in children; then `number` tells. */
 static struct process { volatile bool *mark; pid_t number; unsigned generation; } process;
 
+/// Whether process_is_new was called in this process. A child by the system call fork is not known at first.
+bool process_is_known(void) { return process.mark ? *process.mark : process.number == getpid(); }
+
 /// Whether this is called for the first time in this process. A child by vfork shares the memory, so it is no new one.
 bool process_is_new(void)
 {
-    if (process.mark ? *process.mark : process.number == getpid())
+    if (process_is_known())
         return false;
     process.number = getpid();
     if (process.generation++ == 0) {
@@ -25,6 +28,9 @@ bool process_is_new(void)
         *process.mark = true;
     return true;
 }
+
+/// Whether this is a child by vfork, which has its parent's memory: what it asks for is not for that.
+bool process_is_borrowed(void) { return process.mark && *process.mark && process.number != getpid(); }
 
 /// The number of this thread, after process_is_new in this process.
 pid_t process_thread(void)

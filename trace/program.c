@@ -3,6 +3,7 @@
 #include <elf.h>
 #include <errno.h>
 #include <fcntl.h>
+#include <signal.h>
 #include <stdio.h>
 #include <stdlib.h>
 #include <string.h>
@@ -102,6 +103,17 @@ static int check_file(const char *path, char next[PATH_MAX])
         sscanf(head.text + 2, " %255s", next);
     close(file);
     return status;
+}
+
+/// Says what may have ended a program that has this status, if dsa_trace has a part in it.
+void program_explain(int status)
+{
+    if (status == 128 + SIGILL)
+        fputs("dsa_trace: ended by SIGILL: a program submits into which the library can't be loaded (static, or with "
+              "other rights than yours), or SIGILL is blocked by a system call of its own\n", stderr);
+    if (status == 128 + SIGSYS)
+        fputs("dsa_trace: ended by SIGSYS: the program's filter of system calls (seccomp) does not permit those that a "
+              "submission in software takes\n", stderr);
 }
 
 /// Looks at the program, and of a script at what interprets it.

@@ -9,10 +9,15 @@
 #include <sys/mount.h>
 #include <sys/prctl.h>
 #include <sys/stat.h>
+#include <sys/time.h>
 #include <sys/wait.h>
+#include <time.h>
 #include <unistd.h>
 
 #include "launcher.h"
+
+/* Seconds between the signal that asks a run to end, and the one that ends it. */
+enum { GRACE = 5 };
 
 /* The process of the program, for signals that are passed on to it. */
 static volatile sig_atomic_t running;
@@ -21,6 +26,25 @@ static void pass_on(int number)
 {
     if (running > 0)
         kill(running, number);
+}
+
+/* A signal that ends a call, so that it is seen how late it is. */
+static void wake(int number) { (void)number; }
+
+static double now(void)
+{
+    struct timespec t;
+    clock_gettime(CLOCK_MONOTONIC, &t);
+    return t.tv_sec + t.tv_nsec / 1e9;
+}
+
+/// Has a signal come from the end of the time that a run has, over and over; 0 seconds: none.
+static void set_alarm(uint64_t seconds)
+{
+    const struct itimerval every = {.it_interval = {.tv_usec = seconds ? 100000 : 0}, .it_value = {.tv_sec = seconds}};
+    struct sigaction a = {.sa_handler = wake};
+    sigaction(SIGALRM, &a, NULL);
+    setitimer(ITIMER_REAL, &every, NULL);
 }
 
 static int forget(const char *path, const struct stat *s, int kind, struct FTW *at)
@@ -74,7 +98,8 @@ static void preload(void)
 /// does, and one takes its time. So the order of a seed stays as repeatable as it is.
 static void choose_pace(struct settings *s)
 {
-    enum { FAST = 0, SLOW = 3, SLOWER = 4 };
+    enum { FAST = 0, SLOW = 3, SLOWER = 4, LONG = 10000 };
+    s->drawn = LONG;
     if (s->seed % 4 == FAST && s->order > ORDER_MEMBERS)
         s->order = ORDER_MEMBERS;
     if (s->seed % 4 == SLOW)
@@ -122,8 +147,24 @@ static void become(const struct options *o, const char *folder, const char *boar
     _exit(status);
 }
 
+/// Ends a run that takes too long: all its processes are asked to, and after some seconds they have to.
+static void end_late(const struct options *o, struct run *run, double started)
+{
+    const double over = o->timeout ? now() - started - o->timeout : -1;
+    if (over < 0)
+        return;
+    if (!run->is_timed_out) {
+        fprintf(stderr, "dsa_trace: seed %llu: the program runs for more than %llu s (--timeout), and is ended\n",
+                (unsigned long long)run->seed, (unsigned long long)o->timeout);
+        background_signal(SIGTERM);
+    }
+    run->is_timed_out = true;
+    if (over >= GRACE)
+        background_signal(SIGKILL);
+}
+
 /// The status of the program, which gets the signals that end us; those of the terminal it gets by itself.
-static int wait_for(pid_t child)
+static int wait_for(pid_t child, const struct options *o, struct run *run, double started)
 {
     static const int passed[] = {SIGTERM, SIGHUP, SIGINT, SIGQUIT};
     struct sigaction old[4];
@@ -133,8 +174,15 @@ static int wait_for(pid_t child)
         struct sigaction a = {.sa_handler = i < 2 ? pass_on : SIG_IGN};
         sigaction(passed[i], &a, &old[i]);
     }
-    for (pid_t ended = 0; ended != child;) /* others come to us when their parents have ended */
+    if (o->timeout)
+        set_alarm(o->timeout);
+    for (pid_t ended = 0; ended != child;) { /* others come to us when their parents have ended */
         ended = waitpid(-1, &status, 0);
+        if (ended < 0)
+            end_late(o, run, started);
+    }
+    if (o->timeout)
+        set_alarm(0);
     running = 0;
     for (int i = 0; i < 4; i++)
         sigaction(passed[i], &old[i], NULL);
@@ -146,6 +194,7 @@ void run_once(const struct options *o, const char *folder, struct run *run)
 {
     char tree[PATH_MAX], board[PATH_MAX];
     const pid_t self = getpid();
+    const double started = now();
     run->board = seen_begin(folder, board);
     fflush(NULL);
     const pid_t child = fork(); /* we stay outside of the namespace, and remove the folder at the end */
@@ -157,9 +206,16 @@ void run_once(const struct options *o, const char *folder, struct run *run)
             _exit(FAILED);
         become(o, folder, board, run);
     }
-    run->status = wait_for(child);
+    run->status = wait_for(child, o, run, started);
+    if (run->is_timed_out)
+        background_signal(SIGKILL);
+    else
+        program_explain(run->status);
     run->is_over = background_end(o->waits);
+    run->seconds = now() - started;
+    if (run->is_timed_out)
+        run->status = TIMED_OUT;
     run_remove(joined(tree, folder, "tree"));
     if (run->records)
-        tidy(run->records);
+        tidy(run->records, run->board);
 }

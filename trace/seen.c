@@ -48,15 +48,23 @@ static bool spoil(const char *records, const char *recording)
     return !*last || truncate(last, length + 1) == 0;
 }
 
-/// Marks a recording that breaks off, also by a line among its errors.
-static bool mark(const char *records, const struct loss *l)
+/// Whether the board says that a recording breaks off.
+bool seen_is_lost(const struct board *b, const char *recording)
 {
-    char name[NAME_MAX + 1], path[PATH_MAX];
-    snprintf(name, sizeof name, "%s.errors", l->recording);
+    for (unsigned i = 0; i < places(b); i++)
+        if (strcmp(b->losses[i].recording, recording) == 0)
+            return true;
+    return false;
+}
+
+/// Marks a recording that breaks off by a line among its errors.
+bool seen_mark(const char *records, const char *recording, const char *why)
+{
+    char name[NAME_MAX + 32], path[PATH_MAX];
+    snprintf(name, sizeof name, "%s.errors", recording);
     FILE *errors = fopen(joined(path, records, name), "a");
-    const bool is_written = errors && fprintf(errors, "B %s\n", l->why) > 0;
-    const bool is_kept = errors && fclose(errors) == 0 && is_written;
-    return spoil(records, l->recording) && is_kept;
+    const bool is_written = errors && fprintf(errors, "B %s\n", why) > 0;
+    return errors && fclose(errors) == 0 && is_written;
 }
 
 /// Says once in which processes no records are watched, since then less is found.
@@ -78,7 +86,8 @@ bool seen_whole(const struct run *run)
         const struct loss *l = &b->losses[i];
         fprintf(stderr, "dsa_trace: the recording of process %d (%s) breaks off: %s\n", l->process, l->recording,
                 l->is_written ? l->why : "the process ended meanwhile");
-        if (l->is_written && !mark(run->records, l))
+        const bool is_spoiled = !l->is_written || spoil(run->records, l->recording);
+        if (!is_spoiled || (l->is_written && !seen_mark(run->records, l->recording, l->why)))
             fprintf(stderr, "dsa_trace: %s/%s can't be marked as one that breaks off\n", run->records, l->recording);
     }
     if (b->lost > MOST_LOSSES)

@@ -12,7 +12,7 @@ static const struct number { const char *name; size_t at; } numbers[] = {
     {"DSA_TRACE_SEED", offsetof(struct settings, seed)},   {"DSA_TRACE_DELAY", offsetof(struct settings, delay)},
     {"DSA_TRACE_RETRY", offsetof(struct settings, retry)}, {"DSA_TRACE_FAULT", offsetof(struct settings, fault)},
     {"DSA_TRACE_WATCH", offsetof(struct settings, watch)}, {"DSA_TRACE_CPUID", offsetof(struct settings, cpuid)},
-    {"DSA_TRACE_HOLD", offsetof(struct settings, hold)},
+    {"DSA_TRACE_HOLD", offsetof(struct settings, hold)},   {"DSA_TRACE_DRAWN", offsetof(struct settings, drawn)},
     {"DSA_TRACE_SIGNALS", offsetof(struct settings, signals)},
     {"DSA_TRACE_VERBOSE", offsetof(struct settings, verbose)},
 };

@@ -15,6 +15,7 @@ struct settings {
     enum order order;
     uint64_t seed;
     uint64_t delay;   /* microseconds that the program has to run on before anything in flight is done */
+    uint64_t drawn;   /* after so many submissions only parts of the run have the delay; 0: all of it */
     uint64_t retry;   /* ENQCMD says "retry" once in this many times; 0: only when the queue is full */
     uint64_t fault;   /* a move without block-on-fault stops at a page of its source, once in so many; 0: never */
     uint64_t watch;   /* 1: it is seen which records the program looks at */

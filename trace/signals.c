@@ -15,6 +15,8 @@
 
 enum { HIGHEST = 64 };
 
+static const uint64_t all_but_faults = ~(1ull << (SIGSEGV - 1) | 1ull << (SIGBUS - 1));
+
 /* What the program asked for; written by its calls of sigaction alone. */
 static struct signals {
     struct sigaction theirs[HIGHEST + 1];
@@ -22,14 +24,6 @@ static struct signals {
 } signals;
 
 static bool is_ours(int number) { return number == SIGILL || number == SIGSEGV || number == SIGBUS; }
-
-/// A fault that comes while its signal is blocked kills the process, so these are never blocked.
-static void unblock_ours(sigset_t *set)
-{
-    sigdelset(set, SIGILL);
-    sigdelset(set, SIGSEGV);
-    sigdelset(set, SIGBUS);
-}
 
 static greg_t *register_at(ucontext_t *u, unsigned number)
 {
@@ -147,13 +141,13 @@ static void handler(int number, siginfo_t *info, void *context)
     }
     if (number != SIGILL && is_fault)
         memory_escape(info, context);
-    const bool may_be = number == SIGILL || info->si_code == SI_KERNEL || portals_at((uintptr_t)info->si_addr);
-    if (number != SIGBUS && is_fault && may_be) {
+    const bool may_be = number != SIGSEGV || info->si_code == SI_KERNEL || portals_at((uintptr_t)info->si_addr);
+    if (is_fault && may_be) { /* SIGBUS: of a queue's file that is mapped past us */
         order_arrive();
         outcome = perform(u, &fault);
         order_leave();
     }
-    if (outcome == NOT_OURS)
+    if (outcome == NOT_OURS || (outcome == FAULTED && number == SIGBUS))
         pass_on(number, info, u);
     else if (outcome != SUBMITTED && outcome != DONE) {
         siginfo_t theirs = {.si_signo = SIGSEGV, .si_code = fault.address ? SEGV_MAPERR : SI_KERNEL};
@@ -163,6 +157,18 @@ static void handler(int number, siginfo_t *info, void *context)
     errno = kept;
 }
 
+/// Sets this thread's mask of signals, as the kernel has it: the C library's function leaves out signals of its own.
+static uint64_t set_mask(uint64_t mask)
+{
+    uint64_t before = 0;
+    syscall(SYS_rt_sigprocmask, SIG_SETMASK, &mask, &before, sizeof mask);
+    return before;
+}
+
+uint64_t signals_block(void) { return set_mask(all_but_faults); }
+
+void signals_restore(uint64_t before) { set_mask(before); }
+
 /// Installs our handler for one signal. All others are blocked while it runs, so that it is not called while the thread
 /// has a lock of ours. It uses the program's other stack only if the program's own handler does.
 static void install(int number)
@@ -170,21 +176,24 @@ static void install(int number)
     REAL_OF(sigaction);
     struct sigaction ours = {.sa_sigaction = handler, .sa_flags = SA_SIGINFO | SA_NODEFER};
     ours.sa_flags |= number == SIGILL ? 0 : signals.theirs[number].sa_flags & SA_ONSTACK;
-    sigfillset(&ours.sa_mask);
-    sigdelset(&ours.sa_mask, SIGSEGV);
-    sigdelset(&ours.sa_mask, SIGBUS);
+    memcpy(&ours.sa_mask, &all_but_faults, sizeof all_but_faults);
     REAL(sigaction)(number, &ours, NULL);
 }
 
-/// Puts our handlers before those that are there, and lets CPUID fault if that is asked for.
+/// Puts our handlers before those that are there, and lets CPUID fault if that is asked for. If ours is there already,
+/// a library has asked for its own before, and it is known.
 void signals_install(void)
 {
     REAL_OF(sigaction);
     static const int ours[] = {SIGILL, SIGSEGV, SIGBUS};
+    struct sigaction found;
     for (int i = 0; i < 3; i++) {
-        REAL(sigaction)(ours[i], NULL, &signals.theirs[ours[i]]);
+        REAL(sigaction)(ours[i], NULL, &found);
+        if (!(found.sa_flags & SA_SIGINFO) || found.sa_sigaction != handler)
+            signals.theirs[ours[i]] = found;
         install(ours[i]);
     }
+    masks_begin();
     if (!settings.cpuid)
         return;
     signals.fakes_cpuid = syscall(SYS_arch_prctl, ARCH_SET_CPUID, 0l) == 0; /* threads inherit it */
@@ -195,11 +204,11 @@ void signals_install(void)
 int sigaction(int number, const struct sigaction *new, struct sigaction *old)
 {
     REAL_OF(sigaction);
-    if (!is_ours(number) && !new)
-        return REAL(sigaction)(number, NULL, old);
+    if ((!is_ours(number) && !new) || (is_ours(number) && process_is_borrowed()))
+        return REAL(sigaction)(number, new, old);
     if (!is_ours(number)) {
         struct sigaction less = *new;
-        unblock_ours(&less.sa_mask);
+        masks_spare(&less.sa_mask);
         return REAL(sigaction)(number, &less, old);
     }
     const struct sigaction before = signals.theirs[number];
@@ -221,24 +230,4 @@ sighandler_t signal(int number, sighandler_t action)
     struct sigaction old;
     sigaction(number, &new, &old);
     return old.sa_handler;
-}
-
-int pthread_sigmask(int how, const sigset_t *set, sigset_t *old)
-{
-    REAL_OF(pthread_sigmask);
-    sigset_t less;
-    if (set && how != SIG_UNBLOCK) {
-        less = *set;
-        unblock_ours(&less);
-        set = &less;
-    }
-    return REAL(pthread_sigmask)(how, set, old);
-}
-
-int sigprocmask(int how, const sigset_t *set, sigset_t *old)
-{
-    const int fault = pthread_sigmask(how, set, old);
-    if (fault)
-        errno = fault;
-    return fault ? -1 : 0;
 }

@@ -40,14 +40,17 @@ static bool has(uintptr_t at, const uint8_t *bytes, size_t size)
     return memory_copy(there, (const void *)at, size, NULL) && memcmp(there, bytes, size) == 0;
 }
 
-/// Copies what is at an address, up to the end of its page if no more can be read.
+/// Copies what is at an address, up to the end of its page if no more can be read. Code that may be executed alone is
+/// read by a file.
 static void copy_code(uintptr_t at, uint8_t code[LONGEST_CODE])
 {
-    enum { PAGE = 4096 };
-    const size_t left = PAGE - at % PAGE;
     memset(code, 0, LONGEST_CODE);
-    if (!memory_copy(code, (const void *)at, LONGEST_CODE, NULL) && left < LONGEST_CODE)
-        memory_copy(code, (const void *)at, left, NULL);
+    if (memory_copy(code, (const void *)at, LONGEST_CODE, NULL))
+        return;
+    const int file = patch_open();
+    if (file >= 0)
+        patch_read(file, at, code, LONGEST_CODE);
+    patch_close(file);
 }
 
 /// The program's own code, as sites.h says. An entry may be of code that was unmapped, so the bytes decide.

@@ -53,6 +53,7 @@ bool patch_is_private(uintptr_t at, size_t size);
 /* A file for the following; -1 if there is none. */
 int patch_open(void);
 bool patch_bytes(int file, uintptr_t at, const void *bytes, size_t size);
+void patch_read(int file, uintptr_t at, void *bytes, size_t size);
 /* After this no thread executes what was there before the last change. */
 bool patch_sync(void);
 void patch_close(int file);

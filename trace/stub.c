@@ -21,10 +21,10 @@ struct stub {
     uint8_t skip[5];      /* lea -128(%rsp), %rsp */
     uint8_t push[6];      /* push `site` */
     uint8_t enter[6];     /* jmp *entry */
-    uint8_t next[8];      /* lea 136(%rsp), %rsp */
+    uint8_t next[8];      /* lea 144(%rsp), %rsp */
     uint8_t jump;         /* jmp to what comes after the site */
     uint8_t distance[4];
-    uint8_t trap[8];      /* lea 136(%rsp), %rsp */
+    uint8_t trap[8];      /* lea 144(%rsp), %rsp */
     uint8_t undefined;
     uint8_t unused[9];
     struct site *site;
@@ -32,12 +32,9 @@ struct stub {
 };
 _Static_assert(sizeof(struct stub) == 64 && offsetof(struct stub, site) == 48, "the distances in the code below");
 
-/* What the entry leaves on the stack; on the way out `way` is where it goes on. */
-struct entered {
-    struct registers registers;
-    union { const struct site *site; const uint8_t *way; };
-};
-_Static_assert(sizeof(struct entered) == 18 * 8, "stub_entry saves 17 registers after the site");
+/* What the entry leaves on the stack; `way` is where it goes on. */
+struct entered { struct registers registers; const uint8_t *way; const struct site *site; };
+_Static_assert(sizeof(struct entered) == 19 * 8, "stub_entry saves 17 registers after a copy of the site");
 
 /* Pages of stubs, of which so many are used; a page is written down before it is counted. */
 static struct islands { struct { struct stub *page; unsigned used; } at[ISLANDS]; atomic_uint count; } islands;
@@ -50,14 +47,27 @@ _Static_assert(offsetof(struct saved, room) == 8 && offsetof(struct saved, is_co
 
 FOR_CODE_BELOW void stub_submit(struct entered *e);
 
+/* For those who unwind the stack from here (a debugger, or the C library when it cancels a thread): as if the site's
+ * function had called. rbx has the address of `entered`, after which come the red zone and the function's stack. */
+#define SITE_HAS_CALLED                                                                                                \
+    ".cfi_def_cfa %rbx, 280\n"                                                                                         \
+    ".cfi_offset %rbx, -256; .cfi_offset %rbp, -240; .cfi_offset %r12, -184; .cfi_offset %r13, -176\n"                 \
+    ".cfi_offset %r14, -168; .cfi_offset %r15, -160\n"                                                                 \
+    /* rip is a value: breg3 144, deref, dup, deref, swap, plus_uconst 16, deref_size 1, plus */                       \
+    ".cfi_escape 0x16, 16, 12, 0x73, 0x90, 0x01, 0x06, 0x12, 0x06, 0x16, 0x23, 16, 0x94, 1, 0x22\n"
+_Static_assert(offsetof(struct site, at) == 0 && offsetof(struct site, length) == 16, "as rip is found");
+
 /// From a stub, with the site on the stack: saves what the program has, and restores it.
 __attribute__((naked)) static void stub_entry(void)
 {
-    __asm__("endbr64\n"
+    __asm__(".cfi_undefined %rip\n"
+            "endbr64\n"
+            "push (%rsp)\n"
             "pushfq; push %r15; push %r14; push %r13; push %r12; push %r11; push %r10; push %r9; push %r8\n"
             "push %rdi; push %rsi; push %rbp; push %rsp; push %rbx; push %rdx; push %rcx; push %rax\n"
             "cld\n"
             "mov %rsp, %rbx\n"
+            ".cfi_remember_state\n" SITE_HAS_CALLED
             "sub stub_saved+8(%rip), %rsp\n"
             "and $-64, %rsp\n"
             "xor %eax, %eax\n" /* the header of the area, after 512 bytes, has to be zero */
@@ -76,6 +86,7 @@ __attribute__((naked)) static void stub_entry(void)
             "mov stub_saved+4(%rip), %edx\n"
             "xrstor64 (%rsp)\n"
             "mov %rbx, %rsp\n"
+            ".cfi_restore_state\n"
             "pop %rax; pop %rcx; pop %rdx; pop %rbx; lea 8(%rsp), %rsp; pop %rbp; pop %rsi; pop %rdi\n"
             "pop %r8; pop %r9; pop %r10; pop %r11; pop %r12; pop %r13; pop %r14; pop %r15; popfq\n"
             "jmp *(%rsp)\n");
@@ -87,15 +98,13 @@ void stub_submit(struct entered *e)
 {
     const int kept = errno;
     const struct site *site = e->site;
-    const uint64_t blocked = ~(1ull << (SIGSEGV - 1) | 1ull << (SIGBUS - 1));
-    uint64_t before;
     struct emulated done;
-    syscall(SYS_rt_sigprocmask, SIG_SETMASK, &blocked, &before, sizeof before);
+    const uint64_t before = signals_block();
     order_arrive();
     e->registers.general[STACK_POINTER] = (uintptr_t)(e + 1) + RED_ZONE;
     const enum outcome outcome = emulate(site->code, site->at, &e->registers, &done);
     order_leave();
-    syscall(SYS_rt_sigprocmask, SIG_SETMASK, &before, NULL, sizeof before);
+    signals_restore(before); /* a cancelled thread may end here */
     e->way = outcome == SUBMITTED || outcome == DONE ? site->stub->next : site->stub->trap;
     errno = kept;
 }
@@ -183,8 +192,8 @@ bool stub_make(struct site *s)
 {
     struct stub code = {
         .skip = {0x48, 0x8d, 0x64, 0x24, 0x80},       .push = {0xff, 0x35, 37},
-        .enter = {0xff, 0x25, 39},                    .next = {0x48, 0x8d, 0xa4, 0x24, 136},
-        .jump = 0xe9,                                 .trap = {0x48, 0x8d, 0xa4, 0x24, 136},
+        .enter = {0xff, 0x25, 39},                    .next = {0x48, 0x8d, 0xa4, 0x24, 144},
+        .jump = 0xe9,                                 .trap = {0x48, 0x8d, 0xa4, 0x24, 144},
         .undefined = UNDEFINED,                       .site = s, .entry = stub_entry,
     };
     struct stub *stub = place_near(s->at);

@@ -2,33 +2,33 @@
 #ifndef DSA_TRACE_H
 #define DSA_TRACE_H
 
-#include <linux/idxd.h>
 #include <setjmp.h>
 #include <signal.h>
-#include <stdbool.h>
-#include <stddef.h>
-#include <stdint.h>
 #include <sys/types.h>
 
+#include "operations.h"
 #include "settings.h"
 
-typedef struct dsa_hw_desc descriptor;
-typedef struct dsa_completion_record completion;
-_Static_assert(sizeof(descriptor) == 64 && sizeof(completion) == 32, "the layout of linux/idxd.h");
-
-enum { GREATEST_BATCH = 1024, QUEUES = 64, PORTALS = 256 };
+enum { QUEUES = 64, PORTALS = 256 };
 
 extern struct settings settings;
 
-/* A work queue, with the limits that its files name. */
+/* A work queue. */
 struct queue {
     int device, id;
-    bool is_shared, may_block; /* block-on-fault is allowed */
-    uint32_t size, greatest_batch;
-    uint64_t greatest_transfer;
-    uint32_t in_flight; /* this and the next under the lock of order.c */
-    bool is_mistaken;   /* that the instruction is that of the other mode is said */
+    bool is_shared;
+    uint32_t size;
+    struct limits limits;
+    _Atomic uint32_t in_flight; /* this and the next are written under the lock of order.c */
+    bool is_mistaken;           /* that the instruction is that of the other mode is said */
 };
+
+/* ---- begin.c ---- */
+/* Begins the library in this process, if that is not done. */
+void library_begin(void);
+
+/* ---- started.c: programs that this one starts ---- */
+void started_begin(void);
 
 /* ---- say.c: sentences on standard error, safe in a handler of signals ---- */
 void say(const char *format, ...) __attribute__((format(printf, 1, 2)));
@@ -40,22 +40,35 @@ void *real(const char *name, void **found);
 /* ---- process.c ---- */
 /* Whether this is called for the first time in this process. */
 bool process_is_new(void);
+/* Whether it was called. */
+bool process_is_known(void);
+/* Whether this is a child by vfork of a process in which process_is_new was called. */
+bool process_is_borrowed(void);
 /* The number of this thread; process_is_new was called in this process before. */
 pid_t process_thread(void);
 
+/* ---- written.c: what is written to files ---- */
+void written_begin(void);
+
 /* ---- files.c: the device's files ---- */
+enum { LONGEST_ATTRIBUTE = 4096 };
 /* The path in the tree, if names are turned and this is one of the device's; else the path itself. */
 const char *files_turned(const char *path, char room[PATH_MAX]);
 /* Applies what was written to the bind and unbind files, by a shell's stdio for example. */
 void files_settle(const char *path);
-/* The queue of an open file, or NULL. It keeps errno, unless the file is that of a queue that can't be read: then NULL,
- * *is_broken and why. */
-struct queue *files_queue(int fd, bool *is_broken);
+void files_settle_now(void);
+/* What an open file is; `queue` is NULL if that of a queue can't be read, and errno then says why. */
+struct opened { enum { OF_OTHERS, OF_QUEUE, OF_ATTRIBUTE } kind; struct queue *queue; };
+struct opened files_opened(int fd);
+/* The queue whose file is mapped at an address, or NULL. */
+struct queue *files_mapped(uintptr_t at);
 
 /* ---- portals.c: the pages that programs map ---- */
 /* The queue at whose portal this address is, or NULL. It takes no lock, so it may be asked in a handler of signals. */
 struct queue *portals_at(uintptr_t address);
 void portals_forget(void);
+/* The queue whose file is mapped there without our functions of that name; it is a portal from then on. */
+struct queue *portals_adopt(uintptr_t address);
 /* The queue of this device and number; a new one is read by `fill`, which answers false if there is none. */
 struct queue *portals_queue(int device, int id, bool (*fill)(struct queue *));
 
@@ -65,23 +78,12 @@ struct guard { volatile sig_atomic_t is_set; sigjmp_buf escape; struct fault fau
 extern __thread struct guard guard;
 /* Copies `size` bytes; false if some byte can't be touched, and where is in *fault unless that is NULL. */
 bool memory_copy(void *to, const void *from, size_t size, struct fault *fault);
+void memory_begin(void);
+/* Permits all protection keys to this thread; and those before. */
+uint32_t memory_permit(void);
+void memory_permit_as(uint32_t keys);
 /* In a handler: leaves the copy or the operation that this thread does for the device, if it does one. */
 void memory_escape(const siginfo_t *info, const void *context);
-
-/* ---- valid.c: what the device refuses before it does anything ---- */
-/* DSA_COMP_SUCCESS, or the status with which the descriptor ends; of flags *bad has those that are invalid. */
-uint8_t valid_descriptor(const descriptor *d, const struct queue *q, bool is_member, uint32_t *bad);
-const char *valid_name(uint8_t status);
-bool valid_is_misplaced(const descriptor *d);
-
-/* ---- device.c, crc.c and dif.c: operations ---- */
-/* Does one operation, neither batch nor drain, and fills the record. `draw` is a random number, for --fault. */
-void device_run(const descriptor *d, completion *r, uint64_t draw);
-uint32_t bits_reversed(uint32_t number);
-uint32_t crc32c(uint32_t crc, const uint8_t *from, size_t size, bool is_plain);
-uint16_t crc_t10(uint16_t crc, const uint8_t *from, size_t size);
-/* Check, insert, strip or update; *done counts the source bytes that are done, also when a page is missing. */
-uint8_t dif_run(const descriptor *d, completion *r, volatile uint32_t *done);
 
 /* ---- order.c and intake.c: submissions in flight, and in which order they are done ---- */
 enum accepted { ACCEPTED, FULL };
@@ -128,7 +130,17 @@ void watch_completed(int watch, uint64_t number);
 void watch_note_seen(void);
 void watch_forget(void);
 
+/* ---- masks.c: which signals the program blocks ---- */
+/* Unblocks ours. */
+void masks_begin(void);
+/* Takes ours out of a set. */
+void masks_spare(sigset_t *set);
+
 /* ---- signals.c ---- */
 void signals_install(void);
+/* Blocks all signals for this thread but faults of memory, until they are restored: also those by which the C library
+ * cancels threads, so that none of the program's code runs, and no thread ends, while it has a lock of ours. */
+uint64_t signals_block(void);
+void signals_restore(uint64_t before);
 
 #endif

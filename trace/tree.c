@@ -1,6 +1,7 @@
 /* The device's files, as the driver idxd shows one device with four groups, four engines and the queues of the options:
  * /sys/bus/dsa, /dev/dsa and /sys/module/idxd. */
 #include <errno.h>
+#include <fcntl.h>
 #include <stdarg.h>
 #include <stdio.h>
 #include <stdlib.h>
@@ -55,6 +56,15 @@ static void put_all(const char *folder, const struct named *files, size_t count)
 {
     for (size_t i = 0; i < count; i++)
         put(folder, files[i].name, "%s", files[i].text);
+}
+
+/// The file of a queue. It is empty, so that a store to a map of it that the library does not know has a signal.
+static void make_node(const char *folder, const char *name)
+{
+    char path[PATH_MAX];
+    const int file = open(joined(path, folder, name), O_WRONLY | O_CREAT, 0666);
+    if (file < 0 || fchmod(file, 0666) || close(file))
+        fail(path);
 }
 
 static void put_link(const char *to, const char *folder, const char *name)
@@ -132,7 +142,7 @@ static void make_queue(const char *tree, const char *device, int i, const char *
     if (!text)
         return;
     put_link("../../../../../drivers/user", folder, "driver");
-    put(joined(nodes, tree, "dev/dsa"), name, "%s", "");
+    make_node(joined(nodes, tree, "dev/dsa"), name);
 }
 
 /// Makes all of it in the folder.

@@ -2,7 +2,7 @@
  * a flag or a byte whose meaning depends on the device's version is let pass. */
 #include <string.h>
 
-#include "trace.h"
+#include "operations.h"
 
 enum { RESERVED_FLAG = 0x40, CRC_FLAGS = 0x070000, SPECIFIC_FLAGS = 0xff0000, DELTA_MOST = 0x80000 };
 
@@ -26,14 +26,14 @@ static bool is_known(const descriptor *d)
 
 /// The flags that may not be set: reserved ones, check result of what has no result, block-on-fault if the queue has it
 /// off, and a record that is requested but has no valid address.
-static uint32_t invalid_flags(const descriptor *d, const struct queue *q)
+static uint32_t invalid_flags(const descriptor *d, const struct limits *limits)
 {
     uint32_t bad = d->flags & (RESERVED_FLAG | SPECIFIC_FLAGS);
     if (is_crc(d))
         bad &= ~CRC_FLAGS;
     if (!may_check(d))
         bad |= d->flags & IDXD_OP_FLAG_CR;
-    if (!q->may_block)
+    if (!limits->may_block)
         bad |= d->flags & IDXD_OP_FLAG_BOF;
     if (!(d->flags & IDXD_OP_FLAG_CRAV))
         bad |= d->flags & IDXD_OP_FLAG_RCR;
@@ -97,26 +97,32 @@ bool valid_is_misplaced(const descriptor *d)
     return d->flags & IDXD_OP_FLAG_CRAV && d->completion_addr % sizeof(completion);
 }
 
+/// Whether the device writes a record with this status: one that is not requested is written on failures alone.
+bool valid_has_record(const descriptor *d, uint8_t status)
+{
+    return d->flags & IDXD_OP_FLAG_CRAV && (d->flags & IDXD_OP_FLAG_RCR || status != DSA_COMP_SUCCESS);
+}
+
 /// The first of the causes for which the device refuses a descriptor, or success.
-uint8_t valid_descriptor(const descriptor *d, const struct queue *q, bool is_member, uint32_t *bad)
+uint8_t valid_descriptor(const descriptor *d, const struct limits *limits, bool is_member, uint32_t *bad)
 {
     const bool is_batch = d->opcode == DSA_OPCODE_BATCH;
     if (valid_is_misplaced(d))
         return DSA_COMP_CRA_ALIGN;
     if (!is_known(d) || (is_member && (is_batch || d->opcode == DSA_OPCODE_DRAIN)))
         return DSA_COMP_BAD_OPCODE;
-    *bad = invalid_flags(d, q);
+    *bad = invalid_flags(d, limits);
     if (*bad)
         return DSA_COMP_INVALID_FLAGS;
     if (!reserved_is_zero(d))
         return DSA_COMP_NOZERO_RESERVE;
     if (d->flags & IDXD_OP_FLAG_RCI) /* the driver lets interrupts be asked for by the kernel's own queues alone */
         return DSA_COMP_INT_HANDLE_INVAL;
-    if (is_batch && (d->desc_count < 2 || d->desc_count > q->greatest_batch))
+    if (is_batch && (d->desc_count < 2 || d->desc_count > limits->greatest_batch))
         return DSA_COMP_DESC_CNT_ERANGE;
     if (is_batch && d->desc_list_addr % sizeof *d)
         return DSA_COMP_DESCLIST_ALIGN;
-    if (has_size(d) && (d->xfer_size == 0 || d->xfer_size > q->greatest_transfer))
+    if (has_size(d) && (d->xfer_size == 0 || d->xfer_size > limits->greatest_transfer))
         return DSA_COMP_XFER_ERANGE;
     return valid_operation(d);
 }

@@ -74,7 +74,7 @@ static void close_all(void)
 static int list_threads(pid_t except, pid_t found[THREADS + 1])
 {
     struct entry { uint64_t inode; int64_t next; uint16_t length; uint8_t kind; char name[]; };
-    _Alignas(struct entry) char room[2048];
+    static _Alignas(struct entry) char room[2048]; /* under the lock of order.c, since there may be little stack */
     int count = 0;
     long length;
     const int fd = syscall(SYS_openat, AT_FDCWD, "/proc/self/task", O_RDONLY | O_DIRECTORY | O_CLOEXEC, 0);

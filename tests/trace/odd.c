@@ -282,6 +282,40 @@ static void stops(void)
     printf("result %u, at its first page %d\n", r->result, r->fault_addr == (uintptr_t)other);
 }
 
+/* What ends exactly at a page that is missing: a fill, whose pattern goes on over pages, a move onto itself, a flush;
+ * and a check of integrity fields at the block that is wrong. */
+static void edges(void)
+{
+    uint8_t wrong = 0;
+    descriptor d = {.opcode = DSA_OPCODE_MEMFILL, .flags = ASKS | IDXD_OP_FLAG_BOF};
+    d.pattern = 0x0807060504030201;
+    d.dst_addr = (uintptr_t)memory + PAGE - 3;
+    d.xfer_size = 1001;
+    done(d, "a fill over pages");
+    for (int i = 0; i < 1001; i++)
+        wrong |= memory[PAGE - 3 + i] != 1 + i % 8;
+    memset(memory + 2 * PAGE - 100, 0x55, 100);
+    d.dst_addr = (uintptr_t)memory + 2 * PAGE - 99;
+    d.xfer_size = 200;
+    done(d, "a fill");
+    for (int i = 0; i < 99; i++)
+        wrong |= memory[2 * PAGE - 99 + i] != 1 + i % 8;
+    printf("before it %#x, wrong %d\n", memory[2 * PAGE - 100], wrong);
+    done(move(memory + PAGE, memory + PAGE, 2 * PAGE, r), "a move onto itself");
+    mprotect(memory + PAGE, PAGE, PROT_READ);
+    done(move(memory + PAGE, memory + PAGE, PAGE, r), "of what is read alone");
+    mprotect(memory + PAGE, PAGE, PROT_READ | PROT_WRITE);
+    d = (descriptor){.opcode = DSA_OPCODE_CFLUSH, .flags = ASKS, .xfer_size = 5000};
+    d.dst_addr = (uintptr_t)memory + PAGE + 10;
+    done(d, "a flush");
+    memset(memory, 0, PAGE); /* blocks of zeros have a guard of zero */
+    memory[520 + 512] = 1;
+    d = (descriptor){.opcode = DSA_OPCODE_DIF_CHECK, .flags = ASKS, .xfer_size = 3 * 520, .chk_ref_tag_seed = 0};
+    d.src_addr = (uintptr_t)memory;
+    d.src_upd_flags = 0x80; /* the reference tag stays the same */
+    done(d, "a wrong field");
+}
+
 /* Submits by writing to the queue's file, two at once, and one of which not all can be read. */
 static void written(void)
 {
@@ -418,7 +452,7 @@ int main(int argc, char **argv)
         {"pages", missing_pages}, {"gone", gone}, {"lists", lists}, {"record", odd_record}, {"refused", refused},
         {"unreadable", unreadable}, {"child", child}, {"partial", partial}, {"retried", retried},
         {"written", written}, {"full", full}, {"maps", maps}, {"members", strange_members}, {"stops", stops},
-        {"sent", sent},
+        {"sent", sent}, {"edges", edges},
     };
     for (size_t i = 0; i < sizeof plain / sizeof *plain; i++)
         if (strcmp(what, plain[i].name) == 0)

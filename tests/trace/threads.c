@@ -1,15 +1,16 @@
-/* Four threads, made after the first submission and with all signals blocked, each with moves of its own in flight on
- * the shared queue; then a child by fork, which maps a portal of its own. Status 0: all copies are right. */
+/* Four threads, or so many, made after the first submission and with all signals blocked, each with moves of its own in
+ * flight on the shared queue, and so many rounds of these; then a child by fork, which maps a portal of its own. Status
+ * 0: all copies are right. */
 #include <pthread.h>
 #include <signal.h>
 #include <sys/wait.h>
 
 #include "client.h"
 
-enum { THREADS = 4, ROUNDS = 20, MOVES = 4, SIZE = 3000, APART = 4096 };
+enum { MOVES = 4, SIZE = 3000, APART = 4096 };
 
 static void *portal;
-static int wrong;
+static int rounds = 20, wrong;
 
 static void put(const descriptor *d)
 {
@@ -21,7 +22,7 @@ static void *work(void *unused)
 {
     uint8_t *from = fresh(MOVES * APART), *to = fresh(MOVES * APART);
     volatile completion *r = fresh(4096);
-    for (int round = 0; round < ROUNDS; round++) {
+    for (int round = 0; round < rounds; round++) {
         memset((void *)r, 0, sizeof *r * MOVES);
         for (int i = 0; i < MOVES * APART; i++)
             from[i] = rand();
@@ -36,18 +37,20 @@ static void *work(void *unused)
     return unused;
 }
 
-int main(void)
+int main(int argc, char **argv)
 {
-    pthread_t threads[THREADS];
+    const int count = argc > 1 ? atoi(argv[1]) : 4;
+    pthread_t threads[count];
     sigset_t all;
     int status;
+    rounds = argc > 2 ? atoi(argv[2]) : rounds;
     portal = portal_of("/dev/dsa/wq0.1");
     work(NULL);
     sigfillset(&all);
     pthread_sigmask(SIG_BLOCK, &all, NULL);
-    for (int i = 0; i < THREADS; i++)
+    for (int i = 0; i < count; i++)
         pthread_create(&threads[i], NULL, work, NULL);
-    for (int i = 0; i < THREADS; i++)
+    for (int i = 0; i < count; i++)
         pthread_join(threads[i], NULL);
     const pid_t child = fork();
     if (child == 0)

@@ -4,10 +4,12 @@
  *   background, stays     a process in the background lacks a wait, and ends or stays
  *   list, gone            the list of a batch is filled anew too early, or unmapped
  *   record, stale         a record is cleared after the submission, or never
+ *   long COUNT            which of so many moves are done at once
  *   gap US                a missing wait, with so many microseconds between the submissions
+ *   parts                 a missing wait between two parts of the recording
  *   asks                  does without the device if CPUID says so
  * and what is right: right; reuse (a list is filled anew after its members), shared (a record of two members with a
- * fence between), small (a thread with little stack), pace (prints how many microseconds a move takes). */
+ * fence between), pace (prints how many microseconds a move takes). */
 #include "client.h"
 
 #include <cpuid.h>
@@ -61,6 +63,20 @@ static int lose(const char *how)
         perror("setuid");
     for (int i = 0; i < MANY; i++)
         submit_and_await(at, &d);
+    lack_a_wait(at);
+    return 0;
+}
+
+/* Fills a part of a recording, of 65,536 entries, but for one entry. Then a wait is missing. */
+static int fill_a_part(void)
+{
+    enum { MEMBERS = 1023, FULL = 63 };
+    void *at = portal();
+    descriptor *list = fresh(MEMBERS * sizeof *list);
+    for (int i = 0; i <= FULL; i++) {
+        const descriptor d = batch(list, i < FULL ? MEMBERS : MEMBERS - 1, &records[0]);
+        submit_and_await(at, &d);
+    }
     lack_a_wait(at);
     return 0;
 }
@@ -231,6 +247,26 @@ static int time_moves(void)
     return 0;
 }
 
+/* Waits for each of so many moves, and prints for each 256 of them 1 if all were done when they were submitted, 0 if
+ * none was, and else x. */
+static int submit_long(int count)
+{
+    enum { PART = 256 };
+    void *at = portal();
+    const descriptor d = move(first, second, SIZE, &records[0]);
+    for (int i = 0, done = 0; i < count; i++) {
+        records[0].status = 0;
+        submit(at, &d);
+        done += records[0].status != 0;
+        await(&records[0]);
+        if (i % PART == PART - 1) {
+            putchar(done == PART ? '1' : done ? 'x' : '0');
+            done = 0;
+        }
+    }
+    return 0;
+}
+
 /* Computes for so many microseconds before a submission that lacks a wait. */
 static int submit_after(double gap)
 {
@@ -259,26 +295,6 @@ static int ask(void)
     return 0;
 }
 
-static void *submit_two(void *at)
-{
-    const descriptor d = move(first, second, SIZE, &records[0]);
-    submit_and_await(at, &d);
-    submit_and_await(at, &d);
-    return NULL;
-}
-
-/* A thread with the least stack that there is submits. */
-static int submit_on_small_stack(void)
-{
-    pthread_t thread;
-    pthread_attr_t small;
-    pthread_attr_init(&small);
-    if (pthread_attr_setstacksize(&small, PTHREAD_STACK_MIN) || pthread_create(&thread, &small, submit_two, portal()))
-        return 1;
-    pthread_join(thread, NULL);
-    return 0;
-}
-
 static int be_right(void)
 {
     void *at = portal();
@@ -292,8 +308,7 @@ int main(int argc, char **argv)
 {
     static const struct { const char *word; int (*run)(void); } plain[] = {
         {"late", end_late}, {"list", refill}, {"gone", unmap_list}, {"reuse", refill_after_members},
-        {"shared", share_record}, {"pace", time_moves}, {"small", submit_on_small_stack}, {"asks", ask},
-        {"right", be_right},
+        {"shared", share_record}, {"pace", time_moves}, {"asks", ask}, {"right", be_right}, {"parts", fill_a_part},
     };
     const char *what = argc > 1 ? argv[1] : "right";
     for (size_t i = 0; i < sizeof plain / sizeof *plain; i++)
@@ -303,6 +318,8 @@ int main(int argc, char **argv)
         return go_to_background(*what == 's');
     if (strcmp(what, "record") == 0 || strcmp(what, "stale") == 0)
         return clear_late(*what == 'r');
+    if (strcmp(what, "long") == 0)
+        return submit_long(argc > 2 ? atoi(argv[2]) : 10000);
     if (strcmp(what, "gap") == 0)
         return submit_after(argc > 2 ? atof(argv[2]) : 200);
     return lose(what);

@@ -1,0 +1,334 @@
+/* --audit: dsa_text and what the library has noted, of all processes of all runs, in one report. */
+#include <dirent.h>
+#include <inttypes.h>
+#include <stdlib.h>
+#include <string.h>
+#include <unistd.h>
+
+#include "launcher.h"
+
+/* One run: how many submissions its recordings have, and the keys of its errors. */
+struct audited {
+    struct audits *all;
+    const char *records;
+    FILE *report;
+    uint64_t recorded;
+    struct keys keys;
+    bool is_new; /* it has just ended, and is not one that was kept */
+};
+
+/// Copies a file from its start to the end of another.
+static void append(FILE *from, FILE *to)
+{
+    char part[4096];
+    size_t length;
+    rewind(from);
+    while ((length = fread(part, 1, sizeof part, from)) > 0)
+        fwrite(part, 1, length, to);
+    if (ferror(from) || ferror(to))
+        fail("the report of the audit");
+}
+
+/// Finds dsa_text, and has it judge the options before anything is run; false, after a sentence, if it can't.
+bool audits_begin(struct audits *a, const struct audit_options *o)
+{
+    *a = (struct audits){.dsa_text = audit_find(), .options = *o};
+    if (!a->dsa_text)
+        return false;
+    stale_begin(&a->stale, o);
+    a->options.deny = a->stale.others;
+    a->report = in_memory("the report of the audit");
+    FILE *unused = in_memory("an empty report");
+    const int status = audit_text(a->dsa_text, &a->options, NULL, NULL, unused);
+    fclose(unused);
+    if (status > 1) {
+        fprintf(stderr, "dsa_trace: %s does not audit with these options\n", a->dsa_text);
+        return false;
+    }
+    stale_read(&a->stale, &a->accepted);
+    return true;
+}
+
+/// Adds the keys of the errors that dsa_text finds.
+static void add_keys(struct audited *a, const struct gathered *g)
+{
+    FILE *keys = in_memory("the keys of the audit");
+    if (audit_text(a->all->dsa_text, &a->all->options, "--write-accept", g, keys) == 0) {
+        rewind(keys);
+        keys_read(&a->keys, keys);
+    }
+    fclose(keys);
+}
+
+/// Writes what is found in one process: first our own findings. `answer` is that of dsa_text, or NULL.
+static void write_process(const struct audited *a, const char *base, const struct gathered *g,
+                          const struct findings *own, FILE *answer)
+{
+    FILE *to = a->report;
+    if (!a->all->options.is_json) {
+        findings_text(own, &a->all->accepted, to);
+        if (answer)
+            append(answer, to);
+        return;
+    }
+    fputs("{\"noted\":", to);
+    findings_json(own, &a->all->accepted, to);
+    fputs(",\"process\":", to);
+    escape_json(to, base);
+    fputs(",\"report\":", to);
+    if (answer)
+        append(answer, to);
+    else
+        fputs("null", to);
+    fprintf(to, ",\"submissions\":%" PRIu64 "}", g->submissions);
+}
+
+/// What dsa_text answers to a recording, without the accepted lines that this one does not use.
+static FILE *answer_of(struct audits *all, const struct gathered *g, int *found)
+{
+    const bool is_json = all->options.is_json;
+    FILE *answer = in_memory("the answer of dsa_text");
+    *found = audit_text(all->dsa_text, &all->options, is_json ? "--json" : NULL, g, answer);
+    if (*found > 1 || !all->options.accept)
+        return answer;
+    if (!is_json)
+        return stale_take(&all->stale, answer);
+    FILE *words = in_memory("the answer of dsa_text");
+    audit_text(all->dsa_text, &all->options, NULL, g, words);
+    fclose(stale_take(&all->stale, words));
+    return stale_cut(answer);
+}
+
+/// The recording of one process, and what the library has noted.
+static int audit_process(struct audited *a, const char *base)
+{
+    struct audits *all = a->all;
+    int found;
+    struct gathered g;
+    struct findings own = {0};
+    gather(a->records, base, &g, &own);
+    const bool is_noted = errors_noted(a->records, base, &g, &own);
+    FILE *answer = answer_of(all, &g, &found);
+    findings_use(&own, &all->stale);
+    const bool has_own = findings_errors(&own, &all->accepted, &a->keys);
+    a->recorded += g.submissions;
+    if (found == 1)
+        add_keys(a, &g);
+    write_process(a, base, &g, &own, found > 1 ? NULL : answer);
+    fclose(answer);
+    free(own.at);
+    gather_end(&g);
+    if (g.why)
+        fprintf(stderr, "dsa_trace: %s is audited up to its submission %" PRIu64 ", since %s\n", base, g.submissions,
+                g.why);
+    if (found > 1)
+        fprintf(stderr, "dsa_trace: %s does not audit %s\n", all->dsa_text, base);
+    return found > 1 || !is_noted || g.why ? FAILED : found == 1 || has_own;
+}
+
+static int ends_in_events(const struct dirent *e)
+{
+    const char *end = strrchr(e->d_name, '.');
+    return end && strcmp(end, ".events") == 0;
+}
+
+static int ends_in_errors(const struct dirent *e)
+{
+    const char *end = strrchr(e->d_name, '.');
+    return end && strcmp(end, ".errors") == 0;
+}
+
+/// Whether each process with errors has events: one that could not begin its recording has none.
+static bool have_events(const char *records)
+{
+    struct dirent **list;
+    char path[PATH_MAX];
+    bool all = true;
+    const int count = scandir(records, &list, ends_in_errors, versionsort);
+    if (count < 0)
+        fail(records);
+    for (int i = 0; i < count; i++) {
+        strcpy(strrchr(list[i]->d_name, '.'), ".events"); /* as long as .errors */
+        joined(path, records, list[i]->d_name);
+        if (access(path, F_OK)) {
+            fprintf(stderr, "dsa_trace: there is no %s, so its process has recorded nothing\n", list[i]->d_name);
+            all = false;
+        }
+        free(list[i]);
+    }
+    free(list);
+    return all;
+}
+
+/// All processes of a run, in a text each with its name if there are several.
+static int audit_all(struct audited *a)
+{
+    struct dirent **list;
+    int status = 0;
+    const char *between = "";
+    const int count = scandir(a->records, &list, ends_in_events, versionsort);
+    if (count < 0)
+        fail(a->records);
+    for (int i = 0; i < count; i++) {
+        char *base = list[i]->d_name;
+        *strrchr(base, '.') = 0;
+        const bool is_alive = a->is_new && tidy_is_alive(base);
+        if (is_alive)
+            fprintf(stderr, "dsa_trace: %s is not audited, since its process still runs\n", base);
+        else if (a->all->options.is_json)
+            fputs(between, a->report);
+        else if (count > 1)
+            fprintf(a->report, "%s:\n", base);
+        const int of_one = is_alive ? FAILED : audit_process(a, base);
+        between = is_alive ? between : ",";
+        status = of_one > status ? of_one : status;
+        free(list[i]);
+    }
+    free(list);
+    return have_events(a->records) ? status : FAILED;
+}
+
+/// Whether all that the run submitted is recorded, and so audited.
+static bool is_seen(const struct run *run, uint64_t recorded, uint64_t submitted)
+{
+    const bool is_whole = !run->board || seen_whole(run);
+    if (is_whole && recorded < submitted)
+        fprintf(stderr, "dsa_trace: of %" PRIu64 " submissions %" PRIu64 " are recorded\n", submitted, recorded);
+    return is_whole && recorded >= submitted && run->is_over;
+}
+
+/// Counts a run, and keeps its report if it has an error that none before has.
+static void keep(struct audits *a, uint64_t seed, const struct audited *it, int status, const char *between)
+{
+    const size_t before = a->keys.count;
+    for (size_t i = 0; i < it->keys.count; i++)
+        keys_place(&a->keys, it->keys.all[i]);
+    const bool is_first = status && !a->faulty && !a->partial, is_keyless = status == 1 && !it->keys.count;
+    const bool is_new = a->keys.count > before || (is_keyless && !a->has_keyless);
+    const bool is_kept = status == FAILED || is_first || is_new;
+    a->has_keyless |= is_keyless;
+    a->runs++;
+    a->faulty += status == 1;
+    a->partial += status == FAILED;
+    a->status = status > a->status ? status : a->status;
+    if (is_first)
+        a->seed = seed;
+    if (a->options.is_json)
+        fputs(a->runs > 1 ? "," : "", a->report);
+    else if (is_kept && *between)
+        fprintf(a->report, "%sseed %" PRIu64 ":\n", a->kept ? between : "", seed);
+    if (a->options.is_json || is_kept)
+        append(a->last, a->report);
+    a->kept += is_kept;
+}
+
+/// Audits a run. In a text the reports that are kept are headed by their seeds if `is_one_of_many`.
+enum verdict audit_run(struct audits *a, const struct run *run, bool is_one_of_many)
+{
+    static const char *const names[] = {[CLEAN] = "clean", [ERRORS] = "errors", [PART] = "part", [EMPTY] = "empty"};
+    if (a->last)
+        fclose(a->last);
+    a->last = in_memory("the report of a run");
+    struct audited it = {.all = a, .records = run->records, .report = a->last, .is_new = run->board};
+    if (a->options.is_json)
+        fputs("{\"processes\":[", a->last);
+    int status = audit_all(&it);
+    const uint64_t submitted = run->board ? seen_submitted(run) : it.recorded;
+    if (!is_seen(run, it.recorded, submitted))
+        status = FAILED;
+    if (status == FAILED)
+        fputs("dsa_trace: the audit has seen a part of the run\n", stderr);
+    const enum verdict verdict = status == FAILED ? PART : status ? ERRORS : submitted ? CLEAN : EMPTY;
+    if (a->options.is_json)
+        fprintf(a->last, "],\"seed\":%" PRIu64 ",\"status\":%d,\"verdict\":\"%s\"}", run->seed, run->status,
+                names[verdict]);
+    a->empty += submitted == 0;
+    keep(a, run->seed, &it, status, is_one_of_many ? "\n" : "");
+    keys_forget(&it.keys);
+    return verdict;
+}
+
+/// Of several runs: how many have errors or were seen in part, and of which the first report is.
+static void say_which(const struct audits *a, const struct options *o, bool has_failed)
+{
+    if (!a->faulty && !a->partial) {
+        const bool is_text = !o->audit.is_json && !o->audit.writes_keys;
+        fprintf(stderr, "dsa_trace: the audits of %llu runs find no errors%s\n", a->runs, is_text ? "; the last:" : "");
+        return;
+    }
+    fprintf(stderr, "dsa_trace: the audits of %llu of %llu runs find errors", a->faulty, a->runs);
+    if (a->partial)
+        fprintf(stderr, ", and those of %llu have seen a part", a->partial);
+    const bool is_repeated = !has_failed && !o->report; /* else it is said already how to run one again */
+    fprintf(stderr, "; %s %" PRIu64 ":\n", is_repeated ? "to repeat seed" : "the first is seed", a->seed);
+    if (is_repeated)
+        options_repeat(o, a->seed);
+}
+
+/// What a program that fails may lack although its audits find nothing.
+static void say_what_else(const struct options *o)
+{
+    if (o->settings.fault)
+        fputs("dsa_trace: the audits find no errors; some moves may have been stopped by --fault: the program has to "
+              "look at the status of each record\n",
+              stderr);
+    else
+        fputs("dsa_trace: the audits find no errors; if the program does not fail with --order fifo, it uses memory "
+              "itself before a record says that the operation has ended\n",
+              stderr);
+}
+
+/// Of runs in which nothing was submitted.
+static void say_empty(const struct audits *a)
+{
+    if (a->runs > 1)
+        fprintf(stderr, "dsa_trace: in %llu of %llu runs nothing was submitted\n", a->empty, a->runs);
+    fputs("dsa_trace: nothing was submitted, so nothing was audited; a program that asks CPUID for MOVDIR64B, ENQCMD "
+          "or UMWAIT, and else does without, needs --cpuid\n",
+          stderr);
+}
+
+/// Prints what was asked for of all runs: the keys of errors, the reports that are kept, or the last, and the accepted
+/// lines that fit nothing. Answers whether these are errors.
+static bool print(const struct audits *a, bool has_failed)
+{
+    bool has_errors = false;
+    const bool is_json = a->options.is_json;
+    for (size_t i = 0; a->options.writes_keys && i < a->keys.count; i++)
+        puts(a->keys.all[i]);
+    fputs(is_json ? "{\"runs\":[" : "", stdout);
+    if (!a->options.writes_keys)
+        append(is_json || a->kept ? a->report : a->last, stdout);
+    fputs(is_json ? "]" : "", stdout);
+    const bool is_all = !a->partial && !has_failed && a->empty < a->runs; /* what was not run or seen may use them */
+    if (a->options.accept && !a->options.writes_keys && is_all) {
+        fputs(is_json ? ",\"stale\":" : "", stdout);
+        has_errors = stale_end(&a->stale, is_json, stdout);
+    }
+    fputs(is_json ? "}\n" : "", stdout);
+    if (fflush(stdout))
+        fail("the report of the audit");
+    return has_errors;
+}
+
+/// Prints the report, and answers the status of all audits.
+int audits_end(struct audits *a, const struct options *o, int program)
+{
+    const bool has_failed = program != 0;
+    if (a->empty)
+        say_empty(a);
+    if (a->empty < a->runs && a->runs > 1)
+        say_which(a, o, has_failed);
+    if (print(a, has_failed) && !a->status)
+        a->status = 1;
+    if (has_failed && program != TIMED_OUT && !a->empty && !a->faulty && !a->partial)
+        say_what_else(o);
+    fclose(a->report);
+    fclose(a->last);
+    stale_forget(&a->stale);
+    keys_forget(&a->accepted);
+    keys_forget(&a->keys);
+    if (a->status == 1 && o->audit.writes_keys)
+        a->status = 0;
+    return a->status || !a->empty || has_failed ? a->status : 1;
+}

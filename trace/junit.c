@@ -1,0 +1,62 @@
+/* --junit: a file in which a system for continuous integration reads how the runs ended, a test case for each. */
+#include <inttypes.h>
+#include <string.h>
+
+#include "launcher.h"
+
+static void put(FILE *to, const char *text)
+{
+    for (; *text; text++)
+        escape_xml(to, *text);
+}
+
+/// Begins the file, so that one that can't be written is said before the first run.
+void junit_begin(struct junit *j, const char *path, const char *program)
+{
+    const char *slash = strrchr(program, '/');
+    *j = (struct junit){.to = opened(path, "we"), .program = slash ? slash + 1 : program};
+    fputs("<?xml version=\"1.0\" encoding=\"UTF-8\"?>\n<testsuite name=\"dsa_trace\">\n", j->to);
+}
+
+/// What is wrong with a run, if anything is. `is_broken`: dsa_trace could not judge it.
+static const char *fault_of(const struct run *run, enum verdict verdict, char room[64], bool *is_broken)
+{
+    *is_broken = run->is_timed_out || verdict == PART;
+    if (run->is_timed_out)
+        return "the program was ended by --timeout";
+    if (verdict == PART)
+        return "the audit has seen a part of the run";
+    if (verdict == ERRORS)
+        return "the audit finds errors";
+    if (run->status)
+        snprintf(room, 64, "the program ends with status %d", run->status);
+    return run->status ? room : verdict == EMPTY ? "nothing was submitted" : NULL;
+}
+
+/// A run. The report of its audit is NULL if there is none.
+void junit_add(const struct junit *j, const struct run *run, enum verdict verdict, FILE *report)
+{
+    char room[64];
+    bool is_broken;
+    const char *fault = fault_of(run, verdict, room, &is_broken), *kind = is_broken ? "error" : "failure";
+    fputs("  <testcase classname=\"dsa_trace\" name=\"", j->to);
+    put(j->to, j->program);
+    fprintf(j->to, ", seed %" PRIu64 "\" time=\"%.3f\">", run->seed, run->seconds);
+    if (fault) {
+        fprintf(j->to, "\n    <%s message=\"%s\">", kind, fault);
+        if (report)
+            rewind(report);
+        for (int c; report && (c = fgetc(report)) != EOF;)
+            escape_xml(j->to, (char)c);
+        fprintf(j->to, "</%s>\n  ", kind);
+    }
+    fputs("</testcase>\n", j->to);
+}
+
+/// Ends the file.
+void junit_end(const struct junit *j)
+{
+    fputs("</testsuite>\n", j->to);
+    if (ferror(j->to) || fclose(j->to))
+        fail("the file of --junit");
+}

@@ -1,0 +1,14 @@
+/* What is mapped where. */
+#ifndef DSA_TRACE_MAPS_H
+#define DSA_TRACE_MAPS_H
+
+#include <stdbool.h>
+#include <stdint.h>
+
+/* `line` is what /proc/self/maps has of it, with the path at its end, cut if that is long. */
+struct mapping { uintptr_t low, high; bool is_private_code; char line[512]; };
+
+/* The mapping that has an address; false if none has, or that can't be known. It takes no lock. */
+bool maps_find(uintptr_t at, struct mapping *m);
+
+#endif

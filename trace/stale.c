@@ -1,0 +1,158 @@
+/* Lines of the file of --accept that fit nothing. dsa_text names those that one recording has not used, as
+ * `FILE: line 3: note: this fits nothing: ..`, after its report; here a line is stale if no recording of all runs has
+ * used it, and no finding of our own. */
+#include <stdlib.h>
+#include <string.h>
+
+#include "launcher.h"
+
+static const char word[] = "stale", after[] = ": note: this fits nothing: ";
+
+/// The start of the words after a comma, or of the end.
+static const char *next_of(const char *words) { return words + strcspn(words, ",") + (strchr(words, ',') != NULL); }
+
+/// Whether the first of the words is ours.
+static bool is_word(const char *words)
+{
+    return strcspn(words, ",") == sizeof word - 1 && strncmp(words, word, sizeof word - 1) == 0;
+}
+
+/// The words of --deny without ours, since dsa_text sees one recording at a time; NULL if none is left.
+static char *others_of(const char *words)
+{
+    char *others = words ? calloc(1, strlen(words) + 1) : NULL;
+    if (words && !others)
+        fail("the options of the audit");
+    for (const char *at = words; at && *at; at = next_of(at))
+        if (!is_word(at)) {
+            strcat(others, *others ? "," : "");
+            strncat(others, at, strcspn(at, ","));
+        }
+    if (others && !*others) {
+        free(others);
+        return NULL;
+    }
+    return others;
+}
+
+/// Takes our word out of those of --deny.
+void stale_begin(struct stale *s, const struct audit_options *o)
+{
+    *s = (struct stale){.file = o->accept, .others = others_of(o->deny)};
+    for (const char *at = o->deny; at && *at; at = next_of(at))
+        s->is_denied |= is_word(at);
+}
+
+/// Takes the lines of the file, as keys too.
+void stale_read(struct stale *s, struct keys *accepted)
+{
+    char *line = NULL;
+    size_t room = 0;
+    if (!s->file)
+        return;
+    FILE *from = opened(s->file, "r");
+    for (ssize_t length; (length = getline(&line, &room, from)) >= 0; s->count++) {
+        line[length - (length > 0 && line[length - 1] == '\n')] = 0;
+        struct accepted_line *more = realloc(s->lines, sizeof *more * (s->count + 1));
+        if (!more || !(more[s->count].text = strdup(line)))
+            fail(s->file);
+        s->lines = more;
+        s->lines[s->count].is_named = false;
+        s->lines[s->count].is_used = *line < 'a' || *line > 'z'; /* no key, but a comment */
+        if (*line)
+            keys_place(accepted, line);
+    }
+    free(line);
+    fclose(from);
+}
+
+/// Whether a line of a report names a line that fits nothing there; it is then marked.
+static bool is_named(struct stale *s, const char *line)
+{
+    const size_t length = strlen(s->file);
+    size_t number;
+    int end = 0;
+    if (strncmp(line, s->file, length) || sscanf(line + length, ": line %zu%n", &number, &end) != 1 ||
+        strncmp(line + length + end, after, sizeof after - 1) || number < 1 || number > s->count)
+        return false;
+    return s->lines[number - 1].is_named = true;
+}
+
+/// Takes these lines out of a report in words. Those that it does not name are used.
+FILE *stale_take(struct stale *s, FILE *report)
+{
+    char *line = NULL;
+    size_t room = 0;
+    if (!s->file)
+        return report;
+    FILE *left = in_memory("the answer of dsa_text");
+    for (size_t i = 0; i < s->count; i++)
+        s->lines[i].is_named = false;
+    rewind(report);
+    while (getline(&line, &room, report) >= 0)
+        if (!is_named(s, line))
+            fputs(line, left);
+    free(line);
+    if (ferror(report) || ferror(left))
+        fail("the answer of dsa_text");
+    for (size_t i = 0; i < s->count; i++)
+        s->lines[i].is_used |= !s->lines[i].is_named;
+    fclose(report);
+    return left;
+}
+
+/// Takes the array of these lines off a report in JSON, which is one line and ends with it.
+FILE *stale_cut(FILE *report)
+{
+    char *line = NULL;
+    size_t room = 0;
+    FILE *left = in_memory("the answer of dsa_text");
+    rewind(report);
+    if (getline(&line, &room, report) > 0) {
+        char *array = strstr(line, ",\"stale\":["); /* in a string its quotes would be escaped */
+        fprintf(left, array ? "%.*s}\n" : "%.*s", array ? (int)(array - line) : (int)strlen(line), line);
+    }
+    free(line);
+    if (ferror(report) || ferror(left))
+        fail("the answer of dsa_text");
+    fclose(report);
+    return left;
+}
+
+/// A finding of our own has used a key.
+void stale_use(struct stale *s, const char *key)
+{
+    for (size_t i = 0; i < s->count; i++)
+        s->lines[i].is_used |= strcmp(s->lines[i].text, key) == 0;
+}
+
+/// Writes the lines that are left: in words, or as an array of JSON. Answers whether they are errors.
+bool stale_end(const struct stale *s, bool is_json, FILE *to)
+{
+    bool has_some = false;
+    fputs(is_json ? "[" : "", to);
+    for (size_t i = 0; i < s->count; i++) {
+        const struct accepted_line *line = &s->lines[i];
+        if (line->is_used)
+            continue;
+        if (is_json) {
+            fputs(has_some ? "," : "", to);
+            escape_json(to, line->text);
+        } else
+            fprintf(to, "%s: line %zu: %s: this fits nothing: %s\n", s->file, i + 1, s->is_denied ? "error" : "note",
+                    line->text);
+        has_some = true;
+    }
+    fputs(is_json ? "]" : "", to);
+    return has_some && s->is_denied;
+}
+
+/// Gives back the memory.
+void stale_forget(struct stale *s)
+{
+    for (size_t i = 0; i < s->count; i++)
+        free(s->lines[i].text);
+    free(s->lines);
+    free(s->others);
+    *s = (struct stale){0};
+}

@@ -109,8 +109,9 @@ fn engines_are_woken_in_vain(rt: HostRuntime) -> Result<(), Fail> {
 /// The pieces beside the first one that no fence comes before, each with an engine of its own.
 const OTHERS: u32 = 3;
 
-/// Refuses the finish of the first piece once all others before the fence were finished, whose engines ask for their next
-/// piece just then, each a little later than the one before. Notes whether the piece after the fence is taken all the same.
+/// Refuses the finish of the first piece once all others before the fence were finished, whose engines ask for their
+/// next piece just then, each a little later than the one before. Notes whether the piece after the fence is taken all
+/// the same.
 #[derive(Drop)]
 struct RefusesFinish {
     pauses: u32,

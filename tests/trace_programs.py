@@ -237,8 +237,8 @@ def thread_sanitizer():
 
 # ---- any bytes
 
-FUZZED = "board crc decode device dif execute intake memory order pace process random record records say settings"
-FUZZED = [f"trace/{name}.c" for name in [*FUZZED.split(), "valid", "watch"]]
+FUZZED = "board crc decode device dif execute intake maps memory order pace process random record records say settings"
+FUZZED = [f"trace/{name}.c" for name in [*FUZZED.split(), "stacks", "unwind", "valid", "watch"]]
 
 
 def corpus(folder):

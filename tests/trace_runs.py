@@ -15,11 +15,13 @@ FOLDER = tempfile.TemporaryDirectory()  # it goes at the end of the test
 WORK = FOLDER.name
 TEXT = os.environ.get("DSA_TEXT") or str(ROOT / "crates/dsa_text/out/dsa_text")
 KNOWN = os.environ | {"DSA_TEXT": TEXT}
+LONGEST = 900  # seconds of a command, which on a busy machine take long
 
 
 def ran(*command, **how):
     """How a command ended, and what it printed."""
-    how = {"capture_output": True, "text": True, "stdin": subprocess.DEVNULL, "timeout": 120, "errors": "replace"} | how
+    how = {"capture_output": True, "text": True, "stdin": subprocess.DEVNULL, "errors": "replace"} | how
+    how = {"timeout": LONGEST} | how
     try:
         return subprocess.run([str(word) for word in command], **how)
     except subprocess.TimeoutExpired:

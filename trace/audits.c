@@ -6,6 +6,7 @@
 #include <unistd.h>
 
 #include "launcher.h"
+#include "located.h"
 
 /* One run: how many submissions its recordings have, and the keys of its errors. */
 struct audited {
@@ -30,12 +31,13 @@ static void append(FILE *from, FILE *to)
 }
 
 /// Finds dsa_text, and has it judge the options before anything is run; false, after a sentence, if it can't.
-bool audits_begin(struct audits *a, const struct audit_options *o)
+bool audits_begin(struct audits *a, const struct options *o)
 {
-    *a = (struct audits){.dsa_text = audit_find(), .options = *o};
+    *a = (struct audits){.dsa_text = audit_find(), .options = o->audit, .shows_places = o->settings.stacks,
+                         .keeps = o->out};
     if (!a->dsa_text)
         return false;
-    stale_begin(&a->stale, o);
+    stale_begin(&a->stale, &o->audit);
     a->options.deny = a->stale.others;
     a->report = in_memory("the report of the audit");
     FILE *unused = in_memory("an empty report");
@@ -60,19 +62,34 @@ static void add_keys(struct audited *a, const struct gathered *g)
     fclose(keys);
 }
 
-/// Writes what is found in one process: first our own findings. `answer` is that of dsa_text, or NULL.
-static void write_process(const struct audited *a, const char *base, const struct gathered *g,
-                          const struct findings *own, FILE *answer)
+/// Writes what is found in one process as text: first our own findings. `answer` is that of dsa_text, or NULL.
+static void write_text(const struct audited *a, const struct gathered *g, const struct findings *own, FILE *answer,
+                       struct places *places)
 {
-    FILE *to = a->report;
-    if (!a->all->options.is_json) {
-        findings_text(own, &a->all->accepted, to);
-        if (answer)
-            append(answer, to);
-        return;
-    }
+    FILE *both = in_memory("the report of a process");
+    findings_text(own, &a->all->accepted, places->stack_count, both);
+    if (answer)
+        append(answer, both);
+    if (places->stack_count)
+        located_text(both, places, g, a->report);
+    else
+        append(both, a->report);
+    fclose(both);
+}
+
+/// Writes it as JSON.
+static void write_json(const struct audited *a, const char *base, const struct gathered *g, const struct findings *own,
+                       FILE *answer, struct places *places)
+{
+    FILE *to = a->report, *both = in_memory("the report of a process");
     fputs("{\"noted\":", to);
     findings_json(own, &a->all->accepted, to);
+    findings_json(own, &a->all->accepted, both);
+    if (answer)
+        append(answer, both);
+    fputs(",\"places\":", to);
+    located_json(both, places, g, to);
+    fclose(both);
     fputs(",\"process\":", to);
     escape_json(to, base);
     fputs(",\"report\":", to);
@@ -83,12 +100,13 @@ static void write_process(const struct audited *a, const char *base, const struc
     fprintf(to, ",\"submissions\":%" PRIu64 "}", g->submissions);
 }
 
-/// What dsa_text answers to a recording, without the accepted lines that this one does not use.
-static FILE *answer_of(struct audits *all, const struct gathered *g, int *found)
+/// What dsa_text answers to a recording, in words `each` finding or of those with one key the first, without the
+/// accepted lines that this one does not use.
+static FILE *answer_of(struct audits *all, const struct gathered *g, bool each, int *found)
 {
     const bool is_json = all->options.is_json;
     FILE *answer = in_memory("the answer of dsa_text");
-    *found = audit_text(all->dsa_text, &all->options, is_json ? "--json" : NULL, g, answer);
+    *found = audit_text(all->dsa_text, &all->options, is_json ? "--json" : each ? "--all" : NULL, g, answer);
     if (*found > 1 || !all->options.accept)
         return answer;
     if (!is_json)
@@ -108,13 +126,22 @@ static int audit_process(struct audited *a, const char *base)
     struct findings own = {0};
     gather(a->records, base, &g, &own);
     const bool is_noted = errors_noted(a->records, base, &g, &own);
-    FILE *answer = answer_of(all, &g, &found);
+    struct places places = {.symbols = &all->symbols};
+    if (all->shows_places)
+        places_read(&places, a->records, base, &all->symbols);
+    FILE *answer = answer_of(all, &g, places.stack_count, &found);
     findings_use(&own, &all->stale);
     const bool has_own = findings_errors(&own, &all->accepted, &a->keys);
     a->recorded += g.submissions;
     if (found == 1)
         add_keys(a, &g);
-    write_process(a, base, &g, &own, found > 1 ? NULL : answer);
+    if (all->options.is_json)
+        write_json(a, base, &g, &own, found > 1 ? NULL : answer, &places);
+    else
+        write_text(a, &g, &own, found > 1 ? NULL : answer, &places);
+    if (all->keeps && places.stack_count)
+        places_keep(&places, a->records, base);
+    places_forget(&places);
     fclose(answer);
     free(own.at);
     gather_end(&g);
@@ -328,6 +355,7 @@ int audits_end(struct audits *a, const struct options *o, int program)
     stale_forget(&a->stale);
     keys_forget(&a->accepted);
     keys_forget(&a->keys);
+    symbols_forget(&a->symbols);
     if (a->status == 1 && o->audit.writes_keys)
         a->status = 0;
     return a->status || !a->empty || has_failed ? a->status : 1;

@@ -19,7 +19,7 @@ static uint64_t base_of(enum segment segment)
 }
 
 /// MOVDIR64B or ENQCMD. To a portal it is a submission; elsewhere MOVDIR64B is a plain store of 64 bytes.
-static enum outcome move_64(struct registers *r, struct emulated *e)
+static enum outcome move_64(uint64_t at, struct registers *r, struct emulated *e)
 {
     _Alignas(64) descriptor d;
     const bool is_enqueued = e->in.kind == ENQCMD;
@@ -32,7 +32,8 @@ static enum outcome move_64(struct registers *r, struct emulated *e)
         return DONE;
     if (!queue && !(queue = portals_adopt(e->to)))
         return is_enqueued ? NO_PORTAL : FAULTED;
-    const enum accepted accepted = order_submit(queue, &d, is_enqueued);
+    const struct submitter by = {.at = at, .next = at + e->in.length, .sp = r->general[4], .bp = r->general[5]};
+    const enum accepted accepted = order_submit(queue, &d, is_enqueued, &by);
     if (is_enqueued)
         r->flags = (r->flags & ~(uint64_t)CARRY_AND_LIKE) | (accepted == FULL ? ZERO_FLAG : 0);
     return SUBMITTED;
@@ -47,7 +48,7 @@ enum outcome emulate(const uint8_t *code, uint64_t at, struct registers *r, stru
     e->to = e->in.is_narrow ? (uint32_t)r->general[e->in.reg] : r->general[e->in.reg];
     e->in.address += base_of(e->in.segment);
     if (e->in.kind == MOVDIR64B || e->in.kind == ENQCMD)
-        return move_64(r, e);
+        return move_64(at, r, e);
     if (e->in.kind == MOVDIRI) {
         const size_t size = e->in.is_wide ? 8 : 4;
         return memory_copy((void *)e->in.address, &r->general[e->in.reg], size, &e->fault) ? DONE : FAULTED;

@@ -96,8 +96,8 @@ static void write_text(const struct finding *f, const char *severity, size_t ali
         fprintf(to, "  and %zu more like it\n", alike - 1);
 }
 
-/// Writes the findings as lines, of those with one key the first.
-void findings_text(const struct findings *all, const struct keys *accepted, FILE *to)
+/// Writes the findings as lines, all or of those with one key the first.
+void findings_text(const struct findings *all, const struct keys *accepted, bool each, FILE *to)
 {
     struct keys seen = {0};
     char key[LONGEST_KEY];
@@ -110,7 +110,9 @@ void findings_text(const struct findings *all, const struct keys *accepted, FILE
     }
     for (size_t i = 0, first = 0; i < all->count && first < seen.count; i++) {
         const char *severity = judge(&all->at[i], accepted, key);
-        if (strcmp(key, seen.all[first]) == 0)
+        if (each)
+            write_text(&all->at[i], severity, 1, to);
+        else if (strcmp(key, seen.all[first]) == 0)
             write_text(&all->at[i], severity, alike[first++], to);
     }
     keys_forget(&seen);

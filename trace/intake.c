@@ -43,14 +43,14 @@ static void refuse_batch(struct submission *s, const completion *r)
     empty.desc_count = 0;
     say("batch %lu of %u descriptors at %#lx is refused with status %#x (%s)", s->number, s->entry.desc_count,
         (unsigned long)s->entry.desc_list_addr, r->status, valid_name(r->status));
-    record_submission(&(struct submitted){s->number, s->queue, &empty, NULL, 0});
+    record_submission(&(struct submitted){s->number, s->queue, &empty, NULL, 0, s->origin});
     s->is_batch = false;
     put_in(s);
     order_complete(s, r);
 }
 
 /// Takes what is submitted: copies, records, and does it or leaves it to the worker. Called with the lock.
-static void take_in(struct queue *q, const descriptor *d)
+static void take_in(struct queue *q, const descriptor *d, const struct submitter *by)
 {
     completion r;
     struct submission *s = take_unused();
@@ -63,6 +63,7 @@ static void take_in(struct queue *q, const descriptor *d)
     s->has_failed = s->is_done = s->is_changed = false;
     s->is_at_once = order_is_at_once(s);
     s->watch = -1;
+    s->origin = stacks_origin(by);
     s->begun = 0;
     s->count = 1;
     s->members[0] = *d;
@@ -74,7 +75,7 @@ static void take_in(struct queue *q, const descriptor *d)
     }
     order.batches += s->is_batch;
     order.members += s->is_batch ? s->count : 0;
-    record_submission(&(struct submitted){s->number, q, d, s->members, s->is_batch ? s->count : 0});
+    record_submission(&(struct submitted){s->number, q, d, s->members, s->is_batch ? s->count : 0, s->origin});
     put_in(s);
     while (s->is_at_once && !s->is_done)
         order_step(s);
@@ -120,7 +121,7 @@ static void note_mode(struct queue *q, bool is_enqueued)
 }
 
 /// One submission, from a stub, the handler of signals or a write to a queue's file.
-enum accepted order_submit(struct queue *q, const descriptor *d, bool is_enqueued)
+enum accepted order_submit(struct queue *q, const descriptor *d, bool is_enqueued, const struct submitter *by)
 {
     order_start();
     if (is_enqueued && is_full(q))
@@ -129,7 +130,7 @@ enum accepted order_submit(struct queue *q, const descriptor *d, bool is_enqueue
     note_mode(q, is_enqueued);
     const bool is_taken = has_room(q, is_enqueued);
     if (is_taken)
-        take_in(q, d);
+        take_in(q, d, by);
     pthread_mutex_unlock(&order.lock);
     return is_taken || !is_enqueued ? ACCEPTED : FULL;
 }

@@ -6,6 +6,7 @@
 #include <stdio.h>
 
 #include "settings.h"
+#include "symbols.h"
 
 /* Statuses as those of timeout and env: the program ran for too long; this program fails, the other can't be run, the
  * other is not found. */
@@ -133,8 +134,9 @@ struct finding {
 };
 struct findings { struct finding *at; size_t count, room; };
 void findings_add(struct findings *all, const struct finding *it);
-/* As lines, or as an array of JSON; errors whose key is accepted are none. */
-void findings_text(const struct findings *all, const struct keys *accepted, FILE *to);
+/* As lines, of those with one key the first or `each`, or as an array of JSON; errors whose key is accepted are none.
+ */
+void findings_text(const struct findings *all, const struct keys *accepted, bool each, FILE *to);
 void findings_json(const struct findings *all, const struct keys *accepted, FILE *to);
 /* Marks the lines with keys of these errors as used. */
 void findings_use(const struct findings *all, struct stale *s);
@@ -174,6 +176,8 @@ struct audits {
     struct audit_options options; /* without the word stale, since dsa_text sees one recording at a time */
     struct stale stale;
     struct keys accepted, keys;
+    struct symbols symbols;
+    bool shows_places, keeps; /* the recordings of runs are kept */
     unsigned long long runs, faulty, partial, empty, kept;
     uint64_t seed;
     int status;
@@ -181,7 +185,7 @@ struct audits {
     FILE *report, *last;
 };
 /* False, after a sentence, if dsa_text is not there or does not take the options. */
-bool audits_begin(struct audits *a, const struct audit_options *o);
+bool audits_begin(struct audits *a, const struct options *o);
 enum verdict audit_run(struct audits *a, const struct run *run, bool is_one_of_many);
 /* Prints the report and says of which run, after a program with this status; answers the status of the audits. */
 int audits_end(struct audits *a, const struct options *o, int program);

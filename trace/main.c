@@ -34,13 +34,16 @@ static void make_own_folder(void)
 /// Removes what an earlier run has recorded in this folder.
 static void empty(const char *records)
 {
+    static const char *const ours[] = {".dsa", ".events", ".errors", ".stacks", ".places"};
     DIR *list = opendir(records);
     char path[PATH_MAX];
     if (!list)
         fail(records);
     for (struct dirent *e; (e = readdir(list));) {
         const char *end = strrchr(e->d_name, '.');
-        const bool is_ours = end && (!strcmp(end, ".dsa") || !strcmp(end, ".events") || !strcmp(end, ".errors"));
+        bool is_ours = false;
+        for (size_t i = 0; end && i < sizeof ours / sizeof *ours; i++)
+            is_ours |= strcmp(end, ours[i]) == 0;
         if ((is_ours || strcmp(e->d_name, "processes.txt") == 0) && unlink(joined(path, records, e->d_name)))
             fail(path);
     }
@@ -111,7 +114,7 @@ int main(int argc, char **argv)
     if (access("/proc/self/fd", X_OK))
         fail("/proc, by which the library knows the files of a queue");
     make_own_folder();
-    if (o.audits && !audits_begin(&a, &o.audit))
+    if (o.audits && !audits_begin(&a, &o))
         return FAILED;
     if (o.junit)
         junit_begin(&j, o.junit, o.report ? o.report : o.program[0]);

@@ -6,18 +6,23 @@
 #include <sys/syscall.h>
 #include <unistd.h>
 
-/// Whether a line has the address; then it is read as far as `path`.
-static bool has(const char *line, uintptr_t at, struct mapping *m)
+/// Reads the line of a mapping.
+static void read_line(struct mapping *m)
 {
     char *end;
-    m->low = strtoul(line, &end, 16);
+    m->low = strtoul(m->line, &end, 16);
     m->high = *end == '-' ? strtoul(end + 1, &end, 16) : 0;
-    m->is_private_code = end[0] == ' ' && end[3] == 'x' && end[4] == 'p';
-    return m->low <= at && at < m->high;
+    m->is_code = end[0] == ' ' && end[3] == 'x';
+    m->is_private_code = m->is_code && end[4] == 'p';
 }
 
-/// The mapping that has an address. It reads the file in small parts, since there may be little stack.
-bool maps_find(uintptr_t at, struct mapping *m)
+static bool has(const struct mapping *m, void *at)
+{
+    return m->low <= *(const uintptr_t *)at && *(const uintptr_t *)at < m->high;
+}
+
+/// Shows all mappings. It reads the file in small parts, since there may be little stack.
+bool maps_each(struct mapping *m, bool (*see)(const struct mapping *m, void *context), void *context)
 {
     char text[256];
     size_t length = 0;
@@ -33,9 +38,12 @@ bool maps_find(uintptr_t at, struct mapping *m)
             }
             m->line[length] = 0;
             length = 0;
-            is_found = has(m->line, at, m);
+            read_line(m);
+            is_found = see(m, context);
         }
     if (file >= 0)
         syscall(SYS_close, file);
     return is_found;
 }
+
+bool maps_find(uintptr_t at, struct mapping *m) { return maps_each(m, has, &at); }

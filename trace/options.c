@@ -41,6 +41,8 @@ static const char help[] =
     "                       [default: dedicated,16,dpdk_wq0.0 and shared,16,app1]\n"
     "      --cpuid          let CPUID say that MOVDIR64B, ENQCMD and UMWAIT are there\n"
     "      --signals        change no code of the program's: each submission costs a signal, some microseconds\n"
+    "      --stacks <N>     frames of the call stack that is recorded of each submission, at most 32; 0: none\n"
+    "                       [default: 16]\n"
     "      --no-namespace   turn file names in the library, and mount nothing\n"
     "      --no-wait        do not wait for processes that the program leaves in the background\n"
     "      --verbose        a line of counts at the end of each process\n"
@@ -91,7 +93,7 @@ static uint64_t *number_at(struct options *o, const char *name)
     struct { const char *name; uint64_t *at; } numbers[] = {
         {"--seed", &o->settings.seed},   {"--seeds", &o->seeds},          {"--delay", &o->settings.delay},
         {"--retry", &o->settings.retry}, {"--fault", &o->settings.fault}, {"--watch", &o->settings.hold},
-        {"--timeout", &o->timeout},
+        {"--timeout", &o->timeout},      {"--stacks", &o->settings.stacks},
     };
     for (size_t i = 0; i < sizeof numbers / sizeof *numbers; i++)
         if (strcmp(name, numbers[i].name) == 0)
@@ -197,6 +199,8 @@ void options_read(char **words, struct options *o)
     if (*o->program && o->report)
         refuse("no program is run", "--report");
     o->settings.watch = o->watches && (o->audits || o->settings.hold);
+    if (o->settings.stacks > MOST_FRAMES)
+        refuse("at most 32 frames are recorded", "--stacks");
     if (o->seeds == 0)
         refuse("at least one run is needed", "--seeds");
     if (o->audit.is_there && !o->audits)

@@ -274,6 +274,7 @@ static void begin_process(void)
     order.submitted = order.batches = order.members = order.dropped = order.records = 0;
     order.retried = 0;
     record_forget();
+    stacks_forget();
     order.pid = getpid();
 }
 
@@ -359,6 +360,7 @@ void order_finish(void)
     if (settings.verbose)
         say("%lu submissions, %lu of them batches with %lu members; %lu retries, %lu lost, %lu records",
             order.submitted, order.batches, order.members, order.retried, order.dropped, order.records);
+    stacks_finish();
     record_finish();
     pthread_mutex_unlock(&order.lock);
 }

@@ -19,6 +19,7 @@ struct submission {
     bool is_changed; /* that its list was changed is said */
     bool is_at_once; /* the thread that submits does it */
     int watch; /* a watchpoint, or -1 */
+    struct origin origin;
     completion last;
     uint16_t turn[GREATEST_BATCH];
     descriptor members[GREATEST_BATCH]; /* as submitted, or else as executed; of a lone descriptor the entry */

@@ -180,7 +180,7 @@ static bool open_files(void)
     return !recording.is_off;
 }
 
-static bool is_on(void)
+bool record_is_on(void)
 {
     return settings.out[0] && !recording.is_off && (recording.is_open || open_files());
 }
@@ -221,7 +221,7 @@ static void add_line(struct grown *g, const char *line, size_t length)
 void record_event(char letter, uint64_t number, int64_t member, int64_t status)
 {
     char line[LONGEST_LINE], *to = line;
-    if (!is_on())
+    if (!record_is_on())
         return;
     *to++ = letter;
     to = put_pair(to, " ", number);
@@ -239,7 +239,7 @@ void record_error(char letter, uint64_t number, int64_t member, uint64_t address
 {
     static char path[PATH_MAX];
     char line[LONGEST_LINE], *to = line;
-    if (!is_on())
+    if (!record_is_on())
         return;
     snprintf(path, sizeof path, "%s.errors", recording.base);
     if (!recording.errors.path[0] && !grown_open(&recording.errors, path, 2 * BLOCK)) {
@@ -254,11 +254,23 @@ void record_error(char letter, uint64_t number, int64_t member, uint64_t address
     add_line(&recording.errors, line, to - line);
 }
 
+/// A line of NAME.PID.stacks. There are few, so each is written at once.
+bool record_origin(const char *line, size_t length)
+{
+    static char path[PATH_MAX];
+    snprintf(path, sizeof path, "%s.stacks", recording.base);
+    const int fd = open_plain(path, O_WRONLY | O_CREAT | O_APPEND);
+    const bool is_written = fd >= 0 && syscall(SYS_write, fd, line, length) == (long)length;
+    if (fd >= 0)
+        syscall(SYS_close, fd);
+    return is_written;
+}
+
 /// The entries of a submission, and its event, which names the part and the entry at which it begins.
 void record_submission(const struct submitted *s)
 {
     char line[LONGEST_LINE], *to;
-    if (!is_on())
+    if (!record_is_on())
         return;
     if (recording.entries.used / ENTRY + 1 + s->count > MOST_ENTRIES) {
         grown_close(&recording.entries);
@@ -277,6 +289,7 @@ void record_submission(const struct submitted *s)
     to = put_pair(put_pair(to, " op ", s->entry->opcode), " members ", s->count);
     to = put_pair(put_pair(to, " tid ", process_thread()), " part ", recording.part);
     to = put_pair(to, " entry ", recording.entries.used / ENTRY);
+    to = put_pair(put_pair(to, " time ", s->origin.time), " stack ", s->origin.stack);
     *to++ = '\n';
     recording.entries.used += ENTRY * (1ul + s->count);
     add_line(&recording.events, line, to - line);

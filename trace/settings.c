@@ -14,6 +14,7 @@ static const struct number { const char *name; size_t at; } numbers[] = {
     {"DSA_TRACE_WATCH", offsetof(struct settings, watch)}, {"DSA_TRACE_CPUID", offsetof(struct settings, cpuid)},
     {"DSA_TRACE_HOLD", offsetof(struct settings, hold)},   {"DSA_TRACE_DRAWN", offsetof(struct settings, drawn)},
     {"DSA_TRACE_SIGNALS", offsetof(struct settings, signals)},
+    {"DSA_TRACE_STACKS", offsetof(struct settings, stacks)},
     {"DSA_TRACE_VERBOSE", offsetof(struct settings, verbose)},
 };
 enum { NUMBERS = sizeof numbers / sizeof *numbers };
@@ -21,7 +22,7 @@ enum { NUMBERS = sizeof numbers / sizeof *numbers };
 /// The settings when no option is given.
 struct settings settings_default(void)
 {
-    return (struct settings){.order = ORDER_DATA, .seed = 1, .delay = 100};
+    return (struct settings){.order = ORDER_DATA, .seed = 1, .delay = 100, .stacks = 16};
 }
 
 /// Sets the variables of the environment, for the program that is started next.

@@ -11,6 +11,8 @@
  * flight in any order but writes their records in theirs; ALL writes records in any order too. */
 enum order { ORDER_FIFO, ORDER_MEMBERS, ORDER_DATA, ORDER_ALL };
 
+enum { MOST_FRAMES = 32 }; /* frames of a call stack */
+
 struct settings {
     enum order order;
     uint64_t seed;
@@ -22,6 +24,7 @@ struct settings {
     uint64_t hold;    /* milliseconds for which what is in flight waits until a record is looked at; 0: it does not */
     uint64_t cpuid;   /* 1: CPUID says that the instructions exist */
     uint64_t signals; /* 1: each submission by a signal, and no code is changed */
+    uint64_t stacks;  /* frames of the call stack that are recorded of a submission; 0: none */
     uint64_t verbose; /* 1: a line of counts at the end of each process */
     char out[PATH_MAX / 2];  /* the folder of the recordings; empty: none */
     char board[PATH_MAX / 2]; /* the file of the launcher's board; empty: none */

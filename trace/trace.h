@@ -85,6 +85,19 @@ void memory_permit_as(uint32_t keys);
 /* In a handler: leaves the copy or the operation that this thread does for the device, if it does one. */
 void memory_escape(const siginfo_t *info, const void *context);
 
+/* ---- stacks.c and unwind.c: where submissions come from ---- */
+/* The instruction that submits and the one after it, or the return address of a call twice, and the program's stack and
+ * frame pointers there. */
+struct submitter { uintptr_t at, next, sp, bp; };
+/* The number of a call stack, 0 for none, and nanoseconds since the first submission. */
+struct origin { unsigned stack; uint64_t time; };
+/* The following are called with the lock of order.c. */
+struct origin stacks_origin(const struct submitter *s);
+/* At the end of the process. */
+void stacks_finish(void);
+/* In a child of fork. */
+void stacks_forget(void);
+
 /* ---- order.c and intake.c: submissions in flight, and in which order they are done ---- */
 enum accepted { ACCEPTED, FULL };
 void order_begin(void);
@@ -95,14 +108,24 @@ void order_arrive(void);
 void order_leave(void);
 /* Of a signal that was sent: whether it comes again when this thread has left, or to another thread. */
 bool order_postpones(int signal);
-enum accepted order_submit(struct queue *q, const descriptor *d, bool is_enqueued);
+enum accepted order_submit(struct queue *q, const descriptor *d, bool is_enqueued, const struct submitter *by);
 /* The program waits by an instruction: what is in flight need not wait for it. */
 void order_program_waits(void);
 /* At the end of the process: what is in flight has a second. */
 void order_finish(void);
 
 /* ---- record.c: the recording and the events, both under the lock of order.c ---- */
-struct submitted { uint64_t number; const struct queue *queue; const descriptor *entry, *members; uint32_t count; };
+struct submitted {
+    uint64_t number;
+    const struct queue *queue;
+    const descriptor *entry, *members;
+    uint32_t count;
+    struct origin origin;
+};
+/* Whether this process is recorded. */
+bool record_is_on(void);
+/* A whole line of NAME.PID.stacks; false, with errno, if it can't be written. */
+bool record_origin(const char *line, size_t length);
 void record_submission(const struct submitted *s);
 /* Events are lines: a letter, a number and up to two more, -1 for none. */
 void record_event(char letter, uint64_t number, int64_t member, int64_t status);

@@ -10,7 +10,7 @@
 /// Submits one entry, with signals blocked as in our handler: so none finds its thread with a lock of ours, and a fault
 /// of the copy leaves them as they are. Answers 0, or the error. The driver takes no batch for a device of version 1.0,
 /// whose members it can't check, and no record at an odd place.
-static int submit_blocked(struct queue *q, const uint8_t *from)
+static int submit_blocked(struct queue *q, const uint8_t *from, const struct submitter *by)
 {
     descriptor d;
     int error = EFAULT;
@@ -18,7 +18,7 @@ static int submit_blocked(struct queue *q, const uint8_t *from)
     order_arrive();
     if (memory_copy(&d, from, sizeof d, NULL))
         error = d.opcode == DSA_OPCODE_BATCH || d.completion_addr % sizeof(completion) ? EINVAL
-                : order_submit(q, &d, q->is_shared) == ACCEPTED                          ? 0
+                : order_submit(q, &d, q->is_shared, by) == ACCEPTED                      ? 0
                                                                                           : EAGAIN;
     order_leave();
     signals_restore(before);
@@ -26,12 +26,12 @@ static int submit_blocked(struct queue *q, const uint8_t *from)
 }
 
 /// Submits what is written to a queue's file; what is no whole descriptor is left.
-static ssize_t write_entries(struct queue *q, const uint8_t *from, size_t size)
+static ssize_t write_entries(struct queue *q, const uint8_t *from, size_t size, const struct submitter *by)
 {
     size_t at = 0;
     int error = q && board_is_there() ? 0 : EACCES;
     for (; !error && at + sizeof(descriptor) <= size; at += error ? 0 : sizeof(descriptor))
-        error = submit_blocked(q, from + at);
+        error = submit_blocked(q, from + at, by);
     if (error && q)
         errno = error;
     return error && !at ? -1 : (ssize_t)at;
@@ -48,17 +48,22 @@ static ssize_t write_attribute(int fd, const void *from, size_t size)
 }
 
 /// Writes to a file of the device; false if it is none.
-static bool write_to_device(int fd, const void *from, size_t size, ssize_t *written)
+static bool write_to_device(int fd, const void *from, size_t size, ssize_t *written, const struct submitter *by)
 {
     const struct opened file = fd > STDERR_FILENO && size ? files_opened(fd) : (struct opened){.kind = OF_OTHERS};
     if (file.kind == OF_QUEUE)
-        *written = write_entries(file.queue, from, size);
+        *written = write_entries(file.queue, from, size, by);
     else if (file.kind == OF_ATTRIBUTE && size < LONGEST_ATTRIBUTE)
         *written = write_attribute(fd, from, size);
     else
         return false;
     return true;
 }
+
+/* Who has called one of the functions below, which all have a frame pointer by this. */
+#define CALLER \
+    &(struct submitter){(uintptr_t)__builtin_return_address(0), (uintptr_t)__builtin_return_address(0), \
+                        (uintptr_t)__builtin_frame_address(0), *(uintptr_t *)__builtin_frame_address(0)}
 
 REAL_OF(write);
 
@@ -70,17 +75,22 @@ void written_begin(void) { (void)REAL(write); }
 ssize_t write(int fd, const void *from, size_t size)
 {
     ssize_t written;
-    return write_to_device(fd, from, size, &written) ? written : REAL(write)(fd, from, size);
+    return write_to_device(fd, from, size, &written, CALLER) ? written : REAL(write)(fd, from, size);
 }
 
 ssize_t pwrite(int fd, const void *from, size_t size, off_t at)
 {
     REAL_OF(pwrite);
     ssize_t written;
-    return write_to_device(fd, from, size, &written) ? written : REAL(pwrite)(fd, from, size, at);
+    return write_to_device(fd, from, size, &written, CALLER) ? written : REAL(pwrite)(fd, from, size, at);
 }
 
-ssize_t pwrite64(int fd, const void *from, size_t size, off64_t at) { return pwrite(fd, from, size, at); }
+ssize_t pwrite64(int fd, const void *from, size_t size, off64_t at)
+{
+    REAL_OF(pwrite64);
+    ssize_t written;
+    return write_to_device(fd, from, size, &written, CALLER) ? written : REAL(pwrite64)(fd, from, size, at);
+}
 
 ssize_t writev(int fd, const struct iovec *parts, int count)
 {
@@ -89,7 +99,8 @@ ssize_t writev(int fd, const struct iovec *parts, int count)
     if (count <= 0 || fd <= STDERR_FILENO || files_opened(fd).kind == OF_OTHERS)
         return REAL(writev)(fd, parts, count);
     for (int i = 0; i < count && written == (i ? (ssize_t)parts[i - 1].iov_len : 0); i++) {
-        written = write(fd, parts[i].iov_base, parts[i].iov_len);
+        if (!write_to_device(fd, parts[i].iov_base, parts[i].iov_len, &written, CALLER))
+            written = REAL(write)(fd, parts[i].iov_base, parts[i].iov_len);
         sum += written > 0 ? written : 0;
     }
     return written < 0 && !sum ? -1 : sum;

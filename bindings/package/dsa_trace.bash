@@ -5,7 +5,7 @@ _dsa_trace()
     COMPREPLY=()
     for ((at = 1; at < COMP_CWORD; at++)); do
         case ${COMP_WORDS[at]} in
-            --out | --seed | --seeds | --order | --delay | --retry | --fault | --watch | --queue) ((at++)) ;;
+            --out | --seed | --seeds | --order | --delay | --retry | --fault | --watch | --queue | --stacks) ((at++)) ;;
             --accept | --await | --deny | --junit | --report | --timeout) ((at++)) ;;
             --) ((at++)); break ;;
             -*) ;;
@@ -22,13 +22,13 @@ _dsa_trace()
         --out | --report) COMPREPLY=($(compgen -d -- "$word")) ;;
         --accept | --junit) COMPREPLY=($(compgen -f -- "$word")) ;;
         --await) COMPREPLY=($(compgen -W "writes signals batches" -- "$word")) ;;
-        --deny) COMPREPLY=($(compgen -W "needless guarding signalling unseen" -- "$word")) ;;
-        --seed | --seeds | --delay | --retry | --fault | --timeout | --watch) ;;
+        --deny) COMPREPLY=($(compgen -W "needless guarding signalling unseen stale" -- "$word")) ;;
+        --seed | --seeds | --delay | --retry | --fault | --timeout | --watch | --stacks) ;;
         *)
             if [[ $word == -* ]]; then
                 COMPREPLY=($(compgen -W "--accept --audit --await --cpuid --delay --deny --fault --help --json
                     --junit --no-namespace --no-wait --no-watch --order --out --queue --report --resident --retry
-                    --seed --seeds --signals --timeout --verbose --watch --write-accept" -- "$word"))
+                    --seed --seeds --signals --stacks --timeout --verbose --watch --write-accept" -- "$word"))
             else
                 COMPREPLY=($(compgen -c -- "$word"))
             fi

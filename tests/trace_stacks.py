@@ -1,0 +1,266 @@
+"""What dsa_trace says of places: the stacks of submissions that findings name, from each kind of code and by each
+compiler; findings from one place, shown once; variables; what is kept of it. Expected functions and lines are those of
+the sources. The words are names of parts."""
+
+import json
+import os
+import re
+import shutil
+from pathlib import Path
+
+import schema
+from common import block_after, expect, named, run_test, skip
+from trace_runs import KNOWN, STRICT, WORK, audited, built_all, client, has_text, ran, told, traced
+
+SOURCE, HEADER = Path("tests/trace/placed.c"), Path("tests/trace/client.h")  # from the folder in which tests run
+# At once; or in flight until the thread has run on for so many microseconds, also on a busy machine.
+FIFO, LONG = ["--order", "fifo"], ["--delay", 20000]
+FENCE = "missing fence, read after write"
+
+
+def line(text, path=SOURCE):
+    """FILE:LINE of the only line of a source that has this text."""
+    [number] = [k for k, it in enumerate(path.read_text().splitlines(), 1) if text in it]
+    return f"{path}:{number}"
+
+
+def frames(*outer, first="flush", mark="flush submits"):
+    """The lines of a stack: the instruction, the function that submits, and others outwards by texts of their lines."""
+    ring = f"submit ({line('_movdir64b(portal, d)', HEADER)})"
+    return [f"at {ring}", f"by {first} ({line(mark)})", *(f"by {name} ({line(text)})" for name, text in outer)]
+
+
+def findings(text):
+    """The findings of a report: what each is, its stacks, and its other lines."""
+    found = []
+    for row in text.splitlines():
+        head = re.match(r"entry \d+ \(submission [^)]*\): (?:error|accepted): ([^:]*)", row)
+        if head:
+            found.append({"what": head[1], "stacks": [], "lines": []})
+        elif found and re.match(r"    (?:at|by) ", row):
+            found[-1]["stacks"][-1].append(row.strip())
+        elif found and re.match(r"  submission \d+, by thread ", row):
+            found[-1]["stacks"].append([])
+        if found:
+            found[-1]["lines"].append(row)
+    return found
+
+
+def built_by(compiler, *flags):
+    """Builds the client with these flags and -g; false if the compiler is not there."""
+    if not shutil.which(compiler):
+        skip(f"places by {compiler}, which is not there")
+        return False
+    words = [compiler, *STRICT, "-g", *flags, "-o", client("placed"), SOURCE, "-ldl"]
+    told(f"the build by {' '.join(map(str, words))}", ran(*words), 0)
+    return True
+
+
+def placed(*words, options=FIFO, **how):
+    """The findings of an audit of the client."""
+    end = audited(*options, "--", client("placed"), *words, **how)
+    told(f"placed {words}", end, 1)
+    return findings(end.stdout)
+
+
+def shown(what, finding, kind, *stacks):
+    """A case: a finding is of this kind, and has these stacks. Of a last call the line is that of the function."""
+    got = finding["stacks"]
+    right = finding["what"] == kind and [len(it) for it in got] == [len(it) for it in stacks]
+    for row, wanted in zip(sum(got, []), sum(stacks, [])):
+        last = row.endswith(", as its last call")
+        right &= row.split(":")[0] == wanted.split(":")[0] if last else row == wanted
+    expect(right, f"{what}: {finding['what']}: {got}, not {list(stacks)}")
+
+
+# ---- places
+
+
+def compilers():
+    """A missing fence has its place by each compiler, with inlined functions and with last calls; the fault of another
+    function is another finding, and those of one place are one."""
+    main = ("main", "modes[i].run()")
+    by_commit = frames(("commit", "commit flushes"), ("fence", "fence commits"), main)
+    by_mirror = frames(("mirror", "mirror flushes"), ("fence", "fence mirrors"), main)
+    for compiler, *flags in (("gcc", "-O0"), ("gcc", "-O2"), ("gcc", "-O2", "-no-pie"), ("clang", "-O2"),
+                             ("gcc", "-O2", "-fomit-frame-pointer", "-gz")):
+        if not built_by(compiler, *flags):
+            continue
+        found = placed("fence")
+        expect(len(found) == 2, f"{compiler} {flags}: {len(found)} findings, not 2")
+        for it, stack in zip(found, (by_commit, by_mirror)):
+            shown(f"{compiler} {flags}", it, FENCE, stack)
+            more = "  and 4 more like it from the same place"
+            expect(more in it["lines"], f"{compiler} {flags}: it does not say how many: {it['lines']}")
+    last = [row for row in found[0]["stacks"][0] if row.endswith(", as its last call")]
+    expect(len(last) == 1 and "commit" in last[0], f"calls that are the last are {last}")
+
+
+def kinds():
+    """A submission in a handler, a child, a deep recursion, a library, by the queue's file, and of a list that is
+    filled anew."""
+    built_by("gcc", "-O0")
+    words = [*STRICT, "-g", "-DLIBRARY", "-shared", "-fPIC", "-o", f"{WORK}/placed.so", SOURCE]
+    told("the library", ran("gcc", *words), 0)
+    run = ("main", "modes[i].run()")
+    stack = frames(run, first="refill", mark="refill submits")
+    shown("a list", placed("list", options=LONG)[0], "descriptor list changed", stack)
+    stack = frames(("commit", "commit flushes"), ("in_child", "a child commits"), run)
+    shown("a child", placed("fork")[0], FENCE, stack)
+    [found] = placed("library", f"{WORK}/placed.so")
+    by_library = ("submit_in_library", "the library flushes"), ("in_library", "main calls the library")
+    shown("a library", found, FENCE, frames(*by_library, ("main", "in_library(argv[2])")))
+    expect("  and 1 more like it from the same place" in found["lines"], f"loaded twice: {found['lines']}")
+    [stack] = placed("handler")[0]["stacks"]
+    wanted = frames(("on_signal", "a handler flushes"))
+    ends = f"by main ({line('raise(SIGUSR1)')})"
+    expect(stack[:3] == wanted and stack[-1] == ends, f"a handler of signals: {stack}")
+    marks = [line(f"the {it} is written") for it in ("second", "first")]
+    stacks = [[f"at written ({mark})", f"by main ({line(run[1])})"] for mark in marks]
+    shown("a queue's file", placed("written", options=LONG)[0], "missing wait, read after write", *stacks)
+    for options, depth in (([], 16), (["--stacks", 5], 5), (["--stacks", 32], 32)):
+        [stack] = placed("deep", options=[*FIFO, *options])[0]["stacks"]
+        again = f"by deep ({line('deep goes deeper')})"
+        wanted = [*frames(("commit", "commit flushes"), ("deep", "deep commits"))[1:], *[again] * 28]
+        # the instruction's own frame has two functions, one inlined by its name alone
+        expect(stack[1:] == wanted[:len(stack) - 1] and len(stack) == depth, f"{options}: {len(stack)} frames: {stack}")
+
+
+def ways():
+    """By a signal and by a stub, and after a wait of any length, a stack is the same: each place is written once."""
+    built_by("gcc", "-O2")
+    for how in (FIFO, [*FIFO, "--signals"], ["--order", "data"]):
+        folder = f"{WORK}/ways"
+        told(f"recorded {how}", traced(*how, "--out", folder, "--", client("placed"), "fence"), 0)
+        [path] = Path(folder, "seed-1").glob("*.stacks")
+        rows = [it.split() for it in path.read_text().splitlines() if it.startswith("s ")]
+        events = path.with_suffix(".events").read_text()
+        used = re.findall(r"^S .* time \d+ stack (\d+)$", events, re.M)
+        expect(len(rows) == 2 and used == ["1", "2"] * 5, f"{how}: {len(rows)} stacks, used {used}")
+
+
+def two_threads():
+    """A missing wait between threads has the stacks of both, as docs/USING.md shows."""
+    words = [*STRICT, "-g", "-O2", "-mmovdir64b", "-pthread", "-o", client("two_threads")]
+    told("the example", ran("gcc", *words, "examples/trace/two_threads.c"), 0)
+    end = audited(*LONG, "--", client("two_threads"))
+    told("two threads", end, 1, "missing wait")
+
+    def plain(text):
+        text = re.sub(r"0x[0-9a-f]+", "0x", text)
+        return re.sub(r"\b(entry|submission|thread|byte|at) [\d.]+", r"\1", text).replace("examples/trace/", "")
+
+    page = block_after("docs/USING.md", "Places in the source").split("\n", 1)[1]
+    got = plain("\n".join(findings(end.stdout)[0]["lines"]))
+    expect(got.startswith(plain(page.rstrip("\n"))), f"the page has\n{plain(page)}\nand the report\n{got}")
+
+
+def data():
+    """Addresses of data are variables, on the heap, or on a thread's stack."""
+    built_by("gcc", "-O0")
+    for mode, said in (("fence", r"is data\+0x1000, a variable of placed"), ("heap", "is on the heap"),
+                       ("stack", r"is on the stack of thread \d+ \(placed\)"),
+                       ("list", r"is list\.\d+\+0x40, a variable of placed")):
+        lines = placed(mode, options=LONG if mode == "list" else FIFO)[0]["lines"]
+        right = [it for it in lines if re.fullmatch(rf"  0x[0-9a-f]+ {said}", it)]
+        expect(len(right) == 1, f"{mode}: no line {said!r}: {lines}")
+
+
+# ---- without names
+
+
+def unnamed():
+    """A file without symbols has addresses, and a sentence says what to do; so without addr2line. --stacks 0: none."""
+    built_by("gcc", "-O2", "-s")
+    end = audited(*FIFO, "--", client("placed"), "fence")
+    told("a stripped program", end, 1, f"{client('placed')} has no line numbers: build it with -g, or install")
+    expect(end.stderr.count("has no line numbers") == 1, f"it is said more than once: {end.stderr}")
+    for it in findings(end.stdout):
+        right = all(re.fullmatch(r"(at|by) placed\+0x[0-9a-f]+", row) for row in it["stacks"][0])
+        expect(right and len(it["stacks"][0]) >= 3, f"a stripped program: {it['stacks']}")
+    built_by("gcc", "-O2")
+    end = audited(*FIFO, "--", client("placed"), "fence", env=KNOWN | {"DSA_TRACE_ADDR2LINE": "/nowhere/addr2line"})
+    told("a wrong addr2line", end, 1, "DSA_TRACE_ADDR2LINE names /nowhere/addr2line, which can't be run")
+    expect(len(findings(end.stdout)[0]["stacks"][0]) >= 3, f"a wrong addr2line: {end.stdout}")
+    end = audited(*FIFO, "--", client("placed"), "fence", env=KNOWN | {"PATH": "/nowhere"})
+    told("no addr2line", end, 1, "there is no addr2line (package binutils or llvm)")
+    end = audited(*FIFO, "--stacks", 0, "--", client("placed"), "fence")
+    told("no stacks", end, 1, "\n  and 9 more like it\n")
+    expect("submission 0, by thread" not in end.stdout, f"without stacks: {end.stdout}")
+    told("too many frames", audited("--stacks", 33, "--", "true"), 125, "at most 32 frames")
+
+
+def tools():
+    """Each program that knows lines finds the same ones."""
+    built_by("gcc", "-O0")
+    wanted = frames(("commit", "commit flushes"), ("fence", "fence commits"), ("main", "modes[i].run()"))
+    for name in ("llvm-addr2line", "addr2line", "eu-addr2line"):
+        if not shutil.which(name):
+            skip(f"places by {name}, which is not there")
+            continue
+        shown(name, placed("fence", env=KNOWN | {"DSA_TRACE_ADDR2LINE": name})[0], FENCE, wanted)
+
+
+# ---- other forms
+
+
+def in_json():
+    """The places of all submissions that a report names."""
+    built_by("gcc", "-O0")
+    end = audited(*FIFO, "--json", "--", client("placed"), "fence")
+    told("places in JSON", end, 1)
+    it = json.loads(end.stdout)
+    expect(schema.holds(schema.report_schema("runs"), it), f"the schema rejects {end.stdout[:1000]}")
+    places = it["runs"][0]["processes"][0]["places"]
+    expect([it["submission"] for it in places] == list(range(10)), f"the submissions are {places}")
+    wanted = frames(("commit", "commit flushes"), ("fence", "fence commits"), ("main", "modes[i].run()"))
+    expect(places[2]["stack"] == wanted and places[2]["thread_name"] == "placed", f"the third has {places[2]}")
+    times = [it["nanoseconds"] for it in places]
+    expect(times == sorted(times) and times[0] == 0, f"the times are {times}")
+
+
+def kept():
+    """What is kept names the places when it is audited again, and when the program is gone, too."""
+    built_by("gcc", "-O0")
+    folder = f"{WORK}/kept"
+    first = audited(*FIFO, "--out", folder, "--", client("placed"), "fence")
+    told("the first audit", first, 1, "by commit (")
+    os.remove(client("placed"))
+    again = traced("--report", folder, env=KNOWN)
+    expect((again.returncode, again.stdout) == (1, first.stdout), f"audited again: {again.stdout} {again.stderr}")
+    for path in Path(folder, "seed-1").glob("*.places"):
+        path.unlink()
+    end = traced("--report", folder, env=KNOWN)
+    told("without the texts and the program", end, 1, "at placed+0x")
+    for path in Path(folder, "seed-1").glob("*.stacks"):
+        path.unlink()
+    told("without stacks", traced("--report", folder, env=KNOWN), 1, "\n  and 9 more like it\n")
+
+
+def rust():
+    """A Rust program has its own functions and lines."""
+    if not shutil.which("rustc"):
+        skip("places of a Rust program: there is no rustc")
+        return
+    source = Path("tests/trace/placed.rs")
+    told("the build", ran("rustc", "-g", "-O", "-o", client("placed_rust"), source), 0)
+    end = audited(*FIFO, "--", client("placed_rust"))
+    told("a Rust program", end, 1)
+    [stack] = findings(end.stdout)[0]["stacks"]
+    wanted = [f"submit ({line('movdir64b', source)})", f"commit ({line('submit(portal, &batch)', source)})",
+              f"main ({line('commit(portal, &list);', source)})"]
+    got = [re.sub(r"^(at|by) (placed::)?", "", it) for it in stack]
+    expect(got[:3] == wanted and len(got) < 6, f"a Rust program: {got}, not {wanted}")
+
+
+PARTS = [compilers, kinds, ways, two_threads, data, unnamed, tools, in_json, kept, rust]
+
+
+def main(words):
+    parts = named(PARTS, words)
+    for part in parts if has_text() and built_all([]) else []:
+        part()
+
+
+if __name__ == "__main__":
+    run_test(main)

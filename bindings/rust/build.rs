@@ -1,11 +1,12 @@
-//! Finds the installed package dsa-planner and links its archive: in the folder that `DSA_PLANNER_PREFIX` names, else in the
-//! prefix that this crate is part of, else where pkg-config says.
+//! Finds the installed package dsa-planner and links its archive, and that of the queue with the feature `queue`: in the
+//! folder that `DSA_PLANNER_PREFIX` names, else in the prefix that this crate is part of, else where pkg-config says.
 
 use std::path::{Path, PathBuf};
 use std::process::{exit, Command};
 use std::{env, fs};
 
 const PACKAGE: &str = "dsa_planner_own_memory";
+const QUEUE: &str = "dsa_queue";
 
 fn main() {
     println!("cargo:rerun-if-env-changed=DSA_PLANNER_PREFIX");
@@ -17,7 +18,20 @@ fn main() {
     println!("cargo:rerun-if-changed={}", archive.display());
     need_version(&header);
     println!("cargo:rustc-link-search=native={}", library.display());
+    if env::var_os("CARGO_FEATURE_QUEUE").is_some() {
+        link_queue(&library);
+    }
     println!("cargo:rustc-link-lib=static={PACKAGE}");
+}
+
+/// Links the archive of the queue, which comes before that of the planner, whose calls it makes.
+fn link_queue(library: &Path) {
+    let archive = library.join(format!("lib{QUEUE}.a"));
+    if !archive.exists() {
+        stop(&format!("{} is missing", archive.display()));
+    }
+    println!("cargo:rerun-if-changed={}", archive.display());
+    println!("cargo:rustc-link-lib=static={QUEUE}");
 }
 
 /// Where the header is, and the archive.

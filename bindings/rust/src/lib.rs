@@ -27,7 +27,8 @@
 //! If the allocator fails within the library, the answer is [`Cause::Memory`].
 //!
 //! **Features.** `std`, which is on unless turned off: [`Refusal`] implements `std::error::Error`. Without it the crate
-//! needs `core` and `alloc` alone.
+//! needs `core` and `alloc` alone. `queue`, which is off unless turned on: the module `queue` runs lists on a work
+//! queue; it is experimental.
 
 #![no_std]
 #![deny(missing_docs, unsafe_op_in_unsafe_fn)]
@@ -40,6 +41,8 @@ mod cause;
 mod descriptor;
 mod memory;
 mod prepared;
+#[cfg(feature = "queue")]
+pub mod queue;
 mod raw;
 mod tracker;
 

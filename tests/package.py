@@ -20,6 +20,7 @@ import make
 
 DESCRIPTORS = (ROOT / "tests/package/descriptors.txt").read_text().splitlines(True)
 STRICT = ["-Wall", "-Wextra", "-pedantic", "-Werror", "-O2"]
+QUEUE_PRINTS = ROOT / "bindings/rust/examples/queue.stdout"
 MEMORY = {"malloc", "realloc", "free"}
 COPYING = {"memcpy", "memmove", "memset"}
 OWN_MEMORY = {"rattle_alloc", "rattle_realloc", "rattle_dealloc"}
@@ -178,7 +179,8 @@ def debian():
     tried("dpkg --install", *dpkg, "--install", path, **tools)
     library = root / "usr/lib/x86_64-linux-gnu/libdsa_planner.so.1"
     module = {"PYTHONPATH": f"{root}/usr/lib/python3/dist-packages", "DSA_PLANNER_LIBRARY": str(library)}
-    tried("Python from the Debian package", "python3", "-c", "import dsa_planner", **module)
+    module["DSA_QUEUE_LIBRARY"] = str(library.with_name(make.QUEUE_SONAME))
+    tried("Python from the Debian package", "python3", "-c", "import dsa_planner, dsa_queue", **module)
     pages = {path.name for path in root.rglob("*.gz")}
     wanted = {f"{name}.1.gz" for name in ("dsa", "dsa_jobs", "dsa_text", "dsa_trace", "dsa_prices")}
     expect(pages == wanted | {"dsa_planner.3.gz", "dsa_queue.3.gz"}, f"the Debian package has the pages {pages}")
@@ -199,18 +201,23 @@ def symbols():
         notes = tried("readelf", "readelf", "-SW", library / file)
         stack = re.findall(r"\.note\.GNU-stack.*", notes)
         expect(stack and not any(" X " in note for note in stack), f"{file} asks for an executable stack")
+    queue, of_queue = library / make.QUEUE_SONAME, set(make.exported(make.QUEUE / "dsa_queue.h"))
     listed = tried("nm", "nm", "-g", "--defined-only", library / "libdsa_queue.a")
     defined = set(re.findall(r" [A-TV-Z] (\S+)", listed))
-    expect(defined == set(make.exported(make.QUEUE / "dsa_queue.h")), f"libdsa_queue.a defines {defined}")
+    expect(defined == of_queue, f"libdsa_queue.a defines {defined}")
     shared = library / "libdsa_planner.so.1"
     dynamic = set(re.findall(r" [B-TV-Z] (\S+?)(?:@|$)", tried("nm", "nm", "-D", "--defined-only", shared), re.M))
     expect(dynamic == names, f"the shared object exports {dynamic}")
     needed = set(re.findall(r" U (\S+?)(?:@|$)", tried("nm", "nm", "-D", "-u", shared), re.M))
     expect(needed == MEMORY | COPYING, f"the shared object needs {needed}")
+    dynamic = set(re.findall(r" [B-TV-Z] (\S+?)(?:@|$)", tried("nm", "nm", "-D", "--defined-only", queue), re.M))
+    expect(dynamic == of_queue, f"{queue.name} exports {dynamic}")
+    linked = tried("readelf", "readelf", "-dW", queue)
+    expect(f"[{queue.name}]" in linked and "[libdsa_planner.so.1]" in linked, f"{queue.name} is linked so: {linked}")
     soname = f"Library soname: [libdsa_planner.so.{make.version()[0]}]"
     expect(soname in tried("readelf", "readelf", "-dW", shared), f"the shared object has no {soname}")
     built = [Path(PREFIX, f"bin/{name}") for name in ("dsa", "dsa_jobs", "dsa_text", "dsa_trace", "dsa_prices")]
-    for path in (shared, Path(PREFIX, "lib/dsa-planner/libdsa_trace.so"), *built):
+    for path in (shared, queue, Path(PREFIX, "lib/dsa-planner/libdsa_trace.so"), *built):
         said = tried("readelf", "readelf", "-dlW", path)
         stack = re.search(r"GNU_STACK +(?:\S+ +){5}(R?W?E?) ", said)
         right = stack and stack[1] == "RW" and "GNU_RELRO" in said and "BIND_NOW" in said and "TEXTREL" not in said
@@ -406,6 +413,9 @@ def rust():
     tried("the crate without std", *command, **places)
     command, places = cargo("run", "--example", "two_moves", "--manifest-path", f"{crate}/Cargo.toml")
     tried("two_moves in Rust", *command, printed=Path("bindings/rust/examples/two_moves.stdout").read_text(), **places)
+    words = ("--features", "queue", "--example", "queue", "--manifest-path", f"{crate}/Cargo.toml")
+    command, places = cargo("run", *words)
+    tried("the queue in Rust", *command, printed=QUEUE_PRINTS.read_text(), **places)
     caller = Path(FOLDER, "caller")
     (caller / "src/bin").mkdir(parents=True)
     package = f'[package]\nname = "caller"\nversion = "0.0.0"\nedition = "2021"\n\n[dependencies]\n'
@@ -483,6 +493,8 @@ def python():
     tried("rows in Python", "python3", "-B", EXAMPLES / "rows.py", ROWS, printed=WANTED, PYTHONPATH=module)
     script = ROOT / "tests/package/descriptors.py"
     tried("descriptors in Python", "python3", "-B", script, printed="".join(DESCRIPTORS), PYTHONPATH=module)
+    printed = QUEUE_PRINTS.read_text()
+    tried("the queue in Python", "python3", "-B", EXAMPLES / "queue_copy.py", printed=printed, PYTHONPATH=module)
     Path(FOLDER, "readme.py").write_text(block_after("docs/USING.md", "### From Python", "python"))
     tried("the Python lines of docs/USING.md", "python3", "-B", "readme.py", printed="cost 10\n", PYTHONPATH=module)
     printed = "2 batches as planned, then 109\n"

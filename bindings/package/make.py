@@ -31,6 +31,8 @@ HEADER = ROOT / "bindings/c/dsa_planner.h"
 QUEUE = ROOT / "bindings/queue"
 # The layer, and the device in software that it shares with dsa_trace.
 QUEUE_OF = [*sorted(QUEUE.glob("*.c")), *(ROOT / f"trace/{name}.c" for name in ("crc", "device", "dif", "valid"))]
+QUEUE_SONAME = "libdsa_queue.so.0"  # its calls may change in any version
+MODULES = ("dsa_planner", "dsa_queue")  # of Python
 PROVED = {
     "libdsa_c.a": ROOT / "crates/dsa_c/out/libdsa_c.a",
     "dsa": ROOT / "crates/dsa/out/dsa",
@@ -42,11 +44,12 @@ HARDEN = ["-Wl,-z,relro,-z,now,-z,noexecstack,-z,defs,-z,text"]
 # Where the package has its files, unpacked anywhere or installed by dpkg.
 ANYWHERE = {"prefix": "${pcfiledir}/../..", "lib": "lib", "python": "share/dsa-planner/python"}
 DEBIAN = {"prefix": "/usr", "lib": "lib/x86_64-linux-gnu", "python": "lib/python3/dist-packages"}
-# Before dpkg removes the Python module: what Python has compiled of it.
+# Before dpkg removes the Python modules: what Python has compiled of them.
 PRERM = """#!/bin/sh
 set -e
-rm -f "$DPKG_ROOT"/usr/lib/python3/dist-packages/__pycache__/dsa_planner.*.pyc
-rmdir "$DPKG_ROOT"/usr/lib/python3/dist-packages/__pycache__ 2>/dev/null || true
+cd "$DPKG_ROOT"/usr/lib/python3/dist-packages
+rm -f __pycache__/dsa_planner.*.pyc __pycache__/dsa_queue.*.pyc
+rmdir __pycache__ 2>/dev/null || true
 """
 
 
@@ -96,24 +99,31 @@ def archive(to, objects, names, work):
     run("ar", "rcsD", to, joined)
 
 
+def shared(to, soname, objects, script, *more):
+    """A shared object, which exports what the script names."""
+    named = [f"-Wl,-soname,{soname}", f"-Wl,--version-script={script}"]
+    run(os.environ.get("CC", "cc"), "-shared", *named, *HARDEN, *objects, *more, "-o", to)
+    run("strip", "--strip-unneeded", to)
+
+
 def libraries(to):
-    """Both archives of the planner, its shared object, and the archive of the queue."""
+    """Both archives of the planner and its shared object; the archive of the queue and its shared object."""
     numbers, names = version(), exported()
+    soname = f"libdsa_planner.so.{numbers[0]}"
+    planner = to / f"libdsa_planner.so.{'.'.join(map(str, numbers))}"
     with tempfile.TemporaryDirectory() as work:
         memory, of_version = (compiled(HEADER.parent / f"{source}.c", work) for source in ("memory", "version"))
         run("ar", "x", PROVED["libdsa_c.a"], cwd=work)
         for name, more in {"": [memory], "_own_memory": []}.items():
             archive(to / f"libdsa_planner{name}.a", [f"{work}/dsa_c.o", *more, of_version], names, work)
-        shared = to / f"libdsa_planner.so.{'.'.join(map(str, numbers))}"
-        soname = f"libdsa_planner.so.{numbers[0]}"
-        script = [f"-Wl,-soname,{soname}", f"-Wl,--version-script={HERE}/dsa_planner.map"]
-        linked = [f"{work}/dsa_c.o", memory, of_version]
-        run(os.environ.get("CC", "cc"), "-shared", *script, *HARDEN, *linked, "-o", shared)
-        run("strip", "--strip-unneeded", shared)
+        shared(planner, soname, [f"{work}/dsa_c.o", memory, of_version], HERE / "dsa_planner.map")
     with tempfile.TemporaryDirectory() as work:
-        objects = [compiled(source, work) for source in QUEUE_OF]
-        archive(to / "libdsa_queue.a", objects, exported(QUEUE / "dsa_queue.h"), work)
-    (to / soname).symlink_to(shared.name)
+        objects, names = [compiled(source, work) for source in QUEUE_OF], exported(QUEUE / "dsa_queue.h")
+        archive(to / "libdsa_queue.a", objects, names, work)
+        script = Path(work, "names")
+        script.write_text("{ global: %s; local: *; };\n" % "; ".join(names))
+        shared(to / QUEUE_SONAME, QUEUE_SONAME, objects, script, planner, "-pthread")
+    (to / soname).symlink_to(planner.name)
     (to / "libdsa_planner.so").symlink_to(soname)
 
 
@@ -198,8 +208,8 @@ compiled them. Their SHA-256 sums:
 
 libdsa_planner.a, libdsa_planner_own_memory.a and libdsa_planner.so have the code of libdsa_c.a as it is. Not proved, and
 in this package beside it: memory.c (three functions over malloc, realloc and free; not in libdsa_planner_own_memory.a),
-version.c (one function), the Rust crate, the Python module, and that a caller in C keeps what dsa_planner.h asks of it.
-Nor are libdsa_queue.a, dsa_trace, its library and dsa_prices.
+version.c (one function), the Rust crate, the Python modules, and that a caller in C keeps what dsa_planner.h asks of
+it. Nor are libdsa_queue.a, libdsa_queue.so, dsa_trace, its library and dsa_prices.
 
 Promises, for all inputs, with the functions whose clauses carry them:
 
@@ -238,7 +248,8 @@ def tree(root, places, records):
     crate = root / "share/dsa-planner/rust"
     ignored = shutil.ignore_patterns("target", "Cargo.lock", ".gitignore", "*.stdout")
     shutil.copytree(ROOT / "bindings/rust", crate, ignore=ignored)
-    write(root / places["python"] / "dsa_planner.py", (ROOT / "bindings/python/dsa_planner.py").read_text())
+    for module in MODULES:
+        write(root / places["python"] / f"{module}.py", (ROOT / f"bindings/python/{module}.py").read_text())
 
 
 def manuals(to, numbers):
@@ -264,7 +275,7 @@ def examples(to):
     """Examples of the calls, of jobs, of operations as text and of recordings, and rows for tests of a caller's own, with three readers."""
     for name in ("two_moves.c", "own_memory.c", "submit.c", "ring.c", "tracker.c", "in_flight.c"):
         shutil.copy(ROOT / "bindings/c" / name, to)
-    for names in ("*.job", "trace/*.c", "barrier/*.c", "queue/*.c"):
+    for names in ("*.job", "trace/*.c", "barrier/*.c", "queue/*.c", "queue/*.py"):
         for path in (ROOT / "examples").glob(names):
             shutil.copy(path, to)
     for folder, endings in (("text", ["txt"]), ("barrier", ["txt", "svg"]), ("audit", ["xxd", "events"])):
@@ -321,7 +332,9 @@ def debian(root, to, numbers):
     write(root / "DEBIAN/md5sums", sums)
     write(root / "DEBIAN/triggers", "activate-noawait ldconfig\n")
     write(root / "DEBIAN/prerm", PRERM)
-    write(root / "DEBIAN/shlibs", f"libdsa_planner {numbers.split('.')[0]} dsa-planner (>= {numbers})\n")
+    libraries_of = {"libdsa_planner": numbers.split(".")[0], "libdsa_queue": QUEUE_SONAME.split(".")[-1]}
+    lines = (f"{name} {major} dsa-planner (>= {numbers})\n" for name, major in libraries_of.items())
+    write(root / "DEBIAN/shlibs", "".join(lines))
     write(root / "DEBIAN/control", filled("control.in", version=numbers, libc=libc, size=size))
     tidy(root)
     (root / "DEBIAN/prerm").chmod(0o755)

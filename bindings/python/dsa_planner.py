@@ -18,7 +18,7 @@ import ctypes
 import os
 from dataclasses import dataclass
 from pathlib import Path
-from typing import Dict, FrozenSet, Iterable, List, NamedTuple, Optional, Sequence, Tuple, Union
+from typing import Callable, Dict, FrozenSet, Iterable, List, NamedTuple, Optional, Sequence, Tuple, Union
 
 __all__ = [
     "BARRIER", "BEGINS", "BLOCK_ON_FAULT", "CAUSES", "FENCED", "MOST_PIECES", "Certificate", "Group", "Planned",
@@ -94,36 +94,35 @@ class _Info(ctypes.Structure):
 # ---- the library
 
 
-def _places() -> List[str]:
-    """Where the library may be, best first."""
-    named = os.environ.get("DSA_PLANNER_LIBRARY")
+def _places(soname: str, variable: str) -> List[str]:
+    """Where a library may be, best first."""
+    named = os.environ.get(variable)
     if named:
         return [named]
     folder = Path(__file__).resolve().parent
     is_installed = folder.parts[-3:] == ("share", "dsa-planner", "python")
-    own = folder.parent.parent.parent / "lib" / _SONAME
-    return [str(own), _SONAME] if is_installed and own.exists() else [_SONAME]
+    own = folder.parent.parent.parent / "lib" / soname
+    return [str(own), soname] if is_installed and own.exists() else [soname]
 
 
-def _open() -> ctypes.CDLL:
-    """The library, with its version looked at and its calls declared."""
+def _load(module: str, soname: str, variable: str, declare: Callable[[ctypes.CDLL, str], None]) -> ctypes.CDLL:
+    """The library of a module, with its version looked at and its calls declared."""
     fault: Optional[OSError] = None
-    for place in _places():
+    for place in _places(soname, variable):
         try:
             library = ctypes.CDLL(place)
         except OSError as error:
             fault = fault or error
             continue
-        _need_version(library, place)
         try:
-            _declare(library)
+            declare(library, place)
         except AttributeError as error:
-            raise ImportError(f"dsa_planner: {place} lacks a call of dsa-planner ({error})") from None
+            raise ImportError(f"{module}: {place} lacks a call of dsa-planner ({error})") from None
         return library
-    named = os.environ.get("DSA_PLANNER_LIBRARY")
-    wanted = f"{named}, which DSA_PLANNER_LIBRARY names" if named else _SONAME
-    what_to_do = "Install the package dsa-planner, or set DSA_PLANNER_LIBRARY to the file."
-    raise ImportError(f"dsa_planner: cannot load {wanted} ({fault}). {what_to_do}")
+    named = os.environ.get(variable)
+    wanted = f"{named}, which {variable} names" if named else soname
+    what_to_do = f"Install the package dsa-planner, or set {variable} to the file."
+    raise ImportError(f"{module}: cannot load {wanted} ({fault}). {what_to_do}")
 
 
 def _need_version(library: ctypes.CDLL, place: str) -> None:
@@ -141,8 +140,9 @@ def _need_version(library: ctypes.CDLL, place: str) -> None:
         )
 
 
-def _declare(library: ctypes.CDLL) -> None:
-    """Declares the calls as dsa_planner.h does."""
+def _declare(library: ctypes.CDLL, place: str) -> None:
+    """Declares the calls as dsa_planner.h does, of a library of the right version."""
+    _need_version(library, place)
     byte, word = ctypes.POINTER(ctypes.c_uint8), ctypes.POINTER(ctypes.c_uint64)
     size, pairs = ctypes.c_size_t, ctypes.POINTER(_Pair)
     listed = [ctypes.POINTER(_Settings), word, size, byte, size]
@@ -177,7 +177,7 @@ def _declare(library: ctypes.CDLL) -> None:
         call.restype, call.argtypes = result, arguments
 
 
-_library = _open()
+_library = _load("dsa_planner", _SONAME, "DSA_PLANNER_LIBRARY", _declare)
 
 
 def library_version() -> Tuple[int, int, int]:

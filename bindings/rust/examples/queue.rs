@@ -28,7 +28,7 @@ fn main() -> Result<(), Box<dyn std::error::Error>> {
     list.check(copy.part(0..64), other)?;
     list.fill(other, 0)?; // only if the check succeeds
     match list.run() {
-        Err(Error::Failed { operation, why }) => println!("{operation:?}: {why}"),
+        Err(Error::Failed { why, .. }) => println!("failed: {why}"),
         end => println!("{end:?}"),
     }
     println!("not begun: {:?}", &list[other][..8]);

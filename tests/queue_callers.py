@@ -10,7 +10,7 @@ import sys
 from pathlib import Path
 
 from common import ROOT, block_after, expect, named, run_test, skip
-from trace_runs import WORK, built_all, ran, told, traced
+from trace_runs import STRICT, WORK, built_all, client, ran, told, traced
 
 sys.path.insert(0, str(ROOT / "bindings/package"))
 import make
@@ -19,6 +19,7 @@ PREFIX = Path(WORK, "prefix")
 MODULES = ROOT / "bindings/python"
 CRATE = Path(WORK, "crate")
 CASES = ROOT / "tests/queue_callers/cases.py"
+PAGE, BEGINS = ROOT / "docs/USING.md", "## From a list to done"
 LATE = ["--delay", 1000000]
 GOLDEN = (ROOT / "bindings/rust/examples/queue.stdout").read_text()
 DEVICES = ([], ["--order", "fifo", "--"], ["--order", "all", "--fault", 2, "--"])
@@ -56,6 +57,7 @@ def has_cargo():
     if not CRATE.exists():
         shutil.copytree(ROOT / "bindings/rust", CRATE, ignore=shutil.ignore_patterns("target"))
         shutil.copy(ROOT / "tests/queue_callers/lost.rs", CRATE / "examples")
+        Path(CRATE, "examples/page.rs").write_text(block_after(PAGE, BEGINS, "rust"))
         told("the build of the examples", cargo("build", "--examples"), 0)
     return True
 
@@ -139,6 +141,21 @@ def examples():
             expect((end.returncode, end.stdout) == (0, GOLDEN), f"queue.rs {options}: {end}")
 
 
+def page():
+    """The programs with which docs/USING.md begins print what it says."""
+    sources = {name: Path(WORK, f"page.{name}") for name in ("c", "python")}
+    for name, path in sources.items():
+        path.write_text(block_after(PAGE, BEGINS, name))
+    archives = [PREFIX / f"lib/libdsa_{name}.a" for name in ("queue", "planner")]
+    command = ["gcc", *STRICT, sources["c"], "-I", PREFIX / "include", *archives, "-pthread", "-o", client("page")]
+    told("the build of the program in C", ran(*command), 0)
+    programs = [client("page")] + ([f"{WORK}/target/debug/examples/page"] if has_cargo() else [])
+    for options in DEVICES:
+        ends = [traced(*options, it) if options else ran(it) for it in programs]
+        for end in (*ends, python(sources["python"], options=options)):
+            expect((end.returncode, end.stdout) == (0, "hello\n"), f"a program of the page {options}: {end}")
+
+
 # Wrong variants of the module: what is changed, and the cases that have to see it.
 WRONG = [
     ("buffers of a lost list are released", "            self.held.clear()  # and nobody releases them\n",
@@ -170,7 +187,7 @@ def main(words):
     if not built_all(()):
         return
     installed()
-    for part in named([layout, rust, module, lost, examples, wrong], words):
+    for part in named([layout, rust, module, lost, examples, page, wrong], words):
         part()
 
 

@@ -60,13 +60,12 @@ def header():
 
 
 def examples():
-    """The examples in C; submit and in_flight are not run, since they need the device (`trace` runs them)."""
+    """The examples in C; submit is not run, since it needs the device (`trace` runs it)."""
     golden = Path("bindings/c/two_moves.stdout").read_text()
     tried("two_moves", [compiled("bindings/c/two_moves.c")], golden)
     golden = Path("bindings/c/own_memory.stdout").read_text()
     tried("own_memory", [compiled("bindings/c/own_memory.c", memory=False)], golden)
     compiled("bindings/c/submit.c")
-    compiled("bindings/c/in_flight.c", "-pthread")
 
 
 def calls():

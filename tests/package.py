@@ -290,17 +290,18 @@ def device():
     refused("a missing fence", ["missing fence, read after write"], trace, "--audit", "--", "./ordered", "fence")
     tried("the build of the example", "cc", "-O2", "-mmovdir64b", EXAMPLES / "copy_twice.c", "-o", "copy_twice")
     refused("the example", ["missing fence, read after write"], trace, "--audit", "--seeds", 20, "--", "./copy_twice")
-    words = ["cc", "-O2", "-mmovdir64b", EXAMPLES / "publish.c", *linking("dsa_planner_static"), "-o", "publish"]
+    words = ["cc", *STRICT, EXAMPLES / "publish.c", *linking("dsa_queue"), "-o", "publish"]
     tried("the build of the example with a barrier", *words)
-    tried("a list that publishes", trace, "--", "./publish", "right", printed="published\n")
+    library = {"LD_LIBRARY_PATH": f"{PREFIX}/lib"}
+    tried("a list that publishes", trace, "--", "./publish", "right", printed="published\n", **library)
     words = ["cc", *STRICT, EXAMPLES / "queue_journal.c", *linking("dsa_queue"), "-o", "queue_journal"]
     tried("the build of the example of a queue", *words)
     for how in ("right", "wrong"):
         words = [trace, "--audit", "--seeds", 5, "--", "./queue_journal", how]
-        tried(f"a journal that is {how}", *words, LD_LIBRARY_PATH=f"{PREFIX}/lib")
+        tried(f"a journal that is {how}", *words, **library)
     words = ["cc", *STRICT, "-D_GNU_SOURCE", EXAMPLES / "queue_threads.c", *linking("dsa_queue"), "-o", "queue_threads"]
     tried("the build of the example of threads", *words)
-    tried("threads on a queue", trace, "--audit", "--", "./queue_threads", LD_LIBRARY_PATH=f"{PREFIX}/lib")
+    tried("threads on a queue", trace, "--audit", "--", "./queue_threads", **library)
     refused("a missing wait", ["missing wait, read after write"], trace, "--audit", "--", "./ordered", "wait")
     if not Path("/dev/dsa").exists():
         refused("prices without a device", ["there is no such queue"], prices)

@@ -141,14 +141,30 @@ def examples():
             expect((end.returncode, end.stdout) == (0, GOLDEN), f"queue.rs {options}: {end}")
 
 
+def compiled(source, name):
+    """Builds a program in C over the archives of the package."""
+    archives = [PREFIX / f"lib/libdsa_{it}.a" for it in ("queue", "planner")]
+    command = ["gcc", *STRICT, "-O2", source, "-I", PREFIX / "include", *archives, "-pthread", "-o", client(name)]
+    told(f"the build of {name}", ran(*command), 0)
+
+
+def publish():
+    """The example publish.c prints what docs/USING.md says, under each of 20 seeds."""
+    compiled(ROOT / "examples/barrier/publish.c", "publish")
+    parts = block_after(PAGE, "`examples/barrier` has").split("$ dsa_trace -- ./publish ")[1:]
+    expect(len(parts) == 2, f"docs/USING.md shows {len(parts)} runs of publish.c")
+    for part in parts:
+        outcome, _, wanted = part.partition("\n")
+        end = traced("--seeds", 20, "--", client("publish"), outcome)
+        expect((end.returncode, end.stdout) == (0, 20 * wanted), f"publish {outcome}: {end}")
+
+
 def page():
     """The programs with which docs/USING.md begins print what it says."""
     sources = {name: Path(WORK, f"page.{name}") for name in ("c", "python")}
     for name, path in sources.items():
         path.write_text(block_after(PAGE, BEGINS, name))
-    archives = [PREFIX / f"lib/libdsa_{name}.a" for name in ("queue", "planner")]
-    command = ["gcc", *STRICT, sources["c"], "-I", PREFIX / "include", *archives, "-pthread", "-o", client("page")]
-    told("the build of the program in C", ran(*command), 0)
+    compiled(sources["c"], "page")
     programs = [client("page")] + ([f"{WORK}/target/debug/examples/page"] if has_cargo() else [])
     for options in DEVICES:
         ends = [traced(*options, it) if options else ran(it) for it in programs]
@@ -187,7 +203,7 @@ def main(words):
     if not built_all(()):
         return
     installed()
-    for part in named([layout, rust, module, lost, examples, page, wrong], words):
+    for part in named([layout, rust, module, lost, examples, publish, page, wrong], words):
         part()
 
 

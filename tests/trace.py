@@ -11,6 +11,7 @@ import re
 import shutil
 import signal
 import subprocess
+import sys
 import tempfile
 import time
 from pathlib import Path
@@ -19,6 +20,9 @@ from common import ROOT, expect, named, run_test, side_by_side, skip
 from trace_cases import REFUSED, SYSFS, launched, made_anew, rewriting
 from trace_forms import OTHERS, PLACE, instructions, wrong_forms
 from trace_runs import KNOWN, STRICT, TEXT, WORK, audited, built_all, client, has_text, ran, told, traced
+
+sys.path.insert(0, str(ROOT / "bindings/package"))
+import make
 
 SEEDS = int(os.environ.get("SEEDS", "100"))
 CLIENTS = ("ordered", "threads", "odd", "operations", "ends", "registers", "rewritten")
@@ -578,41 +582,49 @@ def prices():
         expect(re.fullmatch(right, end.stdout), f"the options of {queue} are {end.stdout}")
 
 
-def example(name, *words, source=""):
-    """Whether an example in C is built with the proved library, as this client; it is skipped without the library."""
-    archive, source = ROOT / "crates/dsa_c/out/libdsa_c.a", f"bindings/c/{source or name}.c"
+def example(source, *more):
+    """Whether an example in C is built with the proved library and these sources, as the client of its name; it is
+    skipped without the library."""
+    archive = ROOT / "crates/dsa_c/out/libdsa_c.a"
     if not archive.exists():
         skip(f"{source}: crates/dsa_c is not built")
         return False
-    flags = [*STRICT, "-O2", "-pthread", *words, "-I", "bindings/c"]
-    told(f"the build of {name}", ran("gcc", *flags, source, "bindings/c/memory.c", archive, "-o", client(name)), 0)
+    flags = [*STRICT, "-O2", "-pthread", "-I", "bindings/c", "-I", "bindings/queue", "-I", "trace"]
+    sources = [source, *more, "bindings/c/memory.c", archive]
+    told(f"the build of {source}", ran("gcc", *flags, *sources, "-o", client(Path(source).stem)), 0)
     return True
 
 
 def submit():
     """The example bindings/c/submit.c plans with the proved library, and submits to the device."""
-    for (queue, kind), seed in itertools.product(QUEUES if example("submit") else (), range(1, 21)):
+    for (queue, kind), seed in itertools.product(QUEUES if example("bindings/c/submit.c") else (), range(1, 21)):
         end = traced("--seed", seed, "--", client("submit"), f"/dev/dsa/{queue}", kind)
         told(f"submit to {queue}", end, 0, "copied")
 
 
+def without_waits():
+    """The sources of the layer, of which one is changed: no list waits for another."""
+    text, old = Path("bindings/queue/flight.c").read_text(), "    else if (waits == 0)\n"
+    expect(text.count(old) == 1, f"flight.c has not once: {old}")
+    Path(WORK, "flight.c").write_text(text.replace(old, "    else\n"))
+    return [f"{WORK}/flight.c", *(path for path in make.QUEUE_OF if path.name != "flight.c")]
+
+
 def in_flight():
-    """The example bindings/c/in_flight.c: each seed leaves what the requests leave in order, and no wait is missing; if
-    the tracker is told nothing, some seeds don't, and each audit finds a missing wait."""
-    if not example("in_flight") or not example("without_waits", "-DWITHOUT_WAITS", source="in_flight"):
+    """The example queue_threads.c: each seed leaves what its requests leave in order, and no wait is missing; if
+    nothing waits, some seeds don't, and each audit finds a missing wait."""
+    source, other = "examples/queue/queue_threads.c", f"{WORK}/without_waits.c"
+    shutil.copy(source, other)
+    if not example(source, *make.QUEUE_OF) or not example(other, *without_waits()) or not has_text():
         return
-    told("in_flight without a queue", ran(client("in_flight"), "/dev/null", "shared"), 1, "/dev/null")
     wrong = 0
-    for (queue, kind), seed in itertools.product(QUEUES if has_text() else (), range(1, 21)):
-        words = [f"/dev/dsa/{queue}", kind, 200]
-        end = audited("--seed", seed, "--", client("in_flight"), *words)
-        told(f"requests in flight to {queue}", end, 0, ": 0 differ")
-        done, failed, left_out = map(int, re.findall(r"(\d+) (?:done|failed|left out)", end.stdout) or (0, 0, 0))
-        expect(done + failed + left_out == 200 and 1 <= failed <= 3, f"seed {seed}: {end.stdout[-200:]}")
-        end = audited("--seed", seed, "--delay", 100, "--", client("without_waits"), *words)
-        wrong += ": 0 differ" not in end.stdout
+    for (queue, _), seed in itertools.product(QUEUES, range(1, 11)):
+        end = audited("--seed", seed, "--", client("queue_threads"), f"/dev/dsa/{queue}")
+        told(f"requests in flight to {queue}", end, 0, "400 requests, as in order")
+        end = audited("--seed", seed, "--delay", 100, "--", client("without_waits"), f"/dev/dsa/{queue}")
+        wrong += "400 requests, DIFFERENT" in end.stdout
         expect("error: missing wait" in end.stdout, f"seed {seed}: no missing wait is found: {end.stdout[-500:]}")
-    expect(wrong > 10 or not has_text(), f"without waits {wrong} of 40 runs leave something else")
+    expect(wrong > 5, f"without waits {wrong} of 20 runs leave something else")
 
 
 def sanitized():

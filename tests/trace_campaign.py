@@ -20,7 +20,7 @@ from pathlib import Path
 
 import model
 from campaign import Case
-from common import ROOT, block_after, expect, run_test, stop
+from common import ROOT, expect, run_test, stop
 from model import COMPARE, DELTA, DUALCAST, FILL, MOVE, replace
 
 BASE = 0x200000000
@@ -141,34 +141,10 @@ def published(folder, count):
             expect(right, f"{kind}, seed {seed}: status {ran.returncode}, {ran.stdout}")
 
 
-def example(folder):
-    """examples/barrier/publish.c prints what docs/USING.md says, under each of 20 seeds."""
-    parts = block_after("docs/USING.md", "`examples/barrier` has").split("$ dsa_trace -- ./publish ")[1:]
-    for part in parts:
-        outcome, _, wanted = part.partition("\n")
-        command = [f"{folder}/dsa_trace", "--seeds", "20", "--", f"{folder}/publish", outcome]
-        ran = subprocess.run(command, capture_output=True, text=True, timeout=600)
-        expect(ran.stdout == 20 * wanted and ran.returncode == 0, f"publish {outcome}: {ran.returncode}, {ran.stdout}")
-    expect(len(parts) == 2, f"docs/USING.md shows {len(parts)} runs of publish.c")
-
-
-def journal(folder):
-    """examples/barrier/journal.c goes on after page faults, and publishes exactly if its checks succeed."""
-    for outcome, wanted in (("right", "valid\n"), ("wrong", "2 operations are left out\nnot valid\n")):
-        for fault in ("0", "2"):
-            options = ["--order", "all", "--seeds", "20", "--fault", fault]
-            command = [f"{folder}/dsa_trace", *options, "--", f"{folder}/journal", outcome]
-            ran = subprocess.run(command, capture_output=True, text=True, timeout=600)
-            said = ran.stdout.replace(wanted, "", 20) if ran.stdout.count(wanted) == 20 else ran.stdout
-            right = ran.returncode == 0 and re.fullmatch("(2 operations are left out\n)*", said)
-            expect(right, f"journal {outcome}, --fault {fault}: {ran.returncode}, {ran.stdout}")
-
-
 def build(folder):
     """The device, and the clients over the library."""
     commands = [["make", "-C", "trace", "CC=gcc", f"OUT={folder}"]]
-    examples = ("examples/barrier/publish.c", "examples/barrier/journal.c")
-    for path in ("tests/trace/planned.c", "tests/trace/published.c", *examples):
+    for path in ("tests/trace/planned.c", "tests/trace/published.c"):
         sources = [path, "bindings/c/memory.c", ARCHIVE]
         words = ["-O2", "-mmovdir64b", "-I", "bindings/c", "-o", f"{folder}/{Path(path).stem}"]
         commands.append(["gcc", *STRICT, *words, *sources])
@@ -194,8 +170,6 @@ def main(words):
         whole(folder, lists, names)
         without_fence(folder, lists, names)
         published(folder, count)
-        example(folder)
-        journal(folder)
 
 
 if __name__ == "__main__":

@@ -273,7 +273,7 @@ def manuals(to, numbers):
 
 def examples(to):
     """Examples of the calls, of jobs, of operations as text and of recordings, and rows for tests of a caller's own, with three readers."""
-    for name in ("two_moves.c", "own_memory.c", "submit.c", "ring.c", "tracker.c", "in_flight.c"):
+    for name in ("two_moves.c", "own_memory.c", "submit.c", "ring.c", "tracker.c"):
         shutil.copy(ROOT / "bindings/c" / name, to)
     for names in ("*.job", "trace/*.c", "barrier/*.c", "queue/*.c", "queue/*.py"):
         for path in (ROOT / "examples").glob(names):

@@ -1,6 +1,6 @@
 /* A journal as one list: seven values and a header go to the log, two checksums are read back, and only if both are
  * right does the log's new head become valid; then a flag is set that readers poll. The queue does the rest, also after
- * page faults; journal.c does the same by hand.
+ * page faults.
  *
  *     cc -O2 queue_journal.c $(pkg-config --cflags --libs dsa_queue) -o queue_journal
  *     dsa_trace --seeds 20 --order all --fault 2 -- ./queue_journal right

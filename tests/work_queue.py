@@ -203,6 +203,7 @@ HELD = "the device has not answered what was submitted of this list before; use 
 STOPPED = {
     "in_flight": "a list that this one has to wait for is lost; use other buffers\n" * 2 + HELD + DONE + DONE
     + FULL.format(QUEUES[0], 10000),
+    "after": DONE,
     "lost": SILENT.format(10000, "enabled") + HELD + DONE + SILENT.format(10000, "enabled"),
     "disabled": FULL.format(QUEUES[0], 10000) + SILENT.format(10000, "disabled"),
     "populated": DONE + DONE,
@@ -291,7 +292,19 @@ WRONG = [
     ("an overlapping move is done again", "fault.c",
      "        shorten(list->rest + at, record_of(list->rest + at));\n", "", "lists"),
     ("a failed check is forgotten", "fault.c", "        list->has_failed_check = true;\n", "        ;\n", "journal"),
-    ("nothing is left out", "flight.c", "ready = leave_out(queue, bit_of(list), ready);", ";", "deep"),
+    ("nothing is left out", "flight.c", "ready = leave_out(queue, ready);", ";", "deep"),
+    ("the end of a start is not noted", "flight.c", "    tell(list, how);\n", "", "after"),
+    ("a start that has ended before is forgotten", "flight.c",
+     "        list->is_after_failed |= other->end != DSA_LIST_DONE;\n", "        ;\n", "after"),
+    ("a list that was given back counts as its next user's", "flight.c", "    tell(list, DSA_LIST_REFUSED);\n", "",
+     "after"),
+    ("what was lost and is answered stays lost for others", "flight.c",
+     "        recover(queue->of_slot[__builtin_ctzll(left)]);\n", "        ;\n", "in_flight"),
+    ("a list is changed in flight", "flight.c", "    if (can_order(list))\n        dsa_list_wait(list);\n",
+     "    (void)list;\n", "polled"),
+    ("a barrier is lost", "list.c", "        dsa_set_flags(to, DSA_BARRIER);\n", "        ;\n", "journal"),
+    ("a move goes on a byte too far", "fault.c", "number_at(d + 16, 8) + done, 8);",
+     "number_at(d + 16, 8) + done + 1, 8);", "lists"),
     ("nothing waits", "flight.c", "    else if (waits == 0)\n", "    else\n", "deep"),
     ("no credits are counted", "portal.c", "    if (!take_credit(queue))\n        return false;\n",
      "    take_credit(queue);\n", "threads"),
@@ -304,7 +317,11 @@ RUNS = {
     "deep": ["lists", QUEUES[0], 5 * int(LISTS), 1, 8],
     "journal": ["queue_journal", "wrong", QUEUES[0]],
     "threads": ["ends", "threads", QUEUES[0]],
+    "polled": ["ends", "polled", QUEUES[0]],
+    "after": ["stopped", "after"],
+    "in_flight": ["stopped", "in_flight"],
 }
+WITHOUT = {"stopped": "portal.c"}
 
 
 def statuses(program, words, is_split):
@@ -329,7 +346,8 @@ def wrong():
         name, *words = RUNS[run]
         source = JOURNAL if name == JOURNAL.stem else f"tests/work_queue/{name}.c"
         output = f"{WORK}/wrong_{name}"
-        told(f"the build: {what}", compiled(name, "-w", source=source, folder=folder, output=output), 0)
+        how = {"source": source, "folder": folder, "output": output, "without": WITHOUT.get(name, "")}
+        told(f"the build: {what}", compiled(name, "-w", **how), 0)
         expect(any(statuses(output, words, run == "split")), f"{what}: {run} ends with 0 under each seed")
 
 

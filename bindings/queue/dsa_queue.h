@@ -89,8 +89,10 @@ enum dsa_end {
     DSA_LIST_FAILED,   /* one has not, and nothing after the next barrier was begun: dsa_list_result */
     DSA_LIST_REFUSED,  /* nothing was begun: dsa_list_why */
     DSA_LIST_LOST,     /* the queue has not answered in time. The device may still read and write the buffers of the
-                          list, so leave them as they are. Once it has answered, the list can be used again */
-    DSA_LIST_LEFT_OUT, /* nothing was begun: a list that it comes after has not succeeded, or is lost */
+                          list, so leave them as they are. Once it has answered, the list can be used again, and
+                          lists of a queue with DSA_QUEUE_IN_FLIGHT that conflict with it are not left out any more */
+    DSA_LIST_LEFT_OUT, /* nothing was begun: a list that it comes after has not succeeded, or one that it conflicts
+                          with is lost, and the device has not answered that one since. It ends so at once */
     DSA_LIST_RUNNING   /* it was started, and has not ended */
 };
 
@@ -104,8 +106,10 @@ enum dsa_end dsa_list_run(struct dsa_list *list);
 
 /* Starts the list: DSA_LIST_RUNNING, or DSA_LIST_REFUSED. A list that is in flight stays as it is. */
 enum dsa_end dsa_list_start(struct dsa_list *list);
-/* When it is started next (one in flight is waited for), the list comes after the other of its queue, as that was
- * started last, and is left out unless that one succeeds. It holds for one start. */
+/* When it is started next (one in flight is waited for), the list comes after the other of its queue: after that one's
+ * last start by now, or, if it was cleared or added to since then, after its next one. It is left out unless that start
+ * succeeds, and if that is not started before it; what is done with the other later changes nothing, be it started
+ * again, cleared, or given back and taken by others. It holds for one start. */
 void dsa_list_after(struct dsa_list *list, const struct dsa_list *other);
 /* How a list has ended, or DSA_LIST_RUNNING. */
 enum dsa_end dsa_list_test(struct dsa_list *list);

@@ -17,14 +17,34 @@ static void make_ready(struct dsa_list *list)
     list->queue->ready |= bit_of(list);
 }
 
+/// How a start of a list has ended, to those that come after it, also those that are not started yet: what is done with
+/// the list from now on is nothing to them.
+static void tell(struct dsa_list *list, enum dsa_end how)
+{
+    struct dsa_queue *queue = list->queue;
+    for (uint32_t i = 0; i < queue->lists; i++) {
+        if (!(queue->list[i].after & bit_of(list)))
+            continue;
+        queue->list[i].after &= ~bit_of(list);
+        queue->list[i].is_after_failed |= how != DSA_LIST_DONE;
+    }
+}
+
+static void forget_after(struct dsa_list *list)
+{
+    list->after = 0;
+    list->is_after_failed = false;
+}
+
 static void end(struct dsa_list *list, enum dsa_end how)
 {
     list->end = how;
     list->state = ENDED;
-    list->after = 0;
+    forget_after(list);
     list->queue->ended |= bit_of(list);
     list->queue->rung &= ~bit_of(list);
     list->queue->ready &= ~bit_of(list);
+    tell(list, how);
 }
 
 /// The calls of a tracker that this file makes in its order are not refused.
@@ -35,7 +55,7 @@ static void must(uint32_t number)
 }
 
 /// Whether a list that waits has to be left out, and why.
-static bool is_left_out(struct dsa_list *list, uint64_t failed)
+static bool is_left_out(struct dsa_list *list)
 {
     struct dsa_queue *queue = list->queue;
     struct dsa_refusal refusal;
@@ -44,7 +64,7 @@ static bool is_left_out(struct dsa_list *list, uint64_t failed)
         return false;
     if (queue->lost)
         must(dsa_track_waits(queue->tracker, queue->words, list->slot, &waits, &refusal));
-    if (!(waits & queue->lost) && !(list->after & failed))
+    if (!(waits & queue->lost) && !list->is_after_failed)
         return false;
     list->reason = waits & queue->lost ? AFTER_LOST : AFTER_FAILED;
     return true;
@@ -52,18 +72,17 @@ static bool is_left_out(struct dsa_list *list, uint64_t failed)
 
 /// Leaves out what comes after lists that have not succeeded, what waits for one that is lost, and what comes after
 /// that. Answers the slots that are ready now.
-static uint64_t leave_out(struct dsa_queue *queue, uint64_t failed, uint64_t ready)
+static uint64_t leave_out(struct dsa_queue *queue, uint64_t ready)
 {
     struct dsa_refusal refusal;
     for (uint32_t i = 0; i < queue->lists; i++) {
         struct dsa_list *list = &queue->list[i];
         uint64_t waited, more;
-        if (!is_left_out(list, failed))
+        if (!is_left_out(list))
             continue;
         must(dsa_track_withdraw(queue->tracker, queue->words, list->slot, &waited, &more, &refusal));
         ready = (ready | more) & ~(UINT64_C(1) << list->slot);
         end(list, DSA_LIST_LEFT_OUT);
-        failed |= bit_of(list);
         i = UINT32_MAX; /* from the first on again: it may come after this one */
     }
     return ready;
@@ -81,23 +100,32 @@ static void finish(struct dsa_list *list, enum dsa_end how)
     else
         must(dsa_track_complete(queue->tracker, queue->words, list->slot, &waited, &ready, &refusal));
     if (how != DSA_LIST_DONE)
-        ready = leave_out(queue, bit_of(list), ready);
-    for (uint32_t i = 0; i < queue->lists; i++)
-        if (queue->list[i].state == WAITING) /* its next run is another one */
-            queue->list[i].after &= ~bit_of(list);
+        ready = leave_out(queue, ready);
     for (; ready; ready &= ready - 1)
         make_ready(queue->of_slot[__builtin_ctzll(ready)]);
 }
 
-void flight_recover(struct dsa_list *list)
+/// With the lock: a list that was lost, and that the device has answered since, is not lost any more.
+static void recover(struct dsa_list *list)
 {
     struct dsa_queue *queue = list->queue;
     struct dsa_refusal refusal;
-    uint64_t waited, ready;
-    pthread_mutex_lock(&queue->lock);
+    uint64_t waited, ready; /* nothing waits for it: that was left out */
+    if (!list->is_lost || __atomic_load_n(record_of(list->portal + ENTRY * list->entry), __ATOMIC_ACQUIRE) == 0)
+        return;
+    list->is_lost = false;
+    queue->credits += !queue->is_shared;
+    if (!queue->tracker)
+        return;
     queue->lost &= ~(UINT64_C(1) << list->slot);
     must(dsa_track_complete(queue->tracker, queue->words, list->slot, &waited, &ready, &refusal));
-    pthread_mutex_unlock(&queue->lock);
+}
+
+void flight_recover(struct dsa_list *list)
+{
+    pthread_mutex_lock(&list->queue->lock);
+    recover(list);
+    pthread_mutex_unlock(&list->queue->lock);
 }
 
 /// Submits the next entry of a ready list; false if the queue has no room. In software this thread does it.
@@ -177,20 +205,16 @@ static void move_on(struct dsa_queue *queue)
             return;
 }
 
-/// The slots of those in flight that the list comes after; it need not come after the others. False if one of these has
-/// not succeeded.
-static bool slots_before(struct dsa_list *list, uint64_t *slots)
+/// The slots of the lists that this one comes after. False if one of them has not succeeded, or is not started.
+static bool slots_before(const struct dsa_list *list, uint64_t *slots)
 {
+    bool can = !list->is_after_failed;
     for (uint64_t left = list->after; left; left &= left - 1) {
         const struct dsa_list *other = &list->queue->list[__builtin_ctzll(left)];
-        if (has_begun(other))
-            *slots |= UINT64_C(1) << other->slot;
-        else if (other->end != DSA_LIST_DONE)
-            return false;
-        else
-            list->after &= ~bit_of(other);
+        *slots |= UINT64_C(1) << other->slot;
+        can = can && has_begun(other);
     }
-    return true;
+    return can;
 }
 
 static bool is_in_flight(struct dsa_list *list)
@@ -206,6 +230,8 @@ static enum dsa_end take_in(struct dsa_list *list)
 {
     struct dsa_queue *queue = list->queue;
     uint64_t waits = 0, also = 0;
+    for (uint64_t left = queue->lost; left; left &= left - 1)
+        recover(queue->of_slot[__builtin_ctzll(left)]);
     if (!slots_before(list, &also)) {
         list->reason = AFTER_FAILED;
         end(list, DSA_LIST_LEFT_OUT);
@@ -221,7 +247,7 @@ static enum dsa_end take_in(struct dsa_list *list)
     list->end = DSA_LIST_RUNNING;
     list->state = WAITING;
     if (waits & queue->lost)
-        leave_out(queue, 0, 0);
+        leave_out(queue, 0);
     else if (waits == 0)
         make_ready(list);
     if (queue->portal) /* in software the thread that waits does it */
@@ -296,16 +322,47 @@ struct dsa_list *dsa_queue_poll(struct dsa_queue *queue)
     return list;
 }
 
+/// In a child of fork a thread that is not there may have the lock.
+static bool can_order(const struct dsa_list *list) { return list->queue->tracker && room_is_own(list->queue); }
+
 void flight_settle(struct dsa_list *list)
 {
-    if (list->queue->tracker && room_is_own(list->queue))
+    if (can_order(list))
         dsa_list_wait(list);
 }
 
+void flight_forget(struct dsa_list *list)
+{
+    if (!can_order(list))
+        return;
+    pthread_mutex_lock(&list->queue->lock);
+    forget_after(list);
+    pthread_mutex_unlock(&list->queue->lock);
+}
+
+void flight_leave(struct dsa_list *list)
+{
+    if (!can_order(list))
+        return;
+    dsa_list_wait(list);
+    pthread_mutex_lock(&list->queue->lock);
+    tell(list, DSA_LIST_REFUSED);
+    pthread_mutex_unlock(&list->queue->lock);
+}
+
+/// A start that has ended is known now, and may be forgotten when the list is started or cleared; of one in flight, and
+/// of the next one, its end tells.
 void dsa_list_after(struct dsa_list *list, const struct dsa_list *other)
 {
-    flight_settle(list); /* it is of the next start */
-    list->after |= bit_of(other);
+    if (!can_order(list))
+        return;
+    dsa_list_wait(list); /* it is of the next start */
+    pthread_mutex_lock(&list->queue->lock);
+    if (has_begun(other) || other->end == DSA_LIST_REFUSED)
+        list->after |= bit_of(other);
+    else
+        list->is_after_failed |= other->end != DSA_LIST_DONE;
+    pthread_mutex_unlock(&list->queue->lock);
 }
 
 void dsa_list_set_tag(struct dsa_list *list, void *tag) { list->tag = tag; }

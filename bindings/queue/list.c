@@ -58,7 +58,7 @@ void dsa_list_clear(struct dsa_list *list)
     list->operations = list->pieces = 0;
     list->is_after_barrier = list->is_planned = false;
     list->trouble = NO_REASON;
-    list->after = 0;
+    flight_forget(list);
     list->end = DSA_LIST_REFUSED;
     list->reason = NOT_RUN;
 }

@@ -34,9 +34,10 @@ enum state { IDLE, WAITING, READY, RUNG, ENDED };
 struct dsa_list {
     struct dsa_queue *queue;
     void *tag;
-    enum state state;                /* this and the next four under the lock of the queue */
+    enum state state;                /* this and the next five under the lock of the queue */
     uint32_t slot;                   /* of the tracker */
-    uint64_t after;                  /* a bit for each list that it comes after */
+    uint64_t after;                  /* a bit for each list that it comes after, whose start has not ended */
+    bool is_after_failed;            /* one that it comes after has not succeeded */
     struct patience patience;        /* of its next entry, or of the one that is rung */
     _Atomic(const uint8_t *) watched; /* the record of the entry that is rung, or NULL */
     enum dsa_end end;
@@ -44,7 +45,8 @@ struct dsa_list {
     bool is_after_barrier;           /* a barrier comes before the next operation */
     bool is_planned;                 /* portal and staging submit the operations as they are */
     bool is_resumed;                 /* `left` has what is left of them */
-    bool has_failed_check, is_lost;
+    bool has_failed_check;
+    _Atomic bool is_lost;            /* the device has not answered its entry in time; cleared under the lock */
     uint32_t operations, pieces, entries, entry; /* `entry`: the next, or the one that has failed */
     uint32_t at_fault;               /* the operation of `trouble` */
     uint64_t size_at_fault;
@@ -133,10 +135,14 @@ bool portal_is_over(struct patience *patience, uint32_t limit_ms);
 void software_do(const uint8_t *entry, const struct dsa_settings *limits);
 
 /* ---- flight.c ---- */
-/* The device has answered a list that was lost: others need not wait for it any more. */
+/* If the device has answered a list that was lost, it can be used again, and others need not be left out for it. */
 void flight_recover(struct dsa_list *list);
 /* Waits for a list that is in flight, before it is changed. */
 void flight_settle(struct dsa_list *list);
+/* The list comes after no other any more. */
+void flight_forget(struct dsa_list *list);
+/* Waits for a list that is given back. For those that were to come after its next start, that has failed. */
+void flight_leave(struct dsa_list *list);
 
 /* ---- run.c ---- */
 /* Makes the list ready for its first entry; else why it can't be run. */

@@ -85,14 +85,8 @@ bool room_is_own(const struct dsa_queue *queue) { return queue->own[0]; }
 
 bool room_is_lost(struct dsa_list *list)
 {
-    struct dsa_queue *queue = list->queue;
-    if (list->is_lost && room_is_own(queue) &&
-        __atomic_load_n(record_of(list->portal + ENTRY * list->entry), __ATOMIC_ACQUIRE) != 0) {
-        list->is_lost = false;
-        queue->credits += !queue->is_shared;
-        if (queue->tracker)
-            flight_recover(list);
-    }
+    if (list->is_lost && room_is_own(list->queue))
+        flight_recover(list);
     return list->is_lost;
 }
 
@@ -116,7 +110,7 @@ struct dsa_list *dsa_list_get(struct dsa_queue *queue)
 void dsa_list_drop(struct dsa_list *list)
 {
     struct dsa_queue *queue = list->queue;
-    flight_settle(list);
+    flight_leave(list);
     atomic_fetch_and_explicit(&queue->taken, ~(UINT64_C(1) << (list - queue->list)), memory_order_release);
 }
 

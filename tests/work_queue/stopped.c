@@ -187,13 +187,57 @@ static void in_flight(void)
     EXPECT(dsa_list_wait(others[3]) == DSA_LIST_DONE);
     ends(others[0], DSA_LIST_LEFT_OUT);
     ends(list, DSA_LIST_REFUSED);
-    list->records[0] = 1; /* the device answers */
-    ends(list, DSA_LIST_DONE);
+    list->records[0] = 1; /* the device answers, which the others find, whoever has lost it */
     ends(others[0], DSA_LIST_DONE);
-    EXPECT(c[63] == 7 && queue->credits == credits);
+    EXPECT(queue->credits == credits);
+    ends(list, DSA_LIST_DONE);
+    EXPECT(c[63] == 0 && dsa_list_run(others[0]) == DSA_LIST_DONE && c[63] == 7 && queue->credits == credits);
     answered = full;
     ends(list, DSA_LIST_FAILED);
     dsa_queue_close(queue);
+}
+
+/* What comes after a start depends on how that has ended, and on nothing that is done with the list later. */
+static void after(void)
+{
+    enum { CASES = 7 };
+    const struct dsa_queue_options options = {.flags = DSA_QUEUE_IN_FLIGHT, .lists = 2};
+    static const enum dsa_end wanted[CASES] = {DSA_LIST_LEFT_OUT, DSA_LIST_LEFT_OUT, DSA_LIST_LEFT_OUT, DSA_LIST_DONE,
+                                               DSA_LIST_LEFT_OUT, DSA_LIST_LEFT_OUT, DSA_LIST_DONE};
+    struct dsa_list *list = list_of(&options), *other = dsa_list_get(list->queue), *taken;
+    for (int i = 0; i < CASES; i++) {
+        dsa_list_clear(list);
+        dsa_list_move(list, a, b, 64);
+        dsa_list_clear(other);
+        if (i < 4) /* a start that fails, but for one, before the other is to come after it */
+            dsa_list_move(other, c, c + PAGE, 64);
+        answered = i < 3 ? full : NULL;
+        if (i < 4)
+            dsa_list_run(other);
+        dsa_list_after(list, other);
+        if (i >= 4) /* the next start */
+            dsa_list_move(other, c, c + PAGE, 64);
+        answered = i == 4 ? full : NULL;
+        if (i == 4 || i == 6)
+            dsa_list_run(other);
+        answered = i == 3 ? full : NULL;
+        if (i == 0 || i == 3 || i == 4) /* it is started again, and ends otherwise */
+            dsa_list_run(other);
+        if (i == 1 || i == 6)
+            dsa_list_clear(other);
+        answered = NULL;
+        if (i == 2 || i == 5) { /* it is given back, and taken and run by others */
+            dsa_list_drop(other);
+            taken = dsa_list_get(list->queue);
+            EXPECT(taken == other);
+            dsa_list_fill(taken, c, 64, 0);
+            EXPECT(dsa_list_run(taken) == DSA_LIST_DONE);
+        }
+        EXPECT(dsa_list_run(list) == wanted[i]);
+        EXPECT(dsa_list_run(list) == DSA_LIST_DONE); /* it holds for one start */
+    }
+    printf("%s\n", dsa_list_why(list, why));
+    dsa_queue_close(list->queue);
 }
 
 /* ---- page faults ---- */
@@ -340,8 +384,9 @@ static void other_status(void)
 int main(int argc, char **argv)
 {
     static const struct { const char *name; void (*run)(void); } cases[] = {
-        {"lost", lost}, {"in_flight", in_flight}, {"disabled", disabled}, {"populated", populated},
-        {"overlapping", overlapping}, {"endless", endless}, {"batches", batches}, {"other_status", other_status},
+        {"lost", lost}, {"in_flight", in_flight}, {"after", after}, {"disabled", disabled},
+        {"populated", populated}, {"overlapping", overlapping}, {"endless", endless}, {"batches", batches},
+        {"other_status", other_status},
     };
     for (size_t i = 0; argc > 1 && i < sizeof cases / sizeof *cases; i++)
         if (strcmp(argv[1], cases[i].name) == 0) {

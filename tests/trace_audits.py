@@ -12,12 +12,17 @@ from pathlib import Path
 
 import schema
 from common import block_after, expect, named, run_test, skip
-from trace_runs import KNOWN, WORK, audited, built_all, client, has_text, ran, told, traced
+from trace_runs import KNOWN, WORK, built_all, client, has_text, ran, told, traced
 
 # Keys typed by hand from docs/FORMATS.md, "Recordings and audits", of programs whose errors do not depend on an order.
 WAIT = "missing wait, read after write; lone: move, 8192 bytes; lone: move, 8192 bytes"
 FENCE = "missing fence, read after write; batch of 2; member 1: move, 8192 bytes; member 0: move, 8192 bytes"
 STALE = "record not zero; lone: move, 64 bytes"
+
+
+def audited(*words, **how):
+    """How an audit ended that names no places, which have a test of their own (tests/trace_stacks.py)."""
+    return traced("--audit", "--stacks", 0, *words, **({"env": KNOWN} | how))
 
 
 def by_seed(**programs):

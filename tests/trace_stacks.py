@@ -166,6 +166,53 @@ def data():
         expect(len(right) == 1, f"{mode}: no line {said!r}: {lines}")
 
 
+# ---- keys
+
+KEY = f"{FENCE}; batch of 2; member 1: move, 4096 bytes; member 0: move, 4096 bytes"
+BY_COMMIT = f"{KEY} @ submit < flush < commit < fence < main"
+BY_MIRROR = f"{KEY} @ submit < flush < mirror < fence < main"
+
+
+def keys():
+    """A key with a place accepts an error there and not elsewhere, also of what the library notes; without one it
+    accepts it anywhere. What an accepted error hides is an error."""
+    built_by("gcc", "-O2")
+
+    def accepted(mode, *lines, options=FIFO):
+        Path(WORK, "known").write_text("".join(f"{it}\n" for it in lines))
+        return audited(*options, "--accept", f"{WORK}/known", "--deny", "stale", "--", client("placed"), mode)
+
+    end = audited(*FIFO, "--write-accept", "--", client("placed"), "fence")
+    expect(end.stdout == f"{BY_COMMIT}\n{BY_MIRROR}\n", f"the keys are {end.stdout}")
+    for line, other, name in ((BY_COMMIT, BY_MIRROR, "mirror"), (BY_MIRROR, BY_COMMIT, "commit")):
+        end = accepted("fence", "# known", line)
+        told(f"all but {name}", end, 1, "): accepted: missing fence", "): error: missing fence")
+        [left] = [it for it in findings(end.stdout) if "error" in it["lines"][0]]
+        expect(f"by {name} (" in "".join(left["stacks"][0]), f"all but {name}: {left}")
+        end = audited(*FIFO, "--accept", f"{WORK}/known", "--write-accept", "--", client("placed"), "fence")
+        expect(end.stdout == f"{other}\n", f"all but {name}: the keys are {end.stdout}")
+    told("both", accepted("fence", BY_COMMIT, BY_MIRROR), 0)
+    end = audited(*FIFO, "--accept", f"{WORK}/known", "--json", "--", client("placed"), "fence")
+    known = json.loads(end.stdout)["runs"][0]["processes"][0]["accepted"] if end.returncode == 0 else end.stdout
+    expect(known == [BY_COMMIT, BY_MIRROR], f"both in JSON: {known}")
+    told("without a place", accepted("fence", KEY), 0)
+    unused = "error: this fits nothing: "
+    told("elsewhere", accepted("heap", BY_COMMIT), 1, "): error: missing fence", f"line 1: {unused}{BY_COMMIT}")
+    told("one more", accepted("fence", BY_COMMIT, f"{KEY} @ main", BY_MIRROR), 1, f"line 2: {unused}{KEY} @ main")
+    listed = "descriptor list changed; batch of 2; member 1: move, 4096 bytes"
+    end = audited(*LONG, "--write-accept", "--", client("placed"), "list")
+    expect(end.stdout == f"{listed} @ submit < refill < main\n", f"the key of a list is {end.stdout}")
+    told("a list", accepted("list", end.stdout.strip(), options=LONG), 0, "): accepted: descriptor list")
+    told("another list", accepted("list", f"{listed} @ submit < main", options=LONG), 1, "): error: descriptor list")
+    pairs = [f"{FENCE}; batch of 3; member 2: move, 4096 bytes; member {it} @ submit < hidden < main"
+             for it in ("0: move, 128 bytes", "1: move, 64 bytes")]
+    for first, other in (pairs, pairs[::-1]):
+        told("a hidden pair", accepted("hidden", first), 1, "): error: missing fence")
+        end = audited(*FIFO, "--accept", f"{WORK}/known", "--write-accept", "--", client("placed"), "hidden")
+        expect(end.stdout == f"{other}\n", f"the key that is left is {end.stdout}, not {other}")
+    told("both pairs", accepted("hidden", *pairs), 0)
+
+
 # ---- without names
 
 
@@ -253,7 +300,7 @@ def rust():
     expect(got[:3] == wanted and len(got) < 6, f"a Rust program: {got}, not {wanted}")
 
 
-PARTS = [compilers, kinds, ways, two_threads, data, unnamed, tools, in_json, kept, rust]
+PARTS = [compilers, kinds, ways, two_threads, data, keys, unnamed, tools, in_json, kept, rust]
 
 
 def main(words):

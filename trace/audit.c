@@ -53,8 +53,9 @@ static const char *inherited(char room[32], FILE *file)
 /// In a child: becomes dsa_text, for one recording in this form, NULL for text; without a recording for an empty one.
 static void become(const char *dsa_text, const struct audit_options *o, const char *form, const struct gathered *g)
 {
-    char events[32], recording[32];
-    const char *const pairs[][2] = {{"--accept", o->accept}, {"--deny", o->deny}, {"--await", o->await},
+    char events[32], recording[32], accepted[32];
+    const char *const pairs[][2] = {{"--accept", o->accepted ? inherited(accepted, o->accepted) : o->accept},
+                                    {"--deny", o->deny}, {"--await", o->await},
                                     {"--events", g ? inherited(events, g->events) : NULL}};
     const char *all[16], **words = all;
     *words++ = "dsa_text";

@@ -48,41 +48,52 @@ bool audits_begin(struct audits *a, const struct options *o)
         return false;
     }
     stale_read(&a->stale, &a->accepted);
+    a->options.accepted = a->stale.plain;
     return true;
 }
 
-/// Adds the keys of the errors that dsa_text finds.
-static void add_keys(struct audited *a, const struct gathered *g)
+/// Adds the keys of the errors that dsa_text finds, with their places if these are known; answers whether there are
+/// errors that --accept does not know.
+static int judge(struct audited *a, const struct gathered *g, struct places *p, struct judgement *j)
 {
+    struct keys base = {0};
+    int is_error = 1;
     FILE *keys = in_memory("the keys of the audit");
     if (audit_text(a->all->dsa_text, &a->all->options, "--write-accept", g, keys) == 0) {
         rewind(keys);
-        keys_read(&a->keys, keys);
+        keys_read(p->stack_count ? &base : &a->keys, keys);
     }
+    if (p->stack_count)
+        is_error = judged_process(a->all, g, p, &base, j, &a->keys);
+    keys_forget(&base);
     fclose(keys);
+    return is_error;
 }
 
 /// Writes what is found in one process as text: first our own findings. `answer` is that of dsa_text, or NULL.
 static void write_text(const struct audited *a, const struct gathered *g, const struct findings *own, FILE *answer,
-                       struct places *places)
+                       const struct judgement *j, struct places *places)
 {
-    FILE *both = in_memory("the report of a process");
-    findings_text(own, &a->all->accepted, places->stack_count, both);
-    if (answer)
-        append(answer, both);
+    FILE *ours = in_memory("the report of a process");
+    findings_text(own, &a->all->accepted, places->stack_count, ours);
     if (places->stack_count)
-        located_text(both, places, g, a->report);
-    else
-        append(both, a->report);
-    fclose(both);
+        located_text(ours, j, places, g, a->report);
+    else {
+        append(ours, a->report);
+        if (answer)
+            append(answer, a->report);
+    }
+    fclose(ours);
 }
 
 /// Writes it as JSON.
 static void write_json(const struct audited *a, const char *base, const struct gathered *g, const struct findings *own,
-                       FILE *answer, struct places *places)
+                       FILE *answer, const struct judgement *j, struct places *places)
 {
     FILE *to = a->report, *both = in_memory("the report of a process");
-    fputs("{\"noted\":", to);
+    fputs("{\"accepted\":", to);
+    judged_json(j, to);
+    fputs(",\"noted\":", to);
     findings_json(own, &a->all->accepted, to);
     findings_json(own, &a->all->accepted, both);
     if (answer)
@@ -110,10 +121,10 @@ static FILE *answer_of(struct audits *all, const struct gathered *g, bool each, 
     if (*found > 1 || !all->options.accept)
         return answer;
     if (!is_json)
-        return stale_take(&all->stale, answer);
+        return stale_take(&all->stale, NULL, NULL, answer);
     FILE *words = in_memory("the answer of dsa_text");
     audit_text(all->dsa_text, &all->options, NULL, g, words);
-    fclose(stale_take(&all->stale, words));
+    fclose(stale_take(&all->stale, NULL, NULL, words));
     return stale_cut(answer);
 }
 
@@ -124,26 +135,32 @@ static int audit_process(struct audited *a, const char *base)
     int found;
     struct gathered g;
     struct findings own = {0};
+    struct judgement j;
     gather(a->records, base, &g, &own);
     const bool is_noted = errors_noted(a->records, base, &g, &own);
     struct places places = {.symbols = &all->symbols};
     if (all->shows_places)
         places_read(&places, a->records, base, &all->symbols);
     FILE *answer = answer_of(all, &g, places.stack_count, &found);
+    if (places.stack_count)
+        findings_place(&own, &places);
     findings_use(&own, &all->stale);
     const bool has_own = findings_errors(&own, &all->accepted, &a->keys);
     a->recorded += g.submissions;
+    judged_begin(&j, answer);
+    j.report_count = found <= 1;
     if (found == 1)
-        add_keys(a, &g);
+        found = judge(a, &g, &places, &j);
     if (all->options.is_json)
-        write_json(a, base, &g, &own, found > 1 ? NULL : answer, &places);
+        write_json(a, base, &g, &own, found > 1 ? NULL : answer, &j, &places);
     else
-        write_text(a, &g, &own, found > 1 ? NULL : answer, &places);
+        write_text(a, &g, &own, found > 1 ? NULL : answer, &j, &places);
+    judged_forget(&j);
     if (all->keeps && places.stack_count)
         places_keep(&places, a->records, base);
     places_forget(&places);
     fclose(answer);
-    free(own.at);
+    findings_forget(&own);
     gather_end(&g);
     if (g.why)
         fprintf(stderr, "dsa_trace: %s is audited up to its submission %" PRIu64 ", since %s\n", base, g.submissions,

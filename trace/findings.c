@@ -6,6 +6,7 @@
 #include <string.h>
 
 #include "launcher.h"
+#include "places.h"
 
 /* What each kind is called, and what a text says before the address and after it. */
 static const struct kind { const char *severity, *name, *before, *after; } kinds[] = {
@@ -72,12 +73,38 @@ static void key_of(const struct finding *f, char key[LONGEST_KEY])
                  operation, f->size);
 }
 
-/// How severe a finding is, and its key.
+/// Finds the key of each error with its place.
+void findings_place(struct findings *all, struct places *p)
+{
+    char key[LONGEST_KEY];
+    for (size_t i = 0; i < all->count; i++)
+        places_want(p, all->at[i].submission);
+    places_find(p);
+    for (size_t i = 0; i < all->count; i++) {
+        key_of(&all->at[i], key);
+        all->at[i].placed = places_key(p, key, &all->at[i].submission, 1);
+    }
+}
+
+/// Gives back the memory.
+void findings_forget(struct findings *all)
+{
+    for (size_t i = 0; i < all->count; i++)
+        free(all->at[i].placed);
+    free(all->at);
+}
+
+/// How severe a finding is, and its key, with the place if that is known. A key without a place accepts it too.
 static const char *judge(const struct finding *f, const struct keys *accepted, char key[LONGEST_KEY])
 {
-    key_of(f, key);
     const char *severity = kinds[f->kind].severity;
-    return strcmp(severity, "error") == 0 && keys_has(accepted, key) ? "accepted" : severity;
+    key_of(f, key);
+    bool is_accepted = keys_has(accepted, key);
+    if (f->placed) {
+        snprintf(key, LONGEST_KEY, "%s", f->placed);
+        is_accepted |= keys_has(accepted, key);
+    }
+    return strcmp(severity, "error") == 0 && is_accepted ? "accepted" : severity;
 }
 
 static void write_text(const struct finding *f, const char *severity, size_t alike, FILE *to)
@@ -139,6 +166,7 @@ void findings_json(const struct findings *all, const struct keys *accepted, FILE
     fputc('[', to);
     for (size_t i = 0; i < all->count; i++) {
         const char *severity = judge(&all->at[i], accepted, key);
+        key_of(&all->at[i], key); /* `places` has the place */
         fputs(i ? "," : "", to);
         write_json(&all->at[i], severity, key, to);
     }
@@ -163,7 +191,11 @@ void findings_use(const struct findings *all, struct stale *s)
 {
     const struct keys none = {0};
     char key[LONGEST_KEY];
-    for (size_t i = 0; i < all->count && s->file; i++)
-        if (strcmp(judge(&all->at[i], &none, key), "error") == 0)
-            stale_use(s, key);
+    for (size_t i = 0; i < all->count && s->file; i++) {
+        if (strcmp(judge(&all->at[i], &none, key), "error"))
+            continue;
+        stale_use(s, key);
+        key_of(&all->at[i], key);
+        stale_use(s, key);
+    }
 }

@@ -11,11 +11,12 @@
 /* Statuses as those of timeout and env: the program ran for too long; this program fails, the other can't be run, the
  * other is not found. */
 enum { TIMED_OUT = 124, FAILED = 125, NOT_RUN = 126, NOT_FOUND = 127 };
-enum { MOST_QUEUES = 8, LONGEST_KEY = 128 };
+enum { MOST_QUEUES = 8, LONGEST_KEY = 4096 };
 
 /* What an audit takes of the options of dsa_text, NULL if they are not given. `is_there`: one of them is given. */
 struct audit_options {
     const char *accept, *deny, *await;
+    FILE *accepted; /* what is read in place of the file `accept`, or NULL */
     bool is_resident, is_json, writes_keys, is_there;
 };
 
@@ -107,13 +108,26 @@ void keys_read(struct keys *k, FILE *from);
 void keys_forget(struct keys *k);
 
 /* ---- stale.c: lines of the file of --accept that fit nothing ---- */
+/* What a key of dsa_text has before a place. */
+#define KEY_PLACE " @ "
 struct accepted_line { char *text; bool is_named, is_used; };
-/* `others` has the words of --deny but ours, or is NULL. */
-struct stale { const char *file; char *others; struct accepted_line *lines; size_t count; bool is_denied; };
+/* `others` has the words of --deny but ours, or is NULL. If there are lines with places, `plain` has those without, and
+ * dsa_text knows it as `passed`; else it is NULL. */
+struct stale {
+    const char *file;
+    char *others, passed[32];
+    FILE *plain;
+    struct accepted_line *lines;
+    size_t count;
+    bool is_denied;
+};
 void stale_begin(struct stale *s, const struct audit_options *o);
 void stale_read(struct stale *s, struct keys *accepted);
-/* Answers a report without what it says of these lines, and closes the other. */
-FILE *stale_take(struct stale *s, FILE *report);
+/* A file for dsa_text, to close: the lines without a place, and the keys of those with this one. */
+FILE *stale_at(const struct stale *s, const char *place);
+/* Answers a report without what it says of these lines, and closes the other. It was made with the file `passed` of
+ * stale_at, or NULL for that of all audits, and this place. */
+FILE *stale_take(struct stale *s, const char *passed, const char *place, FILE *report);
 FILE *stale_cut(FILE *report);
 void stale_use(struct stale *s, const char *key);
 /* Writes the lines that no recording has used, and answers whether they are errors. */
@@ -131,9 +145,14 @@ struct finding {
     int member, members;
     uint8_t operation;
     uint32_t size;
+    char *placed; /* its key with the place, once that is known */
 };
 struct findings { struct finding *at; size_t count, room; };
 void findings_add(struct findings *all, const struct finding *it);
+/* Finds the keys with places. */
+struct places;
+void findings_place(struct findings *all, struct places *p);
+void findings_forget(struct findings *all);
 /* As lines, of those with one key the first or `each`, or as an array of JSON; errors whose key is accepted are none.
  */
 void findings_text(const struct findings *all, const struct keys *accepted, bool each, FILE *to);

@@ -9,20 +9,25 @@
 
 #include "launcher.h"
 
-enum { MOST_NAMED = 4 };
-
-/* A finding with the submissions that its lines name, or other lines between findings, which are no finding. */
+/* A finding with what its lines name, or other lines between findings, which are no finding. */
 struct item {
     char *text, *alike;
-    uint64_t submissions[MOST_NAMED], address;
-    unsigned count;
+    struct named of;
+    uint64_t address;
+    unsigned source;
     unsigned long more; /* that read alike */
     bool is_finding, is_hidden;
 };
 struct items { struct item **at; size_t count, room; };
 
 /* What a report is read into. `tree` has the findings that were read, by the numbers of their stacks. */
-struct reading { struct items items; const struct places *places; const struct gathered *g; void *tree; };
+struct reading {
+    struct items items;
+    const struct places *places;
+    const struct gathered *g;
+    void *tree;
+    unsigned source;
+};
 
 static struct item *add(struct items *all)
 {
@@ -54,30 +59,6 @@ static void append(char **text, const char *more)
     *text = longer;
 }
 
-/// The submission that has an entry.
-static uint64_t submission_of(const struct gathered *g, uint64_t entry)
-{
-    uint64_t low = 0, high = g->submissions;
-    while (low + 1 < high) {
-        const uint64_t middle = low + (high - low) / 2;
-        if (g->first[middle] <= entry)
-            low = middle;
-        else
-            high = middle;
-    }
-    return low;
-}
-
-static void name(struct item *it, const struct gathered *g, uint64_t entry)
-{
-    const uint64_t submission = submission_of(g, entry);
-    bool is_there = g->submissions == 0 || it->count == MOST_NAMED;
-    for (unsigned i = 0; i < it->count; i++)
-        is_there |= it->submissions[i] == submission;
-    if (!is_there)
-        it->submissions[it->count++] = submission;
-}
-
 /// What findings that read alike have in common: the text without addresses and without the numbers of entries,
 /// submissions and bytes; and of each stack its number, or its text if that is known.
 static char *alike_of(const struct item *it, const struct places *p, bool is_known)
@@ -98,8 +79,9 @@ static char *alike_of(const struct item *it, const struct places *p, bool is_kno
         else
             fputc(*at++, to);
     }
-    for (unsigned i = 0; i < it->count; i++) {
-        const struct stack *s = places_stack(p, it->submissions[i]);
+    fprintf(to, "%u", it->source);
+    for (unsigned i = 0; i < it->of.count; i++) {
+        const struct stack *s = places_stack(p, it->of.submissions[i]);
         if (is_known)
             fprintf(to, "\n%s", s && s->text ? s->text : "");
         else
@@ -146,18 +128,18 @@ static void take(struct reading *r, const char *line)
     const char *address = strstr(line, " at 0x");
     if (is_first || strncmp(line, "  ", 2)) {
         end(r);
-        add(&r->items);
+        add(&r->items)->source = r->source;
     }
     if (r->items.count == 0)
-        add(&r->items);
+        add(&r->items)->source = r->source;
     struct item *it = r->items.at[r->items.count - 1];
     if (is_first) {
         it->is_finding = true;
         it->address = address ? strtoull(address + strlen(" at "), NULL, 16) : 0;
-        name(it, r->g, entry);
+        named_add(&it->of, r->g, entry);
     }
     if (it->is_finding && sscanf(line, "  entry %" SCNu64 ", byte", &entry) == 1)
-        name(it, r->g, entry);
+        named_add(&it->of, r->g, entry);
     append(&it->text, line);
 }
 
@@ -166,7 +148,8 @@ static void group(struct items *all, const struct places *p)
 {
     void *tree = NULL;
     for (size_t i = 0; i < all->count; i++)
-        all->at[i]->is_hidden = all->at[i]->is_finding && is_counted(all->at[i], p, true, &tree);
+        all->at[i]->is_hidden |= all->at[i]->is_finding && !all->at[i]->is_hidden &&
+                                 is_counted(all->at[i], p, true, &tree);
     tdestroy(tree, keep);
 }
 
@@ -177,9 +160,9 @@ static void write_item(const struct item *it, struct places *p, FILE *to)
         return;
     if (it->address)
         variables_show(p, it->address, to);
-    places_show(p, it->submissions, it->count, to);
+    places_show(p, it->of.submissions, it->of.count, to);
     if (it->more)
-        fprintf(to, "  and %lu more like it from the same place%s\n", it->more, it->count > 1 ? "s" : "");
+        fprintf(to, "  and %lu more like it from the same place%s\n", it->more, it->of.count > 1 ? "s" : "");
 }
 
 /// Reads a report.
@@ -192,19 +175,47 @@ static void read_report(struct reading *r, FILE *from)
         take(r, line);
     free(line);
     end(r);
-    tdestroy(r->tree, keep);
 }
 
-/// Writes the report with places.
-void located_text(FILE *from, struct places *p, const struct gathered *g, FILE *to)
+/// Says that an error is accepted.
+static void accept(struct item *it)
+{
+    static const char before[] = "): error:", after[] = "): accepted:";
+    char *text, *at = strstr(it->text, before);
+    if (!at)
+        return;
+    if (asprintf(&text, "%.*s%s%s", (int)(at - it->text), it->text, after, at + strlen(before)) < 0)
+        fail("the report");
+    free(it->text);
+    it->text = text;
+}
+
+/// Judges what was read. Of a report that shows what is hidden in the first, what that adds is kept alone.
+static void judge(struct items *all, const struct judgement *j)
+{
+    for (size_t i = 0; i < all->count; i++) {
+        struct item *it = all->at[i];
+        const struct judged *found = it->is_finding ? judged_find(j, it->source, &it->of, it->text) : NULL;
+        if (found && found->is_accepted && it->source == 0)
+            accept(it);
+        it->is_hidden |= it->source && (!found || found->is_accepted);
+    }
+}
+
+/// Writes the reports with places.
+void located_text(FILE *own, const struct judgement *j, struct places *p, const struct gathered *g, FILE *to)
 {
     struct reading r = {.places = p, .g = g};
     struct items *all = &r.items;
-    read_report(&r, from);
+    read_report(&r, own);
+    for (; r.source < j->report_count; r.source++)
+        read_report(&r, j->reports[r.source]);
+    tdestroy(r.tree, keep);
     for (size_t i = 0; i < all->count; i++)
-        for (unsigned k = 0; k < all->at[i]->count; k++)
-            places_want(p, all->at[i]->submissions[k]);
+        for (unsigned k = 0; k < all->at[i]->of.count; k++)
+            places_want(p, all->at[i]->of.submissions[k]);
     places_find(p);
+    judge(all, j);
     group(all, p);
     for (size_t i = 0; i < all->count; i++) {
         if (!all->at[i]->is_hidden)
@@ -223,7 +234,7 @@ static void mark(FILE *from, const struct gathered *g, bool *is_named)
     rewind(from);
     while (getline(&text, &room, from) > 0)
         for (const char *at = text; (at = strstr(at, before)); at++)
-            is_named[submission_of(g, strtoull(at + strlen(before), NULL, 10))] = true;
+            is_named[named_submission(g, strtoull(at + strlen(before), NULL, 10))] = true;
     free(text);
 }
 

@@ -2,11 +2,10 @@
 #ifndef DSA_TRACE_LOCATED_H
 #define DSA_TRACE_LOCATED_H
 
-#include "launcher.h"
-#include "places.h"
+#include "judged.h"
 
-/* Copies a report in words on one process. */
-void located_text(FILE *from, struct places *p, const struct gathered *g, FILE *to);
+/* Writes reports in words on one process: that of our own findings, and those of dsa_text as they are judged. */
+void located_text(FILE *own, const struct judgement *j, struct places *p, const struct gathered *g, FILE *to);
 /* Writes an array of JSON for a report in JSON. */
 void located_json(FILE *from, struct places *p, const struct gathered *g, FILE *to);
 

@@ -257,6 +257,48 @@ void places_show(const struct places *p, const uint64_t *submissions, unsigned c
     }
 }
 
+/// How long the name of a function is in a line; of code without names its file, since addresses change.
+static int name_length(const char *line)
+{
+    const int length = (int)strcspn(line, "\n");
+    for (int i = 0; i < length; i++)
+        if (strncmp(line + i, " (", 2) == 0 || strncmp(line + i, "+0x", 3) == 0)
+            return i;
+    return length;
+}
+
+/// Writes the functions of a stack.
+static void put_functions(const char *text, FILE *to)
+{
+    for (const char *at = text; *at; at = strchr(at, '\n') + 1) {
+        const char *name = at + strlen("    at ");
+        fprintf(to, "%s%.*s", at == text ? "" : " < ", name_length(name), name);
+    }
+}
+
+char *places_key(const struct places *p, const char *key, const uint64_t *submissions, unsigned count)
+{
+    char *text;
+    size_t size;
+    const char *between = KEY_PLACE;
+    FILE *to = open_memstream(&text, &size);
+    if (!to)
+        fail("the keys of the audit");
+    fputs(key, to);
+    for (unsigned i = 0; i < count; i++) {
+        const struct stack *s = places_stack(p, submissions[i]);
+        if (!s || !s->text)
+            continue;
+        fputs(between, to);
+        put_functions(s->text, to);
+        between = " | ";
+    }
+    fclose(to);
+    if (size >= LONGEST_KEY)
+        text[LONGEST_KEY - 1] = 0;
+    return text;
+}
+
 void places_json(const struct places *p, uint64_t submission, FILE *to)
 {
     const struct stack *s = places_stack(p, submission);

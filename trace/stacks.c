@@ -8,11 +8,13 @@
  *     s NUMBER AT AT ..       a call stack, from the instruction that submits outwards, as addresses */
 #include <dlfcn.h>
 #include <errno.h>
+#include <fcntl.h>
 #include <stdatomic.h>
 #include <stdio.h>
 #include <string.h>
-#include <sys/prctl.h>
+#include <sys/syscall.h>
 #include <time.h>
+#include <unistd.h>
 
 #include "maps.h"
 #include "unwind.h"
@@ -113,17 +115,28 @@ static void put_stack(unsigned number, struct walk *w)
     put(text, length);
 }
 
+/// The name of this thread, by system calls that a recording needs in any case: a filter of the program's permits them.
+static void read_name(char name[17])
+{
+    const int file = (int)syscall(SYS_openat, AT_FDCWD, "/proc/thread-self/comm", O_RDONLY | O_CLOEXEC, 0);
+    const ssize_t length = file < 0 ? 0 : syscall(SYS_read, file, name, 16);
+    if (file >= 0)
+        syscall(SYS_close, file);
+    name[length > 0 ? length : 0] = 0;
+    name[strcspn(name, "\n")] = 0;
+}
+
 /// Writes the name of a thread and the memory of its stack, when it submits first.
 static void note_thread(const struct submitter *s)
 {
     static __thread pid_t noted;
     static struct mapping m;
-    char text[96], name[17] = "";
+    char text[96], name[17];
     const pid_t thread = process_thread();
     if (noted == thread)
         return;
     noted = thread;
-    prctl(PR_GET_NAME, name);
+    read_name(name);
     if (!maps_find(s->sp, &m))
         m.low = m.high = 0;
     put(text, snprintf(text, sizeof text, "t %d %lx-%lx %s\n", (int)thread, m.low, m.high, name));

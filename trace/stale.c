@@ -43,9 +43,36 @@ void stale_begin(struct stale *s, const struct audit_options *o)
         s->is_denied |= is_word(at);
 }
 
+/// Whether a line is a key with a place, which dsa_text does not know; then `at` is that.
+static bool has_place(const char *line, const char **at)
+{
+    *at = *line >= 'a' && *line <= 'z' ? strstr(line, KEY_PLACE) : NULL;
+    return *at;
+}
+
+/// A file of the lines without a place, and of the keys with this one, NULL for none; each has the number of its line.
+FILE *stale_at(const struct stale *s, const char *place)
+{
+    const char *at;
+    FILE *file = in_memory("the accepted keys");
+    for (size_t i = 0; i < s->count; i++) {
+        const char *line = s->lines[i].text;
+        if (!has_place(line, &at))
+            fprintf(file, "%s\n", line);
+        else if (place && strcmp(at, place) == 0)
+            fprintf(file, "%.*s\n", (int)(at - line), line);
+        else
+            fputs("#\n", file);
+    }
+    if (fflush(file))
+        fail("the accepted keys");
+    return file;
+}
+
 /// Takes the lines of the file, as keys too.
 void stale_read(struct stale *s, struct keys *accepted)
 {
+    const char *at;
     char *line = NULL;
     size_t room = 0;
     if (!s->file)
@@ -64,23 +91,29 @@ void stale_read(struct stale *s, struct keys *accepted)
     }
     free(line);
     fclose(from);
+    for (size_t i = 0; i < s->count; i++)
+        if (!s->plain && has_place(s->lines[i].text, &at))
+            s->plain = stale_at(s, NULL);
+    if (s->plain)
+        snprintf(s->passed, sizeof s->passed, "/proc/self/fd/%d", fileno(s->plain));
 }
 
 /// Whether a line of a report names a line that fits nothing there; it is then marked.
-static bool is_named(struct stale *s, const char *line)
+static bool is_named(struct stale *s, const char *passed, const char *line)
 {
-    const size_t length = strlen(s->file);
+    const size_t length = strlen(passed);
     size_t number;
     int end = 0;
-    if (strncmp(line, s->file, length) || sscanf(line + length, ": line %zu%n", &number, &end) != 1 ||
+    if (strncmp(line, passed, length) || sscanf(line + length, ": line %zu%n", &number, &end) != 1 ||
         strncmp(line + length + end, after, sizeof after - 1) || number < 1 || number > s->count)
         return false;
     return s->lines[number - 1].is_named = true;
 }
 
-/// Takes these lines out of a report in words. Those that it does not name are used.
-FILE *stale_take(struct stale *s, FILE *report)
+/// Takes these lines out of a report in words. Those with this place that it does not name are used.
+FILE *stale_take(struct stale *s, const char *passed, const char *place, FILE *report)
 {
+    const char *at;
     char *line = NULL;
     size_t room = 0;
     if (!s->file)
@@ -90,13 +123,15 @@ FILE *stale_take(struct stale *s, FILE *report)
         s->lines[i].is_named = false;
     rewind(report);
     while (getline(&line, &room, report) >= 0)
-        if (!is_named(s, line))
+        if (!is_named(s, passed ? passed : s->plain ? s->passed : s->file, line))
             fputs(line, left);
     free(line);
     if (ferror(report) || ferror(left))
         fail("the answer of dsa_text");
-    for (size_t i = 0; i < s->count; i++)
-        s->lines[i].is_used |= !s->lines[i].is_named;
+    for (size_t i = 0; i < s->count; i++) {
+        const bool has_one = has_place(s->lines[i].text, &at);
+        s->lines[i].is_used |= !s->lines[i].is_named && has_one == !!place && (!place || strcmp(at, place) == 0);
+    }
     fclose(report);
     return left;
 }
@@ -154,5 +189,7 @@ void stale_forget(struct stale *s)
         free(s->lines[i].text);
     free(s->lines);
     free(s->others);
+    if (s->plain)
+        fclose(s->plain);
     *s = (struct stale){0};
 }

@@ -1,6 +1,6 @@
 /* Submissions with a fault from each kind of code, for what is said of their places:
  *
- *     placed fence|list|heap|stack|handler|fork|deep|written|library PATH
+ *     placed fence|hidden|list|heap|stack|handler|fork|deep|written|library PATH
  *
  * As a library (-DLIBRARY) it has submit_in_library alone. */
 #include <dlfcn.h>
@@ -58,6 +58,20 @@ static void fence(void)
         commit(); /* fence commits */
         mirror(); /* fence mirrors */
     }
+}
+
+/* The last of three copies lacks a fence for each of the two before it. */
+OUT_OF_LINE static void hidden(void)
+{
+    static _Alignas(64) descriptor list[3];
+    static _Alignas(32) completion done;
+    list[0] = move(data.from, data.between, 128, NULL);
+    list[1] = move(data.from, data.between + 128, 64, NULL);
+    list[2] = move(data.between, data.to, SIZE, NULL); /* reads what both write */
+    const descriptor all = batch(list, 3, &done);
+    done.status = 0;
+    submit(job.portal, &all);
+    await(&done);
 }
 
 /* The list is filled anew before the device has read it. */
@@ -147,8 +161,8 @@ static void in_library(const char *path)
 int main(int argc, char **argv)
 {
     static const struct { const char *name; void (*run)(void); } modes[] = {
-        {"fence", fence}, {"list", refill}, {"heap", on_heap}, {"stack", on_stack}, {"fork", in_child},
-        {"written", written},
+        {"fence", fence},   {"hidden", hidden}, {"list", refill},     {"heap", on_heap},
+        {"stack", on_stack}, {"fork", in_child}, {"written", written},
     };
     const char *mode = argc > 1 ? argv[1] : "fence";
     job.portal = portal_of("/dev/dsa/wq0.0");

@@ -1,0 +1,254 @@
+/* Errors of dsa_text that --accept knows by their places. dsa_text knows keys alone, so it gets those without a place,
+ * and its errors are compared with the others here. An accepted pair may hide another one, which dsa_text would name if
+ * it knew what is accepted: so for each place with accepted errors it judges the process again with the keys of that
+ * place, and the errors that it finds there count too. */
+#include "judged.h"
+
+#include <stdlib.h>
+#include <string.h>
+
+void judged_forget(struct judgement *j)
+{
+    for (size_t i = 0; i < j->count; i++) {
+        free(j->at[i].key);
+        free(j->at[i].placed);
+    }
+    for (unsigned i = 1; i < j->report_count; i++)
+        fclose(j->reports[i]);
+    free(j->reports);
+    free(j->at);
+    *j = (struct judgement){0};
+}
+
+uint64_t named_submission(const struct gathered *g, uint64_t entry)
+{
+    uint64_t low = 0, high = g->submissions;
+    while (low + 1 < high) {
+        const uint64_t middle = low + (high - low) / 2;
+        if (g->first[middle] <= entry)
+            low = middle;
+        else
+            high = middle;
+    }
+    return low;
+}
+
+/// Adds a number to those that are there, unless it is there or there are too many.
+static void add_number(uint64_t *all, unsigned *count, uint64_t number)
+{
+    for (unsigned i = 0; i < *count; i++)
+        if (all[i] == number)
+            return;
+    if (*count < MOST_NAMED)
+        all[(*count)++] = number;
+}
+
+void named_add(struct named *n, const struct gathered *g, uint64_t entry)
+{
+    add_number(n->entries, &n->entry_count, entry);
+    if (g->submissions)
+        add_number(n->submissions, &n->count, named_submission(g, entry));
+}
+
+/// What a finding is, as a text and a key begin with it: up to the first mark.
+static size_t kind_length(const char *text) { return strcspn(text, ",:;"); }
+
+static bool is_of(const struct judged *it, const struct named *of, const char *kind)
+{
+    const size_t length = kind_length(it->key);
+    return it->of.entry_count == of->entry_count && kind_length(kind) == length &&
+           strncmp(it->key, kind, length) == 0 &&
+           memcmp(it->of.entries, of->entries, of->entry_count * sizeof *of->entries) == 0;
+}
+
+const struct judged *judged_find(const struct judgement *j, unsigned source, const struct named *of, const char *text)
+{
+    const char *severity = strstr(text, "): "), *kind = severity ? strchr(severity + 3, ':') : NULL;
+    for (size_t i = 0; kind && i < j->count; i++)
+        if (j->at[i].source == source && is_of(&j->at[i], of, kind + strlen(": ")))
+            return &j->at[i];
+    return NULL;
+}
+
+/// Adds an error; one that another report shows only if it is new.
+static void add(struct judgement *j, const struct judged *it)
+{
+    for (size_t i = 0; it->source && i < j->count; i++)
+        if (is_of(&j->at[i], &it->of, it->key)) {
+            free(it->key);
+            return;
+        }
+    if (j->count == j->room) {
+        struct judged *more = realloc(j->at, sizeof *more * (j->room = 2 * j->room + 16));
+        if (!more)
+            fail("the errors of the audit");
+        j->at = more;
+    }
+    j->at[j->count++] = *it;
+}
+
+/// Takes what is at a place of a report in JSON, whose strings have no quotes: an entry, a key, or a severity, which
+/// comes last.
+static void take(struct judgement *j, const struct gathered *g, const struct keys *base, const char *at,
+                 struct judged *it)
+{
+    static const char entries[] = "\"entries\":[", entry[] = "\"entry\":", key[] = "\"key\":\"";
+    static const char error[] = "\"severity\":\"error\"";
+    if (strncmp(at, entries, sizeof entries - 1) == 0)
+        it->of = (struct named){0};
+    else if (strncmp(at, entry, sizeof entry - 1) == 0)
+        named_add(&it->of, g, strtoull(at + sizeof entry - 1, NULL, 10));
+    else if (strncmp(at, key, sizeof key - 1) == 0) {
+        free(it->key);
+        it->key = strndup(at + sizeof key - 1, strcspn(at + sizeof key - 1, "\""));
+    } else if (strncmp(at, error, sizeof error - 1) == 0 && it->key && keys_has(base, it->key)) {
+        add(j, it);
+        it->key = NULL;
+    } else
+        j->has_others |= it->source == 0 && strncmp(at, error, sizeof error - 1) == 0;
+}
+
+/// Adds the errors of a report in JSON whose keys are among these.
+static void read_errors(struct judgement *j, const struct gathered *g, const struct keys *base, unsigned source,
+                        FILE *from)
+{
+    struct judged it = {.source = source};
+    char *text = NULL;
+    size_t room = 0;
+    rewind(from);
+    while (getline(&text, &room, from) > 0)
+        for (const char *at = text; (at = strchr(at, '"')); at++)
+            take(j, g, base, at, &it);
+    free(text);
+    free(it.key);
+}
+
+/// Whether each key is that of an error that was read. The others are left as they are, since no place is known.
+static bool are_read(const struct judgement *j, const struct keys *base, struct keys *left)
+{
+    bool are_read = true;
+    for (size_t i = 0; i < base->count; i++) {
+        size_t at = 0;
+        while (at < j->count && strcmp(j->at[at].key, base->all[i]))
+            at++;
+        if (at < j->count)
+            continue;
+        keys_place(left, base->all[i]);
+        are_read = false;
+    }
+    return are_read;
+}
+
+/// What dsa_text finds with the keys of --accept that have this place, NULL for none: the keys of errors, and reports.
+struct again { FILE *json, *words; struct keys base; };
+
+static void ask(struct audits *all, const struct gathered *g, const char *place, struct again *a)
+{
+    struct audit_options o = all->options;
+    FILE *accepted = stale_at(&all->stale, place), *keys = in_memory("the keys of the audit");
+    char path[32];
+    snprintf(path, sizeof path, "/proc/self/fd/%d", fileno(accepted));
+    o.accepted = accepted;
+    *a = (struct again){.json = in_memory("a report"), .words = in_memory("a report")};
+    audit_text(all->dsa_text, &o, "--json", g, a->json);
+    audit_text(all->dsa_text, &o, "--all", g, a->words);
+    a->words = stale_take(&all->stale, path, place, a->words);
+    if (audit_text(all->dsa_text, &o, "--write-accept", g, keys) == 0) {
+        rewind(keys);
+        keys_read(&a->base, keys);
+    }
+    fclose(keys);
+    fclose(accepted);
+}
+
+/// Gives the errors from one on their keys with places, and looks which of them are accepted.
+static void place(struct audits *all, struct places *p, struct judgement *j, size_t from)
+{
+    for (size_t i = from; i < j->count; i++)
+        for (unsigned k = 0; k < j->at[i].of.count; k++)
+            places_want(p, j->at[i].of.submissions[k]);
+    places_find(p);
+    for (size_t i = from; i < j->count; i++) {
+        struct judged *it = &j->at[i];
+        it->placed = places_key(p, it->key, it->of.submissions, it->of.count);
+        it->is_accepted = keys_has(&all->accepted, it->placed);
+        if (it->is_accepted)
+            stale_use(&all->stale, it->placed);
+    }
+}
+
+static const char *place_of(const char *key)
+{
+    const char *at = strstr(key, KEY_PLACE);
+    return at ? at : "";
+}
+
+/// Adds the errors at a place that those that are accepted there hide.
+static void add_hidden(struct audits *all, const struct gathered *g, struct places *p, const char *at,
+                       struct judgement *j)
+{
+    struct again again;
+    const size_t before = j->count;
+    ask(all, g, at, &again);
+    j->reports = realloc(j->reports, (j->report_count + 1) * sizeof *j->reports);
+    if (!j->reports)
+        fail("the errors of the audit");
+    j->reports[j->report_count] = again.words;
+    read_errors(j, g, &again.base, j->report_count++, again.json);
+    place(all, p, j, before);
+    for (size_t i = before; i < j->count; i++)
+        if (strcmp(place_of(j->at[i].placed), at)) /* of another place it is judged with the keys of that */
+            j->at[i].is_accepted = true;
+    keys_forget(&again.base);
+    fclose(again.json);
+}
+
+void judged_json(const struct judgement *j, FILE *to)
+{
+    struct keys all = {0};
+    for (size_t i = 0; i < j->count; i++)
+        if (j->at[i].is_accepted && j->at[i].source == 0)
+            keys_place(&all, j->at[i].placed);
+    fputc('[', to);
+    for (size_t i = 0; i < all.count; i++) {
+        fputs(i ? "," : "", to);
+        escape_json(to, all.all[i]);
+    }
+    fputc(']', to);
+    keys_forget(&all);
+}
+
+void judged_begin(struct judgement *j, FILE *answer)
+{
+    *j = (struct judgement){.reports = malloc(sizeof *j->reports), .report_count = 1};
+    if (!j->reports)
+        fail("the errors of the audit");
+    j->reports[0] = answer;
+}
+
+bool judged_process(struct audits *all, const struct gathered *g, struct places *p, const struct keys *base,
+                    struct judgement *j, struct keys *left)
+{
+    struct keys judged = {0};
+    FILE *json = in_memory("a report");
+    audit_text(all->dsa_text, &all->options, "--json", g, json);
+    read_errors(j, g, base, 0, json);
+    fclose(json);
+    place(all, p, j, 0);
+    for (size_t i = 0, count = j->count; i < count; i++) {
+        const char *at = place_of(j->at[i].placed);
+        if (!j->at[i].is_accepted || keys_has(&judged, at))
+            continue;
+        keys_place(&judged, at);
+        add_hidden(all, g, p, at, j);
+    }
+    keys_forget(&judged);
+    bool has_errors = !are_read(j, base, left) || j->has_others;
+    for (size_t i = 0; i < j->count; i++) {
+        if (j->at[i].is_accepted)
+            continue;
+        keys_place(left, j->at[i].placed);
+        has_errors = true;
+    }
+    return has_errors;
+}

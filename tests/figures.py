@@ -120,6 +120,12 @@ def traces():
     return source(found) + table(["options", "by code, us", "by a signal, us"], rows)
 
 
+def stacks():
+    found = figures("stacks")
+    rows = [[row["options"], row["frames"], f"{row['one']:.2f}", f"{row['many']:.2f}"] for row in found["rows"]]
+    return source(found) + table(["options", "--stacks", "one stack, us", "many stacks, us"], rows)
+
+
 def summary():
     """What README says of all these."""
     short, jobs_of, fills = figures("short_lists")["rows"], figures("jobs")["rows"], figures("filling")["rows"]
@@ -135,7 +141,7 @@ def summary():
     ])
 
 
-MADE = (machine, short_lists, filling, small_jobs, jobs, longest, audits, in_flight, traces, summary)
+MADE = (machine, short_lists, filling, small_jobs, jobs, longest, audits, in_flight, traces, stacks, summary)
 TABLES = {it.__name__: it for it in MADE}
 
 

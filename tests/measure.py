@@ -2,7 +2,7 @@
 """Measures what docs/SPEED.md and trace/README.md say, by hand and on a quiet machine, and writes each group to a file
 of docs/figures:
 
-    tests/measure.py short_lists filling in_flight small_jobs audits traces
+    tests/measure.py short_lists filling in_flight small_jobs audits traces stacks
     tests/measure.py jobs longest OTHER      beside another program of the same jobs
 
 `tests/figures.py --write` makes the tables of the pages anew from these files. Times are of the built programs and the
@@ -178,6 +178,9 @@ def audits():
 
 # ---- dsa_trace
 
+# What the client says of the portal.
+FROM_STACKS = r"and ([\d.]+) us to the portal, ([\d.]+) from other depths"
+
 
 def traces():
     """What a submission takes under dsa_trace, in microseconds, by code and by a signal; a start in milliseconds."""
@@ -186,11 +189,31 @@ def traces():
     rows = {}
     for words, took in re.findall(r"^dsa_trace(.*): .*and ([\d.]+) us to the portal", ran, re.M):
         options = "--out DIR" if "--out" in words else words.replace("--signals", "").strip() or "none"
-        rows.setdefault(options, {"options": options})["signals" if "--signals" in words else "stubs"] = float(took)
+        row = rows.setdefault(options, {"options": options})
+        row["signals" if "--signals" in words else "stubs"] = round(float(took), 1)
     return {"start": int(re.search(r"a start takes (\d+) ms", ran)[1]), "rows": list(rows.values())}
 
 
-GROUPS = {it.__name__: it for it in (short_lists, filling, in_flight, small_jobs, audits, traces)}
+def stacks():
+    """What a submission takes with call stacks and without, in microseconds, in turns: of several medians the least."""
+    rows = []
+    with tempfile.TemporaryDirectory() as folder:
+        subprocess.run(["make", "-s", "-C", ROOT / "trace", f"OUT={folder}"], check=True)
+        flags = ["-std=c11", "-D_GNU_SOURCE", "-O2", "-o", f"{folder}/cost"]
+        subprocess.run([compiler(), *flags, ROOT / "tests/trace/cost.c"], check=True)
+        for words in (["--order", "fifo"], ["--delay", "0"]):
+            took = {frames: [] for frames in (0, 16)}
+            for frames in list(took) * 7:
+                command = [f"{folder}/dsa_trace", *words, "--stacks", str(frames), "--out", f"{folder}/out", "--"]
+                ran = subprocess.run([*command, f"{folder}/cost"], stdout=subprocess.PIPE, text=True, check=True)
+                took[frames].append([float(it) for it in re.search(FROM_STACKS, ran.stdout).groups()])
+            for frames, medians in took.items():
+                one, many = map(min, zip(*medians))
+                rows.append({"options": " ".join(words), "frames": frames, "one": one, "many": many})
+    return {"rows": rows}
+
+
+GROUPS = {it.__name__: it for it in (short_lists, filling, in_flight, small_jobs, audits, traces, stacks)}
 BESIDE = {it.__name__: it for it in (jobs, longest)}
 
 

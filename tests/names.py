@@ -27,7 +27,7 @@ OTHERS = set(
     Net Processes alloc apt cargo gcc git nice patch python3 rt rustfmt rustup valgrind
     binutils clang cmake ctypes dpkg find_package flockfile man pthread_attr_setstacksize toml
     ops.txt dsa_trace dsa_prices dsa_planner dsa_planner_static dsa_planner_own_memory
-    libdsa_planner libdsa_planner_own_memory libdsa_c libdsa_queue dsa_queue
+    libdsa_planner libdsa_planner_own_memory libdsa_c libdsa_queue dsa_queue dsa_queue_static
     """.split()
 )
 # Paths that a reader makes, or that a build does.

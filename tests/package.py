@@ -293,6 +293,9 @@ def device():
     words = ["cc", *STRICT, EXAMPLES / "publish.c", *linking("dsa_queue"), "-o", "publish"]
     tried("the build of the example with a barrier", *words)
     library = {"LD_LIBRARY_PATH": f"{PREFIX}/lib"}
+    words = ["cc", *STRICT, EXAMPLES / "publish.c", *linking("dsa_queue_static"), "-o", "publish_static"]
+    tried("the build with archives alone", *words)
+    tried("a list that publishes", trace, "--", "./publish_static", "right", printed="published\n")
     tried("a list that publishes", trace, "--", "./publish", "right", printed="published\n", **library)
     words = ["cc", *STRICT, EXAMPLES / "queue_journal.c", *linking("dsa_queue"), "-o", "queue_journal"]
     tried("the build of the example of a queue", *words)

@@ -161,8 +161,10 @@ def build_files(to, places):
         text = filled("pkgconfig.in", name=name, what=what, libs=libs or in_archive % name, requires="", **common)
         write(to / f"pkgconfig/{name}.pc", text)
     what, libs = "lists on a work queue, experimental", in_archive % "dsa_queue" + " -pthread"
-    text = filled("pkgconfig.in", name="dsa_queue", what=what, libs=libs, requires="Requires: dsa_planner\n", **common)
-    write(to / "pkgconfig/dsa_queue.pc", text)
+    for end, how in {"": "", "_static": ", archives alone"}.items():
+        more = {"what": what + how, "requires": f"Requires: dsa_planner{end}\n"}
+        text = filled("pkgconfig.in", name=f"dsa_queue{end}", libs=libs, **more, **common)
+        write(to / f"pkgconfig/dsa_queue{end}.pc", text)
     up = "/".join([".."] * (len(Path(places["lib"]).parts) + 2))
     write(to / "cmake/dsa_planner/dsa_planner-config.cmake", filled("config.cmake.in", up=up, **common))
     write(to / "cmake/dsa_planner/dsa_planner-config-version.cmake", filled("config-version.cmake.in", **common))

@@ -47,9 +47,9 @@ DEBIAN = {"prefix": "/usr", "lib": "lib/x86_64-linux-gnu", "python": "lib/python
 # Before dpkg removes the Python modules: what Python has compiled of them.
 PRERM = """#!/bin/sh
 set -e
-cd "$DPKG_ROOT"/usr/lib/python3/dist-packages
-rm -f __pycache__/dsa_planner.*.pyc __pycache__/dsa_queue.*.pyc
-rmdir __pycache__ 2>/dev/null || true
+compiled="$DPKG_ROOT"/usr/lib/python3/dist-packages/__pycache__
+rm -f "$compiled"/dsa_planner.*.pyc "$compiled"/dsa_queue.*.pyc
+rmdir "$compiled" 2>/dev/null || true
 """
 
 

@@ -1,8 +1,9 @@
 """Builds the layer of bindings/queue with gcc and clang over the proved archive, and runs it on the software device of
 `trace`: random lists beside the processor, in each order, with faults, retries and small queues (LISTS=5000,
-SEEDS=100); how lists end, and what is said; each allocation refused; a device that stops, which the test plays; the
-same lists in software, also with sanitizers, and descriptors of all operations, whose records have to be those of the
-device; and wrong variants of the layer, each of which has to fail. The words are names of parts."""
+SEEDS=100), on several queues, and by write(); how lists end, and what is said; each allocation refused; a device that
+stops, and a kernel that keeps portals, which the test plays; the same lists in software, also with sanitizers, and
+descriptors of all operations, whose records have to be those of the device; and wrong variants of the layer, each of
+which has to fail. The words are names of parts."""
 
 import os
 import re
@@ -28,6 +29,7 @@ JOURNAL = ROOT / "examples/queue/queue_journal.c"
 THREADS = ROOT / "examples/queue/queue_threads.c"
 WRAPPED = ["-Wl,--wrap=calloc,--wrap=mmap,--wrap=madvise"]
 QUEUES = ("/dev/dsa/wq0.0", "/dev/dsa/wq0.1")
+BOTH = ":".join(QUEUES)
 DONE = "all operations have succeeded\n"
 DEVICES = "/sys/bus/dsa/devices"
 
@@ -82,8 +84,56 @@ def lists():
                 told(f"random lists: {words}, {deep} in flight", end, 0, " 0 wrong")
     for file, values in (("max_transfer_size", (4096, 1000)), ("max_batch_size", (1, 3))):
         for value in values:
-            command = f"echo {value} > {DEVICES}/wq0.0/{file} && exec {client('lists')} {QUEUES[0]} {LISTS} {value}"
-            told(f"random lists: {file} {value}", shell(command, "--order", "all", "--fault", 2), 0, " 0 wrong")
+            for queue in (QUEUES[0], BOTH):
+                command = f"echo {value} > {DEVICES}/wq0.0/{file} && exec {client('lists')} {queue} {LISTS} {value}"
+                end = shell(command, "--order", "all", "--fault", 2)
+                told(f"random lists: {file} {value}, {queue}", end, 0, " 0 wrong")
+
+
+def several():
+    """Lists on several work queues with one tracker, also small ones, and each work queue has some of them."""
+    three = [f"/dev/dsa/wq0.{i}" for i in range(3)]
+    small = ["--queue", "dedicated,1,x", "--queue", "shared,1,y", "--queue", "dedicated,2,z"]
+    for seed in range(1, SEEDS + 1):
+        for files, options in ((QUEUES, []), (three, small)):
+            for deep in (0, 8):
+                words = ["--seed", seed, "--order", "all", "--fault", 2, *options]
+                folder = f"{WORK}/several-{seed}-{len(files)}-{deep}"
+                command = [client("lists"), ":".join(files), LISTS, seed, deep]
+                end = traced(*words, "--out", folder, "--", *command)
+                told(f"several queues: {words}, {deep} in flight", end, 0, f"{LISTS} lists, ", " 0 wrong")
+                events = "".join(it.read_text() for it in Path(folder).rglob("*.events"))
+                came = set(re.findall(r"^S \d+ (wq0\.\d)", events, re.M))
+                expect(len(came) == len(files), f"only {came} of {files} had entries")
+
+
+# A device of which programs may not map portals, as the driver shows it: without batches.
+KEPT_PORTALS = f"echo 0,0,0,0,0,0,1,3f03fd > {DEVICES}/dsa0/op_cap"
+UNWRITTEN = QUEUES[0] + ": an entry could not be written ({}), and nothing more was begun; {}\n"
+NO_RIGHT = "the process is another than the one that has opened it, or a rule of security (seccomp, SELinux) forbids "
+NO_RIGHT += "it: open a queue here, or permit it"
+REFUSED = "the kernel refuses the descriptor, or takes none by write(): Linux 6.10 or later does"
+KEPT_WITHOUT = QUEUES[0] + ": the kernel lets only programs with CAP_SYS_RAWIO map this portal (Operation not "
+KEPT_WITHOUT += "permitted), and takes no descriptors by write(); Linux 6.10 or later does\n"
+
+
+def written():
+    """A kernel that keeps portals: lists go by write(), without batches, and each error of it is said."""
+    end = shell(f"{KEPT_PORTALS} && exec {client('records')} {QUEUES[0]} 1 1")
+    expect(end.returncode == 2, f"a portal that is kept is mapped: status {end.returncode}")
+    for queue in (*QUEUES, BOTH):
+        for deep in (0, 8):
+            command = f"{KEPT_PORTALS} && exec {client('lists')} {queue} {LISTS} {deep} {deep}"
+            for words in (["--queue", "dedicated,2,x", "--queue", "shared,2,y"], ["--retry", 3]):
+                end = shell(command, "--order", "all", "--fault", 2, "--verbose", *words)
+                told(f"lists by write(): {queue}, {deep} in flight", end, 0, " 0 wrong", ", 0 of them batches")
+    no_memory = "the kernel has not enough memory: free some, and run the list again"
+    errors = [("Operation not permitted", NO_RIGHT), ("Permission denied", NO_RIGHT)]
+    errors += [("Cannot allocate memory", no_memory), ("Invalid argument", REFUSED)]
+    errors += [("Input/output error", "see write(2)")]
+    end = traced("--", client("kernel"), QUEUES[0], *(0, 11, 16, 4), *(1, 13, 12, 22, 5))  # errno, as of Linux
+    ended("errors of write()", end, DONE * 4 + "".join(UNWRITTEN.format(*it) for it in errors) + "16 entries\n")
+    ended("no descriptors by write()", traced("--", client("kernel"), QUEUES[0], -1), KEPT_WITHOUT, 2)
 
 
 def threads():
@@ -156,6 +206,10 @@ def ends():
             ended(f"threads: {words}", traced(*words, "--", client("ends"), "threads"), "")
     end = traced("--retry", 1, "--", client("ends"), "limit", QUEUES[1])
     ended("a queue that takes nothing", end, FULL.format(QUEUES[1], 100))
+    words = ["--retry", 1, "--queue", "shared,1,x", "--queue", "shared,1,y"]
+    ended("queues that take nothing", traced(*words, "--", client("ends"), "limit", BOTH),
+          f"none of {BOTH} has accepted an entry for 100 ms, and nothing more was begun; {QUEUES[0]} is enabled, "
+          f"{QUEUES[1]} is enabled\n")
     words = ["--queue", "dedicated,1,x", "--delay", 3000000]
     end = traced(*words, "--", client("ends"), "dropped", QUEUES[0])
     ended("a queue that drops an entry", end, SILENT.format(100, "enabled"))
@@ -177,6 +231,14 @@ OPENED = [
     (f"echo 0 > {DEVICES}/wq0.0/size", "wq0.0",
      f"FILE: the driver does not say how many entries the queue holds ({DEVICES}/wq0.0/size)"),
     ("true", "wq1.0", f"FILE: {DEVICES} has no such queue of DSA; accel-config list shows those that there are"),
+    ("true", f"wq0.0:{QUEUES[1]}", f"opened {BOTH}"),
+    ("true", f"wq0.0:{QUEUES[0]}", f"{QUEUES[0]} is there twice; name it once"),
+    ("true", "wq0.0:", "a queue's file has 1 to 255 bytes, and there is a name of 0; names are between colons"),
+    ("true", f"wq0.0:/dev/dsa/{'w' * 300}",
+     "a queue's file has 1 to 255 bytes, and there is a name of 309; names are between colons"),
+    ("true", ":".join(f"wq0.{i}" for i in range(300)), "the names of files have more than 1023 bytes; name fewer"),
+    (f"echo wq0.1 > {UNBIND}", f"wq0.0:{QUEUES[1]}",
+     f"{QUEUES[1]}: the queue is disabled; accel-config enable-wq enables it"),
     (f"rm {QUEUES[0]}", "wq0.0", "FILE can't be opened: No such file or directory"),
 ]
 
@@ -306,8 +368,8 @@ WRONG = [
     ("a move goes on a byte too far", "fault.c", "number_at(d + 16, 8) + done, 8);",
      "number_at(d + 16, 8) + done + 1, 8);", "lists"),
     ("nothing waits", "flight.c", "    else if (waits == 0)\n", "    else\n", "deep"),
-    ("no credits are counted", "portal.c", "    if (!take_credit(queue))\n        return false;\n",
-     "    take_credit(queue);\n", "threads"),
+    ("no credits are counted", "portal.c",
+     "    if (!port->is_shared && !take_credit(port))\n        return REFUSED_FULL;\n", "", "threads"),
 ]
 # How a variant is run; a right layer ends with 0.
 RUNS = {
@@ -359,10 +421,12 @@ def main(words):
     told("the build of ends", compiled("ends"), 0)
     told("the build of stopped", compiled("stopped", without="portal.c"), 0)
     told("the build of memory", compiled("memory", *WRAPPED), 0)
+    told("the build of kernel", compiled("kernel", "-Wl,--wrap=mmap,--wrap=write"), 0)
     told("the build of records", compiled("records"), 0)
     told("the build of threads", compiled(THREADS.stem, source=THREADS), 0)
     told("the build of the journal", compiled(JOURNAL.stem, source=JOURNAL), 0)
-    parts = [built, lists, threads, journal, ends, opening, stopped, allocations, records, software, wrong]
+    parts = [built, lists, several, written, threads, journal, ends, opening, stopped, allocations, records]
+    parts += [software, wrong]
     for part in named(parts, words):
         part()
 

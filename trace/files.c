@@ -145,6 +145,18 @@ static uint64_t attribute(const struct queue *q, const char *name, uint64_t othe
     return read_plain(path, text, sizeof text) > 0 ? strtoull(text, NULL, 0) : otherwise;
 }
 
+/// Whether programs may map portals of a device: the driver takes batches off op_cap of one for which they may not.
+static bool may_map(int device)
+{
+    enum { BATCHES = 1 << 1 };
+    char path[PATH_MAX], text[256];
+    snprintf(path, sizeof path, "%s/sys/bus/dsa/devices/dsa%d/op_cap", settings.root, device);
+    if (read_plain(path, text, sizeof text) < 1)
+        return true;
+    const char *last = strrchr(text, ',');
+    return strtoull(last ? last + 1 : text, NULL, 16) & BATCHES;
+}
+
 /// Reads what a queue is; false if there is none. A number that is missing is that of the device.
 static bool fill(struct queue *q)
 {
@@ -154,6 +166,7 @@ static bool fill(struct queue *q)
         return false;
     q->is_shared = mode[0] == 's';
     q->size = attribute(q, "size", 16);
+    q->may_map = may_map(q->device);
     q->limits.may_block = attribute(q, "block_on_fault", 1);
     q->limits.greatest_transfer = attribute(q, "max_transfer_size", 1ull << 31);
     q->limits.greatest_batch = attribute(q, "max_batch_size", GREATEST_BATCH);

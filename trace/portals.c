@@ -110,8 +110,8 @@ static void *map_portal(void *at, size_t size, int protection, int flags, int fd
         errno = EINVAL;
         return MAP_FAILED;
     }
-    if (!board_is_there()) {
-        errno = EACCES;
+    if (!board_is_there() || !queue->may_map) {
+        errno = queue->may_map ? EACCES : EPERM;
         return MAP_FAILED;
     }
     order_start();

@@ -20,6 +20,7 @@ struct queue {
     uint32_t size;
     struct limits limits;
     _Atomic uint32_t in_flight; /* this and the next are written under the lock of order.c */
+    bool may_map;               /* else mmap refuses its portal, as the driver does for programs without a right */
     bool is_mistaken;           /* that the instruction is that of the other mode is said */
 };
 

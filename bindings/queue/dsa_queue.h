@@ -19,6 +19,10 @@
  *            any other failure nothing more is begun.
  * Memory:    dsa_queue_open takes all memory of the layer; only planning allocates later, and frees it again.
  *            Completion records and staging areas are the queue's. Buffers have to stay until the list has ended.
+ * Queues:    a queue may have several work queues, also of several devices. Each list goes to one of them, in turn, or
+ *            to the next one that has room, and lists in flight are ordered across them.
+ * Portals:   if the kernel keeps the portal from the program, as from those without CAP_SYS_RAWIO for devices of
+ *            version 1.0, entries are given to it by write(), one for each operation and without batches.
  * Software:  the processor does what the device of dsa_trace does, with the same results. A page that is not there
  *            kills the program, as it does in memcpy.
  * Waiting:   a queue that is reset or disabled never answers. After the limit the list is lost: see DSA_LIST_LOST.
@@ -63,12 +67,14 @@ struct dsa_queue_options {
 /* The most bytes of a sentence, with its zero byte. */
 #define DSA_WHY_ROOM 1024u
 
-/* Opens a queue by its file, or with NULL the first one that is enabled, is of type user, and can be opened. NULL: why
- * says what is missing and what to do; else why is empty if there is a device. options may be NULL. */
+/* Opens a queue by its file, or with NULL the first one that is enabled, is of type user, and can be opened. Several
+ * files, at most 16, have colons between them, so no name may have one; transfer sizes, batches and flags are then
+ * those that all of them allow, and one that can't be opened fails the call. NULL: why says what is missing and what to
+ * do; else why is empty if there is a device. options may be NULL. */
 struct dsa_queue *dsa_queue_open(const char *file, const struct dsa_queue_options *options, char why[DSA_WHY_ROOM]);
 /* Waits for lists in flight; no other call of the queue may run. The memory of lists that are lost stays mapped. */
 void dsa_queue_close(struct dsa_queue *queue);
-/* The name of the queue's file, or "software". */
+/* The name of the queue's file, or those of several as they were given, or "software". */
 const char *dsa_queue_name(const struct dsa_queue *queue);
 
 /* An empty list; NULL if none is free. */

@@ -114,7 +114,7 @@ static void recover(struct dsa_list *list)
     if (!list->is_lost || __atomic_load_n(record_of(list->portal + ENTRY * list->entry), __ATOMIC_ACQUIRE) == 0)
         return;
     list->is_lost = false;
-    queue->credits += !queue->is_shared;
+    portal_credit(list);
     if (!queue->tracker)
         return;
     queue->lost &= ~(UINT64_C(1) << list->slot);
@@ -133,9 +133,10 @@ static bool ring(struct dsa_list *list)
 {
     struct dsa_queue *queue = list->queue;
     const uint8_t *entry = list->portal + ENTRY * list->entry;
-    if (queue->portal && !portal_accepts(queue, entry)) {
-        if (portal_is_over(&list->patience, queue->wait_ms)) {
-            list->reason = NOT_ACCEPTED;
+    const enum answer answer = queue->ports ? portal_submit(list, entry) : ACCEPTED;
+    if (answer != ACCEPTED) {
+        if (answer == UNWRITTEN || portal_is_over(&list->patience, queue->wait_ms)) {
+            list->reason = run_hindered(answer);
             finish(list, DSA_LIST_FAILED);
         }
         return false;
@@ -143,7 +144,7 @@ static bool ring(struct dsa_list *list)
     queue->ready &= ~bit_of(list);
     list->state = RUNG;
     list->patience = (struct patience){0, 0};
-    if (!queue->portal) {
+    if (!queue->ports) {
         pthread_mutex_unlock(&queue->lock);
         software_do(entry, &queue->settings);
         pthread_mutex_lock(&queue->lock);
@@ -190,7 +191,7 @@ static void look(struct dsa_list *list)
         finish(list, DSA_LIST_LOST);
         return;
     }
-    queue->credits += queue->portal && !queue->is_shared;
+    portal_credit(list);
     go_on(list, status);
 }
 
@@ -201,8 +202,8 @@ static void move_on(struct dsa_queue *queue)
         if (queue->rung & bit_of(&queue->list[i]))
             look(&queue->list[i]);
     for (uint32_t i = 0; i < queue->lists; i++)
-        if (queue->ready & bit_of(&queue->list[i]) && !ring(&queue->list[i]))
-            return;
+        if (queue->ready & bit_of(&queue->list[i]) && !ring(&queue->list[i]) && queue->ports < 2)
+            return; /* the one work queue has no room for others either */
 }
 
 /// The slots of the lists that this one comes after. False if one of them has not succeeded, or is not started.
@@ -250,7 +251,7 @@ static enum dsa_end take_in(struct dsa_list *list)
         leave_out(queue, 0);
     else if (waits == 0)
         make_ready(list);
-    if (queue->portal) /* in software the thread that waits does it */
+    if (queue->ports) /* in software the thread that waits does it */
         move_on(queue);
     return DSA_LIST_RUNNING;
 }

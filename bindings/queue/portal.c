@@ -1,7 +1,9 @@
-/* Writes an entry to the portal of the queue, and waits until the device has ended it. */
+/* Submits an entry to a work queue, and waits until the device has ended it. */
+#include <errno.h>
 #include <immintrin.h>
 #include <sched.h>
 #include <time.h>
+#include <unistd.h>
 
 #include "queue.h"
 
@@ -29,26 +31,69 @@ __attribute__((target("enqcmd"))) static bool write_shared(void *portal, const v
 }
 
 /// A dedicated queue that is full drops what is written to it, so its entries are counted.
-static bool take_credit(struct dsa_queue *queue)
+static bool take_credit(struct port *port)
 {
-    long credits = atomic_load_explicit(&queue->credits, memory_order_relaxed);
+    long credits = atomic_load_explicit(&port->credits, memory_order_relaxed);
     while (credits > 0)
-        if (atomic_compare_exchange_weak_explicit(&queue->credits, &credits, credits - 1, memory_order_acquire,
+        if (atomic_compare_exchange_weak_explicit(&port->credits, &credits, credits - 1, memory_order_acquire,
                                                   memory_order_relaxed))
             return true;
     return false;
 }
 
-/// The device sees what was written to the staging area and the records before the entry.
-bool portal_accepts(struct dsa_queue *queue, const uint8_t *entry)
+static void give_credit(struct port *port)
 {
+    if (!port->is_shared)
+        atomic_fetch_add_explicit(&port->credits, 1, memory_order_release);
+}
+
+void portal_credit(struct dsa_list *list)
+{
+    if (list->queue->ports)
+        give_credit(list->port);
+}
+
+/// Has the kernel submit an entry, where the portal is not mapped.
+static enum answer write_file(struct dsa_list *list, const struct port *port, const uint8_t *entry)
+{
+    if (write(port->file, entry, ENTRY) == ENTRY)
+        return ACCEPTED;
+    list->error = errno;
+    return errno == EAGAIN || errno == EBUSY || errno == EINTR ? REFUSED_FULL : UNWRITTEN;
+}
+
+static enum answer offer(struct dsa_list *list, struct port *port, const uint8_t *entry)
+{
+    enum answer answer = ACCEPTED;
+    if (!port->is_shared && !take_credit(port))
+        return REFUSED_FULL;
+    if (!port->portal)
+        answer = write_file(list, port, entry);
+    else if (port->is_shared)
+        answer = write_shared(port->portal, entry) ? ACCEPTED : REFUSED_FULL;
+    else
+        write_dedicated(port->portal, entry);
+    if (answer != ACCEPTED)
+        give_credit(port);
+    return answer;
+}
+
+/// The device sees what was written to the staging area and the records before the entry.
+enum answer portal_submit(struct dsa_list *list, const uint8_t *entry)
+{
+    struct dsa_queue *queue = list->queue;
+    enum answer answer = REFUSED_FULL;
     _mm_sfence();
-    if (queue->is_shared)
-        return write_shared(queue->portal, entry);
-    if (!take_credit(queue))
-        return false;
-    write_dedicated(queue->portal, entry);
-    return true;
+    if (list->port)
+        return offer(list, list->port, entry);
+    const uint32_t turn = atomic_fetch_add_explicit(&queue->turn, 1, memory_order_relaxed) % queue->ports;
+    for (uint32_t i = 0; i < queue->ports && answer == REFUSED_FULL; i++) {
+        struct port *port = &queue->port[(turn + i) % queue->ports];
+        answer = offer(list, port, entry);
+        if (answer != REFUSED_FULL)
+            list->port = port;
+    }
+    return answer;
 }
 
 /// Sleeps until the line of the record is written, or for a while. The record is looked at once more when its line is
@@ -85,20 +130,23 @@ static bool waits(const struct dsa_queue *queue, struct patience *patience, cons
     return true;
 }
 
-enum answer portal_do(struct dsa_queue *queue, const uint8_t *entry, uint8_t *status)
+enum answer portal_do(struct dsa_list *list, const uint8_t *entry, uint8_t *status)
 {
+    const struct dsa_queue *queue = list->queue;
     const uint8_t *record = record_of(entry);
     struct patience patience = {0, 0};
-    if (!queue->portal)
+    enum answer answer = ACCEPTED;
+    if (!queue->ports)
         software_do(entry, &queue->settings);
-    while (queue->portal && !portal_accepts(queue, entry))
+    while (queue->ports && (answer = portal_submit(list, entry)) == REFUSED_FULL)
         if (!waits(queue, &patience, NULL))
             return REFUSED_FULL;
+    if (answer == UNWRITTEN)
+        return UNWRITTEN;
     patience = (struct patience){0, 0};
     while ((*status = __atomic_load_n(record, __ATOMIC_ACQUIRE)) == 0)
         if (!waits(queue, &patience, record))
             return SILENT;
-    if (queue->portal && !queue->is_shared)
-        atomic_fetch_add_explicit(&queue->credits, 1, memory_order_release);
+    portal_credit(list);
     return ANSWERED;
 }

@@ -1,6 +1,7 @@
-/* What the files of the layer share. open.c opens a queue, room.c has its memory and its lists, list.c adds operations,
- * run.c plans and submits, flight.c has several lists in flight, portal.c writes entries and waits for them, software.c
- * does them without a device, fault.c goes on after a failure, and why.c says how a list has ended. */
+/* What the files of the layer share. open.c opens a queue, driver.c its work queues, room.c has its memory and its
+ * lists, list.c adds operations, run.c plans and submits, flight.c has
+ * several lists in flight, portal.c submits entries and waits for them, software.c does them without a device, fault.c
+ * goes on after a failure, and why.c says how a list has ended. */
 #ifndef QUEUE_H
 #define QUEUE_H
 
@@ -10,7 +11,7 @@
 
 #include "dsa_queue.h"
 
-enum { PAGE = 4096, MOST_LISTS = 64, RECORD = 32, ENTRY = 64 };
+enum { PAGE = 4096, MOST_LISTS = 64, MOST_PORTS = 16, RECORD = 32, ENTRY = 64 };
 enum { STATUS_SUCCESS = 1, STATUS_CHECK = 2, STATUS_FAULT = 3, STATUS_FAULT_BLOCKED = 4 };
 enum { STATUS_BATCH = 5, STATUS_BATCH_FAULT = 6, IS_WRITE = 0x80 };
 enum { OPCODE_BATCH = 1, OPCODE_MOVE = 3, OPCODE_FILL = 4, OPCODE_COMPARE = 5, OPCODE_COMPARE_PATTERN = 6,
@@ -22,11 +23,20 @@ enum reason {
     NO_ROOM, TOO_LONG, MAY_NOT_OVERLAP,             /* of what was added; kept until the list is cleared */
     NOT_RUN, EMPTY, FORKED, WITH_DEVICE, UNPLANNED, /* nothing was begun */
     NOT_TRACKED, AFTER_FAILED, AFTER_LOST,          /* the same of a list that was started */
-    OPERATION, BATCH, NOT_RESUMED, NO_PROGRESS, NOT_ACCEPTED, NOT_ANSWERED
+    OPERATION, BATCH, NOT_RESUMED, NO_PROGRESS, NOT_ACCEPTED, NOT_WRITTEN, NOT_ANSWERED
 };
 
 /* How long something has taken; the clock is looked at once in so many turns. */
 struct patience { uint64_t turns, until; };
+
+/* A work queue of the driver. */
+struct port {
+    void *portal;         /* NULL: entries are written to the file */
+    int file;             /* -1: the portal is mapped */
+    bool is_shared;
+    _Atomic long credits; /* how many entries a dedicated queue still takes */
+    char name[256];
+};
 
 /* Of a list that was started. It is IDLE before, and after a call has answered that it has ended. */
 enum state { IDLE, WAITING, READY, RUNG, ENDED };
@@ -34,6 +44,7 @@ enum state { IDLE, WAITING, READY, RUNG, ENDED };
 struct dsa_list {
     struct dsa_queue *queue;
     void *tag;
+    struct port *port;               /* that has its entries; NULL before it has the first */
     enum state state;                /* this and the next five under the lock of the queue */
     uint32_t slot;                   /* of the tracker */
     uint64_t after;                  /* a bit for each list that it comes after, whose start has not ended */
@@ -57,18 +68,20 @@ struct dsa_list {
     uint8_t *portal, *gathered;      /* entries; records in the order of the pieces that are left */
     uint32_t *first;                 /* of each operation its first record, and one more */
     struct dsa_refusal refusal;
+    int error;                       /* of write(), if an entry was not written */
 };
 
 struct dsa_queue {
-    void *portal; /* NULL: in software */
-    bool is_shared, may_overlap, has_waitpkg;
+    struct port port[MOST_PORTS];
+    uint32_t ports;         /* 0: in software */
+    _Atomic uint32_t turn;  /* of the ports */
+    bool may_overlap, has_waitpkg;
     uint32_t flags, lists, most, wait_ms;
     struct dsa_settings settings;
-    char name[256];
+    char name[1024];
     uint8_t *shared, *own;   /* the memory of all lists: what the device touches, which a child of fork has not, and
                                 the rest, whose first byte is 0 in a child of fork */
     size_t shared_size, own_size;
-    _Atomic long credits;   /* how many entries a dedicated queue still takes */
     _Atomic uint64_t taken; /* a bit for each list that somebody has */
     pthread_mutex_t lock;   /* of lists in flight, and the tracker, which is NULL if there are none */
     uint64_t *tracker;
@@ -107,10 +120,17 @@ static inline bool ranges_meet(uint64_t one, uint64_t other, uint64_t size)
     return one - other < size || other - one < size;
 }
 
-/* ---- open.c ---- */
+/* ---- driver.c ---- */
 enum { STATE_ROOM = 64 };
-/* What the driver says of the queue now: enabled, disabled, .. */
-const char *open_state(const struct dsa_queue *queue, char state[STATE_ROOM]);
+/* Opens the work queue of this file as one more of the queue, and lowers its limits to those of this one; false, with a
+ * sentence, if it can't be used. */
+bool driver_open(struct dsa_queue *queue, const char *file, char why[DSA_WHY_ROOM]);
+/* The same of the first one that can be opened. */
+bool driver_open_first(struct dsa_queue *queue, char why[DSA_WHY_ROOM]);
+/* Closes the work queues. In a child of fork no portal is mapped. */
+void driver_close(struct dsa_queue *queue, bool is_own);
+/* What the driver says of a work queue now: enabled, disabled, .. */
+const char *driver_state(const struct port *port, char state[STATE_ROOM]);
 
 /* ---- room.c ---- */
 bool room_take(struct dsa_queue *queue, char why[DSA_WHY_ROOM]);
@@ -120,11 +140,14 @@ bool room_is_own(const struct dsa_queue *queue);
 bool room_is_lost(struct dsa_list *list);
 
 /* ---- portal.c ---- */
-enum answer { ANSWERED, REFUSED_FULL, SILENT };
-/* Writes an entry to the portal and waits until its record, which was clear, has a status. */
-enum answer portal_do(struct dsa_queue *queue, const uint8_t *entry, uint8_t *status);
-/* Writes an entry once; false if the queue has no room. */
-bool portal_accepts(struct dsa_queue *queue, const uint8_t *entry);
+enum answer { ACCEPTED, ANSWERED, REFUSED_FULL, UNWRITTEN, SILENT };
+/* Submits an entry of the list, whose record is clear, and waits until that has a status. */
+enum answer portal_do(struct dsa_list *list, const uint8_t *entry, uint8_t *status);
+/* Submits an entry once: ACCEPTED, REFUSED_FULL, or UNWRITTEN. The first of a list goes to any work queue that has
+ * room, in turn, and those after it to the same one. */
+enum answer portal_submit(struct dsa_list *list, const uint8_t *entry);
+/* The list's entry has ended: a dedicated queue takes one more. */
+void portal_credit(struct dsa_list *list);
 /* Sleeps until the line of the record is written, or for a moment. */
 void portal_rest(const struct dsa_queue *queue, const uint8_t *record);
 /* One more turn: whether the limit has passed. */
@@ -147,6 +170,8 @@ void flight_leave(struct dsa_list *list);
 /* ---- run.c ---- */
 /* Makes the list ready for its first entry; else why it can't be run. */
 enum reason run_begin(struct dsa_list *list);
+/* Why an entry was not submitted. */
+enum reason run_hindered(enum answer answer);
 /* Writes what submits these operations, whose records are clear. */
 bool run_plan(struct dsa_list *list, const uint8_t *operations, uint64_t len);
 

@@ -114,7 +114,6 @@ void dsa_list_drop(struct dsa_list *list)
     atomic_fetch_and_explicit(&queue->taken, ~(UINT64_C(1) << (list - queue->list)), memory_order_release);
 }
 
-/// The portal is not mapped in a child of fork either.
 void dsa_queue_close(struct dsa_queue *queue)
 {
     const bool is_own = room_is_own(queue);
@@ -123,8 +122,7 @@ void dsa_queue_close(struct dsa_queue *queue)
         dsa_list_drop(&queue->list[i]);
         is_lost |= room_is_lost(&queue->list[i]);
     }
-    if (is_own && queue->portal)
-        munmap(queue->portal, PAGE);
+    driver_close(queue, is_own);
     give_back(queue, is_own && !is_lost);
     free(queue);
 }

@@ -22,6 +22,7 @@ static bool prepare(struct dsa_list *list)
     memset(list->records, 0, RECORD * (size_t)list->pieces);
     list->has_failed_check = list->is_resumed = false;
     list->entry = 0;
+    list->port = NULL;
     if (!list->is_planned)
         return list->is_planned = run_plan(list, list->list, ENTRY * (uint64_t)list->operations);
     for (uint32_t i = 0; i < list->entries; i++)
@@ -42,15 +43,17 @@ static enum reason hindrance(struct dsa_list *list)
     return list->operations ? NO_REASON : EMPTY;
 }
 
+enum reason run_hindered(enum answer answer) { return answer == UNWRITTEN ? NOT_WRITTEN : NOT_ACCEPTED; }
+
 /// Submits the entries that are left, as long as each ends with status 1. False, with the reason, if one does not.
 static bool submit(struct dsa_list *list)
 {
     for (; list->entry < list->entries; list->entry++) {
         uint8_t status = 0;
-        const enum answer answer = portal_do(list->queue, list->portal + ENTRY * list->entry, &status);
+        const enum answer answer = portal_do(list, list->portal + ENTRY * list->entry, &status);
         if (answer == ANSWERED && status == STATUS_SUCCESS)
             continue;
-        list->reason = answer == SILENT ? NOT_ANSWERED : answer == REFUSED_FULL ? NOT_ACCEPTED : OPERATION;
+        list->reason = answer == ANSWERED ? OPERATION : answer == SILENT ? NOT_ANSWERED : run_hindered(answer);
         list->is_lost = answer == SILENT;
         return false;
     }

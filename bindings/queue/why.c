@@ -1,4 +1,5 @@
 /* How a list has ended: the result of each operation, and a sentence that says what happened and what to do. */
+#include <errno.h>
 #include <stdarg.h>
 #include <stdio.h>
 
@@ -148,6 +149,40 @@ static void why_unplanned(const struct dsa_list *list, char why[DSA_WHY_ROOM])
         why_not(why, "refused %u: %.*s", list->refusal.number, len, text);
 }
 
+/// The sentence of a list whose entry no work queue has accepted in time.
+static void why_full(const struct dsa_list *list, char why[DSA_WHY_ROOM])
+{
+    const struct dsa_queue *queue = list->queue;
+    char state[STATE_ROOM];
+    if (list->port || queue->ports == 1) {
+        const struct port *port = list->port ? list->port : queue->port;
+        why_not(why, "%s has not accepted an entry for %u ms, and nothing more was begun; it is %s", port->name,
+                queue->wait_ms, driver_state(port, state));
+        return;
+    }
+    why_not(why, "none of %s has accepted an entry for %u ms, and nothing more was begun", queue->name, queue->wait_ms);
+    for (uint32_t i = 0; i < queue->ports; i++) {
+        const size_t len = strlen(why);
+        snprintf(why + len, DSA_WHY_ROOM - len, "%s%s is %s", i ? ", " : "; ", queue->port[i].name,
+                 driver_state(&queue->port[i], state));
+    }
+}
+
+/// The sentence of a list whose entry the kernel has not taken.
+static void why_unwritten(const struct dsa_list *list, char why[DSA_WHY_ROOM])
+{
+    const char *what = "see write(2)";
+    if (list->error == EPERM || list->error == EACCES)
+        what = "the process is another than the one that has opened it, or a rule of security (seccomp, SELinux) "
+               "forbids it: open a queue here, or permit it";
+    else if (list->error == ENOMEM)
+        what = "the kernel has not enough memory: free some, and run the list again";
+    else if (list->error == EINVAL)
+        what = "the kernel refuses the descriptor, or takes none by write(): Linux 6.10 or later does";
+    why_not(why, "%s: an entry could not be written (%s), and nothing more was begun; %s", list->port->name,
+            strerror(list->error), what);
+}
+
 char *dsa_list_why(const struct dsa_list *list, char why[DSA_WHY_ROOM])
 {
     const struct dsa_queue *queue = list->queue;
@@ -174,12 +209,14 @@ char *dsa_list_why(const struct dsa_list *list, char why[DSA_WHY_ROOM])
                 dsa_list_failed(list));
         break;
     case NOT_ACCEPTED:
-        why_not(why, "%s has not accepted an entry for %u ms, and nothing more was begun; it is %s", queue->name,
-                queue->wait_ms, open_state(queue, state));
+        why_full(list, why);
+        break;
+    case NOT_WRITTEN:
+        why_unwritten(list, why);
         break;
     case NOT_ANSWERED:
         why_not(why, "%s has not answered for %u ms; it is %s; leave the buffers as they are, since the device may "
-                "still use them", queue->name, queue->wait_ms, open_state(queue, state));
+                "still use them", list->port->name, queue->wait_ms, driver_state(list->port, state));
         break;
     default:
         why_refused(list, why);

@@ -328,7 +328,7 @@ static int at_limit(const uint8_t *uncounted)
     struct dsa_list *list = dsa_list_get(queue);
     struct timespec start, end;
     if (uncounted)
-        __asm__ volatile("movdir64b (%1), %0" : : "r"(queue->portal), "r"(uncounted) : "memory");
+        __asm__ volatile("movdir64b (%1), %0" : : "r"(queue->port->portal), "r"(uncounted) : "memory");
     clock_gettime(CLOCK_MONOTONIC, &start);
     dsa_list_move(list, a, b, 64);
     const enum dsa_end how = dsa_list_run(list);

@@ -45,9 +45,9 @@ static uint8_t do_batch(const uint8_t *d)
     return record[0];
 }
 
-enum answer portal_do(struct dsa_queue *queue, const uint8_t *entry, uint8_t *status)
+enum answer portal_do(struct dsa_list *list, const uint8_t *entry, uint8_t *status)
 {
-    (void)queue;
+    list->port = list->queue->port;
     asked++;
     if (answered && answered(entry) != ANSWERED)
         return answered(entry);
@@ -56,13 +56,17 @@ enum answer portal_do(struct dsa_queue *queue, const uint8_t *entry, uint8_t *st
 }
 
 /* The same for lists in flight: an entry that is not answered is accepted all the same. */
-bool portal_accepts(struct dsa_queue *queue, const uint8_t *entry)
+enum answer portal_submit(struct dsa_list *list, const uint8_t *entry)
 {
     uint8_t status;
-    const enum answer answer = portal_do(queue, entry, &status);
-    queue->credits -= answer != REFUSED_FULL;
-    return answer != REFUSED_FULL;
+    const enum answer answer = portal_do(list, entry, &status);
+    if (answer != ANSWERED && answer != SILENT)
+        return answer;
+    list->port->credits--;
+    return ACCEPTED;
 }
+
+void portal_credit(struct dsa_list *list) { list->port->credits++; }
 
 /* The limit passes at the second look. */
 bool portal_is_over(struct patience *patience, uint32_t limit_ms)
@@ -123,7 +127,7 @@ static void lost(void)
     const struct dsa_queue_options one = {.lists = 1};
     struct dsa_list *list = list_of(&one);
     struct dsa_queue *queue = list->queue;
-    const long credits = queue->credits;
+    const long credits = queue->port->credits;
     dsa_list_move(list, a, b, 64);
     answered = silent;
     ends(list, DSA_LIST_LOST);
@@ -132,9 +136,9 @@ static void lost(void)
     EXPECT(asked == 1);
     dsa_list_drop(list);
     EXPECT(dsa_list_get(queue) == NULL);
-    queue->credits--;            /* as portal.c leaves it, which counts an entry without an answer */
+    queue->port->credits--;            /* as portal.c leaves it, which counts an entry without an answer */
     list->records[0] = 1;        /* the device answers */
-    EXPECT(dsa_list_get(queue) == list && queue->credits == credits);
+    EXPECT(dsa_list_get(queue) == list && queue->port->credits == credits);
     dsa_list_move(list, a, b, 64);
     ends(list, DSA_LIST_DONE);
     answered = silent;
@@ -164,7 +168,7 @@ static void in_flight(void)
     const struct dsa_queue_options options = {.flags = DSA_QUEUE_IN_FLIGHT};
     struct dsa_list *list = list_of(&options), *others[4];
     struct dsa_queue *queue = list->queue;
-    const long credits = queue->credits;
+    const long credits = queue->port->credits;
     for (int i = 0; i < 4; i++)
         others[i] = dsa_list_get(queue);
     memset(a, 7, sizeof a);
@@ -189,51 +193,49 @@ static void in_flight(void)
     ends(list, DSA_LIST_REFUSED);
     list->records[0] = 1; /* the device answers, which the others find, whoever has lost it */
     ends(others[0], DSA_LIST_DONE);
-    EXPECT(queue->credits == credits);
+    EXPECT(queue->port->credits == credits);
     ends(list, DSA_LIST_DONE);
-    EXPECT(c[63] == 0 && dsa_list_run(others[0]) == DSA_LIST_DONE && c[63] == 7 && queue->credits == credits);
+    EXPECT(c[63] == 0 && dsa_list_run(others[0]) == DSA_LIST_DONE && c[63] == 7 && queue->port->credits == credits);
     answered = full;
     ends(list, DSA_LIST_FAILED);
     dsa_queue_close(queue);
 }
 
-/* What comes after a start depends on how that has ended, and on nothing that is done with the list later. */
+/* Runs a list whose entry a full queue refuses, or does not. */
+static void run(struct dsa_list *list, int is_refused)
+{
+    answered = is_refused ? full : NULL;
+    dsa_list_run(list);
+    answered = NULL;
+}
+
+/* What comes after a start, the last one or the next, depends on how that ends, and on nothing that is done later: the
+ * list is started again, cleared, or given back and taken by others. */
 static void after(void)
 {
-    enum { CASES = 7 };
-    const struct dsa_queue_options options = {.flags = DSA_QUEUE_IN_FLIGHT, .lists = 2};
-    static const enum dsa_end wanted[CASES] = {DSA_LIST_LEFT_OUT, DSA_LIST_LEFT_OUT, DSA_LIST_LEFT_OUT, DSA_LIST_DONE,
-                                               DSA_LIST_LEFT_OUT, DSA_LIST_LEFT_OUT, DSA_LIST_DONE};
-    struct dsa_list *list = list_of(&options), *other = dsa_list_get(list->queue), *taken;
-    for (int i = 0; i < CASES; i++) {
-        dsa_list_clear(list);
-        dsa_list_move(list, a, b, 64);
-        dsa_list_clear(other);
-        if (i < 4) /* a start that fails, but for one, before the other is to come after it */
-            dsa_list_move(other, c, c + PAGE, 64);
-        answered = i < 3 ? full : NULL;
-        if (i < 4)
-            dsa_list_run(other);
+    enum start { BEFORE, NEXT, MISSING };
+    enum then { AGAIN, CLEARED, TAKEN };
+    static const struct { enum start start; int fails; enum then then; } cases[] = {
+        {BEFORE, 1, AGAIN}, {BEFORE, 1, CLEARED}, {BEFORE, 1, TAKEN}, {BEFORE, 0, AGAIN},
+        {NEXT, 1, AGAIN},   {NEXT, 0, CLEARED},   {NEXT, 0, TAKEN},   {MISSING, 1, TAKEN},
+    };
+    struct dsa_list *list = list_of(&(struct dsa_queue_options){.flags = DSA_QUEUE_IN_FLIGHT, .lists = 2});
+    struct dsa_list *other = dsa_list_get(list->queue);
+    for (size_t i = 0; i < sizeof cases / sizeof *cases; i++) {
+        dsa_list_clear(list), dsa_list_move(list, a, b, 64);
+        dsa_list_clear(other), dsa_list_move(other, c, c + PAGE, 64);
+        if (cases[i].start == BEFORE)
+            run(other, cases[i].fails);
         dsa_list_after(list, other);
-        if (i >= 4) /* the next start */
-            dsa_list_move(other, c, c + PAGE, 64);
-        answered = i == 4 ? full : NULL;
-        if (i == 4 || i == 6)
-            dsa_list_run(other);
-        answered = i == 3 ? full : NULL;
-        if (i == 0 || i == 3 || i == 4) /* it is started again, and ends otherwise */
-            dsa_list_run(other);
-        if (i == 1 || i == 6)
+        if (cases[i].start == NEXT)
+            run(other, cases[i].fails);
+        if (cases[i].then == TAKEN)
+            dsa_list_drop(other), other = dsa_list_get(list->queue), dsa_list_fill(other, c, 64, 0);
+        if (cases[i].then == CLEARED)
             dsa_list_clear(other);
-        answered = NULL;
-        if (i == 2 || i == 5) { /* it is given back, and taken and run by others */
-            dsa_list_drop(other);
-            taken = dsa_list_get(list->queue);
-            EXPECT(taken == other);
-            dsa_list_fill(taken, c, 64, 0);
-            EXPECT(dsa_list_run(taken) == DSA_LIST_DONE);
-        }
-        EXPECT(dsa_list_run(list) == wanted[i]);
+        else
+            run(other, !cases[i].fails);
+        EXPECT(dsa_list_run(list) == (cases[i].fails ? DSA_LIST_LEFT_OUT : DSA_LIST_DONE));
         EXPECT(dsa_list_run(list) == DSA_LIST_DONE); /* it holds for one start */
     }
     printf("%s\n", dsa_list_why(list, why));

@@ -37,7 +37,7 @@ DEVICES = "/sys/bus/dsa/devices"
 def compiled(name, *words, source=None, without="", folder=LAYER, output=None):
     """Builds a client over the layer, but for a file of it; answers how that ended."""
     layer = [folder / path.name for path in OF_LAYER if path.name != without]
-    memory = [] if name == "memory" else [MEMORY]
+    memory = [] if name in ("memory", "placed") else [MEMORY]
     files = [source or f"tests/work_queue/{name}.c", *layer, *OF_DEVICE, *memory, ARCHIVE]
     how = [*STRICT, "-O1", "-g", *INCLUDE, "-I", folder, *words, "-pthread", "-o", output or client(name)]
     return ran("gcc", *files, *how)
@@ -105,6 +105,19 @@ def several():
                 events = "".join(it.read_text() for it in Path(folder).rglob("*.events"))
                 came = set(re.findall(r"^S \d+ (wq0\.\d)", events, re.M))
                 expect(len(came) == len(files), f"only {came} of {files} had entries")
+
+
+def placed():
+    """Lists on other buffers, prepared or not: what the processor leaves; those that need no plan allocate nothing."""
+    for seed in range(1, SEEDS + 1):
+        told("placed in software", ran(client("placed"), "software", 10 * int(LISTS), seed), 0, " 0 wrong")
+        for queue in QUEUES:
+            end = traced("--seed", seed, "--order", "all", "--fault", 2, "--", client("placed"), queue, LISTS, seed)
+            told(f"placed: seed {seed}, {queue}", end, 0, " 0 wrong")
+        end = traced("--seed", seed, "--order", "all", "--", client("placed"), QUEUES[1], LISTS, seed, 16)
+        told(f"placed in flight: seed {seed}", end, 0, " 0 wrong")
+        limit = f"echo 1000 > {DEVICES}/wq0.0/max_transfer_size && exec {client('placed')} {QUEUES[0]} {LISTS} {seed}"
+        told(f"placed and split: seed {seed}", shell(limit, "--order", "all"), 0, " 0 wrong")
 
 
 # A device of which programs may not map portals, as the driver shows it: without batches.
@@ -364,6 +377,10 @@ WRONG = [
      "        recover(queue->of_slot[__builtin_ctzll(left)]);\n", "        ;\n", "in_flight"),
     ("a list is changed in flight", "flight.c", "    if (can_order(list))\n        dsa_list_wait(list);\n",
      "    (void)list;\n", "polled"),
+    ("a list is filled whose operands are not in step", "prepared.c", "(*base != unset && *base != now)", "0",
+     "placed"),
+    ("a list that was placed elsewhere keeps its plan", "list.c", "    list->is_planned = false;\n", "    ;\n",
+     "placed"),
     ("a barrier is lost", "list.c", "        dsa_set_flags(to, DSA_BARRIER);\n", "        ;\n", "journal"),
     ("a move goes on a byte too far", "fault.c", "number_at(d + 16, 8) + done, 8);",
      "number_at(d + 16, 8) + done + 1, 8);", "lists"),
@@ -380,6 +397,7 @@ RUNS = {
     "journal": ["queue_journal", "wrong", QUEUES[0]],
     "threads": ["ends", "threads", QUEUES[0]],
     "polled": ["ends", "polled", QUEUES[0]],
+    "placed": ["placed", QUEUES[0], LISTS, 1],
     "after": ["stopped", "after"],
     "in_flight": ["stopped", "in_flight"],
 }
@@ -421,11 +439,12 @@ def main(words):
     told("the build of ends", compiled("ends"), 0)
     told("the build of stopped", compiled("stopped", without="portal.c"), 0)
     told("the build of memory", compiled("memory", *WRAPPED), 0)
+    told("the build of placed", compiled("placed"), 0)
     told("the build of kernel", compiled("kernel", "-Wl,--wrap=mmap,--wrap=write"), 0)
     told("the build of records", compiled("records"), 0)
     told("the build of threads", compiled(THREADS.stem, source=THREADS), 0)
     told("the build of the journal", compiled(JOURNAL.stem, source=JOURNAL), 0)
-    parts = [built, lists, several, written, threads, journal, ends, opening, stopped, allocations, records]
+    parts = [built, lists, several, written, placed, threads, journal, ends, opening, stopped, allocations, records]
     parts += [software, wrong]
     for part in named(parts, words):
         part()

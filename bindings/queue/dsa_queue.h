@@ -17,7 +17,8 @@
  * Checks:    if a check fails, what was added before the next barrier is done, and nothing after it.
  * Faults:    a page that is absent is made present (Linux 5.14 or later), and what is left of the list is done. After
  *            any other failure nothing more is begun.
- * Memory:    dsa_queue_open takes all memory of the layer; only planning allocates later, and frees it again.
+ * Memory:    dsa_queue_open takes all memory of the layer; only planning allocates later, and frees it again, and
+ *            dsa_list_prepare, whose memory is kept with the list until the queue is closed.
  *            Completion records and staging areas are the queue's. Buffers have to stay until the list has ended.
  * Queues:    a queue may have several work queues, also of several devices. Each list goes to one of them, in turn, or
  *            to the next one that has room, and lists in flight are ordered across them.
@@ -105,6 +106,19 @@ enum dsa_end {
 /* Plans the list, submits it, and waits until it has ended. A list may be run again; if nothing was added since, it is
  * not planned again. */
 enum dsa_end dsa_list_run(struct dsa_list *list);
+
+/* One list for buffers that change: dsa_list_prepare plans it as it is, and dsa_list_place gives its operations other
+ * addresses. A run then fills them in without planning, which takes some nanoseconds an operation. Only if operands
+ * that overlapped went to places that are not in step, or operands that were apart overlap now, is the list planned
+ * anew: there may be conflicts that the plan does not know. A list that is not prepared, or was added to or cleared
+ * since, is planned at each run after dsa_list_place. */
+
+/* Plans the list for dsa_list_place. Returns 0, or -1: dsa_list_why says why. */
+int dsa_list_prepare(struct dsa_list *list);
+/* Gives an operation other addresses, in the order in which the call that added it takes them; NULL leaves one as it
+ * is. Sizes stay. Returns the operation, or -1 if there is none, or if it is a move within its own range now that the
+ * device can't do; dsa_list_run refuses that until the list is cleared. It waits for a list that is in flight. */
+int dsa_list_place(struct dsa_list *list, int operation, const void *first, const void *second, const void *third);
 
 /* Several lists in flight, on a queue with DSA_QUEUE_IN_FLIGHT. They leave what they leave one after another in the
  * order in which they were started: one that conflicts with an earlier one waits for it. A list that fails stops only

@@ -18,16 +18,11 @@ static bool populate(uint64_t first, uint64_t end, bool is_write)
 /// The end of the operand in which an operation has met a page fault; the end of the page if it is in none.
 static uint64_t end_of_operand(const uint8_t *d, uint64_t page)
 {
-    static const struct { uint8_t opcode, at; } operands[] = {
-        {OPCODE_MOVE, 16}, {OPCODE_MOVE, 24}, {OPCODE_FILL, 24}, {OPCODE_COMPARE, 16}, {OPCODE_COMPARE, 24},
-        {OPCODE_COMPARE_PATTERN, 16}, {OPCODE_DELTA, 16}, {OPCODE_DELTA, 24}, {OPCODE_DUALCAST, 16},
-        {OPCODE_DUALCAST, 24}, {OPCODE_DUALCAST, 40},
-    };
+    struct operand operands[3];
     uint64_t end = page + PAGE;
-    for (size_t i = 0; i < sizeof operands / sizeof *operands; i++) {
-        const bool is_delta = operands[i].opcode == OPCODE_DELTA && operands[i].at == 16; /* of a size of its own */
-        const uint64_t first = number_at(d + operands[i].at, 8), after = first + number_at(d + (is_delta ? 40 : 32), 4);
-        if (d[7] == operands[i].opcode && first < page + PAGE && page < after && end < after)
+    for (uint32_t k = operands_of(d, operands); k > 0; k--) {
+        const uint64_t first = operands[k - 1].first, after = first + operands[k - 1].len;
+        if (first < page + PAGE && page < after && end < after)
             end = after;
     }
     return end;

@@ -1,12 +1,31 @@
-/* Adds operations to a list. What it can't have is kept, as an error of stdio is, and refused when it is run. */
+/* Adds operations to a list, and places them elsewhere. What it can't have is kept, as an error of stdio is, and
+ * refused when it is run. */
 #include "queue.h"
 
+uint32_t operands_of(const uint8_t *d, struct operand operands[3])
+{
+    static const struct { uint8_t opcode, count, at[3]; } all[] = {
+        {OPCODE_MOVE, 2, {16, 24, 0}}, {OPCODE_FILL, 1, {24, 0, 0}}, {OPCODE_COMPARE, 2, {16, 24, 0}},
+        {OPCODE_COMPARE_PATTERN, 1, {16, 0, 0}}, {OPCODE_DELTA, 2, {16, 24, 0}}, {OPCODE_DUALCAST, 3, {16, 24, 40}},
+    };
+    size_t i = 0;
+    while (i < sizeof all / sizeof *all && all[i].opcode != d[7])
+        i++;
+    const uint32_t count = i < sizeof all / sizeof *all ? all[i].count : 0;
+    for (uint32_t k = 0; k < count; k++) {
+        const bool is_delta = d[7] == OPCODE_DELTA && k == 0; /* it has a size of its own */
+        const uint8_t at = all[i].at[k];
+        operands[k] = (struct operand){at, number_at(d + at, 8), number_at(d + (is_delta ? 40 : 32), 4)};
+    }
+    return count;
+}
+
 /// Keeps the first reason for which the list can't be run.
-static int refuse(struct dsa_list *list, enum reason why, uint64_t size)
+static int refuse(struct dsa_list *list, uint32_t operation, enum reason why, uint64_t size)
 {
     if (!list->trouble) {
         list->trouble = why;
-        list->at_fault = list->operations;
+        list->at_fault = operation;
         list->size_at_fault = size;
     }
     return -1;
@@ -18,6 +37,14 @@ static bool overlaps(const uint8_t *d)
     return d[7] == OPCODE_MOVE && ranges_meet(number_at(d + 16, 8), number_at(d + 24, 8), number_at(d + 32, 4));
 }
 
+/// The operations are others than those that were planned, and no result is that of the list as it is now.
+static void change(struct dsa_list *list)
+{
+    list->is_planned = false;
+    list->end = DSA_LIST_REFUSED;
+    list->reason = NOT_RUN;
+}
+
 int dsa_list_add(struct dsa_list *list, const uint8_t descriptor[64], uint64_t size)
 {
     const struct dsa_queue *queue = list->queue;
@@ -25,11 +52,11 @@ int dsa_list_add(struct dsa_list *list, const uint8_t descriptor[64], uint64_t s
     flight_settle(list);
     uint8_t *to = list->list + ENTRY * list->operations;
     if (size > UINT32_MAX)
-        return refuse(list, TOO_LONG, size);
+        return refuse(list, list->operations, TOO_LONG, size);
     if (list->pieces + pieces > queue->most)
-        return refuse(list, NO_ROOM, size);
+        return refuse(list, list->operations, NO_ROOM, size);
     if (!queue->may_overlap && overlaps(descriptor))
-        return refuse(list, MAY_NOT_OVERLAP, size);
+        return refuse(list, list->operations, MAY_NOT_OVERLAP, size);
     memcpy(to, descriptor, ENTRY);
     dsa_put_number(to + 8, address_of(list->records + RECORD * list->pieces), 8);
     dsa_set_flags(to, 0x0c); /* the record's address is valid, and the record is requested */
@@ -40,10 +67,26 @@ int dsa_list_add(struct dsa_list *list, const uint8_t descriptor[64], uint64_t s
     list->first[list->operations] = list->pieces;
     list->pieces += (uint32_t)pieces;
     list->first[list->operations + 1] = list->pieces;
-    list->is_after_barrier = list->is_planned = false;
-    list->end = DSA_LIST_REFUSED; /* no result is that of the list as it is now */
-    list->reason = NOT_RUN;
+    list->is_after_barrier = list->is_prepared = false;
+    change(list);
     return (int)list->operations++;
+}
+
+int dsa_list_place(struct dsa_list *list, int operation, const void *first, const void *second, const void *third)
+{
+    const void *const places[] = {first, second, third};
+    struct operand operands[3];
+    flight_settle(list);
+    if (operation < 0 || (uint32_t)operation >= list->operations)
+        return -1;
+    uint8_t *d = list->list + ENTRY * operation;
+    for (uint32_t k = operands_of(d, operands); k > 0; k--)
+        if (places[k - 1])
+            dsa_put_number(d + operands[k - 1].at, address_of(places[k - 1]), 8);
+    change(list);
+    if (!list->queue->may_overlap && overlaps(d))
+        return refuse(list, (uint32_t)operation, MAY_NOT_OVERLAP, 0);
+    return operation;
 }
 
 void dsa_list_barrier(struct dsa_list *list)
@@ -56,9 +99,8 @@ void dsa_list_clear(struct dsa_list *list)
 {
     flight_settle(list);
     list->operations = list->pieces = 0;
-    list->is_after_barrier = list->is_planned = false;
+    list->is_after_barrier = list->is_prepared = false;
     list->trouble = NO_REASON;
     flight_forget(list);
-    list->end = DSA_LIST_REFUSED;
-    list->reason = NOT_RUN;
+    change(list);
 }

@@ -1,5 +1,5 @@
 /* What the files of the layer share. open.c opens a queue, driver.c its work queues, room.c has its memory and its
- * lists, list.c adds operations, run.c plans and submits, flight.c has
+ * lists, list.c adds operations, run.c plans and submits, prepared.c plans lists once for other addresses, flight.c has
  * several lists in flight, portal.c submits entries and waits for them, software.c does them without a device, fault.c
  * goes on after a failure, and why.c says how a list has ended. */
 #ifndef QUEUE_H
@@ -21,7 +21,7 @@ enum { OPCODE_BATCH = 1, OPCODE_MOVE = 3, OPCODE_FILL = 4, OPCODE_COMPARE = 5, O
 enum reason {
     NO_REASON,
     NO_ROOM, TOO_LONG, MAY_NOT_OVERLAP,             /* of what was added; kept until the list is cleared */
-    NOT_RUN, EMPTY, FORKED, WITH_DEVICE, UNPLANNED, /* nothing was begun */
+    NOT_RUN, EMPTY, FORKED, WITH_DEVICE, UNPLANNED, NO_MEMORY, /* nothing was begun */
     NOT_TRACKED, AFTER_FAILED, AFTER_LOST,          /* the same of a list that was started */
     OPERATION, BATCH, NOT_RESUMED, NO_PROGRESS, NOT_ACCEPTED, NOT_WRITTEN, NOT_ANSWERED
 };
@@ -68,6 +68,8 @@ struct dsa_list {
     uint8_t *portal, *gathered;      /* entries; records in the order of the pieces that are left */
     uint32_t *first;                 /* of each operation its first record, and one more */
     struct dsa_refusal refusal;
+    struct form *form;               /* what preparing keeps; NULL before the first time */
+    bool is_prepared;                /* it is of the operations, wherever they are now */
     int error;                       /* of write(), if an entry was not written */
 };
 
@@ -119,6 +121,12 @@ static inline bool ranges_meet(uint64_t one, uint64_t other, uint64_t size)
 {
     return one - other < size || other - one < size;
 }
+
+/* ---- list.c ---- */
+struct operand { uint8_t at; uint64_t first, len; };
+/* What an operation reads and writes: where its descriptor has the address, the address and the bytes. They are in the
+ * order in which the call that adds it takes them. Answers how many there are. */
+uint32_t operands_of(const uint8_t *d, struct operand operands[3]);
 
 /* ---- driver.c ---- */
 enum { STATE_ROOM = 64 };
@@ -174,6 +182,11 @@ enum reason run_begin(struct dsa_list *list);
 enum reason run_hindered(enum answer answer);
 /* Writes what submits these operations, whose records are clear. */
 bool run_plan(struct dsa_list *list, const uint8_t *operations, uint64_t len);
+
+/* ---- prepared.c ---- */
+/* Writes what submits a prepared list at its addresses of now; false if it is not prepared, or has to be planned. */
+bool prepared_fill(struct dsa_list *list);
+void prepared_free(struct dsa_list *list);
 
 /* ---- fault.c ---- */
 /* After an entry that has failed: makes pages present, and plans what is left, which may be nothing. False: the list

@@ -122,6 +122,8 @@ void dsa_queue_close(struct dsa_queue *queue)
         dsa_list_drop(&queue->list[i]);
         is_lost |= room_is_lost(&queue->list[i]);
     }
+    for (uint32_t i = 0; i < queue->lists; i++)
+        prepared_free(&queue->list[i]);
     driver_close(queue, is_own);
     give_back(queue, is_own && !is_lost);
     free(queue);

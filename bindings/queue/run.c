@@ -24,7 +24,8 @@ static bool prepare(struct dsa_list *list)
     list->entry = 0;
     list->port = NULL;
     if (!list->is_planned)
-        return list->is_planned = run_plan(list, list->list, ENTRY * (uint64_t)list->operations);
+        return list->is_planned =
+                   prepared_fill(list) || run_plan(list, list->list, ENTRY * (uint64_t)list->operations);
     for (uint32_t i = 0; i < list->entries; i++)
         if (list->portal[ENTRY * i + 7] == OPCODE_BATCH)
             memset(record_of(list->portal + ENTRY * i), 0, RECORD);

@@ -129,6 +129,9 @@ static void why_refused(const struct dsa_list *list, char why[DSA_WHY_ROOM])
     case WITH_DEVICE:
         why_not(why, "the device has not answered what was submitted of this list before; use another list");
         break;
+    case NO_MEMORY:
+        why_not(why, "there is not enough memory to prepare the list; run it as it is");
+        break;
     case EMPTY:
         why_not(why, "the list is empty; add an operation");
         break;

@@ -1,5 +1,5 @@
 -- What a recording comes to once another follows it.
-use Rattle.std.proofs.Common.{◌≡◌, ℕ, zero, suc, ◌+◌, ◌-◌, ◌<◌, ◌≤◌, inl, inr, Bool, true, false, List, [], ◌∷◌, ◌++◌, Some, None, option_map, length, map, max, min, drop, slice_get, refl, sym, ap, subst, ◌∙◌, arith, length-append, append-nil}
+use Rattle.std.proofs.Common.{◌≡◌, ℕ, zero, suc, ◌+◌, ◌-◌, ◌<◌, ◌≤◌, ◌↔◌, ◌⊎◌, inl, inr, Bool, true, false, List, [], ◌∷◌, ◌++◌, Some, None, option_map, length, map, max, min, drop, slice_get, refl, sym, ap, subst, ◌∙◌, arith, length-append, append-nil}
 use Rattle.std.specs.Prelude.{if◌then◌else◌, ◌==◌, slice_index_or}
 use Rattle.std.specs.List.{AllByRecursion}
 use Rattle.std.proofs.lemmas.List.{length-map, length-take}
@@ -7,21 +7,23 @@ use Rattle.std.proofs.lemmas.Option.{slice_get-map, slice_get_within}
 use Rattle.dsa_descriptor.specs.Lists.{entries}
 use Rattle.dsa_descriptor.specs.Places.{u32_at, code_at}
 use Rattle.dsa_audit.specs.declared.member.Member.{Member as KnownMember}
+use Rattle.dsa_recording.specs.declared.accepted.Accepted.{Accepted}
 use Rattle.dsa_recording.specs.declared.answer.AuditOptions.{AuditOptions}
-use Rattle.dsa_recording.specs.Pairs.{Terms, terms}
+use Rattle.dsa_recording.specs.Pairs.{Terms, has_key, terms}
 use Rattle.dsa_recording.specs.declared.findings.Finding.{Finding}
 use Rattle.dsa_recording.specs.declared.stream.Submission.{Submission}
 use Rattle.dsa_recording.specs.declared.submission.Audited.{Audited}
 use Rattle.dsa_recording.specs.Answers.{AreNoErrors, IsNoError, IsStatusOf}
 use Rattle.dsa_recording.specs.Details.{HasEntry, IsIn, IsPlaced}
 use Rattle.dsa_recording.specs.Findings.{recording_findings}
-use Rattle.dsa_recording.specs.Parts.{HasStatus}
+use Rattle.dsa_recording.specs.Parts.{HasOutcome, HasOutcomeAfter, HasStatus}
 use Rattle.dsa_recording.specs.Reports.{IsReport, Reported}
 use Rattle.dsa_recording.specs.Streams.{ReadsStream, ReadsUpTo, end_of, submission_at}
 use Rattle.dsa_recording.specs.Submissions.{AreAudited, head_at, members_in}
+use Rattle.dsa_recording.specs.Uses.{AddsKeys, AreUsed, Excuses, ExcusesSome, IsUsed, TakesOut, TakesSomeOut}
 use Rattle.dsa_recording.proofs.Found.{IsFrom, all_append, all_map, found_from, from_report}
-use Rattle.dsa_recording.proofs.Joined.{accepted_here, accepted_there, findings_joined, findings_renumbered, renumbered}
-use Rattle.dsa_recording.proofs.Middle.{audited_joined, audited_middle, entries_joined, get_middle, moved, reads_joined, reads_middle}
+use Rattle.dsa_recording.proofs.Joined.{findings_joined, findings_renumbered, keyed_here, keyed_there, renumbered}
+use Rattle.dsa_recording.proofs.Middle.{audited_joined, audited_middle, entries_joined, get_middle, members_moved, moved, reads_joined, reads_middle}
 use Rattle.dsa_recording.proofs.Within.{each_within}
 
 -- ---- what is known of each finding
@@ -119,12 +121,37 @@ module _ (options : AuditOptions) (pre es post : List (List ℕ)) (k : ℕ) (r o
   error_there : (f : Finding) → IsHeld es r f → IsNoError options es r f → IsNoError options (pre ++ (es ++ post)) other (renumbered k f)
   error_there f held (inl harmless) = inl harmless
   error_there f held (inr accepted) =
-      inr (accepted_there pre es post options.accepted.now r other k f held.s held.ms held.is_in (in_other (length pre) k r other f held.s held.ms part held.is_in) held.has held.room (held.moves (length pre)) accepted)
+      inr (keyed_there pre es post (λ key. has_key options.accepted.now key ≡ true) r other k f held.s held.ms held.is_in (in_other (length pre) k r other f held.s held.ms part held.is_in) held.has held.room (held.moves (length pre)) accepted)
 
   error_here : (f : Finding) → IsHeld es r f → IsNoError options (pre ++ (es ++ post)) other (renumbered k f) → IsNoError options es r f
   error_here f held (inl harmless) = inl harmless
   error_here f held (inr accepted) =
-      inr (accepted_here pre es post options.accepted.now r other k f held.s held.ms held.is_in (in_other (length pre) k r other f held.s held.ms part held.is_in) held.has held.room (held.moves (length pre)) accepted)
+      inr (keyed_here pre es post (λ key. has_key options.accepted.now key ≡ true) r other k f held.s held.ms held.is_in (in_other (length pre) k r other f held.s held.ms part held.is_in) held.has held.room (held.moves (length pre)) accepted)
+
+  -- a finding that is an error without a key is so in the longer report
+  excuse_there : (key : List ℕ) (f : Finding) → IsHeld es r f → Excuses options es r f key → Excuses options (pre ++ (es ++ post)) other (renumbered k f) key
+  excuse_there key f held (harmful, found) = (
+    harmful,
+    keyed_there pre es post (λ w. key ≡ w) r other k f held.s held.ms held.is_in (in_other (length pre) k r other f held.s held.ms part held.is_in) held.has held.room (held.moves (length pre)) found,
+  )
+
+  excuse_here : (key : List ℕ) (f : Finding) → IsHeld es r f → Excuses options (pre ++ (es ++ post)) other (renumbered k f) key → Excuses options es r f key
+  excuse_here key f held (harmful, found) = (
+    harmful,
+    keyed_here pre es post (λ w. key ≡ w) r other k f held.s held.ms held.is_in (in_other (length pre) k r other f held.s held.ms part held.is_in) held.has held.room (held.moves (length pre)) found,
+  )
+
+  excuses_there : (key : List ℕ) (fs : List Finding) → AllByRecursion (IsHeld es r) fs → ExcusesSome options es r fs key
+      → ExcusesSome options (pre ++ (es ++ post)) other (map (renumbered k) fs) key
+  excuses_there key [] held some = some
+  excuses_there key (f ∷ fs) (h, held) (inl here) = inl (excuse_there key f h here)
+  excuses_there key (f ∷ fs) (h, held) (inr more) = inr (excuses_there key fs held more)
+
+  excuses_here : (key : List ℕ) (fs : List Finding) → AllByRecursion (IsHeld es r) fs → ExcusesSome options (pre ++ (es ++ post)) other (map (renumbered k) fs) key
+      → ExcusesSome options es r fs key
+  excuses_here key [] held some = some
+  excuses_here key (f ∷ fs) (h, held) (inl here) = inl (excuse_here key f h here)
+  excuses_here key (f ∷ fs) (h, held) (inr more) = inr (excuses_here key fs held more)
 
   errors_there : (fs : List Finding) → AllByRecursion (IsHeld es r) fs → AllByRecursion (IsNoError options es r) fs
       → AllByRecursion (IsNoError options (pre ++ (es ++ post)) other) (map (renumbered k) fs)
@@ -135,6 +162,58 @@ module _ (options : AuditOptions) (pre es post : List (List ℕ)) (k : ℕ) (r o
       → AllByRecursion (IsNoError options es r) fs
   errors_here [] held all = tt
   errors_here (f ∷ fs) (h, held) (here, all) = (error_here f h here, errors_here fs held all)
+
+-- ---- keys of a submission within longer entries
+
+-- a key takes the same pairs out of a submission that moved
+takes_middle : (pre es post : List (List ℕ)) (from to : ℕ) (ss : List Submission) (audits : List Audited) (key : List ℕ) → ReadsUpTo es from ss to
+    → TakesSomeOut (pre ++ (es ++ post)) (map (moved (length pre)) ss) audits key ↔ TakesSomeOut es ss audits key
+takes_middle pre es post from to [] audits key reads = (λ some. some, λ some. some)
+takes_middle pre es post from to (s ∷ ss) [] key reads = (λ some. some, λ some. some)
+takes_middle pre es post from to (s ∷ ss) (a ∷ audits) key (lt, is, le, rest) =
+    let same = members_moved pre es post s le in
+    let more = takes_middle pre es post (end_of s) to ss audits key rest in (
+      λ some. elim some [
+        | inl here ↦ inl (subst (λ ms. TakesOut ms a key) same here)
+        | inr later ↦ inr (more.0 later)
+      ],
+      λ some. elim some [
+        | inl here ↦ inl (subst (λ ms. TakesOut ms a key) (sym same) here)
+        | inr later ↦ inr (more.1 later)
+      ],
+    )
+
+takes_append : (es : List (List ℕ)) (ss ts : List Submission) (audits more : List Audited) (key : List ℕ) → length ss ≡ length audits
+    → TakesSomeOut es (ss ++ ts) (audits ++ more) key ↔ (TakesSomeOut es ss audits key ⊎ TakesSomeOut es ts more key)
+takes_append es [] ts [] more key e = (λ some. inr some, λ either. elim either [ inl none ↦ absurd none | inr some ↦ some ])
+takes_append es [] ts (a ∷ audits) more key e = absurd (omega (arith, e))
+takes_append es (s ∷ ss) ts [] more key e = absurd (omega (arith, e))
+takes_append es (s ∷ ss) ts (a ∷ audits) more key e =
+    let rest = takes_append es ss ts audits more key (omega (arith, e)) in (
+      λ some. elim some [
+        | inl here ↦ inl (inl here)
+        | inr later ↦ elim (rest.0 later) [ inl first ↦ inl (inr first) | inr second ↦ inr second ]
+      ],
+      λ either. elim either [
+        | inl some ↦ elim some [ inl here ↦ inl here | inr later ↦ inr (rest.1 (inl later)) ]
+        | inr second ↦ inr (rest.1 (inr second))
+      ],
+    )
+
+excuses_append : (options : AuditOptions) (es : List (List ℕ)) (r : Reported) (fs gs : List Finding) (key : List ℕ)
+    → ExcusesSome options es r (fs ++ gs) key ↔ (ExcusesSome options es r fs key ⊎ ExcusesSome options es r gs key)
+excuses_append options es r [] gs key = (λ some. inr some, λ either. elim either [ inl none ↦ absurd none | inr some ↦ some ])
+excuses_append options es r (f ∷ fs) gs key =
+    let rest = excuses_append options es r fs gs key in (
+      λ some. elim some [
+        | inl here ↦ inl (inl here)
+        | inr later ↦ elim (rest.0 later) [ inl first ↦ inl (inr first) | inr second ↦ inr second ]
+      ],
+      λ either. elim either [
+        | inl some ↦ elim some [ inl here ↦ inl here | inr later ↦ inr (rest.1 (inl later)) ]
+        | inr second ↦ inr (rest.1 (inr second))
+      ],
+    )
 
 -- ---- two recordings
 
@@ -290,6 +369,98 @@ module _ (options : AuditOptions) (a b : List ℕ) (r q : Reported) (first : IsR
   status_of_both s t (inr (e, some)) (inl (f, none)) = inr (omega (arith, e, f), λ all. some (errors_apart all).0)
   status_of_both s t (inr (e, some)) (inr (f, some')) = inr (omega (arith, e, f), λ all. some (errors_apart all).0)
 
+  -- a key takes a pair out in both exactly if it does in one of them
+  takes_both : (key : List ℕ) → TakesSomeOut (entries (a ++ b)) whole.submissions whole.audits key
+      ↔ (TakesSomeOut (entries a) r.submissions r.audits key ⊎ TakesSomeOut (entries b) q.submissions q.audits key)
+  unfolding whole
+  takes_both key =
+      let es : List (List ℕ) = entries a in
+      let fs : List (List ℕ) = entries b in
+      let more : List Submission = map (moved (length es)) q.submissions in
+      let joined : entries (a ++ b) ≡ es ++ fs = entries_joined a b first.submissions.whole in
+      let parts = takes_append (es ++ fs) r.submissions more r.audits q.audits key (same_count (terms options.accepted.now options.assumptions) es r.submissions r.audits first.audits) in
+      let left : TakesSomeOut (es ++ fs) r.submissions r.audits key ↔ TakesSomeOut es r.submissions r.audits key =
+      subst (λ (l : List Submission). TakesSomeOut (es ++ fs) l r.audits key ↔ TakesSomeOut es r.submissions r.audits key) (map_moved r.submissions)
+      (takes_middle [] es fs 0 (length es) r.submissions r.audits key first.submissions.all) in
+      let right : TakesSomeOut (es ++ fs) more q.audits key ↔ TakesSomeOut fs q.submissions q.audits key =
+      subst (λ (l : List (List ℕ)). TakesSomeOut (es ++ l) more q.audits key ↔ TakesSomeOut fs q.submissions q.audits key) (append-nil fs)
+      (takes_middle es fs [] 0 (length fs) q.submissions q.audits key second.submissions.all) in (
+        λ some. elim (parts.0 (subst (λ (l : List (List ℕ)). TakesSomeOut l (r.submissions ++ more) (r.audits ++ q.audits) key) joined some)) [
+          | inl one ↦ inl (left.0 one)
+          | inr other ↦ inr (right.0 other)
+        ],
+        λ either. subst (λ (l : List (List ℕ)). TakesSomeOut l (r.submissions ++ more) (r.audits ++ q.audits) key) (sym joined)
+            (parts.1 (elim either [
+              | inl one ↦ inl (left.1 one)
+              | inr other ↦ inr (right.1 other)
+            ])),
+      )
+
+  -- and a finding of both is an error without it exactly if one of either is
+  excuses_both : (key : List ℕ) → ExcusesSome options (entries (a ++ b)) whole whole.findings key
+      ↔ (ExcusesSome options (entries a) r r.findings key ⊎ ExcusesSome options (entries b) q q.findings key)
+  excuses_both key =
+      let es : List (List ℕ) = entries a in
+      let fs : List (List ℕ) = entries b in
+      let moved_on : List Finding = map (renumbered (length r.audits)) q.findings in
+      let joined : entries (a ++ b) ≡ es ++ fs = entries_joined a b first.submissions.whole in
+      let parts = excuses_append options (es ++ fs) whole r.findings moved_on key in
+      let held = all_held (terms options.accepted.now options.assumptions) a r first in
+      let held' = all_held (terms options.accepted.now options.assumptions) b q second in
+      let there : ExcusesSome options (entries (a ++ b)) whole whole.findings key ↔ ExcusesSome options (es ++ fs) whole (r.findings ++ moved_on) key = (
+        λ some. subst (λ (l : List Finding). ExcusesSome options (es ++ fs) whole l key) findings_are
+            (subst (λ (l : List (List ℕ)). ExcusesSome options l whole whole.findings key) joined some),
+        λ some. subst (λ (l : List (List ℕ)). ExcusesSome options l whole whole.findings key) (sym joined)
+            (subst (λ (l : List Finding). ExcusesSome options (es ++ fs) whole l key) (sym findings_are) some),
+      ) in
+      let left : ExcusesSome options (es ++ fs) whole r.findings key ↔ ExcusesSome options es r r.findings key = (
+        λ some. excuses_here options [] es fs 0 r whole first_part key r.findings held
+            (subst (λ (l : List Finding). ExcusesSome options (es ++ fs) whole l key) (sym (map_renumbered r.findings)) some),
+        λ some. subst (λ (l : List Finding). ExcusesSome options (es ++ fs) whole l key) (map_renumbered r.findings)
+            (excuses_there options [] es fs 0 r whole first_part key r.findings held some),
+      ) in
+      let right : ExcusesSome options (es ++ fs) whole moved_on key ↔ ExcusesSome options fs q q.findings key = (
+        λ some. excuses_here options es fs [] (length r.audits) q whole second_part key q.findings held'
+            (subst (λ (l : List (List ℕ)). ExcusesSome options (es ++ l) whole moved_on key) (sym (append-nil fs)) some),
+        λ some. subst (λ (l : List (List ℕ)). ExcusesSome options (es ++ l) whole moved_on key) (append-nil fs)
+            (excuses_there options es fs [] (length r.audits) q whole second_part key q.findings held' some),
+      ) in (
+        λ some. elim (parts.0 (there.0 some)) [
+          | inl one ↦ inl (left.0 one)
+          | inr other ↦ inr (right.0 other)
+        ],
+        λ either. there.1 (parts.1 (elim either [
+          | inl one ↦ inl (left.1 one)
+          | inr other ↦ inr (right.1 other)
+        ])),
+      )
+
+  used_in_both : (key : List ℕ) → IsUsed options (entries (a ++ b)) whole key ↔ (IsUsed options (entries a) r key ⊎ IsUsed options (entries b) q key)
+  used_in_both key =
+      let takes = takes_both key in
+      let excuses = excuses_both key in (
+        λ used. elim used [
+          | inl pair ↦ elim (takes.0 pair.1) [ inl one ↦ inl (inl (pair.0, one)) | inr other ↦ inr (inl (pair.0, other)) ]
+          | inr finding ↦ elim (excuses.0 finding.1) [ inl one ↦ inl (inr (finding.0, one)) | inr other ↦ inr (inr (finding.0, other)) ]
+        ],
+        λ either. elim either [
+          | inl one ↦ elim one [ inl pair ↦ inl (pair.0, takes.1 (inl pair.1)) | inr finding ↦ inr (finding.0, excuses.1 (inl finding.1)) ]
+          | inr other ↦ elim other [ inl pair ↦ inl (pair.0, takes.1 (inr pair.1)) | inr finding ↦ inr (finding.0, excuses.1 (inr finding.1)) ]
+        ],
+      )
+
+  used_of_both : (used more : Accepted) → AreUsed options (entries a) r used → AddsKeys (IsUsed options (entries b) q) used more → AreUsed options (entries (a ++ b)) whole more
+  used_of_both used more one adds key = (
+    λ has. (used_in_both key).1 (elim ((adds key).0 has) [
+      | inl there ↦ inl ((one key).0 there)
+      | inr new ↦ inr new
+    ]),
+    λ is. elim ((used_in_both key).0 is) [
+      | inl before ↦ (adds key).1 (inl ((one key).1 before))
+      | inr new ↦ (adds key).1 (inr new)
+    ],
+  )
+
 -- the status of one recording after another is the greater one
 pub status_joined : (options : AuditOptions) (a b : List ℕ) (s t : ℕ) → HasStatus options a s → HasStatus options b t → HasStatus options (a ++ b) (max s t)
 unfolding whole
@@ -299,9 +470,26 @@ status_joined options a b s t first second = record {
   is_status = status_of_both options a b first.report second.report first.is_report second.is_report s t first.is_status second.is_status;
 }
 
-pub status_of_nothing : (options : AuditOptions) → HasStatus options [] 0
-status_of_nothing options = record {
+-- and the keys that are used are those of both
+pub outcome_joined : (options : AuditOptions) (a b : List ℕ) (old new : ℕ) (used more : Accepted) → HasOutcome options a old used → HasOutcomeAfter options b old new used more
+    → HasOutcome options (a ++ b) new more
+unfolding whole
+outcome_joined options a b old new used more first second = record {
+  report = whole options a b first.report second.report first.is_report second.is_report;
+  is_report = report_joined (terms options.accepted.now options.assumptions) a b first.report second.report first.is_report second.is_report;
+  is_status =
+      subst (IsStatusOf options (entries (a ++ b)) (whole options a b first.report second.report first.is_report second.is_report)) (sym second.greater)
+      (status_of_both options a b first.report second.report first.is_report second.is_report old second.own first.is_status second.is_status);
+  are_used = used_of_both options a b first.report second.report first.is_report second.is_report used more first.are_used second.adds;
+}
+
+pub outcome_of_nothing : (options : AuditOptions) (used : Accepted) → ((key : List ℕ) → has_key used key ≡ false) → HasOutcome options [] 0 used
+outcome_of_nothing options used none = record {
   report = record { submissions = []; audits = []; findings = [] };
   is_report = record { submissions = record { whole = refl; all = refl }; audits = tt; findings = refl };
   is_status = inl (refl, tt);
+  are_used = λ key. (
+    λ has. let no : true ≡ false = sym has ∙ none key in absurd cc,
+    λ is. elim is [ inl pair ↦ absurd pair.1 | inr finding ↦ absurd finding.1 ],
+  );
 }

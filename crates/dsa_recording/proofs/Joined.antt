@@ -7,7 +7,6 @@ use Rattle.std.proofs.lemmas.Bool.{eq-eqb, eqb-false, eqb-true, ne_eqb}
 use Rattle.dsa_descriptor.specs.Places.{u32_at, u64_at, code_at}
 use Rattle.dsa_audit.specs.declared.hazard.Hazards.{Hazards}
 use Rattle.dsa_audit.specs.declared.member.Member.{Member as KnownMember}
-use Rattle.dsa_recording.specs.declared.accepted.Accepted.{Accepted}
 use Rattle.dsa_recording.specs.declared.detail.Cause.{Cause}
 use Rattle.dsa_recording.specs.declared.detail.Cause.TheVariants as cause
 use Rattle.dsa_recording.specs.declared.detail.Detail.{Detail}
@@ -19,9 +18,7 @@ use Rattle.dsa_recording.specs.declared.findings.Place.{Place}
 use Rattle.dsa_recording.specs.declared.findings.Place.TheVariants.{Head, Member}
 use Rattle.dsa_recording.specs.declared.stream.Submission.{Submission}
 use Rattle.dsa_recording.specs.declared.submission.Audited.{Audited}
-use Rattle.dsa_recording.specs.Accepted.{IsAccepted}
-use Rattle.dsa_recording.specs.Pairs.{has_key}
-use Rattle.dsa_recording.specs.Details.{Describes, HasEntry, IsCause, IsIn, IsOf, cause_record, entry_at, flaw_record, is_in_record, kind_of, named_by, shared_at, shared_records}
+use Rattle.dsa_recording.specs.Details.{Describes, HasEntry, IsCause, IsDetail, IsIn, IsOf, cause_record, entry_at, flaw_record, is_in_record, kind_of, named_by, shared_at, shared_records}
 use Rattle.dsa_recording.specs.Findings.{all_found, findings_upto, head_findings, head_kinds, member_kinds, recording_findings, submission_findings}
 use Rattle.dsa_recording.specs.EntryKeys.{batch_key, entry_key, member_key}
 use Rattle.dsa_recording.specs.Keys.{cause_key, key_words, other_key, others_key, place_key}
@@ -350,13 +347,14 @@ module _ (pre es post : List (List ℕ)) where
         record_at = says.record_at ∙ cause_same s.first (entry_at (moved n s) f.place) (entry_at s f.place) (n + s.first) e.cause refl at has.within within;
       }
 
-  -- ---- errors
+  -- ---- keys
 
-  module _ (accepted : Accepted) (r other : Reported) (k : ℕ) (f : Finding) (s : Submission) (ms : List KnownMember)
+  module _ (P : List ℕ → Type 0) (r other : Reported) (k : ℕ) (f : Finding) (s : Submission) (ms : List KnownMember)
       (is_in : IsIn r f s ms) (is_there : IsIn other (renumbered k f) (moved n s) ms) (has : HasEntry es s ms f)
       (room : s.first + length ms ≤ length es) (head : head_at (moved n s) ≡ n + head_at s) where
-    pub accepted_there : IsAccepted accepted es r f → IsAccepted accepted all other (renumbered k f)
-    accepted_there (d, (t, ns, there, says), known) =
+    -- what is so of the key of a finding is so of it in the longer report
+    pub keyed_there : (d : Detail) × IsDetail es r f d × P (key_words es d) → (d : Detail) × IsDetail all other (renumbered k f) d × P (key_words all d)
+    keyed_there (d, (t, ns, there, says), known) =
         let same = one_in r f s t ms ns is_in there in
         let says' : Describes es s ms f d = subst (λ (z : Submission). Describes es z ms f d) same.0 (subst (λ (z : List KnownMember). Describes es t z f d) same.1 says) in
         let moved_is : IsMoved d (detail_there k d) = record { entry = refl; first = refl; code = refl; size = refl; place = refl; is_batch = refl; hazards = refl; cause = refl } in
@@ -366,11 +364,11 @@ module _ (pre es post : List (List ℕ)) where
         subst (λ (i : ℕ). AreWithin i (length es) (named_by d.cause)) (sym says'.first) (names_within s ms f d.cause has room says'.cause) in (
           detail_there k d,
           (moved n s, ms, is_there, describes_there k s ms f d has room head says'),
-          ap (has_key accepted) (key_same d (detail_there k d) moved_is at within) ∙ known,
+          subst P (sym (key_same d (detail_there k d) moved_is at within)) known,
         )
 
-    pub accepted_here : IsAccepted accepted all other (renumbered k f) → IsAccepted accepted es r f
-    accepted_here (e, (t, ns, there, says), known) =
+    pub keyed_here : (d : Detail) × IsDetail all other (renumbered k f) d × P (key_words all d) → (d : Detail) × IsDetail es r f d × P (key_words es d)
+    keyed_here (e, (t, ns, there, says), known) =
         let same = one_in other (renumbered k f) (moved n s) t ms ns is_there there in
         let says' : Describes all (moved n s) ms (renumbered k f) e =
         subst (λ (z : Submission). Describes all z ms (renumbered k f) e) same.0 (subst (λ (z : List KnownMember). Describes all t z (renumbered k f) e) same.1 says) in
@@ -389,5 +387,5 @@ module _ (pre es post : List (List ℕ)) where
         let within : AreWithin s.first (length es) (named_by e.cause) = names_within s ms f e.cause has room says'.cause in (
           d,
           (s, ms, is_in, describes_here k s ms f e has room head says'),
-          ap (has_key accepted) (sym (key_same d e moved_is at within)) ∙ known,
+          subst P (key_same d e moved_is at within) known,
         )

@@ -5,56 +5,54 @@ use Rattle.std.proofs.Math.Seq.{take-append_seam}
 use Rattle.std.specs.Io.KnownBytes.{Consumes}
 use Rattle.std.specs.Prelude.{Result, Ok, Err, OnOk}
 use Rattle.dsa_descriptor.specs.Lists.{entries}
+use Rattle.dsa_recording.specs.declared.accepted.Accepted.{Accepted}
 use Rattle.dsa_recording.specs.declared.answer.AuditAnswer.{AuditAnswer}
 use Rattle.dsa_recording.specs.declared.answer.AuditOptions.{AuditOptions}
 use Rattle.dsa_recording.specs.declared.foreign.Foreign.{Foreign}
 use Rattle.dsa_recording.specs.declared.stream.StreamFault.{StreamFault}
 use Rattle.dsa_recording.specs.declared.stream.StreamFault.TheVariants.{Length, CutOff, Memory}
 use Rattle.dsa_recording.specs.declared.stream.Submission.{Submission}
+use Rattle.dsa_recording.specs.Answers.{Refuses}
 use Rattle.dsa_recording.specs.Forms.{IsText}
 use Rattle.dsa_recording.specs.Inputs.{AnswersInput}
 use Rattle.dsa_recording.specs.Inputs.SpellsRecording.{as_it_stands}
 use Rattle.dsa_recording.specs.Foreign.{AnswersEntries, HasOwnMembers, LacksMembers}
 use Rattle.dsa_recording.specs.declared.reading.ReadFault.{ReadFault}
 use Rattle.dsa_recording.specs.declared.reading.ReadFault.TheVariants.{Failed, TooLong, Memory as NoMemory}
-use Rattle.dsa_recording.specs.Parts.{AnswersRead, AnswersWhole, HasStatus, HasStatusAfter, IsReadWhole, IsSoFarBy}
+use Rattle.dsa_recording.specs.Parts.{AnswersRead, AnswersWhole, HasOutcomeAfter, IsReadWhole, IsSoFarBy}
 use Rattle.dsa_recording.specs.Streams.{IsStreamFault, ReadsStream, ReadsUpTo, end_of, submission_at}
 use Rattle.dsa_recording.proofs.Chain.{whole_not_cut}
-use Rattle.dsa_recording.proofs.Extended.{reads_first, reads_second, status_joined}
+use Rattle.dsa_recording.proofs.Extended.{outcome_joined, reads_first, reads_second}
 use Rattle.dsa_recording.proofs.Lacking.{lacks_after, lacks_before, own_joined}
 use Rattle.dsa_recording.proofs.Middle.{end_moved, entries_joined, moved, reads_joined, submission_moved}
 
 -- the bytes so far are a recording
-so_far_reads : (o : Option Foreign) (options : AuditOptions) (bytes : List ℕ) (status : ℕ) → IsSoFarBy o options bytes status → (list : List Submission) × ReadsStream bytes list
-so_far_reads None options bytes status (own, has) = (has.report.submissions, has.is_report.submissions)
-so_far_reads (Some foreign) options bytes status (list, reads, lacks) = (list, reads)
+so_far_reads : (o : Option Foreign) (options : AuditOptions) (bytes : List ℕ) (status : ℕ) (used : Accepted) → IsSoFarBy o options bytes status used → (list : List Submission) × ReadsStream bytes list
+so_far_reads None options bytes status used (own, has) = (has.report.submissions, has.is_report.submissions)
+so_far_reads (Some foreign) options bytes status used (list, reads, lacks) = (list, reads)
 
-pub passed : {E : Type 0} (r : Result Unit E) (o : Option Foreign) (options : AuditOptions) (part : List ℕ) (status : ℕ) → is_some o ≡ true
+pub passed : {E : Type 0} (r : Result Unit E) (o : Option Foreign) (options : AuditOptions) (part : List ℕ) (status : ℕ) (used : Accepted) → is_some o ≡ true
     → OnOk r ((list : List Submission) × ReadsStream part list)
-    → OnOk r ((bytes : List ℕ) → IsSoFarBy o options bytes status → IsSoFarBy o options (bytes ++ part) status)
-passed (Ok x) (Some foreign) options part status e (list, reads) = λ bytes lacks. lacks_before bytes part list lacks reads
-passed (Ok x) None options part status e reads = absurd cc
-passed (Err x) o options part status e reads = tt
+    → OnOk r ((bytes : List ℕ) → IsSoFarBy o options bytes status used → IsSoFarBy o options (bytes ++ part) status used)
+passed (Ok x) (Some foreign) options part status used e (list, reads) = λ bytes lacks. lacks_before bytes part list lacks reads
+passed (Ok x) None options part status used e reads = absurd cc
+passed (Err x) o options part status used e reads = tt
 
-pub lacking_now : (o : Option Foreign) (options : AuditOptions) (bytes part : List ℕ) (status : ℕ) → is_some o ≡ false → IsSoFarBy o options bytes status
+pub lacking_now : (o : Option Foreign) (options : AuditOptions) (bytes part : List ℕ) (status : ℕ) (used : Accepted) → is_some o ≡ false → IsSoFarBy o options bytes status used
     → LacksMembers part → LacksMembers (bytes ++ part)
-lacking_now None options bytes part status e (own, has) lacks = lacks_after bytes part has.report.submissions has.is_report.submissions lacks
-lacking_now (Some foreign) options bytes part status e so_far lacks = absurd cc
+lacking_now None options bytes part status used e (own, has) lacks = lacks_after bytes part has.report.submissions has.is_report.submissions lacks
+lacking_now (Some foreign) options bytes part status used e so_far lacks = absurd cc
 
-raised : (options : AuditOptions) (bytes part : List ℕ) (old new : ℕ) → HasStatus options bytes old → HasStatusAfter options part old new → HasStatus options (bytes ++ part) new
-raised options bytes part old new has after =
-    subst (HasStatus options (bytes ++ part)) (sym after.greater) (status_joined options bytes part old after.own has after.has)
-
-pub added : {E : Type 0} (r : Result Unit E) (o next : Option Foreign) (options : AuditOptions) (part : List ℕ) (old new : ℕ) → is_some o ≡ false → next ≡ o
-    → HasOwnMembers part → OnOk r (HasStatusAfter options part old new)
-    → OnOk r ((bytes : List ℕ) → IsSoFarBy o options bytes old → IsSoFarBy next options (bytes ++ part) new)
-added (Ok x) None next options part old new e same own after = λ bytes (own', has).
-    subst (λ (o : Option Foreign). IsSoFarBy o options (bytes ++ part) new) (sym same) (
-      own_joined bytes part has.report.submissions after.has.report.submissions has.is_report.submissions after.has.is_report.submissions own' own,
-      raised options bytes part old new has after,
+pub added : {E : Type 0} (r : Result Unit E) (o next : Option Foreign) (options : AuditOptions) (part : List ℕ) (old new : ℕ) (used more : Accepted) → is_some o ≡ false → next ≡ o
+    → HasOwnMembers part → OnOk r (HasOutcomeAfter options part old new used more)
+    → OnOk r ((bytes : List ℕ) → IsSoFarBy o options bytes old used → IsSoFarBy next options (bytes ++ part) new more)
+added (Ok x) None next options part old new used more e same own after = λ bytes (own', has).
+    subst (λ (o : Option Foreign). IsSoFarBy o options (bytes ++ part) new more) (sym same) (
+      own_joined bytes part has.report.submissions after.report.submissions has.is_report.submissions after.is_report.submissions own' own,
+      outcome_joined options bytes part old new used more has after,
     )
-added (Ok x) (Some foreign) next options part old new e same own after = absurd cc
-added (Err x) o next options part old new e same own after = tt
+added (Ok x) (Some foreign) next options part old new used more e same own after = absurd cc
+added (Err x) o next options part old new used more e same own after = tt
 
 -- ---- a recording that ends early
 
@@ -82,10 +80,10 @@ none_after a b ss (CutOff at) first unlike cut list all = cut_after a b ss list 
 none_after a b ss Memory first unlike fault list all = unlike refl
 
 -- the refusal of a recording whose last bytes have a fault
-pub faulted : (o : Option Foreign) (options : AuditOptions) (bytes last : List ℕ) (status : ℕ) (fault : StreamFault) (answer : AuditAnswer) → IsSoFarBy o options bytes status
-    → fault ≢ Memory → IsStreamFault last fault → answer.status ≡ 2 → AnswersEntries options (bytes ++ last) answer
-faulted o options bytes last status fault answer so_far unlike is refused =
-    let read = so_far_reads o options bytes status so_far in
+pub faulted : (o : Option Foreign) (options : AuditOptions) (bytes last : List ℕ) (status : ℕ) (used : Accepted) (fault : StreamFault) (answer : AuditAnswer) → IsSoFarBy o options bytes status used
+    → fault ≢ Memory → IsStreamFault last fault → Refuses answer → AnswersEntries options (bytes ++ last) answer
+faulted o options bytes last status used fault answer so_far unlike is refused =
+    let read = so_far_reads o options bytes status used so_far in
     let none : (list : List Submission) → ¬ ReadsStream (bytes ++ last) list = none_after bytes last read.0 fault read.1 unlike is in
     inl (λ list reads lacks. none list reads, inr (refused, none))
 

@@ -1,9 +1,15 @@
 -- Which keys are used.
 use Rattle.std.proofs.Common.{◌≡◌, ◌↔◌, ◌⊎◌, ℕ, zero, suc, ◌+◌, ◌-◌, ◌<◌, ◌≤◌, get_or, take, drop, inl, inr, Bool, true, false, cond, List, [], ◌∷◌, length, Option, Some, None, subst, sym, ap, refl, ◌∙◌, arith}
-use Rattle.std.specs.Prelude.{Result, Ok, Err, OnOk, String, string_bytes}
+use Rattle.std.specs.Prelude.{◌||◌, Result, Ok, Err, OnOk, String, string_bytes}
 use Rattle.std.specs.Global.{Global}
 use Rattle.std.specs.Str.{bytes_eq}
-use Rattle.std.specs.List.{AllByRecursion}
+use Rattle.std.specs.List.{AllByRecursion, list_any}
+use Rattle.std.specs.BTreeMap.{is_at}
+use Rattle.std.specs.Set.{IsUnion}
+use Rattle.std.specs.Ordering.{eq_by_cmp, nat_cmp}
+use Rattle.std.specs.Cmp.Lexicographic.{slice_cmp}
+use Rattle.std.specs.String.{string_cmp}
+use Rattle.std.proofs.lemmas.Map.Text.{is_eq-slice_cmp}
 use Rattle.dsa_settings.specs.Plan.{Group}
 use Rattle.dsa_audit.specs.declared.missing.FencePlace.{FencePlace}
 use Rattle.dsa_audit.specs.declared.missing.FencePlace.TheVariants as fence_place
@@ -137,6 +143,46 @@ left_none P R old new never left key = (
     | inr p ↦ absurd (never key p)
   ],
 )
+
+-- ---- the keys of two sets
+
+-- whether a key has these bytes
+abbrev Matches : List ℕ → String Global → Bool
+Matches bs k = is_at (λ k. slice_cmp nat_cmp bs (string_bytes k)) k
+
+found_by : (bs : List ℕ) (k : String Global) (rest : Bool) (b : Bool) → Matches bs k ≡ b → (b || rest) ≡ true → (bs ≡ string_bytes k) ⊎ (rest ≡ true)
+found_by bs k rest true here e = inl ((bytes_eq-Decides bs (string_bytes k)).0 (sym (is_eq-slice_cmp bs (string_bytes k)) ∙ here))
+found_by bs k rest false here e = inr e
+
+found_text : (bs : List ℕ) (ks : List (String Global)) → list_any (Matches bs) ks ≡ true → (k : String Global) × (bs ≡ string_bytes k)
+found_text bs [] e = let never : false ≡ true = e in absurd cc
+found_text bs (k ∷ ks) e =
+    elim (found_by bs k (list_any (Matches bs) ks) (Matches bs k) refl e) [
+      | inl here ↦ (k, here)
+      | inr later ↦ found_text bs ks later
+    ]
+
+either_true : (a b : Bool) → (a || b) ≡ true → (a ≡ true) ⊎ (b ≡ true)
+either_true true b e = inl refl
+either_true false b e = inr e
+
+from_either : (a b : Bool) → (a ≡ true) ⊎ (b ≡ true) → (a || b) ≡ true
+from_either true b either = refl
+from_either false b (inl never) = let end : false ≡ true = never in absurd cc
+from_either false b (inr e) = e
+
+-- a set with the keys of two has their texts
+pub union_texts : (xs ys zs : List (String Global)) → IsUnion (eq_by_cmp string_cmp) xs ys zs
+    → (bs : List ℕ) → (list_any (Matches bs) zs ≡ true) ↔ ((list_any (Matches bs) xs ≡ true) ⊎ (list_any (Matches bs) ys ≡ true))
+union_texts xs ys zs union bs = (
+  λ there. either_true (list_any (Matches bs) xs) (list_any (Matches bs) ys) (sym (same (found_text bs zs there)) ∙ there),
+  λ either. elim either [
+    | inl there ↦ same (found_text bs xs there) ∙ from_either (list_any (Matches bs) xs) (list_any (Matches bs) ys) (inl there)
+    | inr there ↦ same (found_text bs ys there) ∙ from_either (list_any (Matches bs) xs) (list_any (Matches bs) ys) (inr there)
+  ],
+) where
+  same : (k : String Global) × (bs ≡ string_bytes k) → list_any (Matches bs) zs ≡ (list_any (Matches bs) xs || list_any (Matches bs) ys)
+  same (k, e) = subst (λ (w : List ℕ). list_any (Matches w) zs ≡ (list_any (Matches w) xs || list_any (Matches w) ys)) (sym e) (union k)
 
 -- ---- what a key is used for
 

@@ -1,5 +1,5 @@
 -- What the answer of `audit` says.
-use Rattle.std.specs.Prelude.{ℕ, ◌≡◌, ◌<◌, ◌⊎◌, Bool, true, false, not, ◌&&◌, List, length, string_bytes}
+use Rattle.std.specs.Prelude.{ℕ, ◌≡◌, ◌<◌, ◌⊎◌, true, false, List, length, string_bytes}
 use Rattle.std.specs.List.{AllByRecursion}
 use Rattle.dsa_descriptor.specs.Lists.{entries}
 use Rattle.dsa_drawing.specs.Pictures.{IsPicture}
@@ -8,28 +8,16 @@ use Rattle.dsa_recording.specs.declared.answer.AuditFormat.{AuditFormat}
 use Rattle.dsa_recording.specs.declared.answer.AuditFormat.TheVariants.{Text, Json, Picture, List as Listed, Keys}
 use Rattle.dsa_recording.specs.declared.answer.AuditOptions.{AuditOptions}
 use Rattle.dsa_recording.specs.declared.findings.Finding.{Finding}
-use Rattle.dsa_recording.specs.declared.findings.FindingKind.{FindingKind}
-use Rattle.dsa_recording.specs.declared.findings.FindingKind.TheVariants.{NotSeen, MissingFence, GuardingFence, SignallingFence, GuardingAndSignallingFence, NeedlessFence, Repeated, Flawed}
 use Rattle.dsa_recording.specs.declared.report.Report.{Report}
-use Rattle.dsa_recording.specs.Pairs.{terms}
+use Rattle.dsa_recording.specs.Pairs.{has_key, terms}
 use Rattle.dsa_recording.specs.Reports.{Reported, IsReport, reported_by}
 use Rattle.dsa_recording.specs.declared.stream.Submission.{Submission}
 use Rattle.dsa_recording.specs.Streams.{ReadsStream}
 use Rattle.dsa_recording.specs.Accepted.{IsAccepted}
 use Rattle.dsa_recording.specs.Details.{IsPlaced}
+use Rattle.dsa_recording.specs.Findings.{is_harmless}
 use Rattle.dsa_recording.specs.Listings.{listing_text}
-use Rattle.dsa_recording.specs.declared.words.Denied.{Denied}
-
--- it is neither a missing fence nor a flaw, nor denied
-abbrev pub is_harmless : Denied → FindingKind → Bool
-is_harmless denied (NotSeen why) = not denied.unseen
-is_harmless denied (MissingFence earlier) = false
-is_harmless denied (GuardingFence earlier) = not denied.guarding
-is_harmless denied (SignallingFence awaited) = not denied.signalling
-is_harmless denied (GuardingAndSignallingFence earlier awaited) = not denied.guarding && not denied.signalling
-is_harmless denied NeedlessFence = not denied.needless
-is_harmless denied (Repeated earlier) = true
-is_harmless denied (Flawed flaw) = false
+use Rattle.dsa_recording.specs.Uses.{AreUsed}
 
 -- of these entries and their report the finding is no error: it is harmless, or accepted
 abbrev pub IsNoError : AuditOptions → List (List ℕ) → Reported → Finding → Type 0
@@ -48,35 +36,50 @@ IsStatusOf options es r status =
 abbrev pub HasNoPicture : List (List ℕ) → Reported → Type 0
 HasNoPicture es r = (1024 < length r.submissions) ⊎ (65536 < length es)
 
+-- no key is used
+abbrev pub UsesNone : AuditAnswer → Type 0
+UsesNone answer = (key : List ℕ) → has_key answer.used key ≡ false
+
+-- the answer is a refusal: its status is 2
+pub record Refuses (answer : AuditAnswer) : Type 0 where
+  pub status : answer.status ≡ 2
+  pub used : UsesNone answer
+
+-- the answer has the status of the findings, and the keys that are used
+pub record Judges (options : AuditOptions) (es : List (List ℕ)) (r : Reported) (answer : AuditAnswer) : Type 0 where
+  pub status : IsStatusOf options es r answer.status
+  pub used : AreUsed options es r answer.used
+
 -- the answer is a picture of the report, with the status of the findings
 pub record Draws (options : AuditOptions) (es : List (List ℕ)) (r : Reported) (answer : AuditAnswer) : Type 0 where
   pub fits : ¬ HasNoPicture es r
   pub picture : IsPicture (string_bytes answer.text)
-  pub status : IsStatusOf options es r answer.status
+  pub judges : Judges options es r answer
 
 -- the answer is the operations as a list to plan; its status says nothing of findings
 pub record Lists (es : List (List ℕ)) (r : Reported) (answer : AuditAnswer) : Type 0 where
   pub text : string_bytes answer.text ≡ listing_text es r.submissions r.audits
   pub status : answer.status ≡ 0
+  pub used : UsesNone answer
 
--- the answer of a report: its status is that of the findings; or, of pictures alone, it is 2, and the report has none; of
--- keys it is 0
+-- the answer of a report: its status is that of the findings; or, of pictures alone, it is refused, and the report has none;
+-- of keys the status is 0
 abbrev pub AnswersFormat : AuditFormat → AuditOptions → List (List ℕ) → Reported → AuditAnswer → Type 0
-AnswersFormat Text options es r answer = IsStatusOf options es r answer.status
-AnswersFormat Json options es r answer = IsStatusOf options es r answer.status
-AnswersFormat Picture options es r answer = Draws options es r answer ⊎ ((answer.status ≡ 2) × HasNoPicture es r)
+AnswersFormat Text options es r answer = Judges options es r answer
+AnswersFormat Json options es r answer = Judges options es r answer
+AnswersFormat Picture options es r answer = Draws options es r answer ⊎ (Refuses answer × HasNoPicture es r)
 AnswersFormat Listed options es r answer = Lists es r answer
-AnswersFormat Keys options es r answer = answer.status ≡ 0
+AnswersFormat Keys options es r answer = (answer.status ≡ 0) × AreUsed options es r answer.used
 
 -- the same in the format of the options
 abbrev pub AnswersReport : AuditOptions → List (List ℕ) → Reported → AuditAnswer → Type 0
 AnswersReport options es r answer = AnswersFormat options.format options es r answer
 
--- the answer of a recording: that of a report on the bytes; or its status is 2, and they are no recording
+-- the answer of a recording: that of a report on the bytes; or it is refused, and they are no recording
 abbrev pub AnswersRecording : AuditOptions → List ℕ → AuditAnswer → Type 0
 AnswersRecording options bytes answer =
     ((r : Reported) × IsReport (terms options.accepted.now options.assumptions) bytes r × AnswersReport options (entries bytes) r answer)
-    ⊎ ((answer.status ≡ 2) × ((list : List Submission) → ¬ ReadsStream bytes list))
+    ⊎ (Refuses answer × ((list : List Submission) → ¬ ReadsStream bytes list))
 
 -- ---- for private clauses
 

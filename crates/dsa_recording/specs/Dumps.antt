@@ -8,7 +8,7 @@ use Rattle.dsa_recording.specs.declared.answer.AuditOptions.{AuditOptions}
 use Rattle.dsa_recording.specs.declared.dumps.Dump.{Dump}
 use Rattle.dsa_recording.specs.declared.dumps.StagingFault.{StagingFault}
 use Rattle.dsa_recording.specs.declared.dumps.StagingFault.TheVariants.{Length, Unstaged, TooLong, Memory}
-use Rattle.dsa_recording.specs.Answers.{AnswersRecording}
+use Rattle.dsa_recording.specs.Answers.{AnswersRecording, Refuses}
 use Rattle.dsa_recording.specs.Inputs.{IsRefused, SpellsRecording}
 
 -- ---- memory
@@ -85,11 +85,11 @@ IsStagingFault ds portal Memory = Unit
 
 -- ---- the answer
 
--- the answer of a portal: that of its entries with their members; or its status is 2, and they make no stream
+-- the answer of a portal: that of its entries with their members; or it is refused, and they make no stream
 abbrev pub AnswersPortal : AuditOptions → List Dump → List ℕ → AuditAnswer → Type 0
 AnswersPortal options ds portal answer =
     ((stream : List ℕ) × StagesStream ds portal stream × AnswersRecording options stream answer)
-    ⊎ ((answer.status ≡ 2) × ((stream : List ℕ) → ¬ StagesStream ds portal stream))
+    ⊎ (Refuses answer × ((stream : List ℕ) → ¬ StagesStream ds portal stream))
 
 -- the answer of an input that has what was written to a portal: that of the bytes that it spells; or it is refused
 abbrev pub AnswersStaged : AuditOptions → List Dump → List ℕ → AuditAnswer → Type 0

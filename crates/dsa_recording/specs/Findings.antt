@@ -1,5 +1,5 @@
 -- What an audit of a recording finds (this project's choice).
-use Rattle.std.specs.Prelude.{ℕ, suc, zero, ◌≡◌, nat_lt, if◌then◌else◌, Bool, List, [], ◌∷◌, ◌++◌, Option, Some, None, length, get_or}
+use Rattle.std.specs.Prelude.{ℕ, suc, zero, ◌≡◌, nat_lt, if◌then◌else◌, Bool, List, [], ◌∷◌, ◌++◌, Option, Some, None, length, get_or, true, false, not, ◌&&◌}
 use Rattle.dsa_audit.specs.declared.member.Member.{Member as KnownMember}
 use Rattle.dsa_audit.specs.declared.member.Member.TheVariants as member
 use Rattle.dsa_audit.specs.declared.member.Unseen.TheVariants.{Operation}
@@ -16,6 +16,7 @@ use Rattle.dsa_recording.specs.declared.findings.Place.{Place}
 use Rattle.dsa_recording.specs.declared.findings.Place.TheVariants.{Head, Member}
 use Rattle.dsa_recording.specs.Flaws.{no_flaws}
 use Rattle.dsa_recording.specs.declared.submission.Audited.{Audited}
+use Rattle.dsa_recording.specs.declared.words.Denied.{Denied}
 
 -- whether a member is not looked at
 abbrev pub unseen_kind : KnownMember → Option FindingKind
@@ -116,3 +117,16 @@ pub record HasAll (a : Audited) : Type 0 where
   pub accepted : length a.audit.accepted.items ≡ length a.members.items
   pub places : length a.audit.corrected.places.items ≡ length a.members.items
   pub uses : length a.audit.reduced.uses.items ≡ length a.members.items
+
+-- ---- which are errors
+
+-- it is neither a missing fence nor a flaw, nor denied
+abbrev pub is_harmless : Denied → FindingKind → Bool
+is_harmless denied (NotSeen why) = not denied.unseen
+is_harmless denied (MissingFence earlier) = false
+is_harmless denied (GuardingFence earlier) = not denied.guarding
+is_harmless denied (SignallingFence awaited) = not denied.signalling
+is_harmless denied (GuardingAndSignallingFence earlier awaited) = not denied.guarding && not denied.signalling
+is_harmless denied NeedlessFence = not denied.needless
+is_harmless denied (Repeated earlier) = true
+is_harmless denied (Flawed flaw) = false

@@ -6,7 +6,7 @@ use Rattle.dsa_descriptor.specs.Places.{code_at}
 use Rattle.dsa_recording.specs.declared.answer.AuditAnswer.{AuditAnswer}
 use Rattle.dsa_recording.specs.declared.answer.AuditOptions.{AuditOptions}
 use Rattle.dsa_recording.specs.declared.stream.Submission.{Submission}
-use Rattle.dsa_recording.specs.Answers.{AnswersRecording}
+use Rattle.dsa_recording.specs.Answers.{AnswersRecording, Refuses}
 use Rattle.dsa_recording.specs.Streams.{ReadsStream, end_of}
 use Rattle.dsa_recording.specs.Submissions.{head_at}
 
@@ -37,7 +37,7 @@ LacksMembers bytes = (list : List Submission) × ReadsStream bytes list × Lacks
 abbrev pub HasOwnMembers : List ℕ → Type 0
 HasOwnMembers bytes = (list : List Submission) → ReadsStream bytes list → ¬ LacksSome (entries bytes) list
 
--- the answer of entries with the members of their batches: that of a recording; or its status is 2, and members are lacking
+-- the answer of entries with the members of their batches: that of a recording; or it is refused, and members are lacking
 abbrev pub AnswersEntries : AuditOptions → List ℕ → AuditAnswer → Type 0
 AnswersEntries options bytes answer =
-    (HasOwnMembers bytes × AnswersRecording options bytes answer) ⊎ ((answer.status ≡ 2) × LacksMembers bytes)
+    (HasOwnMembers bytes × AnswersRecording options bytes answer) ⊎ (Refuses answer × LacksMembers bytes)

@@ -4,6 +4,7 @@ use Rattle.dsa_lines.specs.Texts.{lines_of}
 use Rattle.dsa_lines.specs.Recordings.{LinesSpell}
 use Rattle.dsa_recording.specs.declared.answer.AuditAnswer.{AuditAnswer}
 use Rattle.dsa_recording.specs.declared.answer.AuditOptions.{AuditOptions}
+use Rattle.dsa_recording.specs.Answers.{Refuses}
 use Rattle.dsa_recording.specs.Forms.{IsText, SpellsBytes, begins_with_digits, form_of}
 use Rattle.dsa_recording.specs.Foreign.{AnswersEntries}
 
@@ -24,9 +25,9 @@ abbrev pub OneRecording : Type 0
 OneRecording =
     (input bytes other : List ℕ) → SpellsRecording input bytes → SpellsRecording input other → bytes ≡ other
 
--- the status is 2, and the input spells no recording
+-- the answer is a refusal, and the input spells no recording
 abbrev pub IsRefused : List ℕ → AuditAnswer → Type 0
-IsRefused input answer = (answer.status ≡ 2) × ((bytes : List ℕ) → ¬ SpellsRecording input bytes)
+IsRefused input answer = Refuses answer × ((bytes : List ℕ) → ¬ SpellsRecording input bytes)
 
 -- the answer of an input: that of the bytes that it spells; or it is refused
 abbrev pub AnswersInput : AuditOptions → List ℕ → AuditAnswer → Type 0

@@ -2,6 +2,7 @@
 use Rattle.std.specs.Prelude.{ℕ, ◌≡◌, ◌+◌, ◌≤◌, ◌⊎◌, max, Bool, false, IsTrue, List, ◌++◌, length, take, Option, Some, None, Result, Ok, Err}
 use Rattle.std.specs.Io.KnownBytes.{Consumes, IsAtEnd}
 use Rattle.dsa_descriptor.specs.Lists.{entries}
+use Rattle.dsa_recording.specs.declared.accepted.Accepted.{Accepted}
 use Rattle.dsa_recording.specs.declared.answer.AuditAnswer.{AuditAnswer}
 use Rattle.dsa_recording.specs.declared.answer.AuditFormat.{AuditFormat}
 use Rattle.dsa_recording.specs.declared.answer.AuditFormat.TheVariants.{Text, Json, Picture, List as Listed, Keys}
@@ -16,6 +17,7 @@ use Rattle.dsa_recording.specs.Forms.{IsText}
 use Rattle.dsa_recording.specs.Inputs.{AnswersInput}
 use Rattle.dsa_recording.specs.Pairs.{terms}
 use Rattle.dsa_recording.specs.Reports.{IsReport, Reported}
+use Rattle.dsa_recording.specs.Uses.{AddsKeys, AreUsed, IsUsed}
 
 -- the most bytes of a recording that is read as a whole, 64 MiB (this project's choice)
 abbrev pub longest_recording : ℕ
@@ -51,20 +53,30 @@ pub record HasStatus (options : AuditOptions) (bytes : List ℕ) (status : ℕ) 
 
 -- ---- for private clauses
 
--- a part raises the status to its own
-pub record HasStatusAfter (options : AuditOptions) (part : List ℕ) (old new : ℕ) : Type 0 where
-  pub own : ℕ
-  pub has : HasStatus options part own
-  pub greater : new ≡ max old own
+-- the bytes are a recording, and these are the status of its report and the keys that are used in it
+pub record HasOutcome (options : AuditOptions) (bytes : List ℕ) (status : ℕ) (used : Accepted) : Type 0 where
+  pub report : Reported
+  pub is_report : IsReport (terms options.accepted.now options.assumptions) bytes report
+  pub is_status : IsStatusOf options (entries bytes) report status
+  pub are_used : AreUsed options (entries bytes) report used
 
--- no entry is foreign so far, and this is the status; or some entry is
-abbrev pub IsSoFarBy : Option Foreign → AuditOptions → List ℕ → ℕ → Type 0
-IsSoFarBy None options bytes status = HasOwnMembers bytes × HasStatus options bytes status
-IsSoFarBy (Some foreign) options bytes status = LacksMembers bytes
+-- a part raises the status to its own, and adds its keys to those that are used
+pub record HasOutcomeAfter (options : AuditOptions) (part : List ℕ) (old new : ℕ) (used more : Accepted) : Type 0 where
+  pub report : Reported
+  pub is_report : IsReport (terms options.accepted.now options.assumptions) part report
+  pub own : ℕ
+  pub is_status : IsStatusOf options (entries part) report own
+  pub greater : new ≡ max old own
+  pub adds : AddsKeys (IsUsed options (entries part) report) used more
+
+-- no entry is foreign so far, and these are the status and the keys that are used; or some entry is
+abbrev pub IsSoFarBy : Option Foreign → AuditOptions → List ℕ → ℕ → Accepted → Type 0
+IsSoFarBy None options bytes status used = HasOwnMembers bytes × HasOutcome options bytes status used
+IsSoFarBy (Some foreign) options bytes status used = LacksMembers bytes
 
 -- the parts of these bytes came to this
 abbrev pub IsSoFar : AuditOptions → List ℕ → Parts → Type 0
-IsSoFar options bytes parts = IsSoFarBy parts.foreign options bytes parts.status
+IsSoFar options bytes parts = IsSoFarBy parts.foreign options bytes parts.status parts.used
 
 -- what filling a buffer came to: it has so many bytes more, and if it is not full the reader has ended
 abbrev pub Fills : Option (List ℕ) → Option (List ℕ) → List ℕ → List ℕ → ℕ → Result Bool ReadFault → Type 0

@@ -12,9 +12,9 @@ use Rattle.dsa_recording.specs.declared.detail.Detail.{Detail}
 use Rattle.dsa_recording.specs.declared.findings.Finding.{Finding}
 use Rattle.dsa_recording.specs.declared.stream.Submission.{Submission}
 use Rattle.dsa_recording.specs.declared.submission.Audited.{Audited}
-use Rattle.dsa_recording.specs.Answers.{is_harmless}
 use Rattle.dsa_recording.specs.Details.{IsDetail}
 use Rattle.dsa_recording.specs.EntryKeys.{fence_key}
+use Rattle.dsa_recording.specs.Findings.{is_harmless}
 use Rattle.dsa_recording.specs.Keys.{key_words}
 use Rattle.dsa_recording.specs.Pairs.{has_key}
 use Rattle.dsa_recording.specs.Reports.{Reported}

@@ -1,6 +1,6 @@
 //! Findings that are accepted.
 
-ghost use Rattle.std.specs.Prelude.{◌≡◌, ◌↔◌, ℕ, List, true, false, cond, IfOk, IsTrue, OnOk, string_bytes};
+ghost use Rattle.std.specs.Prelude.{◌≡◌, ◌↔◌, ◌⊎◌, ℕ, List, true, false, cond, IfOk, IsTrue, OnOk, string_bytes};
 ghost use Rattle.std.specs.Str.{bytes_eq};
 ghost use Rattle.dsa_recording.specs.Accepted.{AcceptsLines, HasLines, IsAccepted};
 ghost use Rattle.dsa_recording.specs.Details.{IsPlaced};
@@ -61,12 +61,13 @@ impl Accepted {
         Ok(())
     }
 
-    /// Adds all keys of another set.
-    pub fn add_all(&mut self, alloc: Global, other: &Accepted) -> Result<(), AllocError> {
-        for key in &other.keys {
-            self.add(alloc, key)?;
-        }
-        Ok(())
+    /// Adds the keys of another set, without their lines.
+    pub fn add_all(&mut self, other: Accepted) -> Result<(), AllocError>
+        ensures { OnOk result ((key : List ℕ) → (has_key self.new key ≡ true)
+            ↔ ((has_key self.old key ≡ true) ⊎ (has_key other key ≡ true))) }
+    {
+        let mut keys = other.keys;
+        self.keys.append(&mut keys)
     }
 
     /// Whether the key is accepted.

@@ -3,7 +3,7 @@
 ghost use Rattle.dsa_recording.specs.declared.answer.AuditFormat.TheVariants.{Picture, List as Listed};
 ghost use Rattle.std.specs.Prelude.{◌≡◌, ◌≢◌, ◌≤◌, ◌^◌, ◌↔◌, All, length, IfOk, IsTrue};
 ghost use Rattle.dsa_recording.specs.declared.stream.StreamFault.TheVariants.{Memory};
-ghost use Rattle.dsa_recording.specs.Answers.{is_harmless, AnswersFormat, AnswersRecording, AnswersReport, AreNoErrors, ArePlaced, IsNoError, IsStatusOf};
+ghost use Rattle.dsa_recording.specs.Answers.{AnswersFormat, AnswersRecording, AnswersReport, AreNoErrors, ArePlaced, IsNoError, IsStatusOf, Judges};
 ghost use Rattle.dsa_recording.specs.Freed.{HasAudits};
 ghost use Rattle.dsa_recording.specs.Details.{IsPlaced};
 ghost use Rattle.dsa_recording.specs.Keys.{key_words};
@@ -13,6 +13,7 @@ ghost use Rattle.dsa_recording.specs.Words.{severity_of, severity_with};
 ghost use Rattle.dsa_recording.specs.Listings.{AreEntries};
 ghost use Rattle.dsa_recording.specs.Submissions.{IsWithin};
 ghost use Rattle.dsa_recording.specs.Totals.{HasSums};
+ghost use Rattle.dsa_recording.specs.Findings.{is_harmless};
 ghost use Rattle.dsa_recording.specs.Uses.{AreUsed};
 
 use crate::accepted::{Accepted, is_accepted};
@@ -187,10 +188,7 @@ fn written(
     requires audited { HasAudits all.now report.now }
     requires placed { ArePlaced all.now (reported_by report.now) }
     ensures text { IfOk result (λ answer. answer.text ≡ text) }
-    ensures status { IfOk result
-        (λ answer. IsStatusOf options.entry all.now (reported_by report.now) answer.status) }
-    ensures used { IfOk result
-        (λ answer. AreUsed options.entry all.now (reported_by report.now) answer.used) }
+    ensures judges { IfOk result (Judges options.entry all.now (reported_by report.now)) }
 {
     let status = status_of(alloc, options, all, report)?;
     let used = used_in(alloc, options, all, report)?;

@@ -2,6 +2,7 @@
 
 ghost use Rattle.std.specs.Prelude.{◌≡◌, IfOk, MatchResult};
 ghost use Rattle.dsa_lines.specs.Texts.{lines_of};
+ghost use Rattle.dsa_recording.specs.Answers.{Refuses};
 ghost use Rattle.dsa_recording.specs.Foreign.{AnswersEntries};
 ghost use Rattle.dsa_recording.specs.Forms.{IsText};
 ghost use Rattle.dsa_recording.specs.Inputs.{AnswersInput, IsInLines, IsRefused, OneRecording, SpellsRecording};
@@ -20,7 +21,7 @@ const MOST_NAMED: usize = 20;
 
 /// The answer where there is no recording.
 pub(crate) fn refusal(alloc: Global, text: String) -> AuditAnswer
-    ensures { result.status ≡ 2 }
+    ensures { Refuses result }
 {
     AuditAnswer {
         text,

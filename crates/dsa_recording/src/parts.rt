@@ -5,7 +5,7 @@ ghost use Rattle.dsa_recording.specs.Foreign.{AnswersEntries};
 ghost use Rattle.dsa_recording.specs.declared.answer.AuditOptions.{AuditOptions};
 ghost use Rattle.dsa_recording.specs.declared.stream.Submission.{Submission};
 ghost use Rattle.dsa_recording.specs.Streams.{ReadsStream};
-ghost use Rattle.dsa_recording.specs.Parts.{HasStatusAfter, IsSoFar, IsStreamed};
+ghost use Rattle.dsa_recording.specs.Parts.{HasOutcomeAfter, IsSoFar, IsStreamed};
 
 use crate::accepted::Accepted;
 use crate::answer::{AuditAnswer, AuditFormat, AuditOptions, fault_text, status_of};
@@ -80,8 +80,8 @@ impl Parts {
         options: AuditOptions<'_>,
     ) -> Result<(), AllocError>
         ensures foreign { self.new.foreign ≡ self.old.foreign }
-        ensures status { OnOk result
-            (HasStatusAfter options.entry part.now self.old.status self.new.status) }
+        ensures outcome { OnOk result (HasOutcomeAfter options.entry part.now
+            self.old.status self.new.status self.old.used self.new.used) }
     {
         match audit_recording(alloc, part, options.accepted, options.assumptions) {
             Ok(report) => {

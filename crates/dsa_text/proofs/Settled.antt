@@ -17,11 +17,11 @@ module _ (m : ArgMatches) (g : Given) (denied : Denied) (awaited : Await) (is_de
 
   pub settled : {S : Type 0} (r : Result (S × AuditOptions) AuditAnswer) → MatchResult r (λ x. SettleWith m g denied awaited x.1) (RefusesWith m g denied awaited)
       → MatchResult r (λ x. Settle m g x.1) (Refuses m g)
-  settled (Ok x) is = λ input a answers. assumed input a (is input a answers)
+  settled (Ok x) is = record { accepted = is.accepted; answers = λ input a answers. assumed input a (is.answers input a answers) }
   settled (Err a) is = λ input. assumed input a (is input)
 
 -- the answer to what was read, with these options, is that of the arguments
 pub read_with : (m : ArgMatches) (g : Given) (o : AuditOptions) (old new : Option (List ℕ)) (r : Result AuditAnswer ReadFault) → g.dumps.now ≡ [] → Settle m g o
     → AnswersRead o old new r → AuditsReader m g old new r
-read_with m g o old new (Ok a) none settle (input, read, end, answer) = inl (input, read, end, settle input a (subst (λ ds. AnswersWith o ds input a) (sym none) answer))
+read_with m g o old new (Ok a) none settle (input, read, end, answer) = inl (input, read, end, settle.answers input a (subst (λ ds. AnswersWith o ds input a) (sym none) answer))
 read_with m g o old new (Err fault) none settle is = tt

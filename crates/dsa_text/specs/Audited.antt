@@ -128,14 +128,15 @@ AuditsAssuming (Some denied) (Some awaited) m g input a = AuditsWithOptions m g 
 abbrev pub AuditsInput : ArgMatches → Given → List ℕ → AuditAnswer → Type 0
 AuditsInput m g input a = AuditsAssuming (denied_in m) (awaited_in m) m g input a
 
--- the arguments mean these options: what answers an input with them is the answer of `audit`
-abbrev pub SettleWith : ArgMatches → Given → Denied → Await → AuditOptions → Type 0
-SettleWith m g denied awaited o =
-    (input : List ℕ) (a : AuditAnswer) → AnswersWith o g.dumps.now input a → AuditsWithOptions m g denied awaited input a
+-- the arguments mean these options: they have the accepted keys, and what answers an input with them is the answer of `audit`
+pub record SettleWith (m : ArgMatches) (g : Given) (denied : Denied) (awaited : Await) (o : AuditOptions) : Type 0 where
+  pub accepted : o.accepted.now ≡ g.accepted.now
+  pub answers : (input : List ℕ) (a : AuditAnswer) → AnswersWith o g.dumps.now input a → AuditsWithOptions m g denied awaited input a
 
 -- the same, whatever is denied and awaited
-abbrev pub Settle : ArgMatches → Given → AuditOptions → Type 0
-Settle m g o = (input : List ℕ) (a : AuditAnswer) → AnswersWith o g.dumps.now input a → AuditsInput m g input a
+pub record Settle (m : ArgMatches) (g : Given) (o : AuditOptions) : Type 0 where
+  pub accepted : o.accepted.now ≡ g.accepted.now
+  pub answers : (input : List ℕ) (a : AuditAnswer) → AnswersWith o g.dumps.now input a → AuditsInput m g input a
 
 -- the arguments are refused with this answer, whatever the input is
 abbrev pub RefusesWith : ArgMatches → Given → Denied → Await → AuditAnswer → Type 0

@@ -1,11 +1,13 @@
 -- What `audit` of several files answers (this project's choice). `Answers` says which answers there are to an input.
-use Rattle.std.specs.Prelude.{◌≡◌, ◌⊎◌, ◌<◌, ◌==◌, max, ℕ, List, [], ◌∷◌, ◌++◌, length, codes, decimal, Option}
+use Rattle.std.specs.Prelude.{◌≡◌, ◌↔◌, ◌⊎◌, ◌<◌, ◌==◌, max, ℕ, true, List, [], ◌∷◌, ◌++◌, length, map, codes, decimal, Option}
 use Rattle.std.specs.List.{AllByRecursion, count_by}
 use Rattle.std.specs.Io.KnownBytes.{Consumes, IsAtEnd}
 use Rattle.clap.specs.declared.parser.matches.ArgMatches.{ArgMatches}
+use Rattle.dsa_recording.specs.declared.accepted.Accepted.{Accepted}
 use Rattle.dsa_recording.specs.declared.answer.AuditAnswer.{AuditAnswer}
 use Rattle.dsa_recording.specs.declared.answer.AuditOptions.{AuditOptions}
 use Rattle.dsa_recording.specs.Inputs.{AnswersInput}
+use Rattle.dsa_recording.specs.Pairs.{has_key}
 use Rattle.dsa_text.specs.Audited.{times_named}
 use Rattle.dsa_text.specs.Options.{IsGiven}
 use Rattle.dsa_text.specs.Stale.{IsRaised}
@@ -28,25 +30,31 @@ AnswersFile options old new a =
 abbrev pub IsFileAnswer : (List ℕ → AuditAnswer → Type 0) → AuditAnswer → Type 0
 IsFileAnswer Answers a = (a.status ≡ 2) ⊎ ((input : List ℕ) × Answers input a)
 
--- the status of such an answer
-abbrev pub IsFileStatus : (List ℕ → AuditAnswer → Type 0) → ℕ → Type 0
-IsFileStatus Answers status = (a : AuditAnswer) × IsFileAnswer Answers a × (status ≡ a.status)
+-- the key is used in one of the answers
+abbrev pub UsesSome : List AuditAnswer → List ℕ → Type 0
+UsesSome [] key = ⊥
+UsesSome (a ∷ answers) key = (has_key a.used key ≡ true) ⊎ UsesSome answers key
 
--- the statuses of so many files
-pub record AreFileStatuses (Answers : List ℕ → AuditAnswer → Type 0) (files : ℕ) (statuses : List ℕ) : Type 0 where
-  pub count : length statuses ≡ files
-  pub each : AllByRecursion (IsFileStatus Answers) statuses
+-- the statuses of so many files, and the keys that are used in them
+pub record AreFileAnswers (Answers : List ℕ → AuditAnswer → Type 0) (files : ℕ) (statuses : List ℕ) (used : Accepted) : Type 0 where
+  pub answers : List AuditAnswer
+  pub count : length answers ≡ files
+  pub each : AllByRecursion (IsFileAnswer Answers) answers
+  pub statuses_are : statuses ≡ map (λ a. a.status) answers
+  pub used_are : (key : List ℕ) → (has_key used key ≡ true) ↔ UsesSome answers key
 
 -- the greatest status, 0 if there is none
 abbrev pub greatest : List ℕ → ℕ
 greatest [] = 0
 greatest (status ∷ statuses) = max status (greatest statuses)
 
--- the status for so many files is the greatest of theirs, or 1 if that is 0 and stale lines are denied; or 2, if the options
--- are refused or a report can't be written
-abbrev pub AuditsFiles : ArgMatches → (List ℕ → AuditAnswer → Type 0) → ℕ → ℕ → Type 0
-AuditsFiles m Answers files status =
-    (status ≡ 2) ⊎ ((statuses : List ℕ) × AreFileStatuses Answers files statuses × IsRaised m (greatest statuses) status)
+-- the status for so many files is the greatest of theirs, or 1 if that is 0 and lines that are stale in all of them are denied;
+-- or 2, if the options are refused or a report can't be written
+abbrev pub AuditsFiles : ArgMatches → Accepted → (List ℕ → AuditAnswer → Type 0) → ℕ → ℕ → Type 0
+AuditsFiles m accepted Answers files status =
+    (status ≡ 2)
+    ⊎ ((statuses : List ℕ) × (used : Accepted) × AreFileAnswers Answers files statuses used
+    × IsRaised m accepted used (greatest statuses) status)
 
 -- the last line: how many files there are, how many of them have errors, and how many are refused
 abbrev pub summary_words : List ℕ → List ℕ

@@ -1,11 +1,11 @@
 //! `audit` of several files: the report on each, and a summary.
 
-ghost use Rattle.std.specs.Prelude.{◌≡◌, ◌↔◌, ◌==◌, [], IfOk, IsTrue, MatchOption, length, map, string_bytes};
+ghost use Rattle.std.specs.Prelude.{◌≡◌, ◌≢◌, ◌↔◌, ◌==◌, [], IfOk, IsTrue, MatchOption, length, map, string_bytes};
 ghost use Rattle.std.specs.List.{count_by};
 ghost use Rattle.dsa_recording.specs.Inputs.{AnswersInput};
 ghost use Rattle.dsa_text.specs.Audited.{AuditsInput};
-ghost use Rattle.dsa_text.specs.Stale.{DeniesAs};
-ghost use Rattle.dsa_text.specs.Files.{AnswersFile, AreFileStatuses, AreRefusedTogether, AuditsFiles, IsFileAnswer, TakesOneFile, greatest, summary_words};
+ghost use Rattle.dsa_text.specs.Stale.{FindsStale};
+ghost use Rattle.dsa_text.specs.Files.{AnswersFile, AreFileAnswers, AreRefusedTogether, AuditsFiles, IsFileAnswer, TakesOneFile, greatest, summary_words};
 
 use crate::auditing::{Given, options_in, times_named};
 use crate::ending::{UNWRITTEN, say};
@@ -180,28 +180,28 @@ fn write_answer(
     }
 }
 
-/// Audits each file, in order, and writes its report; the status of each, if all could be written. Adds the accepted
-/// keys that are used.
+/// Audits each file, in order, and writes its report: the status of each, and the accepted keys that are used, if all
+/// could be written.
 fn audit_each(
     rt: &HostRuntime,
     settings: &Settings,
     options: AuditOptions<'_>,
     names: &[&str],
-    used: &mut Accepted,
-) -> Result<Option<Vec<u8>>, AllocError>
-    ensures { IfOk result (λ statuses. MatchOption statuses Unit
-        (λ s. AreFileStatuses (AnswersInput options.entry) (length names.now) s.items)) }
+) -> Result<Option<(Vec<u8>, Accepted)>, AllocError>
+    ensures { IfOk result (λ all. MatchOption all Unit
+        (λ of. AreFileAnswers (AnswersInput options.entry) (length names.now) of.0.items of.1)) }
 {
+    let mut used = Accepted::none(rt.alloc());
     let mut statuses = Vec::with_capacity(rt.alloc(), names.len())?;
     for name in names {
         let answer = answer_of(rt, settings, options, name)?;
         if !write_answer(rt, options.format, statuses.is_empty(), name, &answer)? {
             return Ok(None);
         }
-        used.add_all(rt.alloc(), &answer.used)?;
         statuses.push(answer.status)?;
+        used.add_all(answer.used)?;
     }
-    Ok(Some(statuses))
+    Ok(Some((statuses, used)))
 }
 
 /// The greatest status.
@@ -267,7 +267,8 @@ fn stale_of<'a>(
     used: &Accepted,
     statuses: &[u8],
 ) -> Result<Option<Stale<'a>>, AllocError>
-    ensures { IfOk result (λ found. MatchOption found Unit (DeniesAs matches.now)) }
+    ensures { IfOk result (λ found. greatest statuses.now ≢ 2 →
+        FindsStale matches.now accepted.now used.now found) }
 {
     if greatest(statuses) == 2 {
         return Ok(None);
@@ -284,10 +285,10 @@ fn audit_named(
     names: &[&str],
 ) -> Result<u8, AllocError>
     ensures { IfOk result
-        (AuditsFiles matches.now (AnswersInput options.entry) (length names.now)) }
+        (AuditsFiles matches.now options.entry.accepted.now (AnswersInput options.entry)
+        (length names.now)) }
 {
-    let mut used = Accepted::none(rt.alloc());
-    let Some(statuses) = audit_each(rt, settings, options, names, &mut used)? else {
+    let Some((statuses, used)) = audit_each(rt, settings, options, names)? else {
         say(rt, UNWRITTEN);
         return Ok(2);
     };
@@ -319,7 +320,8 @@ pub(crate) fn audit_files(
     names: &[&str],
 ) -> Result<u8, AllocError>
     ensures { given.entry.dumps.now ≡ [] → IfOk result
-        (AuditsFiles matches.now (AuditsInput matches.now given.entry) (length names.now)) }
+        (AuditsFiles matches.now given.entry.accepted.now (AuditsInput matches.now given.entry)
+        (length names.now)) }
 {
     match options_in(rt.alloc(), matches, given)? {
         Ok((settings, options)) => audit_named(rt, matches, &settings, options, names),

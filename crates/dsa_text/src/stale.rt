@@ -1,8 +1,8 @@
 //! `audit --accept`: the lines of the file that fit nothing.
 
-ghost use Rattle.std.specs.Prelude.{◌≡◌, IfOk, MatchOption};
+ghost use Rattle.std.specs.Prelude.{◌≡◌, IfOk};
 ghost use Rattle.dsa_text.specs.Audited.{denies_stale};
-ghost use Rattle.dsa_text.specs.Stale.{DeniesAs, stale_status};
+ghost use Rattle.dsa_text.specs.Stale.{FindsStale, WithStale, counts_stale, stale_status};
 
 use crate::auditing::{format_in, times_named};
 use crate::numbers::parts_of;
@@ -34,7 +34,9 @@ fn denies_stale(alloc: Global, matches: &ArgMatches<'_>) -> Result<bool, AllocEr
 }
 
 /// Whether a report in this format names stale lines, or counts them.
-fn counts_stale(format: AuditFormat) -> bool {
+fn counts_stale(format: AuditFormat) -> bool
+    ensures { result ≡ counts_stale format }
+{
     match format {
         AuditFormat::Text | AuditFormat::Json | AuditFormat::Picture => true,
         AuditFormat::List | AuditFormat::Keys => false,
@@ -49,12 +51,13 @@ pub(crate) fn stale_in<'a>(
     accepted: &Accepted,
     used: &Accepted,
 ) -> Result<Option<Stale<'a>>, AllocError>
-    ensures { IfOk result (λ found. MatchOption found Unit (DeniesAs matches.now)) }
+    ensures { IfOk result (FindsStale matches.now accepted.now used.now) }
 {
+    let format = format_in(matches);
     let Some(file) = matches.get_str("accept") else {
         return Ok(None);
     };
-    if !counts_stale(format_in(matches)) {
+    if !counts_stale(format) {
         return Ok(None);
     }
     let with_events = matches.get_str("events").is_some();
@@ -122,7 +125,9 @@ pub(crate) fn with_stale(
     matches: &ArgMatches<'_>,
     accepted: &Accepted,
     answer: AuditAnswer,
-) -> Result<AuditAnswer, AllocError> {
+) -> Result<AuditAnswer, AllocError>
+    ensures { IfOk result (WithStale matches.now accepted.now answer) }
+{
     if answer.status == 2 {
         return Ok(answer);
     }

@@ -1,7 +1,7 @@
 //! `audit --events`: the missing waits of a recording, after the report on its fences.
 
 ghost use Rattle.std.specs.Prelude.{◌≡◌, IfOk};
-ghost use Rattle.dsa_text.specs.Traced.{AnswersEvents, AuditsEvents, joined_status};
+ghost use Rattle.dsa_text.specs.Traced.{AnswersEvents, AuditsEvents, IsJoined};
 
 use crate::auditing::{Given, audit_input, format_in};
 use clap::ArgMatches;
@@ -73,7 +73,7 @@ fn joined(
     waits: AuditAnswer,
     file: &str,
 ) -> Result<AuditAnswer, AllocError>
-    ensures { IfOk result (λ a. a.status ≡ joined_status report.status waits.status) }
+    ensures { IfOk result (IsJoined report waits) }
 {
     if waits.status == 2 {
         let reason = waits.text;
@@ -86,7 +86,7 @@ fn joined(
     }
     let status = report.status.max(waits.status);
     let mut used = report.used;
-    used.add_all(alloc, &waits.used)?;
+    used.add_all(waits.used)?;
     let text = with_waits(alloc, format, report.text, &waits.text)?;
     Ok(AuditAnswer { text, status, used })
 }

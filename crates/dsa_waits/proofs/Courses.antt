@@ -1,5 +1,5 @@
 -- Submissions in flight, event by event.
-use Rattle.std.proofs.Common.{◌≡◌, ℕ, zero, suc, ◌+◌, ◌<◌, ◌≤◌, inl, inr, Bool, true, false, List, [], ◌∷◌, length, get_or, Option, None, Some, slice_get, refl, sym, ap, subst, ◌∙◌, arith, add-one, filter}
+use Rattle.std.proofs.Common.{◌≡◌, ℕ, zero, suc, ◌+◌, ◌<◌, ◌≤◌, ◌↔◌, inl, inr, Bool, true, false, List, [], ◌∷◌, length, get_or, Option, None, Some, slice_get, refl, sym, ap, subst, ◌∙◌, arith, add-one, filter}
 use Rattle.std.specs.Prelude.{not, ◌||◌, if◌then◌else◌}
 use Rattle.std.specs.List.{Contains}
 use Rattle.std.proofs.lemmas.Bool.{cases_eq, cases_lt}
@@ -16,10 +16,12 @@ use Rattle.dsa_waits.specs.declared.event.Event.{Event}
 use Rattle.dsa_waits.specs.declared.event.Event.TheVariants.{Submitted, Watched, MemberEnded, Ended, Known}
 use Rattle.dsa_waits.specs.declared.search.Flying.{Flying}
 use Rattle.dsa_recording.specs.Pairs.{has_key}
+use Rattle.dsa_recording.specs.Uses.{AddsKeys}
 use Rattle.dsa_waits.specs.Waits.{Fits, IsCourse, IsMissingWait, IsOutstanding, ended_by, event_at, has_ended, is_made, is_number, is_told, made_at, made_before, submission_of, tells, told_by}
 use Rattle.dsa_waits.specs.Keys.{IsLeftConflict, IsLeftWait, NoneIsLeft}
-use Rattle.dsa_waits.specs.Steps.{AreBelow, AreOutstanding, HasSubmission, IsFlying, IsNotTold, IsRising, Marks, WithRange}
+use Rattle.dsa_waits.specs.Steps.{AreBelow, AreOutstanding, HasSubmission, IsFlying, IsNotTold, IsRising, Marks, UsesBelow, UsesBetween, WithRange}
 use Rattle.dsa_waits.proofs.Marked.{marked_each}
+use Rattle.dsa_waits.proofs.UsedWaits.{below_more}
 use Rattle.dsa_waits.proofs.Rising.{filter_only, filter_keeps, rising_filter}
 
 -- ---- how many submissions are made
@@ -151,8 +153,9 @@ module _ (accepted : Accepted) (es : List (List ℕ)) (ss : List Submission) (c 
   pub submitted : (g : Flying) → is_made (event_at c k) ≡ 1 → g.number ≡ f.number + 1
       → length g.waits.items ≡ (made_at c.made.items f.number).end → AreLasts (IsLeftWait accepted es ss c) g.waits.items
       → WithRange f.outstanding.items (length f.waits.items) (made_at c.made.items f.number).end g.outstanding.items
-      → g.ended.items ≡ f.ended.items → IsFlying accepted es ss c (k + 1) g
-  submitted g is number count waits range flags =
+      → g.ended.items ≡ f.ended.items → AddsKeys (UsesBetween accepted es ss c f.outstanding.items (length f.waits.items) (made_at c.made.items f.number).end) f.used g.used
+      → IsFlying accepted es ss c (k + 1) g
+  submitted g is number count waits range flags adds =
       record {
         number = omega (arith, number, made_next is);
         bound = omega (arith, count, ends_within is);
@@ -186,14 +189,17 @@ module _ (accepted : Accepted) (es : List (List ℕ)) (ss : List Submission) (c 
         ended = λ n within.
             ap (λ (xs : List Bool). get_or xs n false) flags ∙ flies.ended n within
             ∙ sym (ended_more n ∙ or_none (has_ended c k n) (is_number n (ended_by (event_at c k))) (made_ends (event_at c k) n is));
+        used = λ key.
+            subst (λ (to : ℕ). (has_key g.used key ≡ true) ↔ UsesBelow accepted es ss c to key) (sym count)
+            (below_more accepted es ss c f.number (length f.waits.items) (made_at c.made.items f.number).end f.outstanding.items f.used g.used (outstanding_now is) (own is) (begun is) adds flies.used key);
       }
 
   -- ---- another event
 
   pub told : (g : Flying) → (is_made (event_at c k) ≡ 1 → ⊥) → g.number ≡ f.number → g.waits.items ≡ f.waits.items
       → g.outstanding.items ≡ filter (λ e. not (tells c k e)) f.outstanding.items → Marks (ended_by (event_at c k)) f.ended.items g.ended.items
-      → IsFlying accepted es ss c (k + 1) g
-  told g is number waits left marks =
+      → g.used ≡ f.used → IsFlying accepted es ss c (k + 1) g
+  told g is number waits left marks uses =
       let same : made_before c.events.items (k + 1) ≡ f.number = omega (arith, made_more c.events.items k Submitted lt, made_none (event_at c k) is, flies.number) in
       let p : ℕ → Bool = λ e. not (tells c k e) in
       let old : (e : ℕ) → Contains g.outstanding.items e → Contains f.outstanding.items e × (p e ≡ true) =
@@ -215,6 +221,9 @@ module _ (accepted : Accepted) (es : List (List ℕ)) (ss : List Submission) (c 
         flags = marks.count ∙ flies.flags;
         ended = λ n within.
             marked_each (ended_by (event_at c k)) f.ended.items g.ended.items n marks (omega (arith, flies.flags)) ∙ ap (λ b. b || is_number n (ended_by (event_at c k))) (flies.ended n within) ∙ sym (ended_more n);
+        used = λ key.
+            subst (λ (xs : List (Option ℕ)). (has_key g.used key ≡ true) ↔ UsesBelow accepted es ss c (length xs) key) (sym waits)
+            (subst (λ (keys : Accepted). (has_key keys key ≡ true) ↔ UsesBelow accepted es ss c (length f.waits.items) key) (sym uses) (flies.used key));
       }
 
 -- ---- all events

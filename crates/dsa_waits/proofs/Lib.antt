@@ -4,6 +4,7 @@ pub mod Courses
 pub mod Parts
 pub mod Placed
 pub mod Hazards
+pub mod UsedWaits
 pub mod Entered
 pub mod Fits
 pub mod Agreeing

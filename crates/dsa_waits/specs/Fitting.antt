@@ -17,7 +17,7 @@ use Rattle.dsa_waits.specs.declared.lines.Line.{Line}
 use Rattle.dsa_waits.specs.declared.lines.Line.TheVariants.{Submitted, Happened}
 use Rattle.dsa_waits.specs.declared.lines.Submitting.{Submitting}
 use Rattle.dsa_waits.specs.Lines.{IsBadLine, Spells}
-use Rattle.dsa_waits.specs.Keys.{IsLeftWait}
+use Rattle.dsa_waits.specs.Keys.{AreUsedKeys, IsLeftWait}
 use Rattle.dsa_waits.specs.Recorded.{IsCourseOf, bytes_of, submission_at}
 use Rattle.dsa_waits.specs.Waits.{IsMissingWait, made_before, no_queue}
 
@@ -106,7 +106,7 @@ IsUnfit es ss lines fault.Memory = Unit
 -- ---- the answer
 
 -- for each entry the last one for which a wait is missing, in the course of the recording with the events of the text, and
--- the last one for which that is not accepted
+-- the last one for which that is not accepted; and the accepted keys of all
 pub record AreWaits (accepted : Accepted) (es : List (List ℕ)) (ss : List Submission) (text : List ℕ) (found : Found) : Type 0 where
   pub lines : List Line
   pub spelled : Spells text lines
@@ -117,6 +117,7 @@ pub record AreWaits (accepted : Accepted) (es : List (List ℕ)) (ss : List Subm
   pub missing : AreLasts (IsMissingWait found.course) found.waits.items
   pub count_left : length found.left.items ≡ length es
   pub left : AreLasts (IsLeftWait accepted es ss found.course) found.left.items
+  pub used : AreUsedKeys accepted es ss found.course found.used
 
 -- the first line that is none of an event; else of lines that are what does not fit
 abbrev pub IsWaitsFault : List (List ℕ) → List Submission → List ℕ → WaitsFault → Type 0

@@ -1,6 +1,6 @@
 -- What missing waits of one kind have in common, and which of them are accepted (this project's choice). As those of other
 -- errors, a key has no address and no number of an entry, so it is the same in another run.
-use Rattle.std.specs.Prelude.{ℕ, ◌≡◌, ◌<◌, true, List, ◌++◌, codes}
+use Rattle.std.specs.Prelude.{ℕ, ◌≡◌, ◌<◌, ◌↔◌, true, List, ◌++◌, codes}
 use Rattle.dsa_audit.specs.declared.hazard.Hazards.{Hazards}
 use Rattle.dsa_audit.specs.Members.{AreHazardsBetween, KnownConflict}
 use Rattle.dsa_recording.specs.declared.accepted.Accepted.{Accepted}
@@ -40,3 +40,13 @@ IsLeftWait accepted es ss c earlier later =
 -- none is left: each missing wait is accepted
 abbrev pub NoneIsLeft : Accepted → List (List ℕ) → List Submission → Course → Type 0
 NoneIsLeft accepted es ss c = (earlier later : ℕ) → earlier < later → ¬ IsLeftWait accepted es ss c earlier later
+
+-- the key is accepted, and it is that of a missing wait
+abbrev pub IsUsedKey : Accepted → List (List ℕ) → List Submission → Course → List ℕ → Type 0
+IsUsedKey accepted es ss c key =
+    (has_key accepted key ≡ true)
+    × ((earlier : ℕ) × (later : ℕ) × IsMissingWait c earlier later × IsWaitKey es ss c earlier later key)
+
+-- these are the keys that are used
+abbrev pub AreUsedKeys : Accepted → List (List ℕ) → List Submission → Course → Accepted → Type 0
+AreUsedKeys accepted es ss c used = (key : List ℕ) → (has_key used key ≡ true) ↔ IsUsedKey accepted es ss c key

@@ -1,13 +1,14 @@
 -- ---- for private clauses: the search, event by event
-use Rattle.std.specs.Prelude.{ℕ, ◌≡◌, ◌<◌, ◌≤◌, ◌⊎◌, ◌≢◌, Bool, true, false, List, length, get_or, Option, Some}
+use Rattle.std.specs.Prelude.{ℕ, ◌≡◌, ◌<◌, ◌≤◌, ◌↔◌, ◌⊎◌, ◌≢◌, Bool, true, false, List, length, get_or, Option, Some}
 use Rattle.std.specs.List.{AllPairs, Contains}
 use Rattle.dsa_audit.specs.Steps.{AreLasts}
 use Rattle.dsa_recording.specs.declared.accepted.Accepted.{Accepted}
 use Rattle.dsa_recording.specs.declared.stream.Submission.{Submission}
+use Rattle.dsa_recording.specs.Pairs.{has_key}
 use Rattle.dsa_waits.specs.declared.course.Course.{Course}
 use Rattle.dsa_waits.specs.declared.search.Flying.{Flying}
-use Rattle.dsa_waits.specs.Keys.{IsLeftWait}
-use Rattle.dsa_waits.specs.Waits.{IsOutstanding, has_ended, made_before, submission_of, tells}
+use Rattle.dsa_waits.specs.Keys.{IsLeftWait, IsWaitKey}
+use Rattle.dsa_waits.specs.Waits.{IsMissingWait, IsOutstanding, has_ended, made_before, submission_of, tells}
 
 -- the flag of this submission is set, if there is one
 pub record Marks (number : Option ℕ) (old new : List Bool) : Type 0 where
@@ -45,6 +46,26 @@ pub record WithRange (xs : List ℕ) (from end : ℕ) (ys : List ℕ) : Type 0 w
 abbrev pub IsNotTold : Course → ℕ → ℕ → Type 0
 IsNotTold c k e = (q : ℕ) → q < k → submission_of c e < made_before c.events.items q → tells c q e ≡ false
 
+-- the key is accepted, and is that of two entries
+abbrev pub IsUsedPair : Accepted → List (List ℕ) → List Submission → Course → ℕ → ℕ → List ℕ → Type 0
+IsUsedPair accepted es ss c earlier later key = (has_key accepted key ≡ true) × IsWaitKey es ss c earlier later key
+
+-- it is that of the later entry and one of the first n of these
+abbrev pub UsesFirst : Accepted → List (List ℕ) → List Submission → Course → List ℕ → ℕ → ℕ → List ℕ → Type 0
+UsesFirst accepted es ss c xs n later key =
+    (i : ℕ) × (i < n) × IsUsedPair accepted es ss c (get_or xs i 0) later key
+
+-- it is that of an entry from `from` up to `to` and one of these
+abbrev pub UsesBetween : Accepted → List (List ℕ) → List Submission → Course → List ℕ → ℕ → ℕ → List ℕ → Type 0
+UsesBetween accepted es ss c xs from to key =
+    (later : ℕ) × (from ≤ later) × (later < to) × UsesFirst accepted es ss c xs (length xs) later key
+
+-- it is that of a missing wait of one of the first entries
+abbrev pub UsesBelow : Accepted → List (List ℕ) → List Submission → Course → ℕ → List ℕ → Type 0
+UsesBelow accepted es ss c to key =
+    (has_key accepted key ≡ true)
+    × ((earlier : ℕ) × (later : ℕ) × (later < to) × IsMissingWait c earlier later × IsWaitKey es ss c earlier later key)
+
 -- what is in flight after the first k events, where these waits are accepted
 pub record IsFlying (accepted : Accepted) (es : List (List ℕ)) (ss : List Submission) (c : Course) (k : ℕ) (f : Flying) : Type 0 where
   pub number : f.number ≡ made_before c.events.items k
@@ -58,3 +79,4 @@ pub record IsFlying (accepted : Accepted) (es : List (List ℕ)) (ss : List Subm
   pub all : (e : ℕ) → e < length f.waits.items → IsNotTold c k e → Contains f.outstanding.items e
   pub flags : length f.ended.items ≡ length c.made.items
   pub ended : (n : ℕ) → n < length c.made.items → get_or f.ended.items n false ≡ has_ended c k n
+  pub used : (key : List ℕ) → (has_key f.used key ≡ true) ↔ UsesBelow accepted es ss c (length f.waits.items) key

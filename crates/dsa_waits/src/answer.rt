@@ -3,6 +3,7 @@
 ghost use Rattle.std.specs.Prelude.{◌≡◌, ℕ, List, IfOk};
 ghost use Rattle.dsa_recording.specs.declared.accepted.Accepted.{Accepted};
 ghost use Rattle.dsa_recording.specs.declared.stream.Submission.{Submission};
+ghost use Rattle.dsa_recording.specs.Answers.{Refuses};
 ghost use Rattle.dsa_waits.specs.Answered.{AnswersWaits, IsStatusOf, status_in};
 ghost use Rattle.dsa_waits.specs.Fitting.{AreWaits};
 
@@ -24,43 +25,33 @@ fn status_of(found: &Found) -> u8
     1
 }
 
-/// The answer of what was found, which has this status.
-fn found_answer(
-    alloc: Global,
-    all: &[[u8; 64]],
-    submissions: &[Submission],
-    found: &Found,
-    format: AuditFormat,
-    accepted: &Accepted,
-    status: u8,
-) -> Result<AuditAnswer, AllocError>
-    ensures { IfOk result (λ a. a.status ≡ status_in format status) }
-{
-    let keyed = Keyed {
-        alloc,
-        all,
-        submissions,
-        accepted,
-    };
-    let mut used = Accepted::none(alloc);
-    used.add_all(alloc, &found.used)?;
+/// What was found in words, as an object of JSON, or as the keys of the waits that are not accepted.
+fn found_text(keyed: Keyed<'_>, found: &Found, format: AuditFormat) -> Result<String, AllocError> {
     match format {
-        AuditFormat::Text | AuditFormat::Picture | AuditFormat::List => {
-            let text = waits_text(keyed, found)?;
-            Ok(AuditAnswer { text, status, used })
-        }
-        AuditFormat::Json => {
-            let text = waits_json(keyed, found)?;
-            Ok(AuditAnswer { text, status, used })
-        }
-        AuditFormat::Keys => {
-            let text = waits_keys(keyed, found)?;
-            Ok(AuditAnswer {
-                text,
-                status: 0,
-                used,
-            })
-        }
+        AuditFormat::Text | AuditFormat::Picture | AuditFormat::List => waits_text(keyed, found),
+        AuditFormat::Json => waits_json(keyed, found),
+        AuditFormat::Keys => waits_keys(keyed, found),
+    }
+}
+
+/// The status that is answered in a format: of keys 0.
+fn status_in(format: AuditFormat, status: u8) -> u8
+    ensures { result ≡ status_in format status }
+{
+    match format {
+        AuditFormat::Text | AuditFormat::Json | AuditFormat::Picture | AuditFormat::List => status,
+        AuditFormat::Keys => 0,
+    }
+}
+
+/// A refusal for this reason.
+fn refusal(alloc: Global, text: String) -> AuditAnswer
+    ensures { Refuses result }
+{
+    AuditAnswer {
+        text,
+        status: 2,
+        used: Accepted::none(alloc),
     }
 }
 
@@ -82,26 +73,26 @@ pub fn answer_waits(
         Err(StreamFault::Memory) => return Err(AllocError),
         Err(StreamFault::Length | StreamFault::CutOff(_)) => {
             let text = String::from_str(alloc, "error: the recording is cut off\n")?;
-            return Ok(AuditAnswer {
-                text,
-                status: 2,
-                used: Accepted::none(alloc),
-            });
+            return Ok(refusal(alloc, text));
         }
     };
     let (all, _) = bytes.as_chunks::<64>();
     match find_waits(alloc, all, &submissions, text, accepted) {
         Ok(found) => {
-            let status = status_of(&found);
-            found_answer(alloc, all, &submissions, &found, format, accepted, status)
+            let keyed = Keyed {
+                alloc,
+                all,
+                submissions: &submissions,
+                accepted,
+            };
+            let text = found_text(keyed, &found, format)?;
+            let status = status_in(format, status_of(&found));
+            let used = found.used;
+            Ok(AuditAnswer { text, status, used })
         }
         Err(fault) => {
             let text = fault_text(alloc, fault)?;
-            Ok(AuditAnswer {
-                text,
-                status: 2,
-                used: Accepted::none(alloc),
-            })
+            Ok(refusal(alloc, text))
         }
     }
 }

@@ -6,7 +6,7 @@ ghost use Rattle.dsa_recording.specs.Streams.{ReadsUpTo};
 ghost use Rattle.dsa_recording.specs.Submissions.{head_at};
 ghost use Rattle.dsa_waits.specs.declared.fitting.WaitsFault.TheVariants.{Memory};
 ghost use Rattle.dsa_audit.specs.Steps.{AreLasts};
-ghost use Rattle.dsa_waits.specs.Keys.{IsLeftWait};
+ghost use Rattle.dsa_waits.specs.Keys.{AreUsedKeys, IsLeftWait};
 ghost use Rattle.dsa_waits.specs.Waits.{IsCourse};
 ghost use Rattle.dsa_waits.specs.Fitting.{AreFitted, AreWaits, IsUnfit, IsWaitsFault, event_of, members_of, misfit_of, misfit_made, misfit_member, misfit_number, queues_of};
 
@@ -225,6 +225,8 @@ fn waits_in<'a>(
         (λ missing. length missing.waits.items ≡ length course.now.entries.items) }
     ensures waits { IfOk result (λ missing. AreLasts
         (IsLeftWait accepted.now all.now submissions.now course.now) missing.waits.items) }
+    ensures used { IfOk result (λ missing.
+        AreUsedKeys accepted.now all.now submissions.now course.now missing.used) }
 {
     let keyed = Keyed {
         alloc,

@@ -5,9 +5,10 @@ ghost use Rattle.std.specs.List.{Contains};
 ghost use Rattle.dsa_audit.specs.Members.{KnownConflict};
 ghost use Rattle.dsa_audit.specs.Steps.{AreLasts};
 ghost use Rattle.dsa_conflicts.specs.Access.{IsGreatest};
-ghost use Rattle.dsa_waits.specs.Keys.{IsLeftConflict, IsLeftWait};
+ghost use Rattle.dsa_waits.specs.Keys.{AreUsedKeys, IsLeftConflict, IsLeftWait};
+ghost use Rattle.dsa_recording.specs.Uses.{AddsKeys};
 ghost use Rattle.dsa_waits.specs.Waits.{IsCourse, event_at, is_made, is_told};
-ghost use Rattle.dsa_waits.specs.Steps.{AreBelow, AreOutstanding, HasSubmission, IsFlying, IsRising, WithRange};
+ghost use Rattle.dsa_waits.specs.Steps.{AreBelow, AreOutstanding, HasSubmission, IsFlying, IsRising, IsUsedPair, UsesBetween, UsesFirst, WithRange};
 
 use crate::course::{Course, Told, is_told, made_at, told_by};
 use crate::event::{Event, mark};
@@ -131,26 +132,46 @@ fn push_waits(
     Ok(())
 }
 
-/// Adds the key of the missing wait of an entry for each outstanding one, if it is accepted.
+/// Adds the key of two entries, if they conflict and it is accepted.
+fn use_wait(
+    used: &mut Accepted,
+    course: &Course,
+    keyed: Keyed<'_>,
+    earlier: usize,
+    entry: usize,
+) -> Result<(), AllocError>
+    ensures { OnOk result (AddsKeys (IsUsedPair keyed.entry.accepted.now keyed.entry.all.now
+        keyed.entry.submissions.now course.now earlier entry) used.old used.new) }
+{
+    let (all, submissions) = (keyed.all, keyed.submissions);
+    let Some(key) = key_of_wait(keyed.alloc, all, submissions, course, earlier, entry)? else {
+        return Ok(());
+    };
+    if !keyed.accepted.has(&key) {
+        return Ok(());
+    }
+    used.add(keyed.alloc, &key)
+}
+
+/// Adds the keys of the missing waits of an entry for the outstanding ones that are accepted.
 fn use_waits(
     used: &mut Accepted,
     course: &Course,
     keyed: Keyed<'_>,
     outstanding: &[usize],
     entry: usize,
-) -> Result<(), AllocError> {
-    let (all, submissions) = (keyed.all, keyed.submissions);
-    for earlier in outstanding {
-        if let Some(key) = key_of_wait(keyed.alloc, all, submissions, course, *earlier, entry)?
-            && keyed.accepted.has(&key)
-        {
-            used.add(keyed.alloc, &key)?;
-        }
+) -> Result<(), AllocError>
+    ensures { OnOk result (AddsKeys (UsesFirst keyed.entry.accepted.now keyed.entry.all.now
+        keyed.entry.submissions.now course.now outstanding.now (length outstanding.now) entry)
+        used.old used.new) }
+{
+    for i in 0..outstanding.len() {
+        use_wait(used, course, keyed, outstanding[i], entry)?;
     }
     Ok(())
 }
 
-/// Adds the accepted keys of all missing waits of the entries from `from` up to `end`.
+/// Adds those of the entries from `from` up to `end`.
 fn use_all_waits(
     used: &mut Accepted,
     course: &Course,
@@ -158,7 +179,11 @@ fn use_all_waits(
     outstanding: &[usize],
     from: usize,
     end: usize,
-) -> Result<(), AllocError> {
+) -> Result<(), AllocError>
+    requires { from ≤ end }
+    ensures { OnOk result (AddsKeys (UsesBetween keyed.entry.accepted.now keyed.entry.all.now
+        keyed.entry.submissions.now course.now outstanding.now from end) used.old used.new) }
+{
     if keyed.accepted.keys.is_empty() {
         return Ok(());
     }
@@ -276,6 +301,8 @@ pub fn missing_waits(
         (λ missing. length missing.waits.items ≡ length course.now.entries.items) }
     ensures waits { IfOk result (λ missing. AreLasts (IsLeftWait keyed.entry.accepted.now
         keyed.entry.all.now keyed.entry.submissions.now course.now) missing.waits.items) }
+    ensures used { IfOk result (λ missing. AreUsedKeys keyed.entry.accepted.now
+        keyed.entry.all.now keyed.entry.submissions.now course.now missing.used) }
 {
     let lasts = all_lasts(alloc, &course.members)?;
     let mut flying = Flying {

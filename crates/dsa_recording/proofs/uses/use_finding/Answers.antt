@@ -1,5 +1,5 @@
 use Rattle.std.proofs.Common.{◌≡◌, ℕ, List, true, false, ap, subst, refl, sym, ◌∙◌}
-use Rattle.dsa_recording.specs.Answers.{is_harmless}
+use Rattle.dsa_recording.specs.Findings.{is_harmless}
 use Rattle.dsa_recording.specs.Keys.{key_words}
 use Rattle.dsa_recording.specs.Pairs.{has_key}
 use Rattle.dsa_recording.specs.Reports.{reported_by}

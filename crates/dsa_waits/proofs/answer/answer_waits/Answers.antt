@@ -1,5 +1,4 @@
 use Rattle.std.proofs.Common.{ℕ, inl, inr, List, refl, subst, sym}
-use Rattle.std.proofs.lemmas.Result.{IfOk-weaker}
 use Rattle.dsa_descriptor.specs.Lists.{entries}
 use Rattle.dsa_recording.specs.declared.accepted.Accepted.{Accepted}
 use Rattle.dsa_recording.specs.declared.answer.AuditFormat.{AuditFormat}
@@ -26,20 +25,19 @@ returns-in-Ok-find_waits c =
     let are : AreWaits c.args.accepted.now (entries c.args.bytes.now) c.in-Ok.submissions.items c.args.text.now c.in-Ok-find_waits.found =
     subst (λ (es : List (List ℕ)). AreWaits c.args.accepted.now es c.in-Ok.submissions.items c.args.text.now c.in-Ok-find_waits.found) c.as_chunks.ensures.front listed in
     let status : IsStatusIn c.args.format c.args.accepted.now (entries c.args.bytes.now) c.in-Ok.submissions.items c.in-Ok-find_waits.found
-    (status_in c.args.format c.status_of-status.result) =
-    status_by c.args.format c.args.accepted.now (entries c.args.bytes.now) c.in-Ok.submissions.items c.in-Ok-find_waits.found c.status_of-status.result
-    (c.status_of-status.ensures c.args.accepted.now (entries c.args.bytes.now) c.in-Ok.submissions.items c.args.text.now are) in
-    IfOk-weaker c.found_answer.result _ _
-    (λ a h. inl (
+    (status_in c.args.format c.status_of.result) =
+    status_by c.args.format c.args.accepted.now (entries c.args.bytes.now) c.in-Ok.submissions.items c.in-Ok-find_waits.found c.status_of.result
+    (c.status_of.ensures c.args.accepted.now (entries c.args.bytes.now) c.in-Ok.submissions.items c.args.text.now are) in
+    inl (
       c.in-Ok.submissions.items,
       c.in-Ok.ensures.answer,
       inl (
         c.in-Ok-find_waits.found,
         are,
-        subst (λ (s : ℕ). IsStatusIn c.args.format c.args.accepted.now (entries c.args.bytes.now) c.in-Ok.submissions.items c.in-Ok-find_waits.found s) (sym h) status,
+        subst (λ (s : ℕ). IsStatusIn c.args.format c.args.accepted.now (entries c.args.bytes.now) c.in-Ok.submissions.items c.in-Ok-find_waits.found s) (sym c.status_in-status.ensures) status,
+        are.used,
       ),
-    ))
-    c.found_answer.ensures
+    )
 
 pub returns : goal.returns
 returns c =
@@ -48,4 +46,4 @@ returns c =
     subst (λ (ss : List Submission). HasFault c.as_chunks.result.0.now ss c.args.text.now) c.deref.ensures.value here in
     let has : HasFault (entries c.args.bytes.now) c.in-Ok.submissions.items c.args.text.now =
     subst (λ (es : List (List ℕ)). HasFault es c.in-Ok.submissions.items c.args.text.now) c.as_chunks.ensures.front listed in
-    inl (c.in-Ok.submissions.items, c.in-Ok.ensures.answer, inr (refl, has))
+    inl (c.in-Ok.submissions.items, c.in-Ok.ensures.answer, inr (c.refusal-in-Err.ensures, has))

@@ -35,4 +35,5 @@ returns-clause-ok c =
       missing = unaccepted c.none-none.result c.args.all.now c.args.submissions.now c.in_ok-course.course c.in_ok-waits.waits.waits.items c.none-none.ensures c.in_ok-waits.ensures.waits;
       count_left = c.in_ok-left.ensures.count ∙ recorded.entries;
       left = c.in_ok-left.ensures.waits;
+      used = c.in_ok-left.ensures.used;
     }

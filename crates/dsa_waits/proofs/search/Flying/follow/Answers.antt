@@ -22,4 +22,4 @@ returns c =
     (subst (λ (t : Told). c.drop_told.new.outstanding.items ≡ filter (λ e. not (is_told c.args.course.now t e)) c.args.self.now.outstanding.items)
     tells c.drop_told.ensures)
     (subst (λ (v : Event). Marks (ended_by v) c.args.self.now.ended.items c.mark.new.flags.items) at
-    (subst (λ (o : Option ℕ). Marks o c.args.self.now.ended.items c.mark.new.flags.items) c.ended_number.ensures c.mark.ensures))
+    (subst (λ (o : Option ℕ). Marks o c.args.self.now.ended.items c.mark.new.flags.items) c.ended_number.ensures c.mark.ensures)) refl

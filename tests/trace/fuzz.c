@@ -9,6 +9,7 @@
 #include "order.h"
 
 enum { DECODER, OPERATION, SUBMISSION, PAGE = 4096, ARENA = 12 * PAGE, HOLE = 7 * PAGE, NOTHING = 16 * PAGE };
+enum { SEED_IS_READ = 0x10000 }; /* a flag of checksums (specification 341204) */
 
 struct settings settings;
 static uint8_t *arena, *before; /* the first has a page that is missing, and nothing after its end */
@@ -80,6 +81,8 @@ static descriptor descriptor_of(const uint8_t *data)
     d.completion_addr = inside(d.completion_addr);
     if (d.opcode == DSA_OPCODE_DUALCAST || d.opcode == DSA_OPCODE_CR_DELTA)
         d.dest2 = inside(d.dest2);
+    if ((d.opcode == DSA_OPCODE_CRCGEN || d.opcode == DSA_OPCODE_COPY_CRC) && d.flags & SEED_IS_READ)
+        d.seed_addr = inside(d.seed_addr);
     d.xfer_size %= 3 * PAGE;
     return d;
 }

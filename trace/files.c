@@ -213,6 +213,11 @@ struct queue *files_mapped(uintptr_t at)
     return maps_find(at, &m) && queue_of(m.line, &found) ? found : NULL;
 }
 
+/* What the driver does that is left out here (drivers/dma/idxd/cdev.c of Linux 6.1): idxd_cdev_open answers EBUSY for a
+ * dedicated queue while any file of it is open, also if that is still mapped alone; idxd_cdev_mmap and idxd_cdev_write
+ * answer EPERM in another process than the one that has opened the file, and idxd_cdev_mmap in one without
+ * CAP_SYS_RAWIO if the device is not safe. As there (VM_DONTCOPY), a child of fork does not inherit a map. */
+
 /// What an open file is. A map of a queue's file that is none of a portal would take what is submitted without a word,
 /// so a queue that can't be read is none. The path is off the stack when this answers.
 __attribute__((noinline)) struct opened files_opened(int fd)

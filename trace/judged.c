@@ -139,10 +139,11 @@ static bool are_read(const struct judgement *j, const struct keys *base, struct 
     return are_read;
 }
 
-/// What dsa_text finds with the keys of --accept that have this place, NULL for none: the keys of errors, and reports.
+/// What dsa_text finds with the keys of --accept that have this place: the keys of errors, and reports.
 struct again { FILE *json, *words; struct keys base; };
 
-static void ask(struct audits *all, const struct gathered *g, const char *place, struct again *a)
+/// False, after a sentence, if dsa_text does not answer as before.
+static bool ask(struct audits *all, const struct gathered *g, const char *place, struct again *a)
 {
     struct audit_options o = all->options;
     FILE *accepted = stale_at(&all->stale, place), *keys = in_memory("the keys of the audit");
@@ -150,8 +151,8 @@ static void ask(struct audits *all, const struct gathered *g, const char *place,
     snprintf(path, sizeof path, "/proc/self/fd/%d", fileno(accepted));
     o.accepted = accepted;
     *a = (struct again){.json = in_memory("a report"), .words = in_memory("a report")};
-    audit_text(all->dsa_text, &o, "--json", g, a->json);
-    audit_text(all->dsa_text, &o, "--all", g, a->words);
+    const bool is_read = audit_text(all->dsa_text, &o, "--json", g, a->json) < 2 &&
+                         audit_text(all->dsa_text, &o, "--all", g, a->words) < 2;
     a->words = stale_take(&all->stale, path, place, a->words);
     if (audit_text(all->dsa_text, &o, "--write-accept", g, keys) == 0) {
         rewind(keys);
@@ -159,6 +160,10 @@ static void ask(struct audits *all, const struct gathered *g, const char *place,
     }
     fclose(keys);
     fclose(accepted);
+    if (!is_read)
+        fprintf(stderr, "dsa_trace: %s does not audit with the keys of a place, so what they hide is not known\n",
+                all->dsa_text);
+    return is_read;
 }
 
 /// Gives the errors from one on their keys with places, and looks which of them are accepted.
@@ -189,7 +194,7 @@ static void add_hidden(struct audits *all, const struct gathered *g, struct plac
 {
     struct again again;
     const size_t before = j->count;
-    ask(all, g, at, &again);
+    j->has_others |= !ask(all, g, at, &again);
     j->reports = realloc(j->reports, (j->report_count + 1) * sizeof *j->reports);
     if (!j->reports)
         fail("the errors of the audit");
@@ -231,7 +236,7 @@ bool judged_process(struct audits *all, const struct gathered *g, struct places 
 {
     struct keys judged = {0};
     FILE *json = in_memory("a report");
-    audit_text(all->dsa_text, &all->options, "--json", g, json);
+    j->has_others = audit_text(all->dsa_text, &all->options, "--json", g, json) != 1 || base->count == 0;
     read_errors(j, g, base, 0, json);
     fclose(json);
     place(all, p, j, 0);

@@ -238,7 +238,7 @@ def thread_sanitizer():
 # ---- any bytes
 
 FUZZED = "board crc decode device dif execute intake maps memory order pace process random record records say settings"
-FUZZED = [f"trace/{name}.c" for name in [*FUZZED.split(), "stacks", "unwind", "valid", "watch"]]
+FUZZED = [f"trace/{name}.c" for name in [*FUZZED.split(), "stacks", "valid", "walk", "watch"]]
 
 
 def corpus(folder):

@@ -1,5 +1,5 @@
 /* Where submissions come from: the call stack of each, as the number of one that is written once. A stack that was
- * walked (unwind.c) is kept with the places of its return addresses. While these have the same values the stack is the
+ * walked (walk.c) is kept with the places of its return addresses. While these have the same values the stack is the
  * same, so most submissions cost some comparisons. All is done under the lock of order.c, and in static memory, since a
  * thread that submits may have little stack. Lines of NAME.PID.stacks:
  *
@@ -17,7 +17,7 @@
 #include <unistd.h>
 
 #include "maps.h"
-#include "unwind.h"
+#include "walk.h"
 
 enum { STACKS = 4096, KEPT = 1024, RANGES = 256 };
 
@@ -193,7 +193,7 @@ static void forget_code(void)
 static unsigned walked(const struct submitter *s, struct kept *k)
 {
     struct walk w;
-    unwind_walk(&w, s, settings.stacks < MOST_FRAMES ? (unsigned)settings.stacks : MOST_FRAMES);
+    walk_stack(&w, s, settings.stacks < MOST_FRAMES ? (unsigned)settings.stacks : MOST_FRAMES);
     *k = (struct kept){.at = w.is_plain ? s->at : 0, .sp = s->sp, .bp = s->bp, .age = stacks.age,
                        .number = number_of(&w), .count = w.count};
     memcpy(k->frames, w.frames, sizeof *w.frames * w.count);
@@ -217,7 +217,7 @@ struct origin stacks_origin(const struct submitter *s)
         forget_code();
     struct kept *k = kept_of(s);
     const bool may_be = k->at == s->at && k->sp == s->sp && k->bp == s->bp && k->age == stacks.age;
-    o.stack = may_be && unwind_is_same(k->frames, k->count) ? k->number : walked(s, k);
+    o.stack = may_be && walk_is_same(k->frames, k->count) ? k->number : walked(s, k);
     return o;
 }
 

@@ -86,7 +86,7 @@ void memory_permit_as(uint32_t keys);
 /* In a handler: leaves the copy or the operation that this thread does for the device, if it does one. */
 void memory_escape(const siginfo_t *info, const void *context);
 
-/* ---- stacks.c and unwind.c: where submissions come from ---- */
+/* ---- stacks.c and walk.c: where submissions come from ---- */
 /* The instruction that submits and the one after it, or the return address of a call twice, and the program's stack and
  * frame pointers there. */
 struct submitter { uintptr_t at, next, sp, bp; };

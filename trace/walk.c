@@ -1,7 +1,7 @@
 /* Walks a call stack by the unwinder of the compiler's library, which is linked into this one: a program may have
  * another one, or none. It goes through our own frames to the program's: through that of a signal, which it knows, and
  * through a stub, which stub.c describes to it. It allocates nothing, and with glibc from 2.35 on it takes no lock. */
-#include "unwind.h"
+#include "walk.h"
 
 #include <unwind.h>
 
@@ -45,8 +45,8 @@ static void walk_frame_pointers(struct walk *w, const struct submitter *s, unsig
     }
 }
 
-/// Walks the stack, as unwind.h says.
-void unwind_walk(struct walk *w, const struct submitter *s, unsigned most)
+/// Walks the stack, as walk.h says.
+void walk_stack(struct walk *w, const struct submitter *s, unsigned most)
 {
     struct walking walking = {.to = w, .by = s, .most = most};
     w->count = 0;
@@ -66,7 +66,7 @@ void unwind_walk(struct walk *w, const struct submitter *s, unsigned most)
 }
 
 /// Whether the return addresses are where they were. The memory may be gone.
-bool unwind_is_same(const struct frame *frames, unsigned count)
+bool walk_is_same(const struct frame *frames, unsigned count)
 {
     if (sigsetjmp(guard.escape, 0))
         return false;

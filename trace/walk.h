@@ -1,6 +1,6 @@
 /* The call stack of a submission: how it is walked. */
-#ifndef DSA_TRACE_UNWIND_H
-#define DSA_TRACE_UNWIND_H
+#ifndef DSA_TRACE_WALK_H
+#define DSA_TRACE_WALK_H
 
 #include "trace.h"
 
@@ -12,8 +12,8 @@ struct frame { uintptr_t at; const uintptr_t *place; };
 struct walk { unsigned count; bool is_plain; struct frame frames[MOST_FRAMES]; };
 
 /* Walks the stack up to so many frames, at least one. Its memory may be anything: what can't be read ends the walk. */
-void unwind_walk(struct walk *w, const struct submitter *s, unsigned most);
+void walk_stack(struct walk *w, const struct submitter *s, unsigned most);
 /* Whether the return addresses are where they were. */
-bool unwind_is_same(const struct frame *frames, unsigned count);
+bool walk_is_same(const struct frame *frames, unsigned count);
 
 #endif

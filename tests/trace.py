@@ -602,20 +602,14 @@ def submit():
         told(f"submit to {queue}", end, 0, "copied")
 
 
-def without_waits():
-    """The sources of the layer, of which one is changed: no list waits for another."""
-    text, old = Path("bindings/queue/flight.c").read_text(), "    else if (waits == 0)\n"
-    expect(text.count(old) == 1, f"flight.c has not once: {old}")
-    Path(WORK, "flight.c").write_text(text.replace(old, "    else\n"))
-    return [f"{WORK}/flight.c", *(path for path in make.QUEUE_OF if path.name != "flight.c")]
-
-
 def in_flight():
-    """The example queue_threads.c: each seed leaves what its requests leave in order, and no wait is missing; if
-    nothing waits, some seeds don't, and each audit finds a missing wait."""
+    """The example queue_threads.c: each seed leaves what its requests leave in order, and no wait is missing; if the
+    tracker is told nothing, some seeds don't, and each audit finds a missing wait."""
     source, other = "examples/queue/queue_threads.c", f"{WORK}/without_waits.c"
     shutil.copy(source, other)
-    if not example(source, *make.QUEUE_OF) or not example(other, *without_waits()) or not has_text():
+    told_nothing = ["tests/trace/told_nothing.c", "-Ddsa_track_list=told_nothing"]
+    is_built = example(source, *make.QUEUE_OF) and example(other, *make.QUEUE_OF, *told_nothing)
+    if not is_built or not has_text():
         return
     wrong = 0
     for (queue, _), seed in itertools.product(QUEUES, range(1, 11)):

@@ -113,6 +113,15 @@ def in_flight():
     return source(found) + table(heads, rows)
 
 
+def work_queue():
+    found = figures("work_queue")
+    heads = ["moves", "planned by hand", "by the layer", "in flight", "again, by hand", "by the layer",
+             "other buffers, by hand", "by the layer"]
+    rows = [[row[name] for name in ("moves", "plan", "planned", "in_flight", "hand_again", "again", "fill", "placed")]
+            for row in found["rows"]]
+    return source(found) + table(heads, rows)
+
+
 def traces():
     found = figures("traces")
     rows = [[row["options"], row["stubs"], row["signals"]] for row in found["rows"]]
@@ -141,7 +150,7 @@ def summary():
     ])
 
 
-MADE = (machine, short_lists, filling, small_jobs, jobs, longest, audits, in_flight, traces, stacks, summary)
+MADE = (machine, short_lists, filling, small_jobs, jobs, longest, audits, in_flight, work_queue, traces, stacks, summary)
 TABLES = {it.__name__: it for it in MADE}
 
 

@@ -2,7 +2,7 @@
 """Measures what docs/SPEED.md and trace/README.md say, by hand and on a quiet machine, and writes each group to a file
 of docs/figures:
 
-    tests/measure.py short_lists filling in_flight small_jobs audits traces stacks
+    tests/measure.py short_lists filling in_flight work_queue small_jobs audits traces stacks
     tests/measure.py jobs longest OTHER      beside another program of the same jobs
 
 `tests/figures.py --write` makes the tables of the pages anew from these files. Times are of the built programs and the
@@ -22,6 +22,9 @@ from pathlib import Path
 import bench
 from audit_entries import moves_apart
 from common import ROOT, compiler, program, stop
+
+sys.path.insert(0, str(ROOT / "bindings/package"))
+import make
 
 FOLDER = ROOT / "docs/figures"
 KINDS = ("apart", "two areas", "shuffled", "chained", "random")
@@ -50,6 +53,16 @@ def lines_of(name, rounds):
     """What a caller in C prints of so many rounds."""
     with tempfile.TemporaryDirectory() as folder:
         return subprocess.run([compiled(name, folder), rounds], stdout=subprocess.PIPE, text=True, check=True).stdout
+
+
+def speed_of_queue(folder):
+    """Builds the program that measures the layer of bindings/queue; answers where it is."""
+    path, include = f"{folder}/speed", ["-I", ROOT / "bindings/c", "-I", ROOT / "bindings/queue", "-I", ROOT / "trace"]
+    flags = ["-std=c11", "-D_GNU_SOURCE", "-O2", "-g", *include, "-pthread"]
+    sources = [ROOT / "tests/work_queue/speed.c", *make.QUEUE_OF, ROOT / "bindings/c/memory.c"]
+    sources.append(make.PROVED["libdsa_c.a"])
+    subprocess.run([compiler(), *flags, *sources, "-o", path], check=True)
+    return path
 
 
 def least(rows, place):
@@ -103,6 +116,16 @@ def in_flight():
     rows = [{"kind": kind, "moves": int(moves), "flight": int(flight), "ns": float(track), "plan": float(plan),
              "compare": float(compare)} for kind, moves, flight, track, plan, compare in found]
     return {"rows": rows}
+
+
+def work_queue():
+    """What the layer of bindings/queue adds to a list: nanoseconds by hand and by the layer, in software."""
+    form = r"^ ?(\d+) moves: planned (\d+) by hand, (\d+) .*; again (\d+), (\d+); other buffers (\d+), (\d+); "
+    form += r"in flight (\d+)$"
+    names = ("moves", "plan", "planned", "hand_again", "again", "fill", "placed", "in_flight")
+    with tempfile.TemporaryDirectory() as folder:
+        ran = subprocess.run([speed_of_queue(folder), "301"], stdout=subprocess.PIPE, text=True, check=True)
+    return {"rows": [dict(zip(names, map(int, row))) for row in re.findall(form, ran.stdout, re.M)]}
 
 
 # ---- jobs
@@ -213,7 +236,7 @@ def stacks():
     return {"rows": rows}
 
 
-GROUPS = {it.__name__: it for it in (short_lists, filling, in_flight, small_jobs, audits, traces, stacks)}
+GROUPS = {it.__name__: it for it in (short_lists, filling, in_flight, work_queue, small_jobs, audits, traces, stacks)}
 BESIDE = {it.__name__: it for it in (jobs, longest)}
 
 

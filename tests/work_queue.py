@@ -9,6 +9,7 @@ import os
 import re
 import shutil
 import sys
+import tempfile
 from pathlib import Path
 
 from common import ROOT, SANITIZE, SANITIZE_THREADS, expect, named, run_test, sanitizers, skip
@@ -16,6 +17,7 @@ from trace_runs import STRICT, WORK, built_all, client, ran, told, traced
 
 sys.path.insert(0, str(ROOT / "bindings/package"))
 import make
+import measure
 
 LISTS = os.environ.get("LISTS", "60")
 SEEDS = int(os.environ.get("SEEDS", "3"))
@@ -118,6 +120,14 @@ def placed():
         told(f"placed in flight: seed {seed}", end, 0, " 0 wrong")
         limit = f"echo 1000 > {DEVICES}/wq0.0/max_transfer_size && exec {client('placed')} {QUEUES[0]} {LISTS} {seed}"
         told(f"placed and split: seed {seed}", shell(limit, "--order", "all"), 0, " 0 wrong")
+
+
+def speed():
+    """What measures the layer is built and run for a moment; its times are judged by nobody."""
+    with tempfile.TemporaryDirectory() as folder:
+        end = ran(measure.speed_of_queue(folder), 1)
+    found = re.findall(r"^ ?(\d+) moves: planned \d+ by hand, \d+ by the layer; .*; in flight \d+$", end.stdout, re.M)
+    expect(end.returncode == 0 and found == ["1", "8", "32"], f"status {end.returncode}, {end.stdout}{end.stderr}")
 
 
 # A device of which programs may not map portals, as the driver shows it: without batches.
@@ -445,7 +455,7 @@ def main(words):
     told("the build of threads", compiled(THREADS.stem, source=THREADS), 0)
     told("the build of the journal", compiled(JOURNAL.stem, source=JOURNAL), 0)
     parts = [built, lists, several, written, placed, threads, journal, ends, opening, stopped, allocations, records]
-    parts += [software, wrong]
+    parts += [software, speed, wrong]
     for part in named(parts, words):
         part()
 

@@ -264,6 +264,7 @@ enum dsa_end dsa_list_start(struct dsa_list *list)
     list->reason = queue->tracker ? run_begin(list) : NOT_TRACKED;
     if (list->reason)
         return list->end = DSA_LIST_REFUSED;
+    list->was_started = true;
     pthread_mutex_lock(&queue->lock);
     queue->ended &= ~bit_of(list);
     const enum dsa_end how = take_in(list);
@@ -328,14 +329,17 @@ static bool can_order(const struct dsa_list *list) { return list->queue->tracker
 
 void flight_settle(struct dsa_list *list)
 {
-    if (can_order(list))
-        dsa_list_wait(list);
+    if (!list->was_started || !can_order(list))
+        return;
+    dsa_list_wait(list);
+    list->was_started = false;
 }
 
 void flight_forget(struct dsa_list *list)
 {
-    if (!can_order(list))
+    if (!list->has_after || !can_order(list))
         return;
+    list->has_after = false;
     pthread_mutex_lock(&list->queue->lock);
     forget_after(list);
     pthread_mutex_unlock(&list->queue->lock);
@@ -345,7 +349,7 @@ void flight_leave(struct dsa_list *list)
 {
     if (!can_order(list))
         return;
-    dsa_list_wait(list);
+    flight_settle(list);
     pthread_mutex_lock(&list->queue->lock);
     tell(list, DSA_LIST_REFUSED);
     pthread_mutex_unlock(&list->queue->lock);
@@ -357,7 +361,8 @@ void dsa_list_after(struct dsa_list *list, const struct dsa_list *other)
 {
     if (!can_order(list))
         return;
-    dsa_list_wait(list); /* it is of the next start */
+    flight_settle(list); /* it is of the next start */
+    list->has_after = true;
     pthread_mutex_lock(&list->queue->lock);
     if (has_begun(other) || other->end == DSA_LIST_REFUSED)
         list->after |= bit_of(other);

@@ -45,6 +45,7 @@ struct dsa_list {
     struct dsa_queue *queue;
     void *tag;
     struct port *port;               /* that has its entries; NULL before it has the first */
+    bool was_started, has_after;     /* of the thread that has the list: if neither is so, it need not take the lock */
     enum state state;                /* this and the next five under the lock of the queue */
     uint32_t slot;                   /* of the tracker */
     uint64_t after;                  /* a bit for each list that it comes after, whose start has not ended */

@@ -150,7 +150,8 @@ def summary():
     ])
 
 
-MADE = (machine, short_lists, filling, small_jobs, jobs, longest, audits, in_flight, work_queue, traces, stacks, summary)
+MADE = (machine, short_lists, filling, small_jobs, jobs, longest, audits, in_flight)
+MADE += (work_queue, traces, stacks, summary)
 TABLES = {it.__name__: it for it in MADE}
 
 

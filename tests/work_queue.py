@@ -112,7 +112,6 @@ def several():
 def placed():
     """Lists on other buffers, prepared or not: what the processor leaves; those that need no plan allocate nothing."""
     for seed in range(1, SEEDS + 1):
-        told("placed in software", ran(client("placed"), "software", 10 * int(LISTS), seed), 0, " 0 wrong")
         for queue in QUEUES:
             end = traced("--seed", seed, "--order", "all", "--fault", 2, "--", client("placed"), queue, LISTS, seed)
             told(f"placed: seed {seed}, {queue}", end, 0, " 0 wrong")
@@ -347,7 +346,7 @@ def software():
         if flags and not sanitizers(flags):
             skip(f"there is no {flags[0]}")
             continue
-        for name, source in (("lists", None), ("ends", None), (THREADS.stem, THREADS)):
+        for name, source in (("lists", None), ("ends", None), ("placed", None), (THREADS.stem, THREADS)):
             end = compiled(name, *flags, source=source, output=client(f"{name}_alone"))
             told(f"the build of {name} {flags}", end, 0)
         if not Path(DEVICES).exists():
@@ -357,6 +356,8 @@ def software():
             for deep in (0, 2, 8):
                 end = ran(client("lists_alone"), "software", 10 * int(LISTS), seed, deep)
                 told(f"lists in software {flags}, {deep} in flight", end, 0, " 0 wrong")
+            end = ran(client("placed_alone"), "software", 5 * int(LISTS), seed)
+            told(f"placed in software {flags}", end, 0, " 0 wrong")
         for name, wanted in said.items():
             ended(f"{name} in software {flags}", ran(client("ends_alone"), name, "software"), wanted)
     missing = "{}: " + f"{DEVICES} has no such queue of DSA; accel-config list shows those that there are\n"

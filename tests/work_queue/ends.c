@@ -305,7 +305,7 @@ static void *run_many(void *of)
 static int threads(void)
 {
     enum { THREADS = 4 };
-    const struct dsa_queue_options o = {.lists = THREADS, .wait_ms = 5000};
+    const struct dsa_queue_options o = {.lists = THREADS, .wait_ms = 20000};
     struct dsa_queue *queue = opened(&o);
     pthread_t all[THREADS];
     size_t wrong = 0;

@@ -142,7 +142,7 @@ static void submit_one(const uint8_t *data, size_t size)
     d.flags |= IDXD_OP_FLAG_CRAV | IDXD_OP_FLAG_RCR;
     d.completion_addr = (uintptr_t)record;
     memset(record, 0, sizeof *record);
-    check(order_submit(&queue, &d, true) == ACCEPTED && queue.in_flight == 0);
+    check(order_submit(&queue, &d, true, &(struct submitter){0}) == ACCEPTED && queue.in_flight == 0);
     const unsigned status = record->status & DSA_COMP_STATUS_MASK;
     check((status >= DSA_COMP_SUCCESS && status <= DSA_COMP_DIF_ERR) || strcmp(valid_name(status), "unknown"));
 }

@@ -232,7 +232,7 @@ def unnamed():
     end = audited(*FIFO, "--", client("placed"), "fence", env=KNOWN | {"PATH": "/nowhere"})
     told("no addr2line", end, 1, "there is no addr2line (package binutils or llvm)")
     end = audited(*FIFO, "--stacks", 0, "--", client("placed"), "fence")
-    told("no stacks", end, 1, "\n  and 9 more like it\n")
+    told("no stacks", end, 1, "\n  and 9 more like it (--all writes each)\n")
     expect("submission 0, by thread" not in end.stdout, f"without stacks: {end.stdout}")
     told("too many frames", audited("--stacks", 33, "--", "true"), 125, "at most 32 frames")
 
@@ -281,7 +281,7 @@ def kept():
     told("without the texts and the program", end, 1, "at placed+0x")
     for path in Path(folder, "seed-1").glob("*.stacks"):
         path.unlink()
-    told("without stacks", traced("--report", folder, env=KNOWN), 1, "\n  and 9 more like it\n")
+    told("without stacks", traced("--report", folder, env=KNOWN), 1, "\n  and 9 more like it (--all writes each)\n")
 
 
 def rust():

@@ -35,7 +35,8 @@ void findings_add(struct findings *all, const struct finding *it)
             fail("the findings");
         all->at = more;
     }
-    all->at[all->count++] = *it;
+    all->at[all->count] = *it;
+    all->at[all->count++].placed = NULL; /* findings_place sets it */
 }
 
 /// The name that dsa_text gives an operation in keys.

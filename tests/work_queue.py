@@ -204,7 +204,7 @@ SAID = {
     "refused 8: descriptor 0: the low twelve bits of a dualcast's destinations differ\n" + DONE,
     "again": DONE,
     "polled": "the queue was opened without DSA_QUEUE_IN_FLIGHT; open it with this flag, or use dsa_list_run\n",
-    "forked": "this process is a child of fork, and the queue is its parent's; open a queue here\n" + DONE,
+    "forked": 2 * "this process is a child of fork, and the queue is its parent's; open a queue here\n" + DONE,
 }
 
 

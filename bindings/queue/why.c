@@ -97,6 +97,8 @@ static void why_failed(const struct dsa_list *list, char why[DSA_WHY_ROOM])
                 "configuration", failed, r.status);
 }
 
+static const char in_child[] = "this process is a child of fork, and the queue is its parent's; open a queue here";
+
 /// The sentence of a list that was refused before anything was begun.
 static void why_refused(const struct dsa_list *list, char why[DSA_WHY_ROOM])
 {
@@ -115,7 +117,7 @@ static void why_refused(const struct dsa_list *list, char why[DSA_WHY_ROOM])
                 i);
         break;
     case FORKED:
-        why_not(why, "this process is a child of fork, and the queue is its parent's; open a queue here");
+        why_not(why, in_child);
         break;
     case NOT_TRACKED:
         why_not(why, "the queue was opened without DSA_QUEUE_IN_FLIGHT; open it with this flag, or use dsa_list_run");
@@ -190,6 +192,8 @@ char *dsa_list_why(const struct dsa_list *list, char why[DSA_WHY_ROOM])
 {
     const struct dsa_queue *queue = list->queue;
     char state[STATE_ROOM];
+    if (!room_is_own(queue)) /* it has no records either */
+        return why_not(why, in_child), why;
     if (list->end == DSA_LIST_RUNNING)
         return why_not(why, "the list is in flight; dsa_list_wait waits until it has ended"), why;
     switch (list->reason) {

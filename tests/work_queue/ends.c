@@ -223,6 +223,8 @@ static int forked(void)
     int right = dsa_list_run(list) == DSA_LIST_DONE;
     const pid_t child = fork();
     if (child == 0) {
+        char why[DSA_WHY_ROOM];
+        puts(dsa_list_why(list, why));
         const int is_refused = ends(list, DSA_LIST_REFUSED) && dsa_list_result(list, 0).status == 0;
         uint8_t *filled[64];
         for (int i = 0; i < 64; i++) {

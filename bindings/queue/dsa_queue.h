@@ -19,7 +19,9 @@
  *            any other failure nothing more is begun.
  * Memory:    dsa_queue_open takes all memory of the layer; only planning allocates later, and frees it again, and
  *            dsa_list_prepare, whose memory is kept with the list until the queue is closed.
- *            Completion records and staging areas are the queue's. Buffers have to stay until the list has ended.
+ *            Completion records and staging areas are the queue's. Buffers have to stay until the list has ended, and
+ *            as they are while it is lost: ask dsa_list_wait or dsa_list_test how a list that was started has ended
+ *            before you use or free its buffers. The calls that change, drop or start it wait too, but do not say it.
  * Queues:    a queue may have several work queues, also of several devices. Each list goes to one of them, in turn, or
  *            to the next one that has room, and lists in flight are ordered across them.
  * Portals:   if the kernel keeps the portal from the program, as from those without CAP_SYS_RAWIO for devices of

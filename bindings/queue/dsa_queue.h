@@ -16,7 +16,7 @@
  *            several threads are ordered by the program alone, unless the queue has the flag DSA_QUEUE_IN_FLIGHT.
  * Checks:    if a check fails, what was added before the next barrier is done, and nothing after it.
  * Faults:    a page that is absent is made present (Linux 5.14 or later), and what is left of the list is done. After
- *            any other failure nothing more is begun.
+ *            any other failure nothing more is submitted; of what is, all before the next barrier may be done.
  * Memory:    dsa_queue_open takes all memory of the layer; only planning allocates later, and frees it again, and
  *            dsa_list_prepare, whose memory is kept with the list until the queue is closed.
  *            Completion records and staging areas are the queue's. Buffers have to stay until the list has ended, and
@@ -84,7 +84,7 @@ const char *dsa_queue_name(const struct dsa_queue *queue);
 struct dsa_list *dsa_list_get(struct dsa_queue *queue);
 /* Gives a list back, and waits for it if it is in flight. One that is lost is free when the device has answered. */
 void dsa_list_drop(struct dsa_list *list);
-/* Takes all operations off. This and the calls that add wait for a list that is in flight. */
+/* Takes all operations off, and what the list comes after. This and the calls that add wait for a list in flight. */
 void dsa_list_clear(struct dsa_list *list);
 
 /* Adds an operation of this transfer size; the queue fills in the completion record, and its flag 0x0001 is a barrier.
@@ -105,8 +105,8 @@ enum dsa_end {
     DSA_LIST_RUNNING   /* it was started, and has not ended */
 };
 
-/* Plans the list, submits it, and waits until it has ended. A list may be run again; if nothing was added since, it is
- * not planned again. */
+/* Plans the list, submits it, and waits until it has ended; for one that is in flight it waits alone. A list may be run
+ * again; if nothing was added since, it is not planned again. */
 enum dsa_end dsa_list_run(struct dsa_list *list);
 
 /* One list for buffers that change: dsa_list_prepare plans it as it is, and dsa_list_place gives its operations other
@@ -118,26 +118,30 @@ enum dsa_end dsa_list_run(struct dsa_list *list);
 /* Plans the list for dsa_list_place. Returns 0, or -1: dsa_list_why says why. */
 int dsa_list_prepare(struct dsa_list *list);
 /* Gives an operation other addresses, in the order in which the call that added it takes them; NULL leaves one as it
- * is. Sizes stay. Returns the operation, or -1 if there is none, or if it is a move within its own range now that the
- * device can't do; dsa_list_run refuses that until the list is cleared. It waits for a list that is in flight. */
+ * is. Sizes stay. Returns the operation, or -1: there is none, and nothing is placed (look: dsa_list_run does not
+ * refuse that); or it is a move within its own range now that the device can't do, and dsa_list_run refuses the list
+ * until it is cleared. It waits for a list that is in flight. */
 int dsa_list_place(struct dsa_list *list, int operation, const void *first, const void *second, const void *third);
 
 /* Several lists in flight, on a queue with DSA_QUEUE_IN_FLIGHT. They leave what they leave one after another in the
  * order in which they were started: one that conflicts with an earlier one waits for it. A list that fails stops only
  * those that come after it by dsa_list_after, however fast they are. These calls move all lists on; no thread does. */
 
-/* Starts the list: DSA_LIST_RUNNING, or DSA_LIST_REFUSED. A list that is in flight stays as it is. */
+/* Starts the list: DSA_LIST_RUNNING, or DSA_LIST_REFUSED, or DSA_LIST_LOST if an earlier start is lost and no call
+ * has said so. A list that is in flight stays as it is. */
 enum dsa_end dsa_list_start(struct dsa_list *list);
 /* When it is started next (one in flight is waited for), the list comes after the other of its queue: after that one's
- * last start by now, or, if it was cleared or added to since then, after its next one. It is left out unless that start
- * succeeds, and if that is not started before it; what is done with the other later changes nothing, be it started
- * again, cleared, or given back and taken by others. It holds for one start. */
+ * last start by now, or, if it was cleared, added to, placed or prepared since then, after its next one. It is left out
+ * unless that start succeeds, and if that is not started before it; what is done with the other later changes nothing,
+ * be it started again, cleared, or given back and taken by others. It holds for one start that is not refused. A list
+ * of another queue counts as one that has failed. Without DSA_QUEUE_IN_FLIGHT it does nothing. */
 void dsa_list_after(struct dsa_list *list, const struct dsa_list *other);
 /* How a list has ended, or DSA_LIST_RUNNING. */
 enum dsa_end dsa_list_test(struct dsa_list *list);
 /* Waits until the list has ended. */
 enum dsa_end dsa_list_wait(struct dsa_list *list);
-/* A list that has ended, whoever started it, and that no call has answered; NULL if there is none. */
+/* A list that has ended, whoever started it, and that no call has answered; NULL if there is none. If one thread polls,
+ * the others may not run, test or wait for lists of the queue: it may be theirs. */
 struct dsa_list *dsa_queue_poll(struct dsa_queue *queue);
 /* What the caller wants to find again with a list that has ended; NULL at first. */
 void dsa_list_set_tag(struct dsa_list *list, void *tag);

@@ -218,10 +218,15 @@ static bool slots_before(const struct dsa_list *list, uint64_t *slots)
     return can;
 }
 
-static bool is_in_flight(struct dsa_list *list)
+/// In a child of fork a thread that is not there may have the lock.
+static bool can_order(const struct dsa_list *list) { return list->queue->tracker && room_is_own(list->queue); }
+
+/// Whether the list is in flight, or else whether it is lost and no call has said so.
+static bool is_in_flight(struct dsa_list *list, bool *is_lost)
 {
     pthread_mutex_lock(&list->queue->lock);
     const bool is = has_begun(list);
+    *is_lost = list->state == ENDED && list->end == DSA_LIST_LOST;
     pthread_mutex_unlock(&list->queue->lock);
     return is;
 }
@@ -259,8 +264,11 @@ static enum dsa_end take_in(struct dsa_list *list)
 enum dsa_end dsa_list_start(struct dsa_list *list)
 {
     struct dsa_queue *queue = list->queue;
-    if (queue->tracker && room_is_own(queue) && is_in_flight(list))
+    bool is_lost = false;
+    if (can_order(list) && is_in_flight(list, &is_lost))
         return DSA_LIST_RUNNING;
+    if (is_lost)
+        return dsa_list_wait(list);
     list->reason = queue->tracker ? run_begin(list) : NOT_TRACKED;
     if (list->reason)
         return list->end = DSA_LIST_REFUSED;
@@ -324,9 +332,6 @@ struct dsa_list *dsa_queue_poll(struct dsa_queue *queue)
     return list;
 }
 
-/// In a child of fork a thread that is not there may have the lock.
-static bool can_order(const struct dsa_list *list) { return list->queue->tracker && room_is_own(list->queue); }
-
 void flight_settle(struct dsa_list *list)
 {
     if (!list->was_started || !can_order(list))
@@ -364,7 +369,9 @@ void dsa_list_after(struct dsa_list *list, const struct dsa_list *other)
     flight_settle(list); /* it is of the next start */
     list->has_after = true;
     pthread_mutex_lock(&list->queue->lock);
-    if (has_begun(other) || other->end == DSA_LIST_REFUSED)
+    if (other->queue != list->queue)
+        list->is_after_failed = true;
+    else if (has_begun(other) || other->end == DSA_LIST_REFUSED)
         list->after |= bit_of(other);
     else
         list->is_after_failed |= other->end != DSA_LIST_DONE;

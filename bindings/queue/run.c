@@ -70,8 +70,10 @@ enum reason run_begin(struct dsa_list *list)
 /// Lists that may be in flight together are ordered, so this one is, too.
 enum dsa_end dsa_list_run(struct dsa_list *list)
 {
-    if (list->queue->tracker)
-        return dsa_list_start(list) == DSA_LIST_RUNNING ? dsa_list_wait(list) : DSA_LIST_REFUSED;
+    if (list->queue->tracker) {
+        const enum dsa_end how = dsa_list_start(list);
+        return how == DSA_LIST_RUNNING ? dsa_list_wait(list) : how;
+    }
     list->reason = run_begin(list);
     if (list->reason)
         return list->end = DSA_LIST_REFUSED;

@@ -212,8 +212,11 @@ char *dsa_list_why(const struct dsa_list *list, char why[DSA_WHY_ROOM])
                 status_of(record_of(list->portal + ENTRY * list->entry)));
         break;
     case NO_PROGRESS:
-        why_not(why, "operation %d: pages are absent again each time they were made present; pin the buffers",
-                dsa_list_failed(list));
+        if (dsa_list_failed(list) < 0)
+            why_not(why, "the memory of the queue is absent again each time it was made present; lock it (mlockall)");
+        else
+            why_not(why, "operation %d: pages are absent again each time they were made present; pin the buffers",
+                    dsa_list_failed(list));
         break;
     case NOT_ACCEPTED:
         why_full(list, why);

@@ -183,8 +183,8 @@ static void in_flight(void)
     answered = NULL;
     for (int i = 0; i < 4; i++)
         EXPECT(dsa_list_start(others[i]) == DSA_LIST_RUNNING);
-    EXPECT(dsa_list_wait(list) == DSA_LIST_LOST);
     EXPECT(dsa_list_wait(others[0]) == DSA_LIST_LEFT_OUT && c[0] == 0);
+    EXPECT(dsa_list_run(list) == DSA_LIST_LOST); /* its start is, and nobody was told so far */
     printf("%s\n", dsa_list_why(others[0], why));
     EXPECT(dsa_list_wait(others[1]) == DSA_LIST_LEFT_OUT && c[PAGE] == 0);
     EXPECT(dsa_list_wait(others[2]) == DSA_LIST_DONE && c[2 * PAGE] == 7);

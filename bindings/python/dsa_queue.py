@@ -236,8 +236,13 @@ class Queue:
         """Moves all lists in flight on, and answers one that has ended, whoever started it, and that no call has
         answered; None if there is none. `List.test` says how it has ended."""
         with self._lock:
-            at = _library.dsa_queue_poll(self._open())
-            return None if at is None else self._lists.get(at)
+            found = None
+            while found is None:
+                at = _library.dsa_queue_poll(self._open())
+                if at is None:
+                    break
+                found = self._lists.get(at)  # none of a list that is garbage
+            return found
 
     def _reap(self) -> None:
         """Gives lists back that are garbage."""
@@ -359,6 +364,7 @@ class List:
                 for name, buffer in buffers.items():
                     held.append(_Held(name, buffer, name in written))
                 size = _size_of(held)
+                more |= {"delta_size": one.size for one in held if one.name == "delta"}
                 descriptor = make(**{one.name: one.address for one in held}, size=size, record=0, **more)
             except BaseException:
                 for one in held:
@@ -394,8 +400,7 @@ class List:
 
     def apply_delta(self, delta: Any, target: Any) -> int:
         """Applies a delta record, which has a size of its own, to a target."""
-        delta_size = memoryview(delta).nbytes
-        return self._add(dsa_planner.apply_delta, {"delta": delta, "target": target}, ["target"], delta_size=delta_size)
+        return self._add(dsa_planner.apply_delta, {"delta": delta, "target": target}, ["target"])
 
     def check(self, first: Any, second: Any) -> int:
         """The two have to be equal, else the list fails and nothing that is added later is begun: a compare that checks
@@ -428,7 +433,8 @@ class List:
 
     def start(self, after: Iterable[List] = ()) -> None:
         """Starts the list, on a queue with `in_flight`; `test` and `wait` say how it has ended. It comes after the
-        others, as they were started last: it is left out unless they succeed. Raises `Refused`."""
+        others, as they were started last: it is left out unless they succeed. Raises `Refused`; then the next start
+        comes after them, too."""
         others = list(after)
         if any(other._queue is not self._queue or not other._is_open for other in others):
             raise ValueError("a list can come after open lists of its own queue alone")
@@ -464,7 +470,7 @@ class List:
 
     def close(self) -> None:
         """Gives the list back, and releases the buffers; it is waited for if it is in flight."""
-        with self._lock:
+        with self._queue._lock, self._lock:  # nobody else gets it from the library in between
             if self._is_open:
                 self._is_open = False
                 self._made.drop()

@@ -200,6 +200,20 @@ def in_flight():
     expect(not any(map(is_locked, arrays)), "a queue that is closed holds nothing")
 
 
+def polled():
+    """What has ended and is garbage is not what a poll answers: the next one is."""
+    with opened(in_flight=True) as queue:
+        lists = [queue.list() for _ in range(3)]
+        for it in lists:
+            it.fill(bytearray(64), PATTERN)
+        for it in lists[:2]:
+            it.start()
+        it = lists[0] = None
+        gc.collect()
+        lists[2].run()  # moves all on
+        expect(queue.poll() is lists[1], "a list that has ended is polled, though one before it is garbage")
+
+
 def threads():
     """Four threads with a list each, and one that closes the queue while they run."""
     queue, arrays, ended = opened(in_flight=True), [bytearray(4096) for _ in range(4)], []
@@ -269,7 +283,7 @@ def lost():
 
 
 if __name__ == "__main__":
-    cases = [operations, checks, refusals, addresses, in_flight, threads, faults]
+    cases = [operations, checks, refusals, addresses, in_flight, polled, threads, faults]
     for case in cases if sys.argv[1] == "lists" else [lost]:
         case()
     print(f"{wrong} wrong")

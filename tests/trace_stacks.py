@@ -173,15 +173,23 @@ BY_COMMIT = f"{KEY} @ submit < flush < commit < fence < main"
 BY_MIRROR = f"{KEY} @ submit < flush < mirror < fence < main"
 
 
+def accepted(mode, *lines, options=FIFO, program="placed"):
+    """How an audit ends that knows these keys."""
+    Path(WORK, "known").write_text("".join(f"{it}\n" for it in lines))
+    return audited(*options, "--accept", f"{WORK}/known", "--deny", "stale", "--", client(program), mode)
+
+
+def keys_of(mode, *options, program="placed"):
+    """The keys that an audit writes."""
+    end = audited(*options, "--write-accept", "--", client(program), mode)
+    told(f"the keys of {mode}", end, 0)
+    return end.stdout.splitlines()
+
+
 def keys():
     """A key with a place accepts an error there and not elsewhere, also of what the library notes; without one it
     accepts it anywhere. What an accepted error hides is an error."""
     built_by("gcc", "-O2")
-
-    def accepted(mode, *lines, options=FIFO):
-        Path(WORK, "known").write_text("".join(f"{it}\n" for it in lines))
-        return audited(*options, "--accept", f"{WORK}/known", "--deny", "stale", "--", client("placed"), mode)
-
     end = audited(*FIFO, "--write-accept", "--", client("placed"), "fence")
     expect(end.stdout == f"{BY_COMMIT}\n{BY_MIRROR}\n", f"the keys are {end.stdout}")
     for line, other, name in ((BY_COMMIT, BY_MIRROR, "mirror"), (BY_MIRROR, BY_COMMIT, "commit")):
@@ -211,6 +219,31 @@ def keys():
         end = audited(*FIFO, "--accept", f"{WORK}/known", "--write-accept", "--", client("placed"), "hidden")
         expect(end.stdout == f"{other}\n", f"the key that is left is {end.stdout}, not {other}")
     told("both pairs", accepted("hidden", *pairs), 0)
+
+
+def hidden_waits():
+    """Of waits for moves from other places each is an error until all are accepted, in any order."""
+    built_by("gcc", "-O0")
+    what = "missing wait, read after write; lone: move, 12288 bytes; lone: move"
+    place = "@ submit < start < waits < main | submit < start"
+    waits = [f"{what}, {size} bytes {place} < {name} < waits < main"
+             for size, name in ((128, "first"), (256, "second"), (64, "third"))]
+    expect(keys_of("waits", *LONG) == [waits[2]], f"the last wait is not {waits[2]}")
+    for known in (waits[2:], waits[1:], waits[::2]):
+        told(f"of the waits {known}", accepted("waits", *known, options=LONG), 1, "): error: missing wait")
+        left = keys_of("waits", *LONG, "--accept", f"{WORK}/known")
+        expect(len(left) == 1 and left[0] in waits and left[0] not in known, f"with {known} the keys are {left}")
+    told("all waits", accepted("waits", *waits, options=LONG), 0)
+
+
+def alike():
+    """A finding that reads like an accepted one of the same place and has another key is shown."""
+    built_by("gcc", "-O0")
+    sizes = [f"{KEY.replace('batch of 2', f'batch of {count}')} @ submit < sizes < main" for count in (2, 3)]
+    for known, left in (sizes, sizes[::-1]):
+        told(f"all but {left}", accepted("sizes", known), 1, "): error: missing fence", "): accepted: missing fence")
+        expect(keys_of("sizes", *FIFO, "--accept", f"{WORK}/known") == [left], f"the key that is left is not {left}")
+    told("both sizes", accepted("sizes", *sizes), 0)
 
 
 # ---- without names
@@ -300,7 +333,8 @@ def rust():
     expect(got[:3] == wanted and len(got) < 6, f"a Rust program: {got}, not {wanted}")
 
 
-PARTS = [compilers, kinds, ways, two_threads, data, keys, unnamed, tools, in_json, kept, rust]
+PARTS = [compilers, kinds, ways, two_threads, data, keys, hidden_waits, alike, unnamed, tools, in_json,
+         kept, rust]
 
 
 def main(words):

@@ -1,7 +1,7 @@
 /* Errors of dsa_text that --accept knows by their places. dsa_text knows keys alone, so it gets those without a place,
  * and its errors are compared with the others here. An accepted pair may hide another one, which dsa_text would name if
- * it knew what is accepted: so for each place with accepted errors it judges the process again with the keys of that
- * place, and the errors that it finds there count too. */
+ * it knew what is accepted: so it judges the process again with the keys of all places that have accepted errors, until
+ * there are no more such places, and the errors that it finds there count too. */
 #include "judged.h"
 
 #include <stdlib.h>
@@ -139,21 +139,21 @@ static bool are_read(const struct judgement *j, const struct keys *base, struct 
     return are_read;
 }
 
-/// What dsa_text finds with the keys of --accept that have this place: the keys of errors, and reports.
+/// What dsa_text finds with the keys of --accept that have some places: the keys of errors, and reports.
 struct again { FILE *json, *words; struct keys base; };
 
 /// False, after a sentence, if dsa_text does not answer as before.
-static bool ask(struct audits *all, const struct gathered *g, const char *place, struct again *a)
+static bool ask(struct audits *all, const struct gathered *g, const struct keys *places, struct again *a)
 {
     struct audit_options o = all->options;
-    FILE *accepted = stale_at(&all->stale, place), *keys = in_memory("the keys of the audit");
+    FILE *accepted = stale_at(&all->stale, places), *keys = in_memory("the keys of the audit");
     char path[32];
     snprintf(path, sizeof path, "/proc/self/fd/%d", fileno(accepted));
     o.accepted = accepted;
     *a = (struct again){.json = in_memory("a report"), .words = in_memory("a report")};
     const bool is_read = audit_text(all->dsa_text, &o, "--json", g, a->json) < 2 &&
                          audit_text(all->dsa_text, &o, "--all", g, a->words) < 2;
-    a->words = stale_take(&all->stale, path, place, a->words);
+    a->words = stale_take(&all->stale, path, places, a->words);
     if (audit_text(all->dsa_text, &o, "--write-accept", g, keys) == 0) {
         rewind(keys);
         keys_read(&a->base, keys);
@@ -161,7 +161,7 @@ static bool ask(struct audits *all, const struct gathered *g, const char *place,
     fclose(keys);
     fclose(accepted);
     if (!is_read)
-        fprintf(stderr, "dsa_trace: %s does not audit with the keys of a place, so what they hide is not known\n",
+        fprintf(stderr, "dsa_trace: %s does not audit with the keys of places, so what they hide is not known\n",
                 all->dsa_text);
     return is_read;
 }
@@ -188,22 +188,37 @@ static const char *place_of(const char *key)
     return at ? at : "";
 }
 
-/// Adds the errors at a place that those that are accepted there hide.
-static void add_hidden(struct audits *all, const struct gathered *g, struct places *p, const char *at,
+/// Whether an error is at one of these places, or of an entry that has an accepted one: else it is judged as it was.
+static bool is_hidden(const struct judgement *j, size_t count, const struct judged *it, const struct keys *places)
+{
+    bool is_hidden = keys_has(places, place_of(it->placed));
+    for (size_t i = 0; i < count && it->of.entry_count; i++)
+        is_hidden |= j->at[i].is_accepted && j->at[i].of.entry_count && j->at[i].of.entries[0] == it->of.entries[0];
+    return is_hidden;
+}
+
+/// Adds the errors that those hide that are accepted at these places.
+static void add_hidden(struct audits *all, const struct gathered *g, struct places *p, const struct keys *places,
                        struct judgement *j)
 {
     struct again again;
     const size_t before = j->count;
-    j->has_others |= !ask(all, g, at, &again);
+    j->has_others |= !ask(all, g, places, &again);
     j->reports = realloc(j->reports, (j->report_count + 1) * sizeof *j->reports);
     if (!j->reports)
         fail("the errors of the audit");
     j->reports[j->report_count] = again.words;
     read_errors(j, g, &again.base, j->report_count++, again.json);
     place(all, p, j, before);
+    size_t kept = before;
     for (size_t i = before; i < j->count; i++)
-        if (strcmp(place_of(j->at[i].placed), at)) /* of another place it is judged with the keys of that */
-            j->at[i].is_accepted = true;
+        if (is_hidden(j, before, &j->at[i], places))
+            j->at[kept++] = j->at[i];
+        else {
+            free(j->at[i].key);
+            free(j->at[i].placed);
+        }
+    j->count = kept;
     keys_forget(&again.base);
     fclose(again.json);
 }
@@ -240,12 +255,14 @@ bool judged_process(struct audits *all, const struct gathered *g, struct places 
     read_errors(j, g, base, 0, json);
     fclose(json);
     place(all, p, j, 0);
-    for (size_t i = 0, count = j->count; i < count; i++) {
-        const char *at = place_of(j->at[i].placed);
-        if (!j->at[i].is_accepted || keys_has(&judged, at))
-            continue;
-        keys_place(&judged, at);
-        add_hidden(all, g, p, at, j);
+    for (size_t before;;) {
+        before = judged.count;
+        for (size_t i = 0; i < j->count; i++)
+            if (j->at[i].is_accepted)
+                keys_place(&judged, place_of(j->at[i].placed));
+        if (judged.count == before)
+            break;
+        add_hidden(all, g, p, &judged, j);
     }
     keys_forget(&judged);
     bool has_errors = !are_read(j, base, left) || j->has_others;

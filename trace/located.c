@@ -24,6 +24,7 @@ struct items { struct item **at; size_t count, room; };
 struct reading {
     struct items items;
     const struct places *places;
+    const struct judgement *j;
     const struct gathered *g;
     void *tree;
     unsigned source;
@@ -61,7 +62,7 @@ static void append(char **text, const char *more)
 
 /// What findings that read alike have in common: the text without addresses and without the numbers of entries,
 /// submissions and bytes; and of each stack its number, or its text if that is known.
-static char *alike_of(const struct item *it, const struct places *p, bool is_known)
+static char *alike_of(const struct item *it, const struct places *p, const struct judgement *j, bool is_known)
 {
     static const char *const numbered[] = {"entry ", "submission ", "byte "};
     char *alike = NULL;
@@ -79,7 +80,8 @@ static char *alike_of(const struct item *it, const struct places *p, bool is_kno
         else
             fputc(*at++, to);
     }
-    fprintf(to, "%u", it->source);
+    const struct judged *found = judged_find(j, it->source, &it->of, it->text);
+    fprintf(to, "%u%s", it->source, found ? found->placed : ""); /* the key has what the text has not: of how many */
     for (unsigned i = 0; i < it->of.count; i++) {
         const struct stack *s = places_stack(p, it->of.submissions[i]);
         if (is_known)
@@ -99,10 +101,10 @@ static int by_alike(const void *a, const void *b)
 static void keep(void *item) { (void)item; }
 
 /// Counts a finding with an earlier one that is like it; false if there is none.
-static bool is_counted(struct item *it, const struct places *p, bool is_known, void **tree)
+static bool is_counted(struct item *it, const struct places *p, const struct judgement *j, bool is_known, void **tree)
 {
     free(it->alike);
-    it->alike = alike_of(it, p, is_known);
+    it->alike = alike_of(it, p, j, is_known);
     struct item **found = tsearch(it, tree, by_alike);
     if (!found)
         fail("the report");
@@ -114,7 +116,7 @@ static bool is_counted(struct item *it, const struct places *p, bool is_known, v
 static void end(struct reading *r)
 {
     struct item *last = r->items.count ? r->items.at[r->items.count - 1] : NULL;
-    if (!last || !last->is_finding || !is_counted(last, r->places, false, &r->tree))
+    if (!last || !last->is_finding || !is_counted(last, r->places, r->j, false, &r->tree))
         return;
     free_item(last);
     r->items.count--;
@@ -144,12 +146,12 @@ static void take(struct reading *r, const char *line)
 }
 
 /// Counts the findings whose places read alike, though their stacks are others; they are shown no more.
-static void group(struct items *all, const struct places *p)
+static void group(struct items *all, const struct places *p, const struct judgement *j)
 {
     void *tree = NULL;
     for (size_t i = 0; i < all->count; i++)
         all->at[i]->is_hidden |= all->at[i]->is_finding && !all->at[i]->is_hidden &&
-                                 is_counted(all->at[i], p, true, &tree);
+                                 is_counted(all->at[i], p, j, true, &tree);
     tdestroy(tree, keep);
 }
 
@@ -205,7 +207,7 @@ static void judge(struct items *all, const struct judgement *j)
 /// Writes the reports with places.
 void located_text(FILE *own, const struct judgement *j, struct places *p, const struct gathered *g, FILE *to)
 {
-    struct reading r = {.places = p, .g = g};
+    struct reading r = {.places = p, .j = j, .g = g};
     struct items *all = &r.items;
     read_report(&r, own);
     for (; r.source < j->report_count; r.source++)
@@ -216,7 +218,7 @@ void located_text(FILE *own, const struct judgement *j, struct places *p, const 
             places_want(p, all->at[i]->of.submissions[k]);
     places_find(p);
     judge(all, j);
-    group(all, p);
+    group(all, p, j);
     for (size_t i = 0; i < all->count; i++) {
         if (!all->at[i]->is_hidden)
             write_item(all->at[i], p, to);

@@ -50,8 +50,9 @@ static bool has_place(const char *line, const char **at)
     return *at;
 }
 
-/// A file of the lines without a place, and of the keys with this one, NULL for none; each has the number of its line.
-FILE *stale_at(const struct stale *s, const char *place)
+/// A file of the lines without a place, and of the keys with one of these, NULL for none; each has the number of its
+/// line.
+FILE *stale_at(const struct stale *s, const struct keys *places)
 {
     const char *at;
     FILE *file = in_memory("the accepted keys");
@@ -59,7 +60,7 @@ FILE *stale_at(const struct stale *s, const char *place)
         const char *line = s->lines[i].text;
         if (!has_place(line, &at))
             fprintf(file, "%s\n", line);
-        else if (place && strcmp(at, place) == 0)
+        else if (places && keys_has(places, at))
             fprintf(file, "%.*s\n", (int)(at - line), line);
         else
             fputs("#\n", file);
@@ -110,8 +111,8 @@ static bool is_named(struct stale *s, const char *passed, const char *line)
     return s->lines[number - 1].is_named = true;
 }
 
-/// Takes these lines out of a report in words. Those with this place that it does not name are used.
-FILE *stale_take(struct stale *s, const char *passed, const char *place, FILE *report)
+/// Takes these lines out of a report in words. Those with these places that it does not name are used.
+FILE *stale_take(struct stale *s, const char *passed, const struct keys *places, FILE *report)
 {
     const char *at;
     char *line = NULL;
@@ -130,7 +131,7 @@ FILE *stale_take(struct stale *s, const char *passed, const char *place, FILE *r
         fail("the answer of dsa_text");
     for (size_t i = 0; i < s->count; i++) {
         const bool has_one = has_place(s->lines[i].text, &at);
-        s->lines[i].is_used |= !s->lines[i].is_named && has_one == !!place && (!place || strcmp(at, place) == 0);
+        s->lines[i].is_used |= !s->lines[i].is_named && has_one == !!places && (!places || keys_has(places, at));
     }
     fclose(report);
     return left;

@@ -1,6 +1,6 @@
 /* Submissions with a fault from each kind of code, for what is said of their places:
  *
- *     placed fence|hidden|list|heap|stack|handler|fork|deep|written|library PATH
+ *     placed fence|hidden|waits|sizes|list|heap|stack|handler|fork|deep|written|library PATH
  *
  * As a library (-DLIBRARY) it has submit_in_library alone. */
 #include <dlfcn.h>
@@ -72,6 +72,62 @@ OUT_OF_LINE static void hidden(void)
     done.status = 0;
     submit(job.portal, &all);
     await(&done);
+}
+
+/* A move that is not waited for. */
+OUT_OF_LINE static void start(const char *from, char *to, unsigned size)
+{
+    static _Alignas(32) completion done[4];
+    static unsigned next;
+    const descriptor one = move(from, to, size, &done[next++]);
+    submit(job.portal, &one);
+    __asm__ volatile("");
+    for (unsigned i = 0; next == 4 && i < next; i++)
+        await(&done[i]);
+}
+
+OUT_OF_LINE static void first(void)
+{
+    start(data.other, data.from, 128);
+    __asm__ volatile("");
+}
+
+OUT_OF_LINE static void second(void)
+{
+    start(data.other, data.between, 256);
+    __asm__ volatile("");
+}
+
+OUT_OF_LINE static void third(void)
+{
+    start(data.other, data.to, 64);
+    __asm__ volatile("");
+}
+
+/* The last of four moves lacks a wait for each of those before it. */
+OUT_OF_LINE static void waits(void)
+{
+    static char all[3 * SIZE];
+    first();
+    second();
+    third();
+    start(data.from, all, sizeof all); /* reads what all three write */
+}
+
+/* From one place the same fault in a batch of 2, and in one of 3 whose last move has none. */
+OUT_OF_LINE static void sizes(void)
+{
+    static _Alignas(64) descriptor list[3];
+    static _Alignas(32) completion done;
+    list[0] = move(data.from, data.between, SIZE, NULL);
+    list[1] = move(data.between, data.to, SIZE, NULL);
+    list[2] = move(data.from, data.other, 64, NULL);
+    for (unsigned count = 2; count <= 3; count++) {
+        const descriptor all = batch(list, count, &done);
+        done.status = 0;
+        submit(job.portal, &all);
+        await(&done);
+    }
 }
 
 /* The list is filled anew before the device has read it. */
@@ -161,8 +217,8 @@ static void in_library(const char *path)
 int main(int argc, char **argv)
 {
     static const struct { const char *name; void (*run)(void); } modes[] = {
-        {"fence", fence},   {"hidden", hidden}, {"list", refill},     {"heap", on_heap},
-        {"stack", on_stack}, {"fork", in_child}, {"written", written},
+        {"fence", fence},   {"hidden", hidden}, {"waits", waits},    {"sizes", sizes},
+        {"list", refill},   {"heap", on_heap},  {"stack", on_stack}, {"fork", in_child}, {"written", written},
     };
     const char *mode = argc > 1 ? argv[1] : "fence";
     job.portal = portal_of("/dev/dsa/wq0.0");

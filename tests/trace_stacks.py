@@ -246,6 +246,45 @@ def alike():
     told("both sizes", accepted("sizes", *sizes), 0)
 
 
+def unnumbered():
+    """A stack without a number is `?` in a key, which accepts the error at no other place."""
+    built_by("gcc", "-O0")
+    full = "more than 4096 call stacks (each dlclose counts them anew); findings name no further ones\n"
+    told("many stacks", audited(*FIFO, "--", client("placed"), "many"), 1, full)
+    expect(keys_of("many", *FIFO) == [f"{KEY} @ ?"], "the key of stacks without numbers is another")
+    told("without numbers", accepted("many", f"{KEY} @ ?"), 0)
+    told("with them", accepted("fence", f"{KEY} @ ?"), 1, "): error: missing fence")
+
+
+def long_names():
+    """A key has all functions, however long their names are."""
+    long = "f" * 4200
+    built_by("gcc", "-O0", f"-Dflush={long}", f"-Drefill=re{long}")
+    both = [f"{KEY} @ submit < {long} < {name} < fence < main" for name in ("commit", "mirror")]
+    expect(keys_of("fence", *FIFO) == both, "the keys of long names are others")
+    told("a long key", accepted("fence", both[0]), 1, "): error: missing fence")
+    told("both long keys", accepted("fence", *both), 0)
+    [listed] = keys_of("list", *LONG)
+    expect(listed.endswith(f" @ submit < re{long} < main"), f"the key of a list is {listed}")
+    told("a long key of a list", accepted("list", listed, options=LONG), 0, "): accepted: descriptor list")
+
+
+def in_cpp():
+    """A name in C++ is whole in a key, with its parts in parentheses."""
+    if not shutil.which("g++"):
+        skip("places of a C++ program: there is no g++")
+        return
+    words = [*STRICT, "-g", "-DLIBRARY", "-c", "-o", f"{WORK}/placed.o", SOURCE]
+    told("the C part", ran("gcc", *words), 0)
+    told("the C++ part", ran("g++", "-g", "-O1", "-o", client("placed_cpp"), SOURCE.with_suffix(".cpp"),
+                             f"{WORK}/placed.o"), 0)
+    both = keys_of("", *FIFO, program="placed_cpp")
+    right = len(both) == 2 and all(f"::{name}_caller<" in it for it, name in zip(both, ("first", "second")))
+    expect(right, f"the keys in C++ are {both}")
+    told("one caller in C++", accepted("", both[0], program="placed_cpp"), 1, "): error: missing fence")
+    told("both callers in C++", accepted("", *both, program="placed_cpp"), 0)
+
+
 # ---- without names
 
 
@@ -333,8 +372,8 @@ def rust():
     expect(got[:3] == wanted and len(got) < 6, f"a Rust program: {got}, not {wanted}")
 
 
-PARTS = [compilers, kinds, ways, two_threads, data, keys, hidden_waits, alike, unnamed, tools, in_json,
-         kept, rust]
+PARTS = [compilers, kinds, ways, two_threads, data, keys, hidden_waits, alike, unnumbered, long_names, in_cpp,
+         unnamed, tools, in_json, kept, rust]
 
 
 def main(words):

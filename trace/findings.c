@@ -95,16 +95,15 @@ void findings_forget(struct findings *all)
     free(all->at);
 }
 
-/// How severe a finding is, and its key, with the place if that is known. A key without a place accepts it too.
-static const char *judge(const struct finding *f, const struct keys *accepted, char key[LONGEST_KEY])
+/// How severe a finding is, and its key, with the place if that is known. `room` has the key without a place, which
+/// accepts it too.
+static const char *judge(const struct finding *f, const struct keys *accepted, char room[LONGEST_KEY],
+                         const char **key)
 {
     const char *severity = kinds[f->kind].severity;
-    key_of(f, key);
-    bool is_accepted = keys_has(accepted, key);
-    if (f->placed) {
-        snprintf(key, LONGEST_KEY, "%s", f->placed);
-        is_accepted |= keys_has(accepted, key);
-    }
+    key_of(f, room);
+    *key = f->placed ? f->placed : room; /* of any length */
+    const bool is_accepted = keys_has(accepted, room) || keys_has(accepted, *key);
     return strcmp(severity, "error") == 0 && is_accepted ? "accepted" : severity;
 }
 
@@ -128,16 +127,17 @@ static void write_text(const struct finding *f, const char *severity, size_t ali
 void findings_text(const struct findings *all, const struct keys *accepted, bool each, FILE *to)
 {
     struct keys seen = {0};
-    char key[LONGEST_KEY];
+    char room[LONGEST_KEY];
+    const char *key;
     size_t *alike = calloc(all->count + 1, sizeof *alike);
     if (!alike)
         fail("the findings");
     for (size_t i = 0; i < all->count; i++) {
-        key_of(&all->at[i], key);
-        alike[keys_place(&seen, key)]++;
+        key_of(&all->at[i], room);
+        alike[keys_place(&seen, room)]++;
     }
     for (size_t i = 0, first = 0; i < all->count && first < seen.count; i++) {
-        const char *severity = judge(&all->at[i], accepted, key);
+        const char *severity = judge(&all->at[i], accepted, room, &key);
         if (each)
             write_text(&all->at[i], severity, 1, to);
         else if (strcmp(key, seen.all[first]) == 0)
@@ -163,13 +163,13 @@ static void write_json(const struct finding *f, const char *severity, const char
 /// Writes the findings as an array.
 void findings_json(const struct findings *all, const struct keys *accepted, FILE *to)
 {
-    char key[LONGEST_KEY];
+    char plain[LONGEST_KEY];
+    const char *key;
     fputc('[', to);
     for (size_t i = 0; i < all->count; i++) {
-        const char *severity = judge(&all->at[i], accepted, key);
-        key_of(&all->at[i], key); /* `places` has the place */
+        const char *severity = judge(&all->at[i], accepted, plain, &key);
         fputs(i ? "," : "", to);
-        write_json(&all->at[i], severity, key, to);
+        write_json(&all->at[i], severity, plain, to); /* `places` has the place */
     }
     fputc(']', to);
 }
@@ -177,10 +177,11 @@ void findings_json(const struct findings *all, const struct keys *accepted, FILE
 /// Adds the keys of the errors to a set; answers whether there is an error.
 bool findings_errors(const struct findings *all, const struct keys *accepted, struct keys *to)
 {
-    char key[LONGEST_KEY];
+    char room[LONGEST_KEY];
+    const char *key;
     bool is_one = false;
     for (size_t i = 0; i < all->count; i++)
-        if (strcmp(judge(&all->at[i], accepted, key), "error") == 0) {
+        if (strcmp(judge(&all->at[i], accepted, room, &key), "error") == 0) {
             keys_place(to, key);
             is_one = true;
         }
@@ -191,12 +192,12 @@ bool findings_errors(const struct findings *all, const struct keys *accepted, st
 void findings_use(const struct findings *all, struct stale *s)
 {
     const struct keys none = {0};
-    char key[LONGEST_KEY];
+    char plain[LONGEST_KEY];
+    const char *key;
     for (size_t i = 0; i < all->count && s->file; i++) {
-        if (strcmp(judge(&all->at[i], &none, key), "error"))
+        if (strcmp(judge(&all->at[i], &none, plain, &key), "error"))
             continue;
         stale_use(s, key);
-        key_of(&all->at[i], key);
-        stale_use(s, key);
+        stale_use(s, plain);
     }
 }

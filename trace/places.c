@@ -4,6 +4,7 @@
 #include "places.h"
 
 #include <inttypes.h>
+#include <limits.h>
 #include <stdlib.h>
 #include <string.h>
 
@@ -261,8 +262,11 @@ void places_show(const struct places *p, const uint64_t *submissions, unsigned c
 static int name_length(const char *line)
 {
     const int length = (int)strcspn(line, "\n");
+    for (int i = length; i-- > 0;) /* of a name in C++ parts may be in parentheses, too */
+        if (strncmp(line + i, " (", 2) == 0)
+            return i;
     for (int i = 0; i < length; i++)
-        if (strncmp(line + i, " (", 2) == 0 || strncmp(line + i, "+0x", 3) == 0)
+        if (strncmp(line + i, "+0x", 3) == 0)
             return i;
     return length;
 }
@@ -272,7 +276,9 @@ static void put_functions(const char *text, FILE *to)
 {
     for (const char *at = text; *at; at = strchr(at, '\n') + 1) {
         const char *name = at + strlen("    at ");
-        fprintf(to, "%s%.*s", at == text ? "" : " < ", name_length(name), name);
+        const bool is_address = strncmp(name, "0x", 2) == 0; /* another one in each run */
+        fprintf(to, "%s%.*s", at == text ? "" : " < ", is_address ? INT_MAX : name_length(name),
+                is_address ? "code in no file" : name);
     }
 }
 
@@ -287,15 +293,14 @@ char *places_key(const struct places *p, const char *key, const uint64_t *submis
     fputs(key, to);
     for (unsigned i = 0; i < count; i++) {
         const struct stack *s = places_stack(p, submissions[i]);
-        if (!s || !s->text)
-            continue;
         fputs(between, to);
-        put_functions(s->text, to);
+        if (s && s->text && *s->text)
+            put_functions(s->text, to);
+        else
+            fputc('?', to); /* else it would accept the error at other places */
         between = " | ";
     }
     fclose(to);
-    if (size >= LONGEST_KEY)
-        text[LONGEST_KEY - 1] = 0;
     return text;
 }
 

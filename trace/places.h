@@ -49,7 +49,7 @@ void places_show(const struct places *p, const uint64_t *submissions, unsigned c
 /* The text of what an address of data is, or NULL if it is not known; and adds one, which is freed later. */
 const char *places_datum(const struct places *p, uint64_t at);
 void places_add_datum(struct places *p, uint64_t at, char *text);
-/* A key with the functions of these submissions, for free; the key alone if no stack is known. */
+/* A key with the functions of these submissions, for free; `?` in place of those of a stack that is not known. */
 char *places_key(const struct places *p, const char *key, const uint64_t *submissions, unsigned count);
 /* Writes an object of JSON for a submission. */
 void places_json(const struct places *p, uint64_t submission, FILE *to);

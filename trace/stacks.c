@@ -170,7 +170,9 @@ static unsigned number_of(struct walk *w)
         return stacks.by_hash[place];
     if (stacks.count == STACKS) {
         if (!stacks.is_full)
-            say("this process submits from more than %d call stacks; findings name no further ones", STACKS);
+            say("this process submits from more than %d call stacks (each dlclose counts them anew); findings name no "
+                "further ones",
+                STACKS);
         stacks.is_full = true;
         return 0;
     }

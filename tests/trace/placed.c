@@ -1,6 +1,6 @@
 /* Submissions with a fault from each kind of code, for what is said of their places:
  *
- *     placed fence|hidden|waits|sizes|list|heap|stack|handler|fork|deep|written|library PATH
+ *     placed fence|hidden|waits|sizes|many|list|heap|stack|handler|fork|deep|written|library PATH
  *
  * As a library (-DLIBRARY) it has submit_in_library alone. */
 #include <dlfcn.h>
@@ -130,6 +130,23 @@ OUT_OF_LINE static void sizes(void)
     }
 }
 
+/* After as many stacks as have numbers two batches with a fault, whose stacks have none. */
+static void many(void)
+{
+    static _Alignas(32) completion done;
+    const descriptor one = move(data.from, data.other, 64, &done);
+    for (int i = 0; i < 4096; i++) {
+        void *library = dlopen("libm.so.6", RTLD_NOW);
+        if (!library || dlclose(library))
+            exit(WRONG);
+        done.status = 0;
+        submit(job.portal, &one);
+        await(&done);
+    }
+    commit();
+    mirror();
+}
+
 /* The list is filled anew before the device has read it. */
 OUT_OF_LINE static void refill(void)
 {
@@ -217,7 +234,7 @@ static void in_library(const char *path)
 int main(int argc, char **argv)
 {
     static const struct { const char *name; void (*run)(void); } modes[] = {
-        {"fence", fence},   {"hidden", hidden}, {"waits", waits},    {"sizes", sizes},
+        {"fence", fence},   {"hidden", hidden}, {"waits", waits},    {"sizes", sizes},     {"many", many},
         {"list", refill},   {"heap", on_heap},  {"stack", on_stack}, {"fork", in_child}, {"written", written},
     };
     const char *mode = argc > 1 ? argv[1] : "fence";

@@ -356,6 +356,33 @@ def kept():
     told("without stacks", traced("--report", folder, env=KNOWN), 1, "\n  and 9 more like it (--all writes each)\n")
 
 
+def kept_in_part():
+    """What was cut or changed in a folder is said or left out, and what an audit has not found a later one finds."""
+    built_by("gcc", "-O0")
+    folder = f"{WORK}/kept_in_part"
+    without = KNOWN | {"DSA_TRACE_ADDR2LINE": "/nowhere/addr2line"}
+    told("kept without names", audited(*FIFO, "--out", folder, "--", client("placed"), "fence", env=without), 1)
+    first = traced("--report", folder, env=KNOWN)
+    told("names that are found later", first, 1, "by commit (")
+    [events], [places] = (list(Path(folder, "seed-1").glob(f"*.{it}")) for it in ("events", "places"))
+    whole = places.read_text()
+    places.write_text(f"1 x\n2 \n1\n{whole}")
+    again = traced("--report", folder, env=KNOWN)
+    expect((again.returncode, again.stdout) == (1, first.stdout), f"with other lines: {again.stdout} {again.stderr}")
+    places.unlink()
+    told("found again", traced("--report", folder, env=KNOWN), 1, "by commit (")
+    with open(client("placed"), "ab") as program:
+        program.write(b"\0")  # the number of its file stays
+    end = traced("--report", folder, env=KNOWN)
+    told("a program that has changed", end, 1, "at placed+0x")
+    expect("commit" not in end.stdout, f"a program that has changed: {end.stdout}")
+    lines = events.read_text()
+    less = "since its events name less than is recorded"
+    for left, count in ((lines[:lines.rindex("S ")], 9), ("", 0)):
+        events.write_text(left)
+        told(f"{count} events", traced("--report", folder, env=KNOWN), 125, f"up to its submission {count}, {less}")
+
+
 def rust():
     """A Rust program has its own functions and lines."""
     if not shutil.which("rustc"):
@@ -373,7 +400,7 @@ def rust():
 
 
 PARTS = [compilers, kinds, ways, two_threads, data, keys, hidden_waits, alike, unnumbered, long_names, in_cpp,
-         unnamed, tools, in_json, kept, rust]
+         unnamed, tools, in_json, kept, kept_in_part, rust]
 
 
 def main(words):

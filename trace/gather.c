@@ -160,6 +160,13 @@ static bool put_event(struct gathering *c, const char *line)
     return false;
 }
 
+/// Whether entries come after those that the events name, in their part or in the next.
+static bool has_more(struct gathering *c)
+{
+    const struct named next = {.part = c->number + 1};
+    return (c->part && fgetc(c->part) != EOF) || (seek(c, &next) && fgetc(c->part) != EOF);
+}
+
 /// Gathers the recording of a process in memory, up to the first submission that can't be audited. `changed` gets what
 /// is changed.
 void gather(const char *records, const char *base, struct gathered *g, struct findings *changed)
@@ -176,6 +183,8 @@ void gather(const char *records, const char *base, struct gathered *g, struct fi
     if (ferror(from))
         fail(path);
     fclose(from);
+    if (!g->why && has_more(&c))
+        g->why = "its events name less than is recorded";
     if (c.part)
         fclose(c.part);
     if (fflush(c.to) || fflush(c.events))

@@ -7,6 +7,8 @@
 #include <limits.h>
 #include <stdlib.h>
 #include <string.h>
+#include <sys/stat.h>
+#include <unistd.h>
 
 #include "launcher.h"
 
@@ -21,6 +23,16 @@ static void *grown(void *at, size_t count, size_t size)
     return at;
 }
 
+/// Whether a file has changed after a time.
+static bool is_newer(const char *path, struct timespec than)
+{
+    struct stat s;
+    if (*path != '/' || stat(path, &s))
+        return false;
+    const struct timespec t = s.st_ctim;
+    return t.tv_sec > than.tv_sec || (t.tv_sec == than.tv_sec && t.tv_nsec > than.tv_nsec);
+}
+
 static void add_mapped(struct places *p, const char *line)
 {
     struct mapped m = {0};
@@ -31,6 +43,8 @@ static void add_mapped(struct places *p, const char *line)
         return;
     m.is_code = rights[2] == 'x';
     m.path = strdup(line + at);
+    if (m.path && is_newer(m.path, p->recorded))
+        m.inode = 0; /* a file that was built anew may have the number of the one that ran */
     p->mapped = grown(p->mapped, p->mapped_count, sizeof m);
     p->mapped[p->mapped_count++] = m;
 }
@@ -115,6 +129,8 @@ static void add_text(struct places *p, const char *line)
     char *longer;
     if (sscanf(line, "%lu %n", &number, &at) < 1 || !at || number < 1 || number > p->stack_count)
         return;
+    if (strncmp(line + at, "at ", 3) && strncmp(line + at, "by ", 3))
+        return; /* it has no function, which all that reads a text looks for */
     struct stack *s = &p->stacks[number - 1];
     if (asprintf(&longer, "%s    %s\n", s->text ? s->text : "", line + at) < 0)
         fail("places");
@@ -145,6 +161,9 @@ static void read_lines(struct places *p, const char *records, const char *base, 
     size_t room = 0;
     snprintf(name, sizeof name, "%s.%s", base, end);
     FILE *from = fopen(joined(path, records, name), "r");
+    struct stat s;
+    if (from && !p->stack_count && fstat(fileno(from), &s) == 0)
+        p->recorded = s.st_mtim;
     for (ssize_t length; from && (length = getline(&line, &room, from)) > 0;) {
         line[length - (line[length - 1] == '\n')] = 0;
         add(p, line);
@@ -182,22 +201,40 @@ void places_forget(struct places *p)
     *p = (struct places){0};
 }
 
+/// Writes a stack, unless it has no names: a later audit may find them, when there is addr2line.
+static void keep_stack(const struct stack *s, size_t number, FILE *to)
+{
+    const bool has_names = s->text && strstr(s->text, " (");
+    for (const char *line = s->text; has_names && *line; line = strchr(line, '\n') + 1)
+        fprintf(to, "%zu %.*s\n", number, (int)strcspn(line + 4, "\n"), line + 4);
+}
+
+/// Writes what is known to a file; false if it can't be.
+static bool keep(const struct places *p, const char *path)
+{
+    FILE *to = fopen(path, "w");
+    if (!to)
+        return false;
+    for (size_t i = 0; i < p->stack_count; i++)
+        keep_stack(&p->stacks[i], i + 1, to);
+    for (size_t i = 0; i < p->datum_count; i++)
+        fprintf(to, "v %" PRIx64 " %s\n", p->data[i].at, p->data[i].text);
+    const bool is_written = !ferror(to);
+    return fclose(to) == 0 && is_written;
+}
+
 bool places_keep(const struct places *p, const char *records, const char *base)
 {
-    char name[NAME_MAX + 32], path[PATH_MAX];
+    char name[NAME_MAX + 32], path[PATH_MAX], new[PATH_MAX];
     snprintf(name, sizeof name, "%s.places", base);
-    FILE *to = fopen(joined(path, records, name), "w");
-    for (size_t i = 0; to && i < p->stack_count; i++)
-        for (const char *line = p->stacks[i].text; line && *line; line = strchr(line, '\n') + 1)
-            fprintf(to, "%zu %.*s\n", i + 1, (int)strcspn(line + 4, "\n"), line + 4);
-    for (size_t i = 0; to && i < p->datum_count; i++)
-        fprintf(to, "v %" PRIx64 " %s\n", p->data[i].at, p->data[i].text);
-    const bool is_written = to && !ferror(to);
-    if ((to && fclose(to)) || !is_written) {
-        fprintf(stderr, "dsa_trace: %s can't be written, so a later audit may name no places\n", path);
-        return false;
-    }
-    return true;
+    joined(path, records, name);
+    snprintf(name, sizeof name, "%s.new%d.places", base, (int)getpid());
+    joined(new, records, name);
+    if (keep(p, new) && rename(new, path) == 0) /* so it is never half there */
+        return true;
+    unlink(new);
+    fprintf(stderr, "dsa_trace: %s can't be written, so a later audit may name no places\n", path);
+    return false;
 }
 
 struct stack *places_stack(const struct places *p, uint64_t submission)

@@ -5,10 +5,12 @@
 #include <stdbool.h>
 #include <stdint.h>
 #include <stdio.h>
+#include <time.h>
 
 #include "symbols.h"
 
-/* A file of code, or the heap, of the program: where it was mapped, and from which offset on. */
+/* A file of code, or the heap, of the program: where it was mapped, and from which offset on. `inode` is 0 if the file
+ * has changed since. */
 struct mapped { char *path; unsigned long inode; uint64_t low, high, offset; bool is_code; };
 
 /* A frame of a stack. `mapped` is SIZE_MAX if its code is in none. `called` is what its call calls, or NULL. */
@@ -22,7 +24,7 @@ struct thread { int number; uint64_t low, high; char name[20]; };
 /* What an address of data is. */
 struct datum { uint64_t at; char *text; };
 
-/* Of one recording with all its parts. */
+/* Of one recording with all its parts, whose last stack was written at the time `recorded`. */
 struct places {
     struct symbols *symbols;
     struct mapped *mapped;
@@ -30,6 +32,7 @@ struct places {
     struct origin *origins; /* by submission */
     struct thread *threads;
     struct datum *data;
+    struct timespec recorded;
     size_t mapped_count, stack_count, origin_count, thread_count, datum_count;
 };
 
@@ -37,7 +40,8 @@ struct places {
 /* Reads what is beside a recording. Without stacks `stack_count` is 0. */
 void places_read(struct places *p, const char *records, const char *base, struct symbols *symbols);
 void places_forget(struct places *p);
-/* Writes NAME.PID.places: the stacks and the data whose text is known. False, after a sentence, if it can't be. */
+/* Writes NAME.PID.places: the stacks that have names and the data whose text is known. False, after a sentence, if it
+ * can't be. */
 bool places_keep(const struct places *p, const char *records, const char *base);
 /* The stack of a submission, or NULL. */
 struct stack *places_stack(const struct places *p, uint64_t submission);

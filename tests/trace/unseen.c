@@ -247,11 +247,11 @@ static int time_moves(void)
     return 0;
 }
 
-/* Waits for each of so many moves, and prints for each 256 of them 1 if all were done when they were submitted, 0 if
- * none was, and else x. */
+/* Waits for each of so many moves, and prints for each 256 of them 1 if nearly all were done when they were submitted,
+ * 0 if nearly none was, and else x: a busy machine interrupts a few. */
 static int submit_long(int count)
 {
-    enum { PART = 256 };
+    enum { PART = 256, FEW = 16 };
     void *at = portal();
     const descriptor d = move(first, second, SIZE, &records[0]);
     for (int i = 0, done = 0; i < count; i++) {
@@ -260,7 +260,7 @@ static int submit_long(int count)
         done += records[0].status != 0;
         await(&records[0]);
         if (i % PART == PART - 1) {
-            putchar(done == PART ? '1' : done ? 'x' : '0');
+            putchar(done >= PART - FEW ? '1' : done > FEW ? 'x' : '0');
             done = 0;
         }
     }

@@ -46,7 +46,7 @@ def README():
     """What the commands of the page print: an explanation, an audit, a trace, and the answer of the first job."""
     page = "README.md"
     session(block_after(page, "## What a plan looks like"))
-    audit = block_after(page, "With the toolchain").split("\n\n")[0].strip()
+    audit = block_after(page, "An audit takes `dsa_text`").strip()
     wanted = re.search(rf"{re.escape(audit)}\n\n((?:    [^\n]*\n)+)", Path(page).read_text())[1].replace("    ", "")
     got = printed(audit.replace("./run --unproved ", ""))
     expect(got.startswith(wanted), f"{page}: the audit begins {got[: len(wanted)]!r}, and not {wanted!r}")

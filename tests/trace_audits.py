@@ -1,6 +1,6 @@
 """dsa_trace --audit as one command for continuous integration: what dsa_text audit takes, over all runs, processes and
-parts; keys of all runs, written and accepted; JSON by its schema; test cases for JUnit; a limit of time. The words are
-names of parts."""
+parts; keys of all runs, written and accepted; JSON by its schema; test cases for JUnit; a limit of time; a dsa_text
+that is built without proofs. The words are names of parts."""
 
 import json
 import re
@@ -12,7 +12,7 @@ from pathlib import Path
 
 import schema
 from common import block_after, expect, named, run_test, skip
-from trace_runs import KNOWN, WORK, built_all, client, has_text, ran, told, traced
+from trace_runs import KNOWN, TEXT, WORK, built_all, client, has_text, ran, told, traced
 
 # Keys typed by hand from docs/FORMATS.md, "Recordings and audits", of programs whose errors do not depend on an order.
 WAIT = "missing wait, read after write; lone: move, 8192 bytes; lone: move, 8192 bytes"
@@ -251,6 +251,45 @@ def late():
         expect(sizes == [128], f"the recordings have {sizes} bytes")
 
 
+# ---- a dsa_text that nothing has proved
+
+
+def unproved():
+    """A clone without dsa_text builds one without proofs, if there is a toolchain, and each report says so."""
+    clone, tools = Path(WORK, "clone"), Path(WORK, "tools")
+    shutil.copytree(f"{WORK}/gcc", clone / "trace/out")
+    (clone / "tests/gate").mkdir(parents=True)
+    tools.mkdir()
+    words = [clone / "trace/out/dsa_trace", "--audit", "--order", "fifo"]
+    runs, env = ["--", client("unseen"), "right"], {"PATH": f"{tools}:/usr/bin:/bin"}
+    script = clone / "tests/gate/quick.py"
+    script.write_text("raise SystemExit('not built')\n")
+    told("a clone without a toolchain", ran(*words, *runs, env=env), 125, "needs the program dsa_text")
+    (tools / "rt").write_text("#!/bin/sh\n")
+    (tools / "rt").chmod(0o755)
+    told("a build that fails", ran(*words, *runs, env=env), 125, "not built", "needs the program dsa_text")
+    script.write_text(f"""import os, sys
+to = os.path.dirname(__file__) + f"/../../crates/{{sys.argv[1]}}/out/unproved"
+os.makedirs(to)
+os.symlink({TEXT!r}, f"{{to}}/{{sys.argv[1]}}")
+print("building")
+""")
+    end = ran(*words, "--junit", f"{WORK}/junit.xml", *runs, env=env)
+    told("a clone that builds it", end, 0, "so this clone builds one without proofs", "building\n")
+    line = f"by a dsa_text that was built without proofs ({clone.resolve()}/crates/dsa_text/out/unproved/dsa_text):\n"
+    expect(end.stdout.startswith(line), f"the report begins {end.stdout[:200]}")
+    cases = xml.parse(f"{WORK}/junit.xml").getroot()
+    said = [it.attrib for it in cases.iter("property")]
+    expect(said == [{"name": "dsa_text", "value": "built without proofs"}], f"the test cases say {said}")
+    script.write_text("")
+    end = ran(*words, "--json", *runs, env=env)
+    told("the same in JSON", end, 0)
+    whole = json.loads(end.stdout)
+    expect(schema.holds(schema.report_schema("runs"), whole) and whole["unproved"], f"in JSON: {end.stdout}")
+    end = ran(*words, "--write-accept", *runs, env=env)
+    expect((end.returncode, end.stdout) == (0, ""), f"keys alone: {end}")
+
+
 # ---- the page
 
 
@@ -277,7 +316,7 @@ def ctest():
         expect(len(cases) == 20 and all(len(it) == failed for it in cases), f"{word}: {len(cases)} test cases")
 
 
-PARTS = [keys, reports, noted, fitting, passed_on, in_json, in_junit, kept, late, ctest]
+PARTS = [keys, reports, noted, fitting, passed_on, in_json, in_junit, kept, late, unproved, ctest]
 
 
 def main(words):

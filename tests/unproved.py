@@ -1,6 +1,7 @@
 """Tests the programs and dsa_tests as the toolchain builds them quickly, without proofs (`rt try`), for those who try a
-change: the jobs of examples and tests/jobs, the golden files of tests/text, and the tests of dsa_tests, side by side.
-`tests/run --unproved` runs it. The words are names of crates: dsa, dsa_text, dsa_tests."""
+change: the jobs of examples and tests/jobs, the golden files of tests/text, and the tests of dsa_tests, side by side;
+and what ./run --unproved keeps. `tests/run --unproved` runs it. The words are names of crates, dsa, dsa_text,
+dsa_tests, or the word kept."""
 
 import re
 import shutil
@@ -13,7 +14,7 @@ from pathlib import Path
 import golden
 from common import ROOT, expect, run_test, side_by_side, stop
 
-CRATES = ["dsa", "dsa_text", "dsa_tests"]
+CRATES = ["dsa", "dsa_text", "dsa_tests", "kept"]
 # The most cases of a golden file: each start of a program with checks takes most of a second.
 MOST_CASES = 3
 CASE = re.compile(r"^case=(\S+) run=(\S+) status=(\d+).* output=(\S+) ", re.M)
@@ -81,10 +82,22 @@ def tests():
     return sum(counts[-1]) if counts else 1, [] if right else [f"dsa_tests: {said[-2000:]}"]
 
 
+def kept():
+    """./run --unproved keeps the program that it builds, and runs it on other input without building it again."""
+    faults = []
+    for at, job in enumerate(("plan", "judge")):
+        with open(f"examples/{job}.job", "rb") as text:
+            ran = subprocess.run(["./run", "--unproved"], stdin=text, capture_output=True)
+        right = ran.stdout == Path(f"examples/{job}.line").read_bytes() and (at == 0 or not ran.stderr)
+        faults += [] if right else [f"./run --unproved of {job}.job: {ran.stdout[-200:]} {ran.stderr[-500:]}"]
+    return 2, faults
+
+
 def look(crate):
     """Tries one crate, and says so as soon as it is done."""
     start = time.monotonic()
-    number, faults = tests() if crate == "dsa_tests" else program(crate, jobs() if crate == "dsa" else texts())
+    others = {"dsa_tests": tests, "kept": kept}
+    number, faults = others[crate]() if crate in others else program(crate, jobs() if crate == "dsa" else texts())
     print(f"{crate:14}{time.monotonic() - start:7.1f} s  {number} cases, {len(faults)} wrong", flush=True)
     return number, faults
 

@@ -9,13 +9,30 @@
 
 #include "launcher.h"
 
-/// DSA_TEXT names the program; else it is beside this one, where a clone builds it, or on the path.
-const char *audit_find(void)
+/// The first that can be run of a name beside this program, of the place where a clone builds it, and of those on the
+/// path; NULL if none can.
+static const char *find(const char *folder, char found[PATH_MAX])
 {
-    static const char *const places[] = {"dsa_text", "../../crates/dsa_text/out/dsa_text"};
+    const char *folders = getenv("PATH");
+    char above[PATH_MAX];
+    if (access(joined(found, folder, "dsa_text"), X_OK) == 0)
+        return found;
+    if (access(joined(found, joined(above, folder, "../.."), "crates/dsa_text/out/dsa_text"), X_OK) == 0)
+        return found;
+    for (const char *at = folders ? folders : ""; *at; at += strcspn(at, ":"), at += *at == ':') {
+        snprintf(found, PATH_MAX, "%.*s/dsa_text", (int)strcspn(at, ":"), at);
+        if (access(found, X_OK) == 0)
+            return found;
+    }
+    return NULL;
+}
+
+/// DSA_TEXT names the program; else it is found, or a clone builds it.
+const char *audit_find(bool *is_unproved)
+{
     static char found[PATH_MAX];
     char self[PATH_MAX - 64];
-    const char *named = getenv("DSA_TEXT"), *folders = getenv("PATH");
+    const char *named = getenv("DSA_TEXT");
     if (named && *named) {
         if (access(named, X_OK) == 0)
             return named;
@@ -23,21 +40,18 @@ const char *audit_find(void)
         return NULL;
     }
     const ssize_t length = readlink("/proc/self/exe", self, sizeof self - 1);
-    self[length < 0 ? 0 : length] = 0;
-    char *name = strrchr(self, '/');
-    for (int i = 0; name && i < 2; i++) {
-        *name = 0;
-        if (access(joined(found, self, places[i]), X_OK) == 0)
-            return found;
-    }
-    for (const char *at = folders ? folders : ""; *at; at += strcspn(at, ":"), at += *at == ':') {
-        snprintf(found, sizeof found, "%.*s/dsa_text", (int)strcspn(at, ":"), at);
-        if (access(found, X_OK) == 0)
-            return found;
-    }
-    fputs("dsa_trace: --audit needs the program dsa_text: install it, build it (./run dsa_text --help, which first "
-          "proves it in half an hour or more), or name it by DSA_TEXT; without it wrong results show all the same, and "
-          "--out DIR keeps recordings for ./run --unproved dsa_text audit, which takes a minute\n",
+    if (length < 0)
+        fail("/proc/self/exe");
+    self[length] = 0;
+    *strrchr(self, '/') = 0;
+    if (find(self, found))
+        return found;
+    *is_unproved = unproved_build(self, found);
+    if (*is_unproved)
+        return found;
+    fputs("dsa_trace: --audit needs the program dsa_text, which the package dsa-planner has: install that, or name the "
+          "program by DSA_TEXT; a clone builds one without proofs if rt, the toolchain of the proofs, is on the path; "
+          "without it wrong results show all the same, and --out DIR keeps recordings for an audit later\n",
           stderr);
     return NULL;
 }

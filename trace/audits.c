@@ -33,8 +33,8 @@ static void append(FILE *from, FILE *to)
 /// Finds dsa_text, and has it judge the options before anything is run; false, after a sentence, if it can't.
 bool audits_begin(struct audits *a, const struct options *o)
 {
-    *a = (struct audits){.dsa_text = audit_find(), .options = o->audit, .shows_places = o->settings.stacks,
-                         .keeps = o->out};
+    *a = (struct audits){.options = o->audit, .shows_places = o->settings.stacks, .keeps = o->out};
+    a->dsa_text = audit_find(&a->is_unproved);
     if (!a->dsa_text)
         return false;
     stale_begin(&a->stale, &o->audit);
@@ -341,6 +341,8 @@ static bool print(const struct audits *a, bool has_failed)
     for (size_t i = 0; a->options.writes_keys && i < a->keys.count; i++)
         puts(a->keys.all[i]);
     fputs(is_json ? "{\"runs\":[" : "", stdout);
+    if (a->is_unproved && !is_json && !a->options.writes_keys)
+        printf("by a dsa_text that was built without proofs (%s):\n", a->dsa_text);
     if (!a->options.writes_keys)
         append(is_json || a->kept ? a->report : a->last, stdout);
     fputs(is_json ? "]" : "", stdout);
@@ -349,6 +351,7 @@ static bool print(const struct audits *a, bool has_failed)
         fputs(is_json ? ",\"stale\":" : "", stdout);
         has_errors = stale_end(&a->stale, is_json, stdout);
     }
+    fputs(is_json && a->is_unproved ? ",\"unproved\":true" : "", stdout);
     fputs(is_json ? "}\n" : "", stdout);
     if (fflush(stdout))
         fail("the report of the audit");

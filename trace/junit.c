@@ -11,11 +11,13 @@ static void put(FILE *to, const char *text)
 }
 
 /// Begins the file, so that one that can't be written is said before the first run.
-void junit_begin(struct junit *j, const char *path, const char *program)
+void junit_begin(struct junit *j, const char *path, const char *program, bool is_unproved)
 {
     const char *slash = strrchr(program, '/');
     *j = (struct junit){.to = opened(path, "we"), .program = slash ? slash + 1 : program};
     fputs("<?xml version=\"1.0\" encoding=\"UTF-8\"?>\n<testsuite name=\"dsa_trace\">\n", j->to);
+    if (is_unproved)
+        fputs("  <properties><property name=\"dsa_text\" value=\"built without proofs\"/></properties>\n", j->to);
 }
 
 /// What is wrong with a run, if anything is. `is_broken`: dsa_trace could not judge it.

@@ -178,9 +178,13 @@ void gather_end(struct gathered *g);
  * breaks off. */
 bool errors_noted(const char *records, const char *base, struct gathered *g, struct findings *to);
 
+/* ---- unproved.c: a dsa_text that is built without proofs ---- */
+/* Builds it in the clone whose trace/out this folder is, if there is one, and the toolchain; NULL if not. */
+const char *unproved_build(const char *folder, char path[PATH_MAX]);
+
 /* ---- audit.c: the program dsa_text ---- */
-/* Where it is; NULL, after a sentence, if there is none. */
-const char *audit_find(void);
+/* Where it is; NULL, after a sentence, if there is none. *is_unproved: it was built without proofs. */
+const char *audit_find(bool *is_unproved);
 /* What it says in a form (an option, NULL for text) of a recording, NULL for an empty one: 0, 1 if it has errors, 2 if
  * it can't be audited. */
 int audit_text(const char *dsa_text, const struct audit_options *o, const char *form, const struct gathered *g,
@@ -192,6 +196,7 @@ enum verdict { CLEAN, ERRORS, PART, EMPTY }; /* PART: a part of the run was seen
  * 1 if there are errors, or 125 if a part of a run was seen. */
 struct audits {
     const char *dsa_text;
+    bool is_unproved;             /* nothing has proved it */
     struct audit_options options; /* without the word stale, since dsa_text sees one recording at a time */
     struct stale stale;
     struct keys accepted, keys;
@@ -211,7 +216,7 @@ int audits_end(struct audits *a, const struct options *o, int program);
 
 /* ---- junit.c: the runs as test cases ---- */
 struct junit { FILE *to; const char *program; };
-void junit_begin(struct junit *j, const char *path, const char *program);
+void junit_begin(struct junit *j, const char *path, const char *program, bool is_unproved);
 void junit_add(const struct junit *j, const struct run *run, enum verdict verdict, FILE *report);
 void junit_end(const struct junit *j);
 

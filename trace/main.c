@@ -117,7 +117,7 @@ int main(int argc, char **argv)
     if (o.audits && !audits_begin(&a, &o))
         return FAILED;
     if (o.junit)
-        junit_begin(&j, o.junit, o.report ? o.report : o.program[0]);
+        junit_begin(&j, o.junit, o.report ? o.report : o.program[0], a.is_unproved);
     background_begin();
     if (o.report && !report_runs(&o, &a, &j))
         return FAILED;

@@ -1,10 +1,13 @@
 """dsa_trace --audit as one command for continuous integration: what dsa_text audit takes, over all runs, processes and
 parts; keys of all runs, written and accepted; JSON by its schema; test cases for JUnit; a limit of time; a dsa_text
-that is built without proofs. The words are names of parts."""
+that is built without proofs; names on a terminal, and empty words. The words are names of parts."""
 
 import json
+import os
+import pty
 import re
 import shutil
+import subprocess
 import tempfile
 import time
 import xml.etree.ElementTree as xml
@@ -12,7 +15,7 @@ from pathlib import Path
 
 import schema
 from common import block_after, expect, named, run_test, skip
-from trace_runs import KNOWN, TEXT, WORK, built_all, client, has_text, ran, told, traced
+from trace_runs import KNOWN, LONGEST, TEXT, WORK, built_all, client, has_text, ran, told, traced
 
 # Keys typed by hand from docs/FORMATS.md, "Recordings and audits", of programs whose errors do not depend on an order.
 WAIT = "missing wait, read after write; lone: move, 8192 bytes; lone: move, 8192 bytes"
@@ -290,6 +293,59 @@ print("building")
     expect((end.returncode, end.stdout) == (0, ""), f"keys alone: {end}")
 
 
+# ---- what is written by others
+
+
+def on_terminal(*words):
+    """What a command writes to a terminal."""
+    first, second = pty.openpty()
+    child = subprocess.Popen([str(word) for word in words], stdin=second, stdout=second, stderr=second, env=KNOWN)
+    os.close(second)
+    said = b""
+    while True:
+        try:
+            part = os.read(first, 4096)
+        except OSError:  # the other end is closed
+            part = b""
+        if not part:
+            break
+        said += part
+    os.close(first)
+    return child.wait(LONGEST), said.replace(b"\r\n", b"\n")
+
+
+def terminal():
+    """Names with bytes that command a terminal are shown as digits there, and as they are elsewhere."""
+    name = "bell\a, red\x1b[31m, \x9b31m"
+    escaped = b"bell\\x07, red\\x1b[31m, \xc2\\x9b31m"
+    program = f"{WORK}/{name}"
+    status, said = on_terminal(f"{WORK}/gcc/dsa_trace", "--", program)
+    right = status == 127 and escaped in said and not {7, 27} & set(said)
+    expect(right, f"a program that is not there: {status} {said}")
+    told("the same in a file", traced("--", program), 127, f"{name} is not found")
+    Path(program).write_text("#!/bin/sh\nexit 3\n")
+    Path(program).chmod(0o755)
+    status, said = on_terminal(f"{WORK}/gcc/dsa_trace", "--seeds", 2, "--", program)
+    right = status == 3 and b"the same again" in said and escaped in said and not {7, 27} & set(said)
+    expect(right, f"the command that repeats: {status} {said}")
+
+
+def nothing():
+    """Empty values, names and files each get a sentence, or are as none."""
+    for words in (["--out", ""], ["--accept", ""], ["--junit="], ["--seed", ""], ["--report", ""]):
+        told(f"{words}", traced(*words, "--", "true"), 125, "comes after this option")
+    told("a program without a name", traced("--", ""), 125, "the program to run has no name")
+    told("no program", traced("--"), 125, "the program to run is missing")
+    told("an empty file of keys", audited(*accepting(), "--", client("unseen"), "right"), 0)
+    told("a program as a file of keys", audited("--accept", client("unseen"), "--", "true"), 125, "is no text in UTF-8")
+    told("a folder as one", audited("--accept", WORK, "--", "true"), 125, "does not audit with these options")
+    Path(WORK, "odd/seed-1").mkdir(parents=True)
+    for name, content in (("events", bytes(range(256))), ("dsa", b"neither"), ("errors", b"\0\xff"), ("stacks", b"\0")):
+        Path(WORK, f"odd/seed-1/odd.1.{name}").write_bytes(content)
+    told("recordings that are none", traced("--report", f"{WORK}/odd", env=KNOWN), 125, "has seen a part")
+    told("a file to report", traced("--report", client("unseen"), env=KNOWN), 125, "Not a directory")
+
+
 # ---- the page
 
 
@@ -316,7 +372,7 @@ def ctest():
         expect(len(cases) == 20 and all(len(it) == failed for it in cases), f"{word}: {len(cases)} test cases")
 
 
-PARTS = [keys, reports, noted, fitting, passed_on, in_json, in_junit, kept, late, unproved, ctest]
+PARTS = [keys, reports, noted, fitting, passed_on, in_json, in_junit, kept, late, unproved, terminal, nothing, ctest]
 
 
 def main(words):

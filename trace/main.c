@@ -106,6 +106,7 @@ int main(int argc, char **argv)
     struct audits a = {0};
     struct junit j = {0};
     (void)argc;
+    shown_begin();
     signal(SIGCHLD, SIG_DFL); /* where whoever runs us ignores it, no status could be waited for */
     options_read(argv, &o);
     const int refused = o.report ? 0 : program_check(o.program[0]);

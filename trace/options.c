@@ -158,7 +158,7 @@ static void take_value(struct options *o, const char *name, const char *value)
     const char **text = text_at(o, name, &is_of_audit);
     if (!number && !text && strcmp(name, "--order") && strcmp(name, "--queue"))
         refuse("there is no such option", name);
-    if (!value)
+    if (!value || !*value)
         refuse("a value comes after this option", name);
     o->has_delay |= strcmp(name, "--delay") == 0;
     o->audit.is_there |= is_of_audit;
@@ -196,6 +196,8 @@ void options_read(char **words, struct options *o)
     o->audits |= o->report != NULL;
     if (!*o->program && !o->report)
         refuse("the program to run is missing", words[0]);
+    if (*o->program && !**o->program)
+        refuse("the program to run has no name", "''");
     if (*o->program && o->report)
         refuse("no program is run", "--report");
     o->settings.watch = o->watches && (o->audits || o->settings.hold);

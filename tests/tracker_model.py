@@ -161,7 +161,7 @@ class Sequence:
         slots, self.span = chance.choice([1, 2, 3, 8, 64]), chance.choice([8, 64, 4096])
         room = chance.choice([0, 2, 7, 30])
         self.model = Model(slots, room)
-        self.tracker = Tracker(slots, room, chance.choice([1, 3, 12, 63]), chance.choice([1, 4, 8]))
+        self.tracker = Tracker(slots, room, log2_unit=chance.choice([1, 3, 12, 63]), log2_rows=chance.choice([1, 4, 8]))
 
     def spans(self):
         chance, most = self.chance, self.model.room + (self.chance.random() < 0.05)

@@ -55,6 +55,12 @@
  *            bases, rows, spans and words are items. Addresses are the device's. Prices and costs are in one unit of
  *            the caller's choice, for example nanoseconds. Numbers in descriptors are little-endian; numbers in
  *            structs are the machine's.
+ *
+ * Words:     a range is the addresses that an operation reads or writes; a span (struct dsa_span) a range as a tracker
+ *            takes it, by its first address and its length; a region (struct dsa_region) a buffer of the caller's, in
+ *            which ranges of a prepared list lie. The row of records of an operation is the records of its pieces, one
+ *            after another; the rows of a prepared list are structs; those of a tracker are a table of its own, of
+ *            which a caller chooses the size alone.
  */
 #ifndef DSA_PLANNER_H
 #define DSA_PLANNER_H
@@ -531,7 +537,8 @@ uint32_t dsa_fill(const struct dsa_prepared_row *rows, size_t rows_len,
 /*
  * A tracker: which submissions in flight a further one has to wait for. A submission is what is rung at once: a
  * planned list, or any accesses. Two conflict if one writes what the other reads or writes. A submission has a slot
- * until it is taken off; sets of slots are words, bit s for slot s.
+ * until it is taken off; sets of slots are words, bit s for slot s. It gets the first slot that is free: a caller that
+ * keeps a word of those in use knows it before the call, and can have a staging area for each slot.
  *
  * All that a tracker knows is in an array of words of the caller's, which holds no pointer: it may be moved and
  * copied. No call keeps state; the calls on one array are made by one thread at a time. The form of the words is

@@ -713,10 +713,10 @@ class Tracker:
     and reads its records and results before it completes it: another may be rung over them then. Then what it rings
     leaves what it leaves one after another. Each call may raise `Refusal`, and has changed nothing then."""
 
-    def __init__(self, slots: int, spans: int, log2_unit: int = 12, log2_rows: int = 13) -> None:
+    def __init__(self, slots: int, spans: int, log2_rows: int = 13, log2_unit: int = 12) -> None:
         """At most 64 slots, for submissions that read at most so many spans and write at most so many; a list of n
-        pieces takes 3 * n + 1. The other two change no answer: addresses are looked up in units of 2^log2_unit
-        bytes, best near the length of an operation, in 2^log2_rows rows."""
+        pieces takes 3 * n + 1. The other two change no answer: there are 2^log2_rows rows for a first look, and
+        addresses are looked up in units of 2^log2_unit bytes, best near the length of an operation."""
         measures = {"slots": slots, "spans": spans, "log2_rows": log2_rows, "log2_unit": log2_unit}
         numbers = [_whole(name, value, 2**32) for name, value in measures.items()]
         if slots > 64 or log2_rows > 32:

@@ -84,6 +84,7 @@ def version():
     expect(all(node[0] == numbers[0] and node <= numbers[:2] for node in nodes), f"dsa_planner.map has {nodes}")
     pages = {
         "README.md": [f"dsa-planner_{whole}_amd64.deb", f"dsa-planner-{whole}-x86_64-linux.tar.gz"],
+        "docs/START.md": [f"dsa-planner-{whole}-x86_64-linux/install.sh"],
         "docs/USING.md": [f"dsa-planner-{whole}-x86_64-linux/install.sh", f"find_package(dsa_planner {numbers[0]}.0)"],
         "bindings/c/dsa_planner.h": [f"find_package(dsa_planner {numbers[0]}.0)"],
     }

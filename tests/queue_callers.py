@@ -19,7 +19,7 @@ PREFIX = Path(WORK, "prefix")
 MODULES = ROOT / "bindings/python"
 CRATE = Path(WORK, "crate")
 CASES = ROOT / "tests/queue_callers/cases.py"
-PAGE, BEGINS = ROOT / "docs/USING.md", "## From a list to done"
+PAGE, BEGINS = ROOT / "docs/START.md", "## A list"
 LATE = ["--delay", 1000000]
 GOLDEN = (ROOT / "bindings/rust/examples/queue.stdout").read_text()
 DEVICES = ([], ["--order", "fifo", "--"], ["--order", "all", "--fault", 2, "--"])
@@ -151,7 +151,7 @@ def compiled(source, name):
 def publish():
     """The example publish.c prints what docs/USING.md says, under each of 20 seeds."""
     compiled(ROOT / "examples/barrier/publish.c", "publish")
-    parts = block_after(PAGE, "`examples/barrier` has").split("$ dsa_trace -- ./publish ")[1:]
+    parts = block_after("docs/USING.md", "`examples/barrier` has").split("$ dsa_trace -- ./publish ")[1:]
     expect(len(parts) == 2, f"docs/USING.md shows {len(parts)} runs of publish.c")
     for part in parts:
         outcome, _, wanted = part.partition("\n")
@@ -160,7 +160,7 @@ def publish():
 
 
 def page():
-    """The programs with which docs/USING.md begins print what it says."""
+    """The programs of docs/START.md print what it says."""
     sources = {name: Path(WORK, f"page.{name}") for name in ("c", "python")}
     for name, path in sources.items():
         path.write_text(block_after(PAGE, BEGINS, name))

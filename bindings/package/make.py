@@ -241,7 +241,7 @@ def tree(root, places, records):
     write(docs / "PROVED", proved(records))
     shutil.copy(HERE / "dsa_trace.bash", root / "share/bash-completion/completions/dsa_trace")
     schemas = [f"{name}.schema.json" for name in ("jobs", "explain", "audit", "runs")]
-    for page in ("USING.md", "FORMATS.md", "PRICES.md", "SPEED.md", "PROOF.md", *schemas):
+    for page in ("START.md", "USING.md", "FORMATS.md", "PRICES.md", "SPEED.md", "PROOF.md", *schemas):
         shutil.copy(ROOT / f"docs/{page}", docs)
     for page in ("README.md", "CHANGELOG.md"):
         shutil.copy(ROOT / page, docs)

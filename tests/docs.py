@@ -15,7 +15,7 @@ from common import block_after, digits, expect, move, named, program, run_test, 
 
 
 def printed(command):
-    """What a command of a shell prints, where dsa_jobs and dsa_text are on the path and dsa is the built one."""
+    """What a command of a shell prints, with the built programs on the path."""
     return subprocess.run(command, shell=True, env=PLACES, capture_output=True, text=True).stdout
 
 
@@ -52,7 +52,8 @@ def README():
     expect(got.startswith(wanted), f"{page}: the audit begins {got[: len(wanted)]!r}, and not {wanted!r}")
     if shutil.which("gcc") and shutil.which("make"):
         with tempfile.TemporaryDirectory() as folder:
-            commands = block_after(page, "With gcc and make alone").replace("trace/out", folder)
+            commands = block_after(page, "With gcc and make alone") + block_after(page, "    gcc -O2 -mmovdir64b")
+            commands = commands.replace("/tmp/", f"{folder}/").replace("$PWD/trace/out", folder)
             got = printed(commands.replace("make -C trace", f"make -s -C trace OUT={folder}"))
         expect('c is ""' in got, f"{page}: the program without a fence prints {got!r}")
     else:
@@ -114,7 +115,7 @@ def main(words):
     global PLACES
     program("dsa")
     with tempfile.TemporaryDirectory() as folder:
-        for name in ("dsa_jobs", "dsa_text"):
+        for name in ("dsa", "dsa_jobs", "dsa_text"):
             os.symlink(program(name), f"{folder}/{name}")
         PLACES = dict(os.environ, PATH=f"{folder}:{os.environ['PATH']}")
         for part in named([README, USING, PRICES, PROOF], words):

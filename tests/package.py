@@ -13,6 +13,7 @@ import tarfile
 import tempfile
 from pathlib import Path
 
+import package_pages
 from common import ROOT, block_after, compiler, expect, named, program, run_test
 
 sys.path.insert(0, str(ROOT / "bindings/package"))
@@ -250,16 +251,13 @@ def pages():
 
 
 def documents():
-    """What the installed pages for users name is installed, and the audit with events runs from their folder as it is shown."""
-    docs = Path(PREFIX, "share/doc/dsa-planner")
-    for page in ("USING", "FORMATS", "PRICES", "SPEED", "TRACE"):
-        text = Path(docs, f"{page}.md").read_text().replace("trace/README.md", "TRACE.md").replace("docs/", "")
-        for name in set(re.findall(r"\b(?:[A-Z]{3,}\.md|examples/\w[\w/.]*\w)", text)):
-            expect(Path(docs, name).exists(), f"{page}.md names {name}, which is not installed")
-    command, *shown = block_after("docs/USING.md", "Two queues, and no wait between").splitlines()
-    words = [Path(docs, it) if "/" in it else it for it in command.partition("|")[0].split()[2:]]
-    end = ran(f"{PREFIX}/bin/dsa_text", *words)
-    expect(end.returncode == 1 and "\n".join(shown) in end.stdout, f"the audit with events prints {end.stdout}")
+    """What the installed pages name is installed."""
+    package_pages.names(READER)
+
+
+def commands():
+    """What the installed pages show runs from what is installed alone, as it is shown."""
+    package_pages.commands(READER)
 
 
 def completion():
@@ -289,21 +287,22 @@ def device():
     trace, prices = f"{PREFIX}/bin/dsa_trace", f"{PREFIX}/bin/dsa_prices"
     tried("dsa_trace --audit", trace, "--audit", "--seeds", 5, "--", "./ordered", "fenced")
     refused("a missing fence", ["missing fence, read after write"], trace, "--audit", "--", "./ordered", "fence")
-    tried("the build of the example", "cc", "-O2", "-mmovdir64b", EXAMPLES / "copy_twice.c", "-o", "copy_twice")
+    tried("the build of the example", "cc", "-O2", "-mmovdir64b", EXAMPLES / "trace/copy_twice.c", "-o", "copy_twice")
     refused("the example", ["missing fence, read after write"], trace, "--audit", "--seeds", 20, "--", "./copy_twice")
-    words = ["cc", *STRICT, EXAMPLES / "publish.c", *linking("dsa_queue"), "-o", "publish"]
+    words = ["cc", *STRICT, EXAMPLES / "barrier/publish.c", *linking("dsa_queue"), "-o", "publish"]
     tried("the build of the example with a barrier", *words)
     library = {"LD_LIBRARY_PATH": f"{PREFIX}/lib"}
-    words = ["cc", *STRICT, EXAMPLES / "publish.c", *linking("dsa_queue_static"), "-o", "publish_static"]
+    words = ["cc", *STRICT, EXAMPLES / "barrier/publish.c", *linking("dsa_queue_static"), "-o", "publish_static"]
     tried("the build with archives alone", *words)
     tried("a list that publishes", trace, "--", "./publish_static", "right", printed="published\n")
     tried("a list that publishes", trace, "--", "./publish", "right", printed="published\n", **library)
-    words = ["cc", *STRICT, EXAMPLES / "queue_journal.c", *linking("dsa_queue"), "-o", "queue_journal"]
+    words = ["cc", *STRICT, EXAMPLES / "queue/queue_journal.c", *linking("dsa_queue"), "-o", "queue_journal"]
     tried("the build of the example of a queue", *words)
     for how in ("right", "wrong"):
         words = [trace, "--audit", "--seeds", 5, "--", "./queue_journal", how]
         tried(f"a journal that is {how}", *words, **library)
-    words = ["cc", *STRICT, "-D_GNU_SOURCE", EXAMPLES / "queue_threads.c", *linking("dsa_queue"), "-o", "queue_threads"]
+    source = EXAMPLES / "queue/queue_threads.c"
+    words = ["cc", *STRICT, "-D_GNU_SOURCE", source, *linking("dsa_queue"), "-o", "queue_threads"]
     tried("the build of the example of threads", *words)
     tried("threads on a queue", trace, "--audit", "--", "./queue_threads", **library)
     refused("a missing wait", ["missing wait, read after write"], trace, "--audit", "--", "./ordered", "wait")
@@ -379,7 +378,7 @@ def cmake():
         return
     folder = Path(FOLDER, "cmake")
     folder.mkdir()
-    sources = [EXAMPLES / f"{name}.c" for name in ("rows", "own_memory", "queue_journal")]
+    sources = [EXAMPLES / f"{name}.c" for name in ("rows", "own_memory", "queue/queue_journal")]
     for source in (ROOT / "tests/package/CMakeLists.txt", *sources):
         shutil.copy(source, folder)
     shutil.copy(EXAMPLES / "rows.c", folder / "rows.cpp")
@@ -499,7 +498,7 @@ def python():
     script = ROOT / "tests/package/descriptors.py"
     tried("descriptors in Python", "python3", "-B", script, printed="".join(DESCRIPTORS), PYTHONPATH=module)
     printed = QUEUE_PRINTS.read_text()
-    tried("the queue in Python", "python3", "-B", EXAMPLES / "queue_copy.py", printed=printed, PYTHONPATH=module)
+    tried("the queue in Python", "python3", "-B", EXAMPLES / "queue/queue_copy.py", printed=printed, PYTHONPATH=module)
     Path(FOLDER, "readme.py").write_text(block_after("docs/USING.md", "### From Python", "python"))
     tried("the Python lines of docs/USING.md", "python3", "-B", "readme.py", printed="cost 10\n", PYTHONPATH=module)
     printed = "2 batches as planned, then 109\n"
@@ -578,12 +577,12 @@ def threads():
         tried(f"threads {kind}", "./threads", os.environ.get("LISTS", "100"), 8, 20261124)
 
 
-PARTS = [version, reproduced, unproved, installed, debian, symbols, pages, documents, completion, device, said]
-PARTS += [c, cmake, rust, python, sentences, readme, threads]
+PARTS = [version, reproduced, unproved, installed, debian, symbols, pages, documents, commands, completion, device]
+PARTS += [said, c, cmake, rust, python, sentences, readme, threads]
 
 
 def main(words):
-    global WORK, FOLDER, PREFIX, UNPACKED, EXAMPLES, ROWS, WANTED, TARBALL
+    global WORK, FOLDER, PREFIX, UNPACKED, EXAMPLES, ROWS, WANTED, TARBALL, READER
     if not compiler() or not has("cc", "pkg-config", "nm", "readelf", "ld", "objcopy"):
         print("skipped, there is no C compiler, no binutils or no pkg-config")
         sys.exit(0)
@@ -597,6 +596,7 @@ def main(words):
         subprocess.run([UNPACKED / "install.sh", PREFIX], check=True)
         EXAMPLES = Path(PREFIX, "share/doc/dsa-planner/examples")
         ROWS = EXAMPLES / "rows.txt"
+        READER = package_pages.Reader(PREFIX, f"{WORK}/reader")
         WANTED = f"{ROWS.read_text().count(chr(10) + 'row ')} rows, 0 wrong\n"
         for part in parts:
             part()

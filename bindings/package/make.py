@@ -23,6 +23,7 @@ from pathlib import Path
 sys.path.insert(0, str(Path(__file__).resolve().parent))
 import completion
 import manual
+import pages
 import rows
 
 HERE = Path(__file__).resolve().parent
@@ -33,6 +34,7 @@ QUEUE = ROOT / "bindings/queue"
 QUEUE_OF = [*sorted(QUEUE.glob("*.c")), *(ROOT / f"trace/{name}.c" for name in ("crc", "device", "dif", "valid"))]
 QUEUE_SONAME = "libdsa_queue.so.0"  # its calls may change in any version
 MODULES = ("dsa_planner", "dsa_queue")  # of Python
+EXAMPLES = ("job", "c", "py", "txt", "svg", "xxd", "events")  # how the names of examples end
 PROVED = {
     "libdsa_c.a": ROOT / "crates/dsa_c/out/libdsa_c.a",
     "dsa": ROOT / "crates/dsa/out/dsa",
@@ -240,12 +242,7 @@ def tree(root, places, records):
     write(root / "share/bash-completion/completions/dsa_text", script)
     write(docs / "PROVED", proved(records))
     shutil.copy(HERE / "dsa_trace.bash", root / "share/bash-completion/completions/dsa_trace")
-    schemas = [f"{name}.schema.json" for name in ("jobs", "explain", "audit", "runs")]
-    for page in ("START.md", "USING.md", "FORMATS.md", "PRICES.md", "SPEED.md", "PROOF.md", *schemas):
-        shutil.copy(ROOT / f"docs/{page}", docs)
-    for page in ("README.md", "CHANGELOG.md"):
-        shutil.copy(ROOT / page, docs)
-    shutil.copy(ROOT / "trace/README.md", docs / "TRACE.md")
+    pages.write(docs)
     examples(docs / "examples")
     crate = root / "share/dsa-planner/rust"
     ignored = shutil.ignore_patterns("target", "Cargo.lock", ".gitignore", "*.stdout")
@@ -274,17 +271,13 @@ def manuals(to, numbers):
 
 
 def examples(to):
-    """Examples of the calls, of jobs, of operations as text and of recordings, and rows for tests of a caller's own, with three readers."""
+    """Examples of the calls, and those of the repository in their folders; rows for tests of a caller's own, with three
+    readers."""
     for name in ("two_moves.c", "own_memory.c", "submit.c", "ring.c", "tracker.c"):
         shutil.copy(ROOT / "bindings/c" / name, to)
-    for names in ("*.job", "trace/*.c", "barrier/*.c", "queue/*.c", "queue/*.py"):
-        for path in (ROOT / "examples").glob(names):
-            shutil.copy(path, to)
-    for folder, endings in (("text", ["txt"]), ("barrier", ["txt", "svg"]), ("audit", ["xxd", "events"])):
-        (to / folder).mkdir()
-        for path in (ROOT / "examples" / folder).iterdir():
-            if path.suffix[1:] in endings:
-                shutil.copy(path, to / folder)
+    for path in (ROOT / "examples").rglob("*"):
+        if path.suffix[1:] in EXAMPLES and path.is_file():
+            write(to / path.relative_to(ROOT / "examples"), path.read_text())
     for path in (ROOT / "tests/package").glob("rows.*"):
         shutil.copy(path, to)
     write(to / "rows.txt", rows.rows(ROOT / "tests/jobs"))

@@ -1,5 +1,5 @@
 -- What the calls of a tracker in an array of words promise.
-use Rattle.std.specs.Prelude.{◌≡◌, ◌≢◌, ◌⊎◌, ℕ, ◌≤◌, Bool, List, length, map, min, slice_get, slice_index_or, Err}
+use Rattle.std.specs.Prelude.{◌≡◌, ◌≢◌, ◌⊎◌, ℕ, ◌≤◌, ◌==◌, Bool, List, length, map, min, nat_lt, slice_get, slice_index_or, if◌then◌else◌, Err}
 use Rattle.dsa_descriptor.specs.declared.descriptor.Descriptor.{Descriptor}
 use Rattle.dsa_descriptor.specs.declared.span.Span.{Span}
 use Rattle.dsa_descriptor.specs.Causes.{index_list}
@@ -48,6 +48,21 @@ track_refusal_of fault =
 -- a tracker of these sizes fits into so many words
 abbrev pub CanBegin : ℕ → ℕ → ℕ → ℕ → ℕ → Type 0
 CanBegin slots spans log2_rows log2_unit len = AreMeasures slots spans log2_rows log2_unit × (words_needed slots spans log2_rows ≤ len)
+
+-- Which measure of a new tracker is outside its limits, by its place in the call: the slots, log2_rows or log2_unit, of
+-- several the first; 5 if none is, for then the words are too few (this project's choice).
+abbrev pub measure_at_fault : ℕ → ℕ → ℕ → ℕ
+measure_at_fault slots log2_rows log2_unit =
+    if nat_lt 64 slots then 1 else
+    if log2_rows == 0 then 3 else
+    if nat_lt 32 log2_rows then 3 else
+    if log2_unit == 0 then 4 else
+    if nat_lt 63 log2_unit then 4 else
+    5
+
+-- the refusal of words that can't begin a tracker of these measures
+abbrev pub begin_refusal : ℕ → ℕ → ℕ → RawRefusal
+begin_refusal slots log2_rows log2_unit = refusal_at (words_number NotATracker) (measure_at_fault slots log2_rows log2_unit) 0
 
 -- ---- what each call leaves: words of the form of a tracker, which are its next state
 

@@ -2,9 +2,8 @@
 
 ghost use Rattle.std.specs.Prelude.{◌≡◌, ◌≢◌, ◌<◌, Bool, List, None, MatchResult, length, map, replicate};
 ghost use Rattle.dsa_descriptor.specs.Spans.{span};
-ghost use Rattle.dsa_tracker.specs.declared.fault.WordsFault.TheVariants.{NotATracker};
 ghost use Rattle.dsa_tracker.specs.Words.{IsTracker, table_in};
-ghost use Rattle.dsa_c.specs.Tracking.{ArePiecesUnder, CanBegin, RefusesGroups, RefusesList, RefusesSpans, RefusesToSplit, TakesGroups, TakesList, TakesSpans, slots_of, submitted_of, track_refusal_of};
+ghost use Rattle.dsa_c.specs.Tracking.{ArePiecesUnder, CanBegin, RefusesGroups, RefusesList, RefusesSpans, RefusesToSplit, TakesGroups, TakesList, TakesSpans, begin_refusal, measure_at_fault, slots_of, submitted_of, track_refusal_of};
 
 use crate::refusal::{RawRefusal, first_two, refusal, refusal_at};
 use crate::settings::{RawSettings, are_settings, settings_of, settings_refusal, staged_at};
@@ -23,8 +22,25 @@ pub(crate) fn track_refusal(fault: WordsFault) -> RawRefusal
     refusal_at(u32::from(fault.number()), first, second)
 }
 
+/// Which measure of a new tracker is outside its limits, by its place in the call; 5, the words, if none is.
+fn measure_at_fault(slots: u32, log2_rows: u32, log2_unit: u32) -> u64
+    ensures { result ≡ measure_at_fault slots log2_rows log2_unit }
+{
+    if slots > 64 {
+        return 1;
+    }
+    if log2_rows == 0 || log2_rows > 32 {
+        return 3;
+    }
+    if log2_unit == 0 || log2_unit > 63 {
+        return 4;
+    }
+    5
+}
+
 /// Makes the words a tracker with so many slots, for submissions of at most so many spans that they read, and that
-/// they write. It allocates nothing. It returns 0 then; else it returns 126, and has written only `refusal`.
+/// they write. It allocates nothing. It returns 0 then; else it returns 126, and has written only `refusal`, whose
+/// first index is the place of the measure that is outside its limits, or 5 if there are too few words.
 #[unsafe(no_mangle)]
 pub extern "C" fn dsa_track_begin(
     words: &mut [u64],
@@ -39,7 +55,7 @@ pub extern "C" fn dsa_track_begin(
         × (table_in words.new ≡
         record { slots = replicate slots None; room = spans; owner = None }) }
     ensures refused { result ≢ 0 → (result ≡ refusal.new.number)
-        × (refusal.new ≡ track_refusal_of NotATracker)
+        × (refusal.new ≡ begin_refusal slots log2_rows log2_unit)
         × (¬ CanBegin slots spans log2_rows log2_unit (length words.old)) }
     ensures unchanged { result ≢ 0 → words.new ≡ words.old }
     ensures quiet { result ≡ 0 → refusal.new ≡ refusal.old }
@@ -47,7 +63,8 @@ pub extern "C" fn dsa_track_begin(
     match words::begin(words, slots, spans, log2_rows, log2_unit) {
         Ok(()) => 0,
         Err(fault) => {
-            let cause = track_refusal(fault);
+            let measure = measure_at_fault(slots, log2_rows, log2_unit);
+            let cause = refusal_at(u32::from(fault.number()), measure, 0);
             *refusal = cause;
             cause.number
         }

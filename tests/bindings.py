@@ -207,8 +207,8 @@ def recorder():
 
 
 def sentences_of_the_page():
-    """What docs/FORMATS.md says of each cause of a call from C, by number, with its places as fields to fill in, and of
-    each setting by its number."""
+    """What docs/FORMATS.md says of each cause of a call from C, by number, with its places as fields to fill in; and of
+    83 and 126 what it says by their first number, of each setting and each measure of a tracker."""
     page, said = Path("docs/FORMATS.md").read_text(), {}
     for number, places, cause in re.findall(r"^\| (\d+) \| [A-Z]\w+([^|]*) \| (.*) \|$", page, re.M):
         sentence = re.sub("^(preparing|filling|tracking|from C): ", "", cause)
@@ -217,18 +217,20 @@ def sentences_of_the_page():
         for place, field in zip(places.split(), ("{0}", "{1}")):
             sentence = re.sub(rf"\b{place}\b", field, sentence)
         said[int(number)] = sentence
-    return said, {int(number): cause for number, cause in re.findall(r"^\| (\d) \| `\w+` \| (.*) \|$", page, re.M)}
+    settings, measures = page.split("\n| Measure | Argument | Sentence |\n")
+    rows = (re.findall(r"^\| (\d) \| `\w+` \| (.*) \|$", part, re.M) for part in (settings, measures))
+    return said, {one: {int(first): it for first, it in of_one} for one, of_one in zip((83, 126), rows)}
 
 
 def texts():
     """The text of each refusal is the sentence that docs/FORMATS.md has, whatever the room; no cause has none."""
-    (said, settings), most, wanted, asked = sentences_of_the_page(), 2**64 - 1, [], []
+    (said, by_first), most, wanted, asked = sentences_of_the_page(), 2**64 - 1, [], []
     within = [(47, inner) for inner in (2, 10, 12, 13, 33, 37)] + [(60, inner) for inner in (40, 41, 42, 43)]
     numbers = [(number, 0) for number in said] + within + [(0, 0), (14, 0), (129, 0), (2**32 - 1, 0), (0, 43), (60, 14)]
     for number, inner in numbers:
-        firsts = ((k, 0) for k in range(1, 10)) if number == 83 else ()
+        firsts = ((k, 0) for k in range(1, 10)) if number in by_first else ()
         for first, second in ((0, 0), (7, 65_535), (most, most), *firsts):
-            known = {**said, 83: settings.get(first, said[83])}
+            known = {**said, **{one: rows.get(first, said[one]) for one, rows in by_first.items()}}
             parts = [known[one] for one in (number, inner) if number in said and one in said]
             text = ": ".join(parts).format(first, second)
             for room in {512, len(text), max(0, len(text) - 1), 10, 0}:

@@ -534,6 +534,14 @@ def python():
     for settings, words in bad.items():
         lines = f"from dsa_planner import Settings, plan_list\nplan_list({settings}, b'')"
         refused(settings, [words], "python3", "-Bc", lines, PYTHONPATH=module)
+    measures = {
+        "65, 4": "refused 126 NotATracker: a tracker has at most 64 slots",
+        "4, 4, 33": "log2_rows of a tracker is not 1 to 32",
+        "4, 4, log2_unit=64": "log2_unit of a tracker is not 1 to 63",
+    }
+    for words, said in measures.items():
+        lines = f"from dsa_planner import Tracker\nTracker({words})"
+        refused(f"Tracker({words})", [said], "python3", "-Bc", lines, PYTHONPATH=module)
     good = "Settings(4, 4096, 10, 14, 3, 65536)"
     lines = f"from dsa_planner import Settings, plan_list\nplan_list({good}, 'text')"
     refused("a list that is text", ["TypeError: operations is of type str"], "python3", "-Bc", lines, PYTHONPATH=module)

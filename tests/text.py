@@ -272,7 +272,8 @@ def sentences():
         common.expect(said == wanted, f"{number} {name} is {wanted!r}, and the program says {said!r}")
     settings = re.findall(r"^\| (\d) \| `\w+` \| (.*) \|$", page, re.M)
     said = re.findall(r'^ *(\d) =>\s*"([^"]*)"', of_settings[: of_settings.index("pub fn sentence_of")], re.M)
-    common.expect(len(settings) == 8 and said == settings, f"FORMATS.md says of settings {settings}, the source {said}")
+    right = len(settings) == 12 and said == settings
+    common.expect(right, f"FORMATS.md says of settings and measures {settings}, the source {said}")
     for path, text in causes.made():
         common.expect(path.read_text() == text, f"{path} has other causes than bindings/causes.py makes of FORMATS.md")
 

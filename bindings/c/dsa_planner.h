@@ -167,7 +167,7 @@ enum dsa_number {
     DSA_RECORD_ALIGN = 7,
     /* descriptor `first`: the low twelve bits of a dualcast's destinations differ */
     DSA_DUALCAST_BITS = 8,
-    /* descriptor `first`: two of a dualcast's regions meet, or a delta's record and its destination */
+    /* descriptor `first`: two of a dualcast's ranges meet, or a delta's record and its destination */
     DSA_OVERLAP = 9,
     /* descriptor `first`: a delta's size is no multiple of 8 or above 0x80000, its destination no multiple of 8, or
        its record's size no multiple of 10 */
@@ -288,7 +288,8 @@ enum dsa_number {
     DSA_SPAN_WRAP = 124,
     /* piece `first` has another PASID or privilege than the first piece that came */
     DSA_OTHER_OWNER = 125,
-    /* the words do not have the form of a tracker, or are too few for one of these measures */
+    /* the words do not have the form of a tracker, or are too few for one of these measures; of dsa_track_begin
+       `first` is the measure: 1 slots, 3 log2_rows, 4 log2_unit, 5 words */
     DSA_NOT_A_TRACKER = 126,
     /* the groups of the plan do not have as many pieces as there are; no call from C has it, since a portal tells
        its groups and their pieces */
@@ -572,8 +573,8 @@ struct dsa_span {
  * and write at most `spans` spans. log2_rows, 1 to 32, and log2_unit, 1 to 63, change no answer: there are
  * 2^log2_rows rows of bits for a first look (13 does for most, 14 for more than 4,096 units in flight), and addresses
  * are looked up in units of 2^log2_unit bytes, best near the length of an operation. Returns 0, or DSA_NOT_A_TRACKER: a
- * measure is outside its limits, or there are fewer than DSA_TRACKER_WORDS(slots, spans, log2_rows) words; then they
- * are unchanged. Of words beyond these nothing is promised. It allocates nothing.
+ * measure is outside its limits, which refusal.first names, or there are fewer than DSA_TRACKER_WORDS(slots, spans,
+ * log2_rows) words; then they are unchanged. Of words beyond these nothing is promised. It allocates nothing.
  */
 uint32_t dsa_track_begin(uint64_t *words, size_t words_len,
                          uint32_t slots, uint32_t spans, uint32_t log2_rows, uint32_t log2_unit,

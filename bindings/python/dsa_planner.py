@@ -363,7 +363,8 @@ class Refusal(Exception):
     """The number of the cause within, of a plan or a piece that is refused in its turn, else 0."""
     first: int
     """The first index that the cause names, else 0; of 83 the number of the setting, of 90 the bytes that
-    portal needs, of 91 the number of pieces, of 92 that of rows, of 121 that of spans, of 122 and 123 the slot."""
+    portal needs, of 91 the number of pieces, of 92 that of rows, of 121 that of spans, of 122 and 123 the slot,
+    of 126 the measure of a tracker."""
     second: int
     """The second index, else 0; of 90 the bytes that staging needs."""
 
@@ -719,9 +720,8 @@ class Tracker:
         addresses are looked up in units of 2^log2_unit bytes, best near the length of an operation."""
         measures = {"slots": slots, "spans": spans, "log2_rows": log2_rows, "log2_unit": log2_unit}
         numbers = [_whole(name, value, 2**32) for name, value in measures.items()]
-        if slots > 64 or log2_rows > 32:
-            raise Refusal(126)
-        size = 16 + slots * (3 + 4 * spans) + (2 << log2_rows)
+        is_large = slots > 64 or log2_rows > 32  # no array is made for a call that refuses these
+        size = 0 if is_large else 16 + slots * (3 + 4 * spans) + (2 << log2_rows)
         try:
             self._words, refusal = ((ctypes.c_uint64 * size)(), size), _Refusal()
         except MemoryError:

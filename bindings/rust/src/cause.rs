@@ -72,7 +72,7 @@ causes! {
     RecordAlign = 7,
     /// Descriptor `first`: the low twelve bits of a dualcast's destinations differ.
     DualcastBits = 8,
-    /// Descriptor `first`: two of a dualcast's regions meet, or a delta's record and its destination.
+    /// Descriptor `first`: two of a dualcast's ranges meet, or a delta's record and its destination.
     Overlap = 9,
     /// Descriptor `first`: a delta's size is no multiple of 8 or above 0x80000, its destination no multiple
     /// of 8, or its record's size no multiple of 10.
@@ -197,7 +197,8 @@ causes! {
     SpanWrap = 124,
     /// Piece `first` has another PASID or privilege than the first piece that came.
     OtherOwner = 125,
-    /// The words do not have the form of a tracker, or are too few for one of these measures.
+    /// The words do not have the form of a tracker, or are too few for one of these measures; of
+    /// dsa_track_begin `first` is the measure: 1 slots, 3 log2_rows, 4 log2_unit, 5 words.
     NotATracker = 126,
     /// The groups of the plan do not have as many pieces as there are; no call from C has it, since a
     /// portal tells its groups and their pieces.

@@ -85,7 +85,8 @@ impl Tracker {
     /// units of 2^`log2_unit` bytes, 1 to 63, best near the length of an operation.
     ///
     /// # Errors
-    /// [`Cause::NotATracker`](crate::Cause::NotATracker): a measure is outside its limits.
+    /// [`Cause::NotATracker`](crate::Cause::NotATracker): a measure is outside its limits; `first` says which: 1 for
+    /// `slots`, 3 for `log2_rows`, 4 for `log2_unit`.
     pub fn new(slots: u32, spans: u32, log2_rows: u32, log2_unit: u32) -> Result<Tracker, Refusal> {
         let len = if slots <= 64 && log2_rows <= 32 {
             16 + slots as usize * (3 + 4 * spans as usize) + (2 << log2_rows)

@@ -161,10 +161,12 @@ fn takes_the_entries_of_a_portal() {
 
 #[test]
 fn refuses_measures() {
-    for (slots, rows, unit) in [(65, 8, 12), (4, 0, 12), (4, 33, 12), (4, 8, 0), (4, 8, 64)] {
+    let slots_first = [(65, 8, 12, 1), (65, 0, 0, 1)];
+    let others = [(4, 0, 12, 3), (4, 33, 12, 3), (4, 8, 0, 4), (4, 8, 64, 4)];
+    for (slots, rows, unit, measure) in slots_first.into_iter().chain(others) {
         assert_eq!(
             Tracker::new(slots, 4, rows, unit),
-            Err(refused(Cause::NotATracker, 0))
+            Err(refused(Cause::NotATracker, measure))
         );
     }
 }

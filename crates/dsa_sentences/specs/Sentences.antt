@@ -13,7 +13,7 @@ of_lists n =
     if n == 6 then codes "descriptor #: an address of its data or its record would be 2^64 or more" else
     if n == 7 then codes "descriptor #: the record's address is no multiple of 32" else
     if n == 8 then codes "descriptor #: the low twelve bits of a dualcast's destinations differ" else
-    if n == 9 then codes "descriptor #: two of a dualcast's regions meet, or a delta's record and its destination" else
+    if n == 9 then codes "descriptor #: two of a dualcast's ranges meet, or a delta's record and its destination" else
     if n == 10 then codes "descriptor #: a delta's size is no multiple of 8 or above 0x80000, its destination no multiple of 8, or its record's size no multiple of 10" else
     if n == 11 then codes "descriptor #: the expected result of a compare or a compare pattern is above 1" else
     if n == 12 then codes "descriptor #: its PASID or privilege is not the first operation's" else
@@ -141,6 +141,16 @@ of_settings n =
     if n == 8 then codes "the table does not have a price of at most 1,000,000,000 for each size of a batch from 2 to the greatest" else
     codes "a setting is outside its limits, the version is neither 1 nor 2, or the table of prices has a wrong length"
 
+-- of a new tracker, by the place in the call of the measure that is outside its limits; for any other number, what the
+-- words of a tracker lack
+unfoldable pub of_measures : ℕ → List ℕ
+of_measures n =
+    if n == 1 then codes "a tracker has at most 64 slots" else
+    if n == 3 then codes "log2_rows of a tracker is not 1 to 32" else
+    if n == 4 then codes "log2_unit of a tracker is not 1 to 63" else
+    if n == 5 then codes "there are too few words for a tracker of these measures" else
+    codes "the words do not have the form of a tracker, or are too few for one of these measures"
+
 -- of any number
 abbrev pub sentence : ℕ → List ℕ
 sentence n =
@@ -153,6 +163,6 @@ sentence n =
     if nat_lt n 130 then of_trackers n else
     of_texts n
 
--- of any number; 83 names the setting by its first number
+-- of any number; 83 names the setting by its first number, and 126 the measure
 abbrev pub said : ℕ → ℕ → List ℕ
-said number first = if number == 83 then of_settings first else sentence number
+said number first = if number == 83 then of_settings first else if number == 126 then of_measures first else sentence number

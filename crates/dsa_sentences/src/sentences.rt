@@ -2,7 +2,7 @@
 //! second. docs/FORMATS.md has the same sentences.
 
 ghost use Rattle.std.specs.Prelude.{◌≡◌, ◌≤◌};
-ghost use Rattle.dsa_sentences.specs.Sentences.{said, sentence, of_buffers, of_certificates, of_lists, of_operations, of_plans, of_runs, of_settings, of_texts, of_trackers};
+ghost use Rattle.dsa_sentences.specs.Sentences.{said, sentence, of_buffers, of_certificates, of_lists, of_measures, of_operations, of_plans, of_runs, of_settings, of_texts, of_trackers};
 ghost use Rattle.dsa_sentences.specs.Texts.{longest};
 
 /// The causes of a list.
@@ -23,7 +23,7 @@ fn of_lists(number: u64) -> &'static str
         7 => "descriptor #: the record's address is no multiple of 32",
         8 => "descriptor #: the low twelve bits of a dualcast's destinations differ",
         9 =>
-            "descriptor #: two of a dualcast's regions meet, or a delta's record and its destination",
+            "descriptor #: two of a dualcast's ranges meet, or a delta's record and its destination",
         10 =>
             "descriptor #: a delta's size is no multiple of 8 or above 0x80000, its destination no multiple of 8, or its record's size no multiple of 10",
         11 => "descriptor #: the expected result of a compare or a compare pattern is above 1",
@@ -216,6 +216,23 @@ fn of_settings(number: u64) -> &'static str
     }
 }
 
+/// Which measure of a new tracker is outside its limits, by its place in the call; for any other number, what the words
+/// of a tracker lack.
+#[tactic(auto, unfolding(crate::specs::Sentences::of_measures))]
+fn of_measures(number: u64) -> &'static str
+    ensures value { result.now ≡ of_measures number }
+    ensures short { longest result.now ≤ 250 }
+{
+    match number {
+        1 => "a tracker has at most 64 slots",
+        3 => "log2_rows of a tracker is not 1 to 32",
+        4 => "log2_unit of a tracker is not 1 to 63",
+        5 => "there are too few words for a tracker of these measures",
+        _ =>
+            "the words do not have the form of a tracker, or are too few for one of these measures",
+    }
+}
+
 /// What the cause of this number means; empty if no cause has the number.
 pub fn sentence_of(number: u64) -> &'static str
     ensures value { result.now ≡ sentence number }
@@ -245,13 +262,17 @@ pub fn sentence_of(number: u64) -> &'static str
     of_texts(number)
 }
 
-/// What the cause of this number means. For 83, the first number that the refusal names is that of the setting.
+/// What the cause of this number means. For 83, the first number that the refusal names is that of the setting, and for
+/// 126 that of the measure.
 pub(crate) fn said_of(number: u64, first: u64) -> &'static str
     ensures value { result.now ≡ said number first }
     ensures short { longest result.now ≤ 250 }
 {
     if number == 83 {
         return of_settings(first);
+    }
+    if number == 126 {
+        return of_measures(first);
     }
     sentence_of(number)
 }

@@ -251,8 +251,9 @@ def pages():
 
 
 def documents():
-    """What the installed pages name is installed."""
+    """What the installed pages and manual pages name is installed."""
     package_pages.names(READER)
+    package_pages.manuals(READER)
 
 
 def commands():

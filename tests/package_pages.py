@@ -5,6 +5,7 @@ A block of commands is an indented one, or one of the language sh. A line is a c
 first word is one of PROGRAMS. A command without `$ ` has a row in COMMANDS, with the page and how it is to end: so a
 page can't show one that nothing runs."""
 
+import gzip
 import os
 import re
 import shutil
@@ -85,6 +86,15 @@ def names(reader):
             expect((reader.prefix / "include" / name).exists(), f"{page}.md names {name}, which is not installed")
         others = pages.ELSEWHERE.search(text)
         expect(not others or pages.NOTE in text, f"{page}.md names {others and others[0]} as if it were there")
+
+
+def manuals(reader):
+    """The manual pages name the pages and schemas at their places."""
+    for path in sorted(reader.prefix.glob("share/man/man*/*.gz")):
+        text = gzip.decompress(path.read_bytes()).decode()
+        text = re.sub(r"\\f[BRI]", "", text.replace("\\-", "-"))
+        for name in set(re.findall(r"(?<![\w/])[\w/-]*(?:\b[A-Z]{3,}\.md|\w+\.schema\.json)", text)):
+            expect((reader.prefix / name).exists(), f"{path.name} names {name}, which is not installed")
 
 
 def shown(text):

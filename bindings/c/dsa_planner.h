@@ -10,11 +10,11 @@
  *            that is split the first piece is after the barrier, and the flag on the first operation says nothing. A
  *            plan keeps each barrier, by a fence or a new group, and no legal plan that does costs less.
  *
- * Proved:    of each call but dsa_planner_version, for all inputs of a caller that does what is asked below: which number
- *            it returns, and what it has written then, as its comment here says. The contracts are at the functions of the
- *            same names in crates/dsa_c/src. Tested, not proved: that a call succeeds if there is memory, how much stack it
- *            takes, and that calls on several threads do not disturb each other. Neither proved nor tested: that a device
- *            does what docs/FORMATS.md says of it.
+ * Proved:    of each call but dsa_planner_version, for all inputs of a caller that does what is asked below: which
+ *            number it returns, and what it has written then, as its comment here says. The contracts are at the
+ *            functions of the same names in crates/dsa_c/src of the repository. Tested, not proved: that a call succeeds
+ *            if there is memory, how much stack it takes, and that calls on several threads do not disturb each other.
+ *            Neither proved nor tested: that a device does what docs/FORMATS.md says of it.
  *
  * Link:      cc app.c $(pkg-config --cflags --libs dsa_planner)            with the shared object libdsa_planner.so.1
  *            cc app.c $(pkg-config --cflags --libs dsa_planner_static)     with the archive libdsa_planner.a

@@ -255,7 +255,7 @@ def manuals(to, numbers):
     """The manual pages, dated by the commit."""
     date = run("date", "-u", "-d", f"@{commit()[1]}", "+%Y-%m-%d").strip()
     head = {"version": numbers, "date": date}
-    pages = {
+    texts = {
         "dsa.1": manual.dsa(head),
         "dsa_jobs.1": manual.dsa_jobs(head),
         "dsa_text.1": manual.dsa_text(head, str(PROVED["dsa_text"])),
@@ -264,10 +264,10 @@ def manuals(to, numbers):
         "dsa_trace.1": filled("dsa_trace.1", **head),
         "dsa_prices.1": filled("dsa_prices.1", **head),
     }
-    for name, text in pages.items():
+    for name, text in texts.items():
         path = to / f"man{name[-1]}" / f"{name}.gz"
         path.parent.mkdir(parents=True, exist_ok=True)
-        path.write_bytes(gzip.compress(text.encode(), mtime=0))
+        path.write_bytes(gzip.compress(pages.placed(text).encode(), mtime=0))
 
 
 def examples(to):

@@ -28,6 +28,12 @@ def text_of(name):
     return f"{title}\n\n{NOTE}{rest}" if ELSEWHERE.search(rest) else text
 
 
+def placed(text):
+    """A manual page, which is read anywhere, with the places of the pages and schemas that it names."""
+    names = "|".join(re.escape(name) for name in (*PAGES, *SCHEMAS))
+    return re.sub(rf"(?<!/)docs/({names})", r"share/doc/dsa\-planner/\1", text)
+
+
 def write(to):
     """Writes all pages and schemas to a folder."""
     for name in PAGES:

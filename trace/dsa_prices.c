@@ -13,6 +13,8 @@
 #include <time.h>
 #include <unistd.h>
 
+#include "shown.h"
+
 enum { MOST = 1024, MOVED = 64, LARGEST_PRICE = 1000000000, STAGING = 65536 };
 
 typedef struct dsa_hw_desc descriptor;
@@ -243,6 +245,7 @@ static void print_all(const char *between, const uint32_t *prices, unsigned grea
 
 int main(int argc, char **argv)
 {
+    shown_begin();
     struct asked a = ask(argv);
     struct bench b = {0};
     char text[64];

@@ -224,10 +224,6 @@ void junit_end(const struct junit *j);
 /* Audits each run of the folder; false, after a sentence, if it has none. */
 bool report_runs(const struct options *o, struct audits *a, const struct junit *j);
 
-/* ---- shown.c: what goes to a terminal ---- */
-/* Bytes of names that command a terminal are shown as \x1b from now on. */
-void shown_begin(void);
-
 /* ---- escape.c ---- */
 void escape_json(FILE *to, const char *text);
 void escape_xml(FILE *to, char c);

@@ -9,6 +9,7 @@
 #include <unistd.h>
 
 #include "launcher.h"
+#include "shown.h"
 
 /* Our own folder, for the end of this process, and not for that of a child. */
 static struct own { pid_t process; char folder[PATH_MAX]; } own;

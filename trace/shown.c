@@ -1,9 +1,10 @@
 /* What goes to a terminal. Names of files and programs, and keys of a file, may have bytes that command it: they are
  * shown as \x1b. */
+#include <stdbool.h>
 #include <stdio.h>
 #include <unistd.h>
 
-#include "launcher.h"
+#include "shown.h"
 
 /* A stream in place of one of the C library's, and the byte that it had last. */
 struct shown { int file; unsigned char last; };
@@ -40,17 +41,16 @@ static ssize_t put_shown(void *cookie, const char *text, size_t length)
     return length;
 }
 
-/// Has what this process writes to a terminal be shown so.
+/// Has what this process writes to a terminal be shown so; without memory it is written as it is.
 void shown_begin(void)
 {
     static struct shown shown[] = {{STDOUT_FILENO, 0}, {STDERR_FILENO, 0}};
     FILE **const streams[] = {&stdout, &stderr};
     for (int i = 0; i < 2; i++) {
-        if (!isatty(shown[i].file))
-            continue;
-        FILE *stream = fopencookie(&shown[i], "w", (cookie_io_functions_t){.write = put_shown});
+        const cookie_io_functions_t how = {.write = put_shown};
+        FILE *stream = isatty(shown[i].file) ? fopencookie(&shown[i], "w", how) : NULL;
         if (!stream)
-            fail("the terminal");
+            continue;
         setvbuf(stream, NULL, _IOLBF, 0);
         *streams[i] = stream;
     }

@@ -61,6 +61,8 @@ def built(crate, folder):
 
 
 def main(names):
+    if len(names) != 1:
+        sys.exit(__doc__)
     crate = proved.crate_of(toolchain.crates(), names[0])
     kept = f"{crate.folder}/out/unproved"
     sources = crate.stamp()

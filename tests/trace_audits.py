@@ -278,7 +278,7 @@ os.symlink({TEXT!r}, f"{{to}}/{{sys.argv[1]}}")
 print("building")
 """)
     end = ran(*words, "--junit", f"{WORK}/junit.xml", *runs, env=env)
-    told("a clone that builds it", end, 0, "so this clone builds one without proofs", "building\n")
+    told("a clone that builds it", end, 0, "audits are by one that this clone builds without proofs", "building\n")
     line = f"by a dsa_text that was built without proofs ({clone.resolve()}/crates/dsa_text/out/unproved/dsa_text):\n"
     expect(end.stdout.startswith(line), f"the report begins {end.stdout[:200]}")
     cases = xml.parse(f"{WORK}/junit.xml").getroot()

@@ -49,7 +49,8 @@ const char *unproved_build(const char *folder, char path[PATH_MAX])
     if (!realpath(joined(above, folder, "../.."), clone) || !has_toolchain() ||
         access(joined(script, clone, "tests/gate/quick.py"), R_OK))
         return NULL;
-    fputs("dsa_trace: there is no dsa_text, so this clone builds one without proofs\n", stderr);
+    fputs("dsa_trace: there is no dsa_text, so audits are by one that this clone builds without proofs, and slow\n",
+          stderr);
     if (!build(script) || access(joined(path, clone, "crates/dsa_text/out/unproved/dsa_text"), X_OK))
         return NULL;
     return path;

@@ -19,7 +19,7 @@ from pathlib import Path
 from common import ROOT, expect, named, run_test, side_by_side, skip
 from trace_cases import REFUSED, SYSFS, launched, made_anew, rewriting
 from trace_forms import OTHERS, PLACE, instructions, wrong_forms
-from trace_runs import KNOWN, STRICT, TEXT, WORK, audited, built_all, client, has_text, ran, told, traced
+from trace_runs import HAS_MOVDIR64B, KNOWN, STRICT, TEXT, WORK, audited, built_all, client, has_text, ran, told, traced
 
 sys.path.insert(0, str(ROOT / "bindings/package"))
 import make
@@ -190,7 +190,6 @@ def other_cpus():
     if ran(client("faults"), "/bin/true").returncode:
         skip("signals as other CPUs raise them: the system permits no ptrace")
         return
-    is_turned = "movdir64b" not in Path("/proc/cpuinfo").read_text()
     clients = [(["operations"], 0, 39, []), (["threads"], 0, 560, []), (["ordered", "fenced"], 0, 1, []),
                (["ordered", "waited"], 0, 2, []), (["odd", "handler"], 0, 1, ["in a handler: status 0x1,"]),
                (["odd", "pages"], 0, 3, REFUSED["pages"]), (["odd", "record"], 0, 2, REFUSED["record"]),
@@ -199,7 +198,7 @@ def other_cpus():
     for (words, status, count, lines), order in itertools.product(clients, ("fifo", "data")):
         for by in BY:
             end = traced("--order", order, *by, "--", client("faults"), client(words[0]), *words[1:])
-            counted = [f"{count} signals turned"][: is_turned and by != []]
+            counted = [f"{count} signals turned"][: not HAS_MOVDIR64B and by != []]
             told(f"{words} by SIGSEGV in the order {order} {by}", end, status, *lines, *counted)
     for words, line in ((["registers"], "7 of 7 forms right, 7 rewritten"),
                         (["rewritten", "threads", "all4000"], "4000 of 4000 right, 64 rewritten")):

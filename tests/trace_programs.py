@@ -10,7 +10,7 @@ import struct
 from pathlib import Path
 
 from common import ROOT, expect, named, run_test, skip
-from trace_runs import STRICT, WORK, built_all, client, ran, told, traced
+from trace_runs import HAS_MOVDIR64B, STRICT, WORK, built_all, client, ran, told, traced
 
 KNOWN = os.environ | {"DSA_TEXT": "/bin/true"}
 CLIENTS = ("stacks", "starts", "threads", "cancelled", "past", "driver")
@@ -146,8 +146,9 @@ def past():
 
 def refused():
     """What can't be traced ends the program, and a sentence says why."""
-    told("SIGILL is blocked past us", traced("--", client("past"), "raw"), 128 + signal.SIGILL,
-         "dsa_trace: ended by SIGILL: ", "blocked by a system call")
+    fault = "SIGSEGV" if HAS_MOVDIR64B else "SIGILL"
+    told(f"{fault} is blocked past us", traced("--", client("past"), "raw"), 128 + signal.Signals[fault],
+         f"dsa_trace: ended by {fault}: ", f"{fault} is blocked by a system call")
     told("a filter", traced("--", client("past"), "filtered"), 128 + signal.SIGSYS, "dsa_trace: ended by SIGSYS: ")
     end = traced("--", "sh", "-c", "kill -ABRT $$")
     told("another signal", end, 128 + signal.SIGABRT)
@@ -213,7 +214,7 @@ def gdb():
     if not shutil.which("gdb") or faults() is None:
         skip("gdb, which is not there or may not trace")
         return
-    tool = ["gdb", "-q", "-batch", "-ex", "handle SIGILL nostop noprint pass"]
+    tool = ["gdb", "-q", "-batch", "-ex", "handle SIGILL SIGSEGV nostop noprint pass"]
     program = ["--args", client("past"), "enqueued"]
     told("gdb", traced("--", *tool, "-ex", "run", *program), 0, "exited normally")
     stop = ["-ex", "set breakpoint pending on", "-ex", "break emulate if order.submitted == 3"]

@@ -13,6 +13,7 @@ from common import ROOT, expect, skip
 STRICT = ["-std=c11", "-D_GNU_SOURCE", "-Wall", "-Wextra", "-Werror"]
 FOLDER = tempfile.TemporaryDirectory()  # it goes at the end of the test
 WORK = FOLDER.name
+HAS_MOVDIR64B = "movdir64b" in Path("/proc/cpuinfo").read_text()
 TEXT = os.environ.get("DSA_TEXT") or str(ROOT / "crates/dsa_text/out/dsa_text")
 KNOWN = os.environ | {"DSA_TEXT": TEXT}
 LONGEST = 900  # seconds of a command, which on a busy machine take long

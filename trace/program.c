@@ -1,5 +1,6 @@
 /* Whether the library can be loaded into a program: the loader does it for dynamic programs of the C library of GNU,
  * and not for those that run with other rights than the user's. */
+#include <cpuid.h>
 #include <elf.h>
 #include <errno.h>
 #include <fcntl.h>
@@ -105,12 +106,34 @@ static int check_file(const char *path, char next[PATH_MAX])
     return status;
 }
 
+static bool has_movdir64b(void)
+{
+    enum { FEATURES = 7, MOVDIR64B = 1u << 28 };
+    unsigned a, b, c = 0, d;
+    return __get_cpuid_count(FEATURES, 0, &a, &b, &c, &d) && c & MOVDIR64B;
+}
+
+/// The name of the signal that ends a program at a submission that we don't do, if the status is of one: SIGILL, or on
+/// a CPU that has the instruction SIGBUS, since the file of a queue is empty, or SIGSEGV.
+static const char *fault_of(int status)
+{
+    if (status == 128 + SIGILL)
+        return "SIGILL";
+    if (!has_movdir64b())
+        return NULL;
+    return status == 128 + SIGBUS ? "SIGBUS" : status == 128 + SIGSEGV ? "SIGSEGV" : NULL;
+}
+
 /// Says what may have ended a program that has this status, if dsa_trace has a part in it.
 void program_explain(int status)
 {
-    if (status == 128 + SIGILL)
-        fputs("dsa_trace: ended by SIGILL: a program submits into which the library can't be loaded (static, or with "
-              "other rights than yours), or SIGILL is blocked by a system call of its own\n", stderr);
+    const char *fault = fault_of(status);
+    if (fault)
+        fprintf(stderr,
+                "dsa_trace: ended by %s: by a fault of its own, since a program submits into which the library can't "
+                "be loaded (static, or with other rights than yours), or since %s is blocked by a system call of its "
+                "own\n",
+                fault, fault);
     if (status == 128 + SIGSYS)
         fputs("dsa_trace: ended by SIGSYS: the program's filter of system calls (seccomp) does not permit those that a "
               "submission in software takes\n", stderr);

@@ -17,7 +17,7 @@ enum { HIGHEST = 64 };
 
 static const uint64_t all_but_faults = ~(1ull << (SIGSEGV - 1) | 1ull << (SIGBUS - 1));
 
-/* What the program asked for; written by its calls of sigaction alone. */
+/* What the program asked for: written by its calls of sigaction, and by what is found when ours take over. */
 static struct signals {
     struct sigaction theirs[HIGHEST + 1];
     bool fakes_cpuid;
@@ -30,6 +30,14 @@ static greg_t *register_at(ucontext_t *u, unsigned number)
     static const int at[16] = {REG_RAX, REG_RCX, REG_RDX, REG_RBX, REG_RSP, REG_RBP, REG_RSI, REG_RDI,
                                REG_R8, REG_R9, REG_R10, REG_R11, REG_R12, REG_R13, REG_R14, REG_R15};
     return &u->uc_mcontext.gregs[at[number]];
+}
+
+static struct registers registers_of(ucontext_t *u)
+{
+    struct registers r = {.flags = u->uc_mcontext.gregs[REG_EFL]};
+    for (unsigned i = 0; i < 16; i++)
+        r.general[i] = *register_at(u, i);
+    return r;
 }
 
 /// CPUID, which faults while it is asked to: the answer of the CPU, with our instructions beside its own.
@@ -60,6 +68,21 @@ static void say_refused(enum outcome outcome, const struct emulated *e)
         say("%s: no portal is mapped at %#lx (a child of fork has to map its own)", name, (unsigned long)e->to);
 }
 
+/// Says so if the program's own instruction has faulted at its descriptor: a CPU that has it reads that before it
+/// touches the portal.
+static void say_unreadable(ucontext_t *u, uintptr_t fault)
+{
+    uintptr_t at = u->uc_mcontext.gregs[REG_RIP];
+    uint8_t code[LONGEST_CODE];
+    const struct registers r = registers_of(u);
+    struct emulated e = {0};
+    sites_code(&at, code);
+    if (!decode(code, at, r.general, &e.in) || (e.in.kind != MOVDIR64B && e.in.kind != ENQCMD))
+        return;
+    if (fault - e.in.address < 64)
+        say_refused(UNREADABLE, &e);
+}
+
 /// Does the instruction at which the program has stopped, itself or in the stub that has its place, if it is one of
 /// ours.
 static enum outcome perform(ucontext_t *u, struct fault *fault)
@@ -67,7 +90,7 @@ static enum outcome perform(ucontext_t *u, struct fault *fault)
     greg_t *g = u->uc_mcontext.gregs;
     uintptr_t at = g[REG_RIP];
     uint8_t code[LONGEST_CODE];
-    struct registers r = {.flags = g[REG_EFL]};
+    struct registers r = registers_of(u);
     struct emulated e;
     const bool is_rewritten = sites_code(&at, code);
     g[REG_RIP] = (greg_t)at;
@@ -75,8 +98,6 @@ static enum outcome perform(ucontext_t *u, struct fault *fault)
         answer_cpuid(g);
         return DONE;
     }
-    for (unsigned i = 0; i < 16; i++)
-        r.general[i] = *register_at(u, i);
     const enum outcome outcome = emulate(code, at, &r, &e);
     say_refused(outcome, &e);
     *fault = e.fault;
@@ -126,6 +147,8 @@ static void pass_on(int number, siginfo_t *info, ucontext_t *u)
     pthread_sigmask(SIG_UNBLOCK, &only, NULL);
 }
 
+static void take_over(void);
+
 /// SIGILL: the CPU lacks the instruction. SIGSEGV: it has it, and the portal's page can't be touched, or ENQCMD has no
 /// PASID, which is a general protection fault and has no address.
 static void handler(int number, siginfo_t *info, void *context)
@@ -146,7 +169,10 @@ static void handler(int number, siginfo_t *info, void *context)
         order_arrive();
         outcome = perform(u, &fault);
         order_leave();
-    }
+    } else if (is_fault)
+        say_unreadable(u, (uintptr_t)info->si_addr);
+    if (outcome == SUBMITTED && number == SIGBUS)
+        take_over(); /* who has mapped a portal past us may have asked for handlers past us, too */
     if (outcome == NOT_OURS || (outcome == FAULTED && number == SIGBUS))
         pass_on(number, info, u);
     else if (outcome != SUBMITTED && outcome != DONE) {
@@ -180,9 +206,9 @@ static void install(int number)
     REAL(sigaction)(number, &ours, NULL);
 }
 
-/// Puts our handlers before those that are there, and lets CPUID fault if that is asked for. If ours is there already,
-/// a library has asked for its own before, and it is known.
-void signals_install(void)
+/// Puts our handlers before those that are there. If ours is there already, a library has asked for its own before, and
+/// it is known.
+static void take_over(void)
 {
     REAL_OF(sigaction);
     static const int ours[] = {SIGILL, SIGSEGV, SIGBUS};
@@ -193,6 +219,12 @@ void signals_install(void)
             signals.theirs[ours[i]] = found;
         install(ours[i]);
     }
+}
+
+/// Puts our handlers before those that are there, and lets CPUID fault if that is asked for.
+void signals_install(void)
+{
+    take_over();
     masks_begin();
     if (!settings.cpuid)
         return;

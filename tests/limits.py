@@ -6,7 +6,10 @@ words are names of parts."""
 import random
 
 import model
-from common import digits, expect_line, job, judge, move, named, object_of, plan, program, raw, run_test, settings
+from common import (
+    digits, expect, expect_line, job, judge, move, named, object_of, plan, program, raw, run_test, settings,
+)
+from hostile_texts import TEXTS, answer
 from model import FILL, Op
 
 MOST = 65_536
@@ -142,10 +145,18 @@ def engines():
         expect_line([DSA], replay(pieces, memory, engines, in_turn(count, engines)), line)
 
 
+def hostile():
+    """Hostile texts are refused, and take no more memory than they may."""
+    for name, made in TEXTS.items():
+        text, most, number = made()
+        line = answer(program("dsa"), text, most)
+        expect(line.startswith(f"refused {number} "), f"{name}, with {most} bytes for each byte: {line!r}")
+
+
 def main(words):
     global DSA
     DSA = program("dsa")
-    for part in named([planned, long_runs, images, events, engines], words):
+    for part in named([planned, long_runs, images, events, engines, hostile], words):
         part()
 
 

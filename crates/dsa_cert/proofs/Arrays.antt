@@ -6,7 +6,7 @@ use Rattle.serde_json.specs.Find.{as_array, as_bool}
 use Rattle.serde_json.specs.View.{view, items_of, items_view}
 use Rattle.serde_json.specs.declared.value.Value.{Value}
 use Rattle.std.proofs.lemmas.List.{length-map}
-use Rattle.dsa_cert.specs.Spelled.{whole, array_of}
+use Rattle.dsa_tokens.specs.Spelled.{whole, array_of}
 
 -- the items of an array are one list
 pub same_items : (xs ys : List Data) → items_of xs ≡ items_of ys → xs ≡ ys

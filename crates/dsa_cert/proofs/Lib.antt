@@ -4,3 +4,4 @@ pub mod Arrays
 pub mod Pairs
 pub mod Spelled
 pub mod OneDocument
+pub mod Documents

@@ -6,7 +6,7 @@ use Rattle.std.proofs.lemmas.List.{append-nil, take_all}
 use Rattle.std.proofs.lemmas.Slice.Eq.{bytes_eq-Decides}
 use Rattle.serde_json.specs.View.{members_view}
 use Rattle.serde_json.specs.declared.value.Value.{Value}
-use Rattle.dsa_cert.specs.Spelled.{member_names}
+use Rattle.dsa_tokens.specs.Spelled.{member_names}
 
 abbrev pub Entry : Type 0
 Entry = String Global × Value

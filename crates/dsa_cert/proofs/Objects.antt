@@ -8,7 +8,7 @@ use Rattle.std.proofs.lemmas.Cmp.{nat_list_cmp_total, tied_itself}
 use Rattle.std.proofs.lemmas.Map.Text.{is_eq-slice_cmp}
 use Rattle.serde_json.specs.Data.{unsigned, negative, float, Data, null, boolean, number, string, array, object, Members, no_members, member}
 use Rattle.serde_json.specs.Find.{get, get_member, as_number, as_u64, as_str, as_object}
-use Rattle.dsa_cert.specs.Spelled.{whole, member_names, members_of, object_of}
+use Rattle.dsa_tokens.specs.Spelled.{whole, member_names, members_of, object_of}
 
 abbrev pub Field : Type 0
 Field = List ℕ × Data

@@ -2,7 +2,7 @@
 use Rattle.std.proofs.Common.{◌≡◌, ℕ, [], ◌∷◌, codes, Option, Some, None, refl, ap}
 use Rattle.std.proofs.lemmas.Option.{same_Some}
 use Rattle.serde_json.specs.Find.{get}
-use Rattle.dsa_cert.specs.Spelled.{whole}
+use Rattle.dsa_tokens.specs.Spelled.{whole}
 use Rattle.dsa_plan.specs.Certificate.{Contents}
 use Rattle.dsa_cert.specs.Document.{pair_value, document}
 use Rattle.dsa_cert.proofs.Arrays.{same_items, same_array, same_whole}

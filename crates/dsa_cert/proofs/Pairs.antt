@@ -4,7 +4,7 @@ use Rattle.serde_json.specs.Data.{Data}
 use Rattle.serde_json.specs.Find.{as_array}
 use Rattle.serde_json.specs.View.{items_view}
 use Rattle.serde_json.specs.declared.value.Value.{Value}
-use Rattle.dsa_cert.specs.Spelled.{whole}
+use Rattle.dsa_tokens.specs.Spelled.{whole}
 use Rattle.dsa_cert.specs.Document.{PairFits, pair_value}
 use Rattle.dsa_cert.proofs.Arrays.{two_items}
 

@@ -8,7 +8,7 @@ use Rattle.serde_json.specs.Find.{as_array}
 use Rattle.serde_json.specs.View.{items_view, view}
 use Rattle.serde_json.specs.declared.value.Value.{Array, Value}
 use Rattle.serde_json.proofs.Views.{view-Array}
-use Rattle.dsa_cert.specs.Spelled.{array_of}
+use Rattle.dsa_tokens.specs.Spelled.{array_of}
 use Rattle.dsa_cert.proofs.Arrays.{array_whole}
 
 module _ {Y : Type 0} (spelling : Y → Data) where

@@ -1,8 +1,9 @@
 -- The document of a certificate, as a JSON value.
 use Rattle.std.specs.Prelude.{◌≡◌, ◌≢◌, ℕ, ◌^◌, ◌<◌, ⊤, List, [], ◌∷◌, All, map, codes, Option, Some, None}
-use Rattle.serde_json.specs.Data.{Data, null}
-use Rattle.dsa_plan.specs.Certificate.{Contents}
-use Rattle.dsa_cert.specs.Spelled.{whole, array_of, object_of}
+use Rattle.serde_json.specs.Data.{Data, null, array, Items}
+use Rattle.dsa_plan.specs.Certificate.{Contents, contents}
+use Rattle.dsa_plan.specs.declared.certificate.Certificate.{Certificate}
+use Rattle.dsa_tokens.specs.Spelled.{whole, array_of, object_of, ReadsFit}
 
 -- the two numbers fit their places
 abbrev pub PairFits : Option (ℕ × ℕ) → Type 0
@@ -42,10 +43,19 @@ ReadsPrices d (Some prices) = d ≡ prices_value prices
 
 -- The same for a pair.
 abbrev pub ReadsPair : Data → Option (Option (ℕ × ℕ)) → Type 0
-ReadsPair d None = (pair : Option (ℕ × ℕ)) → PairFits pair → d ≢ pair_value pair
-ReadsPair d (Some pair) = (d ≡ pair_value pair) × PairFits pair
+ReadsPair d found = ReadsFit pair_value PairFits (λ pair. pair) d found
 
 -- a reader of pairs answers those that a value spells, or that it spells none
 abbrev pub ReadsPairs : Data → Option (List (Option (ℕ × ℕ))) → Type 0
 ReadsPairs d None = (pairs : List (Option (ℕ × ℕ))) → All PairFits pairs → d ≢ pairs_value pairs
 ReadsPairs d (Some pairs) = (d ≡ pairs_value pairs) × All PairFits pairs
+
+-- The items are two numbers that fit their places, or are not.
+abbrev pub ReadsTwo : Items → Option (ℕ × ℕ) → Type 0
+ReadsTwo ds None = (pair : ℕ × ℕ) → PairFits (Some pair) → array ds ≢ pair_value (Some pair)
+ReadsTwo ds (Some pair) = (array ds ≡ pair_value (Some pair)) × PairFits (Some pair)
+
+-- a reader of documents answers the certificate that the value spells, or that it spells none
+abbrev pub ReadsDocument : Data → Option Certificate → Type 0
+ReadsDocument d None = (c : Contents) → ¬ Documents d c
+ReadsDocument d (Some certificate) = Documents d (contents certificate)

@@ -1,2 +1,2 @@
-pub mod Spelled
 pub mod Document
+pub mod Held

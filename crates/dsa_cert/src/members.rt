@@ -3,7 +3,7 @@ ghost use Rattle.std.specs.Prelude.{◌≡◌, ◌↔◌, IsTrue, map, option_ma
 ghost use Rattle.serde_json.specs.Data.{string};
 ghost use Rattle.serde_json.specs.Find.{as_object};
 ghost use Rattle.serde_json.specs.View.{view, members_view};
-ghost use Rattle.dsa_cert.specs.Spelled.{member_names, whole, ReadsAt};
+ghost use Rattle.dsa_tokens.specs.Spelled.{member_names, whole, ReadsAt};
 
 use serde_json::{Map, Value};
 

@@ -4,7 +4,7 @@ use Rattle.std.specs.Prelude.{Option, Some, None, codes}
 use Rattle.serde_json.specs.Data.{Data, string}
 use Rattle.serde_json.specs.View.{items_of}
 use Rattle.serde_json.specs.Written.{has_float, items_have_float}
-use Rattle.dsa_cert.specs.Spelled.{array_of, object_of, whole}
+use Rattle.dsa_tokens.specs.Spelled.{array_of, object_of, whole}
 use Rattle.dsa_descriptor.specs.declared.descriptor.Descriptor.{Descriptor}
 use Rattle.dsa_explain.specs.declared.explanation.Explanation.{Explanation}
 use Rattle.dsa_explain.specs.declared.fences.Fence.{Fence}

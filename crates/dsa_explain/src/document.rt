@@ -4,7 +4,7 @@ ghost use Rattle.std.specs.Prelude.{◌≡◌, false, map, IfOk, string_bytes};
 ghost use Rattle.serde_json.specs.Data.{string};
 ghost use Rattle.serde_json.specs.View.{view};
 ghost use Rattle.serde_json.specs.Written.{has_float};
-ghost use Rattle.dsa_cert.specs.Spelled.{array_of};
+ghost use Rattle.dsa_tokens.specs.Spelled.{array_of};
 ghost use Rattle.dsa_explain.specs.Document.{explanation_line, explanation_value, fence_value, group_value, optional_value, origin_value, piece_value, reason_value};
 ghost use Rattle.dsa_explain.specs.Runs.{labelling};
 ghost use Rattle.dsa_explain.specs.Words.{record_of};

@@ -5,7 +5,7 @@ use Rattle.std.proofs.lemmas.List.{nil_from_length}
 use Rattle.serde_json.specs.Data.{Data, Items, item}
 use Rattle.serde_json.specs.View.{items_of}
 use Rattle.serde_json.specs.Written.{compact_text, items_text}
-use Rattle.dsa_cert.specs.Spelled.{array_of}
+use Rattle.dsa_tokens.specs.Spelled.{array_of}
 
 regroup : (line text rest : List ℕ) → ((line ++ 44 ∷ []) ++ text) ++ rest ≡ line ++ (44 ∷ [] ++ (text ++ rest))
 regroup line text rest = simp append_assoc

@@ -10,8 +10,12 @@ use Rattle.std.specs.Str.{bytes_eq}
 use Rattle.std.specs.List.{AllByRecursion}
 use Rattle.serde_json.specs.Data.{Data, null, boolean, number, string, array, object, Members as Entries, no_members, member}
 use Rattle.serde_json.specs.Find.{get, get_member}
-use Rattle.serde_json.specs.View.{view}
-use Rattle.dsa_cert.specs.Spelled.{whole, member_names}
+use Rattle.dsa_cert.specs.Document.{ReadsDocument}
+use Rattle.dsa_tokens.specs.Said.{Holds}
+use Rattle.dsa_tokens.specs.declared.slots.Slot.{Slot}
+use Rattle.dsa_tokens.specs.declared.slots.Slot.TheVariants.{Missing, Other, Held}
+use Rattle.dsa_report.specs.Fields.{SaysTrace}
+use Rattle.dsa_tokens.specs.Spelled.{whole, member_names}
 use Rattle.dsa_cert.proofs.Objects.{are_apart, object_spelled}
 use Rattle.dsa_report.specs.declared.jobs.JobName.{JobName}
 use Rattle.dsa_report.specs.declared.members.Members.{Members}
@@ -19,7 +23,7 @@ use Rattle.dsa_report.specs.Image.{image_shown, image_value}
 use Rattle.dsa_report.specs.Plan.{plan_value}
 use Rattle.dsa_report.specs.Settings.{settings_shown, settings_value}
 use Rattle.dsa_report.specs.Job.{Member, the_certificate, the_name, the_engines, the_image, the_list, the_plan, the_portal, the_settings, the_staging, the_trace, members_of, member_name, is_same, is_among, has, HeldIf, JobMembers, value_if, member_value, job_fields, named_value, HasName, HasMembers}
-use Rattle.dsa_report.specs.Read.{AreRead, IsRead, ReadsHeld, ReadsMembers}
+use Rattle.dsa_report.specs.Read.{AreRead, IsRead, SlotIsRead, ReadsHeld, ReadsMembers}
 use Rattle.dsa_report.proofs.EachJob.{row}
 use Rattle.dsa_report.proofs.SameJobs.{same_member, one_member, get_among}
 
@@ -38,7 +42,7 @@ is_itself the_staging = refl
 is_itself the_trace = refl
 
 -- the names of members are one where the members are
-same_bytes : (m n : Member) → bytes_eq (member_name m) (member_name n) ≡ is_same m n
+pub same_bytes : (m n : Member) → bytes_eq (member_name m) (member_name n) ≡ is_same m n
 same_bytes m n = go (is_same m n) (bytes_eq (member_name m) (member_name n)) refl refl
   where
     equal : is_same m n ≡ true → bytes_eq (member_name m) (member_name n) ≡ true
@@ -112,7 +116,7 @@ all_found d f (m ∷ ms) found = (
 )
 
 -- the names of the members of a row
-row_names : (f : Member → Data) (ms : List Member) → map (λ (field : List ℕ × Data). field.0) (map (λ m. (member_name m, f m)) ms) ≡ map member_name ms
+pub row_names : (f : Member → Data) (ms : List Member) → map (λ (field : List ℕ × Data). field.0) (map (λ m. (member_name m, f m)) ms) ≡ map member_name ms
 row_names f [] = refl
 row_names f (m ∷ ms) = ap (λ (names : List (List ℕ)). member_name m ∷ names) (row_names f ms)
 
@@ -150,27 +154,38 @@ read_value true name spelling shown d (Some x) e is there = is
 read_value true name spelling shown d None e is there = absurd (true≢false (sym e))
 read_value false name spelling shown d found e is there = absurd (true≢false (sym there))
 
--- the value at a name, if it is looked at as it is
-pub got : {X : Type 0} (found : Option X) (value : X → Data) (name : List ℕ) (d : Data) → option_map value found ≡ get name d → ReadsHeld name (λ x. x) value d (Some found)
-got (Some x) value name d is = sym is
-got None value name d is = sym is
+-- the value at a name, whatever it is
+value_held : (there : Bool) (found : Option Data) (e : is_some found ≡ there) → there ≡ true → found ≡ Some (value_if there (λ d. d) (held_of there found e))
+value_held true (Some d) e there = refl
+value_held true None e there = absurd (true≢false (sym e))
+value_held false found e there = absurd (true≢false (sym there))
+
+-- what was read of it is of what the member holds
+slot_read : {A : Type 0} (there : Bool) (says : Data → Option A → Type 0) (found : Option Data) (slot : Slot A) (e : is_some found ≡ there) → Holds says found slot
+    → SlotIsRead there says (held_of there found e) slot
+slot_read true says (Some d) slot e held = held
+slot_read true says None slot e held = absurd (true≢false (sym e))
+slot_read false says (Some d) slot e held = absurd (true≢false e)
+slot_read false says None Missing e held = refl
+slot_read false says None Other e (d, is, kind) = absurd (cc)
+slot_read false says None (Held x) e (d, is, kind) = absurd (cc)
 
 -- where all members were read, the value spells the job
 pub members_read : (d : Data) (name : JobName) (m : Members) → HasMembers d name → HasName d name
     → get (codes "settings") d ≡ Some (settings_value (settings_shown m.settings))
-    → ReadsHeld (codes "certificate") (λ x. x) (λ found. view found.now) d (Some m.certificate)
+    → Holds ReadsDocument (get (codes "certificate") d) m.certificate
     → ReadsHeld (codes "engines") whole (λ n. n) d (Some m.engines)
     → ReadsHeld (codes "image") image_value image_shown d (Some m.image)
     → ReadsHeld (codes "list") string (λ text. text.now) d (Some m.list)
     → ReadsHeld (codes "plan") plan_value (λ plan. plan) d (Some m.plan)
     → ReadsHeld (codes "portal") string (λ text. text.now) d (Some m.portal)
     → ReadsHeld (codes "staging") string (λ text. text.now) d (Some m.staging)
-    → ReadsHeld (codes "trace") (λ x. x) (λ found. view found.now) d (Some m.trace)
+    → Holds SaysTrace (get (codes "trace") d) m.trace
     → ReadsMembers d name (Some m)
 members_read d name m names named settings certificate engines image list plan portal staging trace = (j, spelled, are_read)
   where
-    has_certificate : is_some (option_map (λ found. view found.now) m.certificate) ≡ has name the_certificate
-    has_certificate = read_there the_certificate (λ x. x) (λ found. view found.now) d name m.certificate names certificate
+    has_certificate : is_some (get (codes "certificate") d) ≡ has name the_certificate
+    has_certificate = is_held d name the_certificate names
 
     has_engines : is_some (option_map (λ n. n) m.engines) ≡ has name the_engines
     has_engines = read_there the_engines whole (λ n. n) d name m.engines names engines
@@ -190,24 +205,24 @@ members_read d name m names named settings certificate engines image list plan p
     has_staging : is_some (option_map (λ text. text.now) m.staging) ≡ has name the_staging
     has_staging = read_there the_staging string (λ text. text.now) d name m.staging names staging
 
-    has_trace : is_some (option_map (λ found. view found.now) m.trace) ≡ has name the_trace
-    has_trace = read_there the_trace (λ x. x) (λ found. view found.now) d name m.trace names trace
+    has_trace : is_some (get (codes "trace") d) ≡ has name the_trace
+    has_trace = is_held d name the_trace names
 
     j : JobMembers name
     j = record {
       settings = settings_shown m.settings;
-      certificate = held_of (has name the_certificate) (option_map (λ found. view found.now) m.certificate) has_certificate;
+      certificate = held_of (has name the_certificate) (get (codes "certificate") d) has_certificate;
       engines = held_of (has name the_engines) (option_map (λ n. n) m.engines) has_engines;
       image = held_of (has name the_image) (option_map image_shown m.image) has_image;
       list = held_of (has name the_list) (option_map (λ text. text.now) m.list) has_list;
       plan = held_of (has name the_plan) (option_map (λ plan. plan) m.plan) has_plan;
       portal = held_of (has name the_portal) (option_map (λ text. text.now) m.portal) has_portal;
       staging = held_of (has name the_staging) (option_map (λ text. text.now) m.staging) has_staging;
-      trace = held_of (has name the_trace) (option_map (λ found. view found.now) m.trace) has_trace;
+      trace = held_of (has name the_trace) (get (codes "trace") d) has_trace;
     }
 
     at : (n : Member) → has name n ≡ true → get (member_name n) d ≡ Some (member_value name j n)
-    at the_certificate there = read_value (has name the_certificate) (member_name the_certificate) (λ x. x) (λ found. view found.now) d m.certificate has_certificate certificate there
+    at the_certificate there = value_held (has name the_certificate) (get (codes "certificate") d) has_certificate there
     at the_name there = named
     at the_engines there = read_value (has name the_engines) (member_name the_engines) whole (λ n. n) d m.engines has_engines engines there
     at the_image there = read_value (has name the_image) (member_name the_image) image_value image_shown d m.image has_image image there
@@ -216,7 +231,7 @@ members_read d name m names named settings certificate engines image list plan p
     at the_portal there = read_value (has name the_portal) (member_name the_portal) string (λ text. text.now) d m.portal has_portal portal there
     at the_settings there = settings
     at the_staging there = read_value (has name the_staging) (member_name the_staging) string (λ text. text.now) d m.staging has_staging staging there
-    at the_trace there = read_value (has name the_trace) (member_name the_trace) (λ x. x) (λ found. view found.now) d m.trace has_trace trace there
+    at the_trace there = value_held (has name the_trace) (get (codes "trace") d) has_trace there
 
     same : map (λ (field : List ℕ × Data). field.0) (job_fields name j) ≡ map member_name (members_of name)
     same = row_names (member_value name j) (members_of name)
@@ -227,14 +242,14 @@ members_read d name m names named settings certificate engines image list plan p
     are_read : AreRead name j m
     are_read = record {
       settings = refl;
-      certificate = is_read (has name the_certificate) (option_map (λ found. view found.now) m.certificate) has_certificate;
+      certificate = slot_read (has name the_certificate) ReadsDocument (get (codes "certificate") d) m.certificate has_certificate certificate;
       engines = subst (IsRead (has name the_engines) j.engines) (option_same m.engines) (is_read (has name the_engines) (option_map (λ n. n) m.engines) has_engines);
       image = is_read (has name the_image) (option_map image_shown m.image) has_image;
       list = is_read (has name the_list) (option_map (λ text. text.now) m.list) has_list;
       plan = subst (IsRead (has name the_plan) j.plan) (option_same m.plan) (is_read (has name the_plan) (option_map (λ plan. plan) m.plan) has_plan);
       portal = is_read (has name the_portal) (option_map (λ text. text.now) m.portal) has_portal;
       staging = is_read (has name the_staging) (option_map (λ text. text.now) m.staging) has_staging;
-      trace = is_read (has name the_trace) (option_map (λ found. view found.now) m.trace) has_trace;
+      trace = slot_read (has name the_trace) SaysTrace (get (codes "trace") d) m.trace has_trace trace;
     }
 
 -- ---- a job by what was read
@@ -244,17 +259,15 @@ one_held true a b found is is' = same_Some a b (sym is ∙ is')
 one_held false a b found is is' = refl
 
 -- what was read are the members of one job
-one_read : (name : JobName) (j k : JobMembers name) (m : Members) → AreRead name j m → AreRead name k m → j ≡ k
-one_read name j k m a b =
+one_read : (name : JobName) (j k : JobMembers name) (m : Members) → AreRead name j m → AreRead name k m → j.certificate ≡ k.certificate → j.trace ≡ k.trace → j ≡ k
+one_read name j k m a b certificate trace =
     let settings = a.settings ∙ sym b.settings in
-    let certificate = one_held (has name the_certificate) j.certificate k.certificate (option_map (λ found. view found.now) m.certificate) a.certificate b.certificate in
     let engines = one_held (has name the_engines) j.engines k.engines m.engines a.engines b.engines in
     let image = one_held (has name the_image) j.image k.image (option_map image_shown m.image) a.image b.image in
     let list = one_held (has name the_list) j.list k.list (option_map (λ text. text.now) m.list) a.list b.list in
     let plan = one_held (has name the_plan) j.plan k.plan m.plan a.plan b.plan in
     let portal = one_held (has name the_portal) j.portal k.portal (option_map (λ text. text.now) m.portal) a.portal b.portal in
     let staging = one_held (has name the_staging) j.staging k.staging (option_map (λ text. text.now) m.staging) a.staging b.staging in
-    let trace = one_held (has name the_trace) j.trace k.trace (option_map (λ found. view found.now) m.trace) a.trace b.trace in
     λ i. record {
       settings = settings i;
       certificate = certificate i;
@@ -267,8 +280,13 @@ one_read name j k m a b =
       trace = trace i;
     }
 
-pub spelled_by : (d : Data) (name : JobName) (m : Members) (k : JobMembers name) → ReadsMembers d name (Some m) → AreRead name k m → d ≡ named_value name k
-spelled_by d name m k (j, spelled, is) are = spelled ∙ ap (named_value name) (one_read name j k m is are)
+pub spelled_by : (d : Data) (name : JobName) (m : Members) (k : JobMembers name) (read : ReadsMembers d name (Some m)) → AreRead name k m → read.0.certificate ≡ k.certificate → read.0.trace ≡ k.trace → d ≡ named_value name k
+spelled_by d name m k (j, spelled, is) are certificate trace = spelled ∙ ap (named_value name) (one_read name j k m is are certificate trace)
+
+-- what is shown of nothing is nothing
+pub none_shown : {X Y : Type 0} (o : Option X) (f : X → Y) (y : Y) → option_map f o ≡ Some y → o ≡ None → ⊥
+none_shown None f y e none = absurd (cc)
+none_shown (Some x) f y e none = cc
 
 -- what a job has was read
 pub some_there : {X Y : Type 0} (o : Option X) (f : X → Y) (y : Y) → option_map f o ≡ Some y → IsSome o

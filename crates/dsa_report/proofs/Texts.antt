@@ -1,7 +1,6 @@
 -- The members of each job, as they were read.
 use Rattle.std.proofs.Common.{◌≡◌, ℕ, Bool, List, Some, option_map, refl}
 use Rattle.serde_json.specs.Data.{Data}
-use Rattle.serde_json.specs.View.{view}
 use Rattle.dsa_report.specs.declared.jobs.JobName.TheVariants.{Judge, Plan, Check, Replay, Run}
 use Rattle.dsa_report.specs.declared.members.Members.{Members}
 use Rattle.dsa_report.specs.Image.{ImageText, image_shown}
@@ -24,7 +23,7 @@ judge_text m list plan = record {
   trace = tt;
 }
 
-pub judge_spelled : (d : Data) (m : Members) (list : List ℕ) (plan : List (List Bool)) → ReadsMembers d Judge (Some m) → option_map (λ text. text.now) m.list ≡ Some list → m.plan ≡ Some plan → d ≡ named_value Judge (judge_text m list plan)
+pub judge_spelled : (d : Data) (m : Members) (list : List ℕ) (plan : List (List Bool)) (read : ReadsMembers d Judge (Some m)) → option_map (λ text. text.now) m.list ≡ Some list → m.plan ≡ Some plan → d ≡ named_value Judge (judge_text m list plan)
 judge_spelled d m list plan (j, spelled, is) is_list is_plan =
     spelled_by d Judge m (judge_text m list plan) (j, spelled, is)
     (record {
@@ -38,6 +37,7 @@ judge_spelled d m list plan (j, spelled, is) is_list is_plan =
       staging = is.staging;
       trace = is.trace;
     })
+    refl refl
 
 -- of a job to plan
 abbrev pub plan_text : Members → List ℕ → JobMembers Plan
@@ -53,7 +53,7 @@ plan_text m list = record {
   trace = tt;
 }
 
-pub plan_spelled : (d : Data) (m : Members) (list : List ℕ) → ReadsMembers d Plan (Some m) → option_map (λ text. text.now) m.list ≡ Some list → d ≡ named_value Plan (plan_text m list)
+pub plan_spelled : (d : Data) (m : Members) (list : List ℕ) (read : ReadsMembers d Plan (Some m)) → option_map (λ text. text.now) m.list ≡ Some list → d ≡ named_value Plan (plan_text m list)
 plan_spelled d m list (j, spelled, is) is_list =
     spelled_by d Plan m (plan_text m list) (j, spelled, is)
     (record {
@@ -67,6 +67,7 @@ plan_spelled d m list (j, spelled, is) is_list =
       staging = is.staging;
       trace = is.trace;
     })
+    refl refl
 
 -- of a job to check
 abbrev pub check_text : Members → Data → List ℕ → List ℕ → JobMembers Check
@@ -82,12 +83,12 @@ check_text m certificate portal staging = record {
   trace = tt;
 }
 
-pub check_spelled : (d : Data) (m : Members) (certificate : Data) (portal : List ℕ) (staging : List ℕ) → ReadsMembers d Check (Some m) → option_map (λ found. view found.now) m.certificate ≡ Some certificate → option_map (λ text. text.now) m.portal ≡ Some portal → option_map (λ text. text.now) m.staging ≡ Some staging → d ≡ named_value Check (check_text m certificate portal staging)
-check_spelled d m certificate portal staging (j, spelled, is) is_certificate is_portal is_staging =
-    spelled_by d Check m (check_text m certificate portal staging) (j, spelled, is)
+pub check_spelled : (d : Data) (m : Members) (portal : List ℕ) (staging : List ℕ) (read : ReadsMembers d Check (Some m)) → option_map (λ text. text.now) m.portal ≡ Some portal → option_map (λ text. text.now) m.staging ≡ Some staging → d ≡ named_value Check (check_text m read.0.certificate portal staging)
+check_spelled d m portal staging (j, spelled, is) is_portal is_staging =
+    spelled_by d Check m (check_text m j.certificate portal staging) (j, spelled, is)
     (record {
       settings = refl;
-      certificate = is_certificate;
+      certificate = is.certificate;
       engines = is.engines;
       image = is.image;
       list = is.list;
@@ -96,6 +97,7 @@ check_spelled d m certificate portal staging (j, spelled, is) is_certificate is_
       staging = is_staging;
       trace = is.trace;
     })
+    refl refl
 
 -- of a job to replay
 abbrev pub replay_text : Members → ℕ → ImageText → List ℕ → Data → JobMembers Replay
@@ -111,9 +113,9 @@ replay_text m engines image list trace = record {
   trace = trace;
 }
 
-pub replay_spelled : (d : Data) (m : Members) (engines : ℕ) (image : ImageText) (list : List ℕ) (trace : Data) → ReadsMembers d Replay (Some m) → m.engines ≡ Some engines → option_map image_shown m.image ≡ Some image → option_map (λ text. text.now) m.list ≡ Some list → option_map (λ found. view found.now) m.trace ≡ Some trace → d ≡ named_value Replay (replay_text m engines image list trace)
-replay_spelled d m engines image list trace (j, spelled, is) is_engines is_image is_list is_trace =
-    spelled_by d Replay m (replay_text m engines image list trace) (j, spelled, is)
+pub replay_spelled : (d : Data) (m : Members) (engines : ℕ) (image : ImageText) (list : List ℕ) (read : ReadsMembers d Replay (Some m)) → m.engines ≡ Some engines → option_map image_shown m.image ≡ Some image → option_map (λ text. text.now) m.list ≡ Some list → d ≡ named_value Replay (replay_text m engines image list read.0.trace)
+replay_spelled d m engines image list (j, spelled, is) is_engines is_image is_list =
+    spelled_by d Replay m (replay_text m engines image list j.trace) (j, spelled, is)
     (record {
       settings = refl;
       certificate = is.certificate;
@@ -123,8 +125,9 @@ replay_spelled d m engines image list trace (j, spelled, is) is_engines is_image
       plan = is.plan;
       portal = is.portal;
       staging = is.staging;
-      trace = is_trace;
+      trace = is.trace;
     })
+    refl refl
 
 -- of a job to run
 abbrev pub run_text : Members → ℕ → ImageText → List ℕ → JobMembers Run
@@ -140,7 +143,7 @@ run_text m engines image list = record {
   trace = tt;
 }
 
-pub run_spelled : (d : Data) (m : Members) (engines : ℕ) (image : ImageText) (list : List ℕ) → ReadsMembers d Run (Some m) → m.engines ≡ Some engines → option_map image_shown m.image ≡ Some image → option_map (λ text. text.now) m.list ≡ Some list → d ≡ named_value Run (run_text m engines image list)
+pub run_spelled : (d : Data) (m : Members) (engines : ℕ) (image : ImageText) (list : List ℕ) (read : ReadsMembers d Run (Some m)) → m.engines ≡ Some engines → option_map image_shown m.image ≡ Some image → option_map (λ text. text.now) m.list ≡ Some list → d ≡ named_value Run (run_text m engines image list)
 run_spelled d m engines image list (j, spelled, is) is_engines is_image is_list =
     spelled_by d Run m (run_text m engines image list) (j, spelled, is)
     (record {
@@ -154,3 +157,4 @@ run_spelled d m engines image list (j, spelled, is) is_engines is_image is_list 
       staging = is.staging;
       trace = is.trace;
     })
+    refl refl

@@ -9,7 +9,7 @@ use Rattle.dsa_core.specs.declared.event.Event.{Event}
 use Rattle.dsa_plan.specs.Certificate.{contents}
 use Rattle.dsa_plan.specs.Certificate.{Contents}
 use Rattle.dsa_cert.specs.Document.{Documents, document}
-use Rattle.dsa_cert.specs.Spelled.{whole, array_of, object_of}
+use Rattle.dsa_tokens.specs.Spelled.{whole, array_of, object_of}
 use Rattle.dsa_calls.specs.declared.fault.PlanFault.{PlanFault}
 use Rattle.dsa_calls.specs.Judge.{Judges}
 use Rattle.dsa_calls.specs.Planned.{Submission, Plans}

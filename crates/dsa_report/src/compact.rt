@@ -4,7 +4,7 @@
 ghost use Rattle.std.specs.Prelude.{◌≡◌, ◌++◌, OnOk};
 ghost use Rattle.serde_json.specs.Data.{boolean};
 ghost use Rattle.serde_json.specs.Written.{compact_text};
-ghost use Rattle.dsa_cert.specs.Spelled.{whole};
+ghost use Rattle.dsa_tokens.specs.Spelled.{whole};
 ghost use Rattle.dsa_cert.specs.Document.{pair_value, pairs_value, prices_value};
 ghost use Rattle.dsa_report.specs.Calls.{records_value};
 ghost use Rattle.dsa_report.specs.Plan.{group_value, plan_value};

@@ -1,23 +1,24 @@
 //! A job: its name, its reader, and its line.
 
-ghost use Rattle.std.specs.Prelude.{◌≡◌, ◌≢◌, ◌⊎◌, ◌↔◌, IsTrue, MatchOption, map};
-ghost use Rattle.serde_json.specs.Errors.{IsMemory};
-ghost use Rattle.serde_json.specs.View.{view};
+ghost use Rattle.std.specs.Prelude.{◌≡◌, ◌≢◌, MatchOption, Some, map};
+ghost use Rattle.serde_json.specs.Data.{Data};
 ghost use Rattle.dsa_report.specs.Calls.{AnswersRead};
 ghost use Rattle.dsa_report.specs.Gives.{GivesLine};
-ghost use Rattle.dsa_report.specs.Job.{HasMembers, HasName, NamesJob, member_name, members_of, name_text};
+ghost use Rattle.dsa_report.specs.Fields.{IsObject, all_members};
+ghost use Rattle.dsa_report.specs.Job.{HasName, NamesJob, has, name_text};
 ghost use Rattle.dsa_report.specs.Read.{IsJob, ReadsJob, ReadsJobText};
 
 use crate::answer_line::AnswerLine;
 use crate::check_job::{CheckJob, check_line, check_of};
+use crate::fields::{JobObject, Slots};
 use crate::judge_job::{JudgeJob, judge_line, judge_of};
 use crate::plan_job::{PlanJob, plan_job_of, plan_line};
 use crate::reading::LONGEST_TEXT;
 use crate::replay_job::{ReplayJob, replay_line, replay_of};
 use crate::run_job::{RunJob, run_line, run_of};
 use dsa_calls::PlanFault;
-use dsa_cert::has_names;
-use serde_json::{Error, Value};
+use dsa_tokens::{Slot, Unread, value_of};
+use json::Scratch;
 use std::alloc::Global;
 use std::sync::Wait;
 use std::thread::Threads;
@@ -37,15 +38,6 @@ pub enum JobName {
     Run,
 }
 
-/// The row of a job.
-#[derive(Clone, Copy)]
-struct Row {
-    /// The value of `do`.
-    name: &'static str,
-    /// The names of the members, in their order.
-    members: &'static [&'static str],
-}
-
 impl JobName {
     /// All names, in the order in which they are looked for.
     const ALL: [JobName; 5] = [
@@ -56,33 +48,40 @@ impl JobName {
         JobName::Run,
     ];
 
-    /// The row of the job that goes by this name.
-    fn row(self) -> Row
-        ensures name { result.name.now ≡ name_text self }
-        ensures members { map (λ member. member.now) result.members.now ≡
-            map member_name (members_of self) }
+    /// The value of `do`.
+    fn text(self) -> &'static str
+        ensures { result.now ≡ name_text self }
     {
         match self {
-            JobName::Judge => Row {
-                name: "judge",
-                members: &["do", "list", "plan", "settings"],
-            },
-            JobName::Plan => Row {
-                name: "plan",
-                members: &["do", "list", "settings"],
-            },
-            JobName::Check => Row {
-                name: "check",
-                members: &["certificate", "do", "portal", "settings", "staging"],
-            },
-            JobName::Replay => Row {
-                name: "replay",
-                members: &["do", "engines", "image", "list", "settings", "trace"],
-            },
-            JobName::Run => Row {
-                name: "run",
-                members: &["do", "engines", "image", "list", "settings"],
-            },
+            JobName::Judge => "judge",
+            JobName::Plan => "plan",
+            JobName::Check => "check",
+            JobName::Replay => "replay",
+            JobName::Run => "run",
+        }
+    }
+
+    /// Whether the job has each member that some job has: certificate, do, engines, image, list, plan, portal,
+    /// settings, staging and trace.
+    pub(crate) fn listed(self) -> [bool; 10]
+        ensures { result ≡ map (has self) all_members }
+    {
+        match self {
+            JobName::Judge => [
+                false, true, false, false, true, true, false, true, false, false,
+            ],
+            JobName::Plan => [
+                false, true, false, false, true, false, false, true, false, false,
+            ],
+            JobName::Check => [
+                true, true, false, false, false, false, true, true, true, false,
+            ],
+            JobName::Replay => [
+                false, true, true, true, true, false, false, true, false, true,
+            ],
+            JobName::Run => [
+                false, true, true, true, true, false, false, true, false, false,
+            ],
         }
     }
 }
@@ -110,35 +109,41 @@ pub fn read_job(alloc: Global, text: &[u8]) -> Result<Job, PlanFault>
     if text.len() > LONGEST_TEXT {
         return Err(PlanFault::JobTooLong);
     }
-    let parsed = Value::from_slice(alloc, text);
-    match parsed {
-        Ok(value) => job_of(alloc, &value),
-        Err(e) => Err(json_fault(&e)),
+    let Ok(text) = simdutf8::compat::from_utf8(text) else {
+        return Err(PlanFault::Json);
+    };
+    let mut scratch = Scratch::new(alloc);
+    match value_of::<JobObject>(alloc, text, &mut scratch) {
+        Ok(Some(slots)) => job_of(alloc, slots),
+        Ok(None) => Err(PlanFault::Member),
+        Err(Unread::Json) => Err(PlanFault::Json),
+        Err(Unread::Memory) => Err(PlanFault::Memory),
     }
 }
 
-/// The job that a value spells, or the first cause to refuse it.
-fn job_of(alloc: Global, value: &Value) -> Result<Job, PlanFault>
-    ensures { ReadsJob IsJob (view value.now) result }
+/// The job that an object spells, or the first cause to refuse it.
+fn job_of(alloc: Global, slots: Slots<'_>) -> Result<Job, PlanFault>
+    ensures { (d : Data) → IsObject d (Some slots.entry) → ReadsJob IsJob d result }
 {
-    if !value.is_object() {
-        return Err(PlanFault::Member);
-    }
-    match job_name(value) {
-        Some(JobName::Judge) => Ok(Job::Judge(judge_of(alloc, value)?)),
-        Some(JobName::Plan) => Ok(Job::Plan(plan_job_of(alloc, value)?)),
-        Some(JobName::Check) => Ok(Job::Check(check_of(alloc, value)?)),
-        Some(JobName::Replay) => Ok(Job::Replay(replay_of(alloc, value)?)),
-        Some(JobName::Run) => Ok(Job::Run(run_of(alloc, value)?)),
+    match job_name(&slots) {
+        Some(JobName::Judge) => Ok(Job::Judge(judge_of(alloc, slots)?)),
+        Some(JobName::Plan) => Ok(Job::Plan(plan_job_of(alloc, slots)?)),
+        Some(JobName::Check) => Ok(Job::Check(check_of(alloc, slots)?)),
+        Some(JobName::Replay) => Ok(Job::Replay(replay_of(alloc, slots)?)),
+        Some(JobName::Run) => Ok(Job::Run(run_of(alloc, slots)?)),
         None => Err(PlanFault::Do),
     }
 }
 
 /// The name that is the value of `do`.
-fn job_name(value: &Value) -> Option<JobName>
-    ensures { MatchOption result (¬ NamesJob (view value.now)) (HasName (view value.now)) }
+fn job_name(slots: &Slots<'_>) -> Option<JobName>
+    ensures { (d : Data) → IsObject d (Some slots.now)
+        → MatchOption result (¬ NamesJob d) (HasName d) }
 {
-    job_named(value.get("do")?.as_str()?)
+    match &slots.name {
+        Slot::Held(text) => job_named(text),
+        Slot::Missing | Slot::Other => None,
+    }
 }
 
 /// The job that goes by this name.
@@ -147,30 +152,11 @@ fn job_named(text: &str) -> Option<JobName>
         (λ name. name_text name ≡ text.now) }
 {
     for name in JobName::ALL {
-        if name.row().name == text {
+        if name.text() == text {
             return Some(name);
         }
     }
     None
-}
-
-/// Whether the value is an object with the members of such a job, and with no other.
-pub(crate) fn has_members(value: &Value, name: JobName) -> bool
-    ensures { IsTrue result ↔ HasMembers (view value.now) name }
-{
-    has_names(value, name.row().members)
-}
-
-/// Why a text was not read as JSON.
-fn json_fault(e: &Error) -> PlanFault
-    ensures { ((result ≡ PlanFault.Memory) × IsMemory e.now)
-        ⊎ ((result ≡ PlanFault.Json) × (IsMemory e.now → ⊥)) }
-{
-    if e.is_memory() {
-        PlanFault::Memory
-    } else {
-        PlanFault::Json
-    }
 }
 
 /// The line that answers a job. A job to run starts its engines by the handle.

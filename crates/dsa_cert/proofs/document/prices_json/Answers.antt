@@ -1,6 +1,6 @@
 use Rattle.std.proofs.Common.{◌≤◌, length, map, ap, arith}
 use Rattle.serde_json.specs.View.{view}
-use Rattle.dsa_cert.specs.Spelled.{whole}
+use Rattle.dsa_tokens.specs.Spelled.{whole}
 use Rattle.dsa_cert.proofs.Spelled.{all_written, written_more}
 use Rattle.dsa_cert.proofs.document.prices_json.Goals as goal
 

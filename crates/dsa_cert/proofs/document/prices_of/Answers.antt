@@ -3,7 +3,7 @@ use Rattle.std.specs.Prelude.{⊤, Some, option_and_then}
 use Rattle.serde_json.specs.Find.{as_number, as_u64}
 use Rattle.serde_json.specs.View.{items_view, view}
 use Rattle.serde_json.specs.declared.value.Value.{Value}
-use Rattle.dsa_cert.specs.Spelled.{whole}
+use Rattle.dsa_tokens.specs.Spelled.{whole}
 use Rattle.dsa_cert.proofs.Arrays.{array_apart}
 use Rattle.dsa_cert.proofs.Objects.{whole_of}
 use Rattle.dsa_cert.proofs.Spelled.{all_read, read_more}

@@ -1,6 +1,6 @@
 use Rattle.std.proofs.Common.{◌≡◌, ◌++◌, map, take, string_bytes}
 use Rattle.serde_json.specs.View.{members_view}
-use Rattle.dsa_cert.specs.Spelled.{member_names}
+use Rattle.dsa_tokens.specs.Spelled.{member_names}
 use Rattle.dsa_cert.proofs.members.are_named.Given as goal
 
 abbrev pub invariant-loop-name : goal.invariant-loop-name

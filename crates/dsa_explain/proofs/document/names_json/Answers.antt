@@ -1,6 +1,6 @@
 use Rattle.std.proofs.Common.{◌≤◌, ◌∙◌, length, ap, arith}
 use Rattle.dsa_cert.proofs.Spelled.{all_written}
-use Rattle.dsa_cert.specs.Spelled.{array_of}
+use Rattle.dsa_tokens.specs.Spelled.{array_of}
 use Rattle.dsa_explain.proofs.Names.{same_names, spelled_name}
 use Rattle.dsa_explain.proofs.document.names_json.Goals as goal
 

@@ -1,4 +1,4 @@
-use Rattle.dsa_cert.specs.Spelled.{whole}
+use Rattle.dsa_tokens.specs.Spelled.{whole}
 use Rattle.dsa_report.proofs.Arrays.{next_added, array_added}
 use Rattle.dsa_report.proofs.compact.push_prices.Goals as goal
 

@@ -1,7 +1,7 @@
 use Rattle.std.proofs.Common.{◌≡◌, ◌++◌, true, drop, map}
 use Rattle.serde_json.specs.View.{items_of}
 use Rattle.serde_json.specs.Written.{items_text}
-use Rattle.dsa_cert.specs.Spelled.{whole}
+use Rattle.dsa_tokens.specs.Spelled.{whole}
 use Rattle.dsa_report.proofs.compact.push_prices.Given as goal
 
 abbrev pub invariant-loop-price : goal.invariant-loop-price

@@ -1,0 +1,66 @@
+"""Texts that take as much memory as a job of their length may, with the most that each may take, in bytes for each byte
+of text, and the number of its refusal. They are read under a limit of address space."""
+
+import resource
+import subprocess
+
+MIB = 2**20
+LENGTH = 32 * MIB
+# The program, its libraries and its stack.
+ROOM = 40 * MIB
+SETTINGS = '"settings":{"batch":14,"fence":3,"greatest_batch":4,"greatest_transfer":4096,"lone":10,"staging":65536'
+SETTINGS += ',"version":1}'
+
+
+def filled(before, part, after):
+    """The part as often as fits between, with commas."""
+    times = (LENGTH - len(before) - len(after)) // (len(part) + 1)
+    return before + part + f",{part}" * (times - 1) + after
+
+
+def judge(part):
+    return filled(f'{{"do":"judge","list":"",{SETTINGS},"plan":[', part, "]}")
+
+
+def check(pairs, prices):
+    """A certificate of one of these, again and again."""
+    certificate = f'"pairs":[{pairs}],"prices":[{prices}],"version":1'
+    before, after = f'{{"do":"check","portal":"","staging":"",{SETTINGS},"certificate":{{{certificate}}}}}'.split("..")
+    return filled(before, "null" if pairs else "0", after)
+
+
+def by_size(part):
+    rules = SETTINGS.replace('"batch":14', '"batch":[..]').replace('"version":1', '"version":2')
+    before, after = f'{{"do":"plan","list":"",{rules}}}'.split("..")
+    return filled(before, part, after)
+
+
+# name: the text, the most bytes for each of its bytes, the number of the refusal
+TEXTS = {
+    "small objects": lambda: (filled("[", '{"":0}', "]"), 3, 81),
+    "members of no job": lambda: (filled("{", '"member":0', "}"), 3, 82),
+    "names again and again": lambda: (filled("{", '"do":"run"', "}"), 3, 81),
+    "texts of other kinds": lambda: (filled("{", '"plan":"x","do":[]', "}"), 3, 82),
+    "deep nesting": lambda: (filled("[", "[" * 120 + "]" * 120, "]"), 3, 81),
+    "nesting that is too deep": lambda: ("[" * LENGTH, 3, 80),
+    "a long number": lambda: ("1" * LENGTH, 3, 80),
+    "a long fraction": lambda: ("0." + "1" * (LENGTH - 2), 3, 81),
+    "escapes": lambda: ('"' + "\\u0041" * (LENGTH // 6 - 1) + '"', 3, 81),
+    "a text without its end": lambda: ('"' + "x" * (LENGTH - 1), 3, 80),
+    "groups of one": lambda: (judge("[true]"), 14, 40),
+    "empty groups": lambda: (judge("[]"), 17, 41),
+    "pairs of nothing": lambda: (check("..", ""), 8, 61),
+    "prices of 0": lambda: (check("", ".."), 10, 61),
+    "prices by size": lambda: (by_size("0"), 10, 83),
+}
+
+
+def limited(most):
+    """Limits the address space of this process, which becomes the program."""
+    return lambda: resource.setrlimit(resource.RLIMIT_AS, (most, most))
+
+
+def answer(program, text, most):
+    """The line that answers the text, with so many bytes of memory for each of its bytes."""
+    limit = limited(ROOM + most * len(text))
+    return subprocess.run([program], input=text.encode(), capture_output=True, preexec_fn=limit).stdout.decode()

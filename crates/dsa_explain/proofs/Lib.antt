@@ -1,11 +1,7 @@
-pub mod Reached
-pub mod Listed
 pub mod Needed
 pub mod Singles
 pub mod Laid
-pub mod Fenced
 pub mod CostSums
-pub mod FencedOnce
 pub mod Lines
 pub mod NoFloats
 pub mod Chains

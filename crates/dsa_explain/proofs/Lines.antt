@@ -1,7 +1,7 @@
 -- The lines of an explanation, one piece after another.
 use Rattle.std.proofs.Common.{◌≡◌, ℕ, ◌+◌, List, ◌∷◌, ◌++◌, subst, add-one, append_assoc}
 use Rattle.dsa_explain.specs.declared.cells.Cell.{Cell}
-use Rattle.dsa_explain.specs.declared.fences.Fence.{Fence}
+use Rattle.dsa_reasons.specs.declared.fences.Fence.{Fence}
 use Rattle.dsa_explain.specs.Runs.{Listed}
 use Rattle.dsa_explain.specs.Words.{cell_lines, fences_left, lines_at}
 

@@ -8,7 +8,7 @@ use Rattle.dsa_plan.specs.Legal.{IsFenced}
 use Rattle.dsa_plan.specs.Chain.{Pairs, Reaches, HasChainFences, IsFirstPair, HasPairs}
 use Rattle.dsa_plan.proofs.Chains.{Reaches-same, Reaches-lt, Reaches-le, Reaches-from_start}
 use Rattle.dsa_plan.proofs.Groups.{forward_from_pairs}
-use Rattle.dsa_explain.specs.Reasons.{NeedsFence}
+use Rattle.dsa_reasons.specs.Reasons.{NeedsFence}
 
 -- a piece of the chain after y is k or comes after it
 next_on_chain : (C : ℕ → ℕ → Type 0) (greatest_batch n : ℕ) (pairs : Pairs) → HasPairs C greatest_batch n pairs → (start count y k m other : ℕ)

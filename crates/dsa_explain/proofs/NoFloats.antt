@@ -6,12 +6,12 @@ use Rattle.serde_json.specs.View.{items_of}
 use Rattle.serde_json.specs.Written.{has_float, items_have_float}
 use Rattle.dsa_tokens.specs.Spelled.{array_of, object_of, whole}
 use Rattle.dsa_descriptor.specs.declared.descriptor.Descriptor.{Descriptor}
+use Rattle.dsa_reasons.specs.declared.fences.Fence.{Fence}
+use Rattle.dsa_reasons.specs.declared.reason.Reason.{Reason}
+use Rattle.dsa_reasons.specs.Sentences.{record_of}
 use Rattle.dsa_explain.specs.declared.explanation.Explanation.{Explanation}
-use Rattle.dsa_explain.specs.declared.fences.Fence.{Fence}
-use Rattle.dsa_explain.specs.declared.reason.Reason.{Reason}
 use Rattle.dsa_explain.specs.Document.{optional_value, group_value, reason_value, barrier_members, fence_value, piece_value, origin_value, explanation_value}
 use Rattle.dsa_explain.specs.Runs.{Labelling}
-use Rattle.dsa_explain.specs.Words.{record_of}
 
 -- an array has none where no item has
 items : {X : Type 0} (f : X → Data) (xs : List X) → ((x : X) → has_float (f x) ≡ false) → items_have_float (items_of (map f xs)) ≡ false

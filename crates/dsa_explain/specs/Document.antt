@@ -8,12 +8,12 @@ use Rattle.dsa_descriptor.specs.Descriptors.{fields}
 use Rattle.dsa_lines.specs.Numbers.{hex}
 use Rattle.dsa_lines.specs.Text.{line_text}
 use Rattle.dsa_plan.specs.declared.costs.GroupCost.{GroupCost}
+use Rattle.dsa_reasons.specs.declared.fences.Fence.{Fence}
+use Rattle.dsa_reasons.specs.declared.reason.Reason.{Reason}
+use Rattle.dsa_reasons.specs.Sentences.{kind_words, record_of}
 use Rattle.dsa_explain.specs.declared.explanation.Explanation.{Explanation}
-use Rattle.dsa_explain.specs.declared.fences.Fence.{Fence}
 use Rattle.dsa_explain.specs.declared.labels.Origin.{Origin}
-use Rattle.dsa_explain.specs.declared.reason.Reason.{Reason}
 use Rattle.dsa_explain.specs.Runs.{Labelling}
-use Rattle.dsa_explain.specs.Words.{kind_words, record_of}
 
 -- a number that may be missing
 abbrev pub optional_value : Option ℕ → Data

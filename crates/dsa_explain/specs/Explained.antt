@@ -11,8 +11,8 @@ use Rattle.dsa_plan.specs.Legal.{IsLegal}
 use Rattle.dsa_plan.specs.Costs.{AreCosts}
 use Rattle.dsa_plan.specs.LegalFaults.{IsFirstLegalFault}
 use Rattle.dsa_explain.specs.Cells.{cells_from}
-use Rattle.dsa_explain.specs.Fences.{AreFencesOf}
-use Rattle.dsa_explain.specs.declared.fences.Detail.{Detail}
+use Rattle.dsa_reasons.specs.Fences.{AreFencesOf}
+use Rattle.dsa_reasons.specs.declared.fences.Detail.{Detail}
 use Rattle.dsa_explain.specs.declared.explanation.Explanation.{Explanation}
 use Rattle.dsa_explain.specs.declared.explanation.ExplainFault.{ExplainFault}
 use Rattle.dsa_explain.specs.declared.explanation.ExplainFault.TheVariants.{TooManyPieces, Legal, Memory}

@@ -1,5 +1,3 @@
-pub mod Reasons
-pub mod Fences
 pub mod Cells
 pub mod Runs
 pub mod Words

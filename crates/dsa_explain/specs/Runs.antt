@@ -4,8 +4,8 @@ use Rattle.dsa_descriptor.specs.declared.descriptor.Descriptor.{Descriptor}
 use Rattle.dsa_plan.specs.Settings.{Limits}
 use Rattle.dsa_plan.specs.declared.costs.GroupCost.{GroupCost}
 use Rattle.dsa_explain.specs.declared.cells.Cell.{Cell}
-use Rattle.dsa_explain.specs.declared.fences.Detail.{Detail}
-use Rattle.dsa_explain.specs.declared.fences.Detail.TheVariants.{First, All as Every}
+use Rattle.dsa_reasons.specs.declared.fences.Detail.{Detail}
+use Rattle.dsa_reasons.specs.declared.fences.Detail.TheVariants.{First, All as Every}
 use Rattle.dsa_explain.specs.declared.labels.Labels.{Labels}
 use Rattle.dsa_explain.specs.declared.labels.Origin.{Origin}
 use Rattle.dsa_explain.specs.declared.runs.Listing.{Listing}

@@ -1,21 +1,19 @@
 -- The words of an explanation (this project's choice).
-use Rattle.std.specs.Prelude.{ℕ, suc, ◌+◌, ◌-◌, ◌==◌, ◌&&◌, nat_le, nat_lt, Bool, true, false, List, [], ◌∷◌, ◌++◌, codes, decimal, drop, length, slice_get, slice_index_or, Option, Some, None, if◌then◌else◌}
+use Rattle.std.specs.Prelude.{ℕ, suc, ◌+◌, ◌-◌, ◌==◌, nat_le, nat_lt, Bool, false, List, [], ◌∷◌, ◌++◌, codes, decimal, drop, length, slice_get, slice_index_or, Option, Some, None, if◌then◌else◌}
 use Rattle.std.specs.List.{flat_map}
 use Rattle.dsa_descriptor.specs.declared.descriptor.Descriptor.{Descriptor}
 use Rattle.dsa_descriptor.specs.Descriptors.{fields}
-use Rattle.dsa_ranges.specs.declared.hazards.HazardKind.{HazardKind}
-use Rattle.dsa_ranges.specs.declared.hazards.HazardKind.TheVariants.{ReadAfterWrite, WriteAfterRead, WriteAfterWrite}
-use Rattle.dsa_lines.specs.Numbers.{hex}
 use Rattle.dsa_lines.specs.Text.{line_text}
 use Rattle.dsa_plan.specs.Settings.{Limits}
 use Rattle.dsa_plan.specs.declared.costs.Costs.{Costs}
 use Rattle.dsa_plan.specs.declared.costs.GroupCost.{GroupCost}
+use Rattle.dsa_reasons.specs.declared.fences.Detail.{Detail}
+use Rattle.dsa_reasons.specs.declared.fences.Fence.{Fence}
+use Rattle.dsa_reasons.specs.declared.reason.Reason.{Reason}
+use Rattle.dsa_reasons.specs.Sentences.{fence_words, reason_words}
 use Rattle.dsa_explain.specs.declared.cells.Cell.{Cell}
 use Rattle.dsa_explain.specs.declared.explanation.Explanation.{Explanation}
-use Rattle.dsa_explain.specs.declared.fences.Detail.{Detail}
-use Rattle.dsa_explain.specs.declared.fences.Fence.{Fence}
 use Rattle.dsa_explain.specs.declared.labels.Origin.{Origin}
-use Rattle.dsa_explain.specs.declared.reason.Reason.{Reason}
 use Rattle.dsa_explain.specs.Runs.{Labelling, Listed, continues, run_length}
 
 -- ---- the parts
@@ -23,12 +21,6 @@ use Rattle.dsa_explain.specs.Runs.{Labelling, Listed, continues, run_length}
 -- an s, unless the number is 1
 abbrev pub plural : ℕ → List ℕ
 plural n = if n == 1 then [] else codes "s"
-
--- the name of a hazard
-abbrev pub kind_words : HazardKind → List ℕ
-kind_words ReadAfterWrite = codes "read after write"
-kind_words WriteAfterRead = codes "write after read"
-kind_words WriteAfterWrite = codes "write after write"
 
 -- how many fences a batch has, how many epochs they divide it into, and its cost
 unfoldable pub fences_words : ℕ → ℕ → List ℕ
@@ -74,48 +66,6 @@ groups_words greatest first last group =
     ++ (decimal first
     ++ (codes " to "
     ++ (decimal last ++ (codes ": " ++ (decimal (last + 1 - first) ++ (alike_words greatest group ++ codes " each"))))))
-
--- the two pieces of a conflict, its kind and an address of it
-abbrev pub conflict_words : Reason → List ℕ
-conflict_words r =
-    decimal r.later ++ (codes " after " ++ (decimal r.earlier ++ (codes ", " ++ (kind_words r.hazard.kind ++ (codes " at " ++ hex r.hazard.address)))))
-
--- the address is one of the 32 of the piece's completion record
-abbrev pub is_in_record : Option Descriptor → ℕ → Bool
-is_in_record None address = false
-is_in_record (Some d) address = nat_le d.record_at address && nat_lt (address - d.record_at) 32
-
--- the piece of a conflict whose completion record has the address, if one has; the earlier one if both have
-abbrev pub record_of : List Descriptor → Reason → Option ℕ
-record_of pieces r =
-    if is_in_record (slice_get pieces r.earlier) r.hazard.address
-    then Some r.earlier
-    else (if is_in_record (slice_get pieces r.later) r.hazard.address then Some r.later else None)
-
--- that the address lies in a completion record
-abbrev pub record_words : Option ℕ → List ℕ
-record_words None = []
-record_words (Some piece) = codes " (record of " ++ (decimal piece ++ codes ")")
-
--- a conflict that a fence separates
-abbrev pub reason_words : List Descriptor → Reason → List ℕ
-reason_words pieces r = conflict_words r ++ record_words (record_of pieces r)
-
--- what needs a fence: a barrier, the first of the conflicts that are named, or both
-abbrev pub need_words : List Descriptor → Bool → Option Reason → List ℕ
-need_words pieces false None = codes "no conflict needs it alone"
-need_words pieces false (Some r) = reason_words pieces r
-need_words pieces true None = codes "a barrier"
-need_words pieces true (Some r) = codes "a barrier, and " ++ reason_words pieces r
-
--- how many more conflicts only this fence separates, if there are any
-abbrev pub more_words : ℕ → List ℕ
-more_words more = if more == 0 then [] else codes ", and " ++ (decimal more ++ codes " more")
-
--- a fence: a barrier that needs it, the first conflict that only this fence separates, and how many more there are that
--- are not named
-abbrev pub fence_words : List Descriptor → Fence → List ℕ
-fence_words pieces fence = need_words pieces fence.barrier (slice_get fence.named.items 0) ++ more_words fence.more
 
 -- the line of each further conflict that is named
 abbrev pub further_lines : List Descriptor → List Reason → List ℕ

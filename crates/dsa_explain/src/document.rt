@@ -7,16 +7,14 @@ ghost use Rattle.serde_json.specs.Written.{has_float};
 ghost use Rattle.dsa_tokens.specs.Spelled.{array_of};
 ghost use Rattle.dsa_explain.specs.Document.{explanation_line, explanation_value, fence_value, group_value, optional_value, origin_value, piece_value, reason_value};
 ghost use Rattle.dsa_explain.specs.Runs.{labelling};
-ghost use Rattle.dsa_explain.specs.Words.{record_of};
+ghost use Rattle.dsa_reasons.specs.Sentences.{record_of};
 
 use crate::explanation::Explanation;
-use crate::fences::Fence;
 use crate::labels::{Labels, Origin};
-use crate::reason::Reason;
-use crate::words::{kind_text, record_of};
 use dsa_descriptor::Descriptor;
 use dsa_lines::line_of;
 use dsa_plan::GroupCost;
+use dsa_reasons::{Fence, Reason, kind_text, record_of};
 use serde_json::{Value, json};
 use std::alloc::{AllocError, Global};
 

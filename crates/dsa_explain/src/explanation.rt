@@ -5,9 +5,9 @@ ghost use Rattle.dsa_explain.specs.declared.explanation.ExplainFault.TheVariants
 ghost use Rattle.dsa_explain.specs.Explained.{Explains};
 
 use crate::cells::{Cell, lay_out};
-use crate::fences::{Detail, Fence, fences_of};
 use dsa_descriptor::{Descriptor, MOST_PIECES};
 use dsa_plan::{Costs, LegalFault, Plan, Settings, is_legal_with, plan_costs};
+use dsa_reasons::{Detail, Fence, fences_of};
 use std::alloc::{AllocError, Global};
 use std::fmt;
 

@@ -1,6 +1,6 @@
 //! Laws of explanations.
 
-ghost use Rattle.dsa_explain.specs.Laws.{LeastPlansSave, CellsArePiecesAndFences, GroupCostsAddUp, EachFenceOnce};
+ghost use Rattle.dsa_explain.specs.Laws.{LeastPlansSave, CellsArePiecesAndFences, GroupCostsAddUp};
 
 use dsa_plan::Conflicts;
 
@@ -17,9 +17,4 @@ pub fn cells_are_pieces_and_fences()
 /// The costs of the groups of a plan add up to the plan's.
 pub fn group_costs_add_up()
     ensures { GroupCostsAddUp }
-{}
-
-/// The list of the fenced pieces of a plan has each of them once, in order, and no other.
-pub fn each_fence_once()
-    ensures { EachFenceOnce }
 {}

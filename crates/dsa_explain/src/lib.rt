@@ -5,12 +5,10 @@
 mod cells;
 mod document;
 mod explanation;
-mod fences;
 mod labels;
 mod laws;
 mod listing;
 mod picture;
-mod reason;
 mod runs;
 mod waits;
 mod words;
@@ -20,14 +18,10 @@ pub use document::explanation_line;
 pub use dsa_descriptor::MOST_PIECES;
 pub use dsa_drawing::{Buffer, MOST_ROWS};
 pub use dsa_plan::{Costs, GroupCost, plan_costs};
+pub use dsa_reasons::{Detail, Fence, Reason, each_fence_once, fences_of, kind_text};
 pub use explanation::{ExplainFault, Explanation, explain};
-pub use fences::{Detail, Fence, fences_of};
 pub use labels::{Labels, Origin};
-pub use laws::{
-    cells_are_pieces_and_fences, each_fence_once, group_costs_add_up, least_plans_save,
-};
+pub use laws::{cells_are_pieces_and_fences, group_costs_add_up, least_plans_save};
 pub use listing::explanation_text;
 pub use picture::draw;
-pub use reason::Reason;
 pub use waits::{Waits, WaitsFault, group_waits, waits_text};
-pub use words::kind_text;

@@ -1,21 +1,19 @@
 //! The lines of an explanation.
 
 ghost use Rattle.std.specs.Prelude.{◌≡◌, ◌+◌, ◌<◌, ◌^◌, ◌++◌, IfOk, OnOk, Some, codes, decimal, drop, length, slice_get, string_bytes, if◌then◌else◌};
+ghost use Rattle.dsa_reasons.specs.Sentences.{reason_words};
 ghost use Rattle.dsa_explain.specs.Runs.{labelling, listed, run_length};
-ghost use Rattle.dsa_explain.specs.Words.{cell_lines, explanation_words, fence_line, fences_left, further_lines, group_line, groups_words, is_lower, last_row, line_of_fence, line_of_run, lines_at, name_of, origins_words, parts_words, piece_line, pieces_line, reason_words, run_line, run_lines, run_words, step_words};
+ghost use Rattle.dsa_explain.specs.Words.{cell_lines, explanation_words, fence_line, fences_left, further_lines, group_line, groups_words, is_lower, last_row, line_of_fence, line_of_run, lines_at, name_of, origins_words, parts_words, piece_line, pieces_line, run_line, run_lines, run_words, step_words};
 
 use crate::cells::Cell;
 use crate::explanation::Explanation;
-use crate::fences::{Detail, Fence};
 use crate::labels::{Labels, Origin};
-use crate::reason::Reason;
 use crate::runs::{Listing, continues, run_length};
-use crate::words::{
-    cost_text, fence_text, groups_text, name_of, piece_text, push_name, reason_text,
-};
+use crate::words::{cost_text, groups_text, name_of, piece_text, push_name};
 use dsa_descriptor::Descriptor;
 use dsa_lines::line_of;
 use dsa_plan::{GroupCost, Settings};
+use dsa_reasons::{Detail, Fence, Reason, fence_text, reason_text};
 use std::alloc::{AllocError, Global};
 
 /// Writes a line.

@@ -4,9 +4,8 @@ ghost use Rattle.std.specs.Prelude.{IfOk, string_bytes};
 ghost use Rattle.dsa_drawing.specs.Pictures.{IsPicture};
 
 use crate::explanation::Explanation;
-use crate::fences::Fence;
 use crate::labels::{Labels, Origin};
-use crate::words::{cost_text, fence_text, group_text, push_origin};
+use crate::words::{cost_text, group_text, push_origin};
 use dsa_descriptor::Descriptor;
 use dsa_drawing::{
     Bar, BarKind, Buffer, Column, Group, Layout, Separated, Split, hazard_name, op_name,
@@ -14,6 +13,7 @@ use dsa_drawing::{
 use dsa_lines::op_text;
 use dsa_plan::{Costs, GroupCost, Settings, is_barrier};
 use dsa_ranges::touched;
+use dsa_reasons::{Fence, fence_text};
 use std::alloc::{AllocError, Global};
 
 /// What the marks, bars and lines mean.

@@ -4,10 +4,10 @@ ghost use Rattle.std.specs.Prelude.{◌≡◌, ◌+◌, ◌-◌, ◌<◌, ◌≤
 ghost use Rattle.dsa_explain.specs.Runs.{are_alike, are_as_large, continues, goes_on, has_from, is_so_far_after, keeps_group, listed, repeats, repeats_group, run_length};
 
 use crate::cells::Cell;
-use crate::fences::Detail;
 use crate::labels::{Labels, Origin};
 use dsa_descriptor::Descriptor;
 use dsa_plan::{GroupCost, Settings};
+use dsa_reasons::Detail;
 
 /// What is listed: the pieces of a plan, the operation that each is of, what the groups cost under settings, and the
 /// detail.

@@ -1,27 +1,13 @@
 //! The words of an explanation.
 
-ghost use Rattle.std.specs.Prelude.{◌≡◌, ◌+◌, ◌++◌, [], IfOk, OnOk, Some, codes, decimal, map, slice_get, string_bytes, if◌then◌else◌};
-ghost use Rattle.dsa_explain.specs.Words.{alike_words, batch_words, conflict_words, cost_words, fence_words, fences_words, full_words, group_words, groups_words, is_in_record, kind_words, lone_words, more_words, name_of, name_words, need_words, origin_words, piece_words, pieces_words, plural, reason_words, record_of, record_words, saved_words, size_words};
+ghost use Rattle.std.specs.Prelude.{◌≡◌, ◌++◌, IfOk, OnOk, codes, decimal, map, string_bytes};
+ghost use Rattle.dsa_explain.specs.Words.{alike_words, batch_words, cost_words, fences_words, full_words, group_words, groups_words, lone_words, name_of, name_words, origin_words, piece_words, pieces_words, plural, saved_words, size_words};
 
-use crate::fences::Fence;
 use crate::labels::Origin;
-use crate::reason::Reason;
 use dsa_descriptor::Descriptor;
 use dsa_lines::line_of;
 use dsa_plan::{Costs, GroupCost};
-use dsa_ranges::HazardKind;
 use std::alloc::{AllocError, Global};
-
-/// The name of a kind of hazard.
-pub fn kind_text(kind: HazardKind) -> &'static str
-    ensures { result.now ≡ kind_words kind }
-{
-    match kind {
-        HazardKind::ReadAfterWrite => "read after write",
-        HazardKind::WriteAfterRead => "write after read",
-        HazardKind::WriteAfterWrite => "write after write",
-    }
-}
 
 /// An s, unless the number is 1.
 pub(crate) fn plural(count: u128) -> &'static str
@@ -128,121 +114,6 @@ pub(crate) fn groups_text(
     let alike = alike_text(alloc, greatest, group)?;
     let alike = alike.as_str();
     format!(in alloc; "groups {first} to {last}: {count}{alike} each")
-}
-
-/// The words of a conflict: its two pieces, the kind of hazard and the address.
-fn conflict_text(alloc: Global, reason: &Reason) -> Result<String, AllocError>
-    ensures { IfOk result (λ s. string_bytes s ≡ conflict_words reason.now) }
-{
-    let (earlier, later) = (reason.earlier, reason.later);
-    let (kind, address) = (kind_text(reason.hazard.kind), reason.hazard.address);
-    format!(in alloc; "{later} after {earlier}, {kind} at 0x{address:x}")
-}
-
-/// Whether the address is one of the 32 of the piece's completion record.
-fn is_in_record(pieces: &[Descriptor], piece: usize, address: u64) -> bool
-    ensures { result ≡ is_in_record (slice_get pieces.now piece) address }
-{
-    match pieces.get(piece) {
-        Some(d) => d.record_at <= address && address - d.record_at < 32,
-        None => false,
-    }
-}
-
-/// The piece of a conflict whose completion record has the address, if one has; the earlier one if both have.
-pub(crate) fn record_of(pieces: &[Descriptor], reason: &Reason) -> Option<usize>
-    ensures { result ≡ record_of pieces.now reason.now }
-{
-    if is_in_record(pieces, reason.earlier, reason.hazard.address) {
-        Some(reason.earlier)
-    } else if is_in_record(pieces, reason.later, reason.hazard.address) {
-        Some(reason.later)
-    } else {
-        None
-    }
-}
-
-/// Writes that the address lies in a completion record, if it does.
-fn push_record(alloc: Global, text: &mut String, piece: Option<usize>) -> Result<(), AllocError>
-    ensures { OnOk result (string_bytes text.new ≡ string_bytes text.old ++ record_words piece) }
-{
-    let Some(piece) = piece else {
-        return Ok(());
-    };
-    let words = format!(in alloc; " (record of {piece})")?;
-    text.push_str(&words)
-}
-
-/// The words of a conflict that a fence separates.
-pub(crate) fn reason_text(
-    alloc: Global,
-    pieces: &[Descriptor],
-    reason: &Reason,
-) -> Result<String, AllocError>
-    ensures { IfOk result (λ s. string_bytes s ≡ reason_words pieces.now reason.now) }
-{
-    let mut text = conflict_text(alloc, reason)?;
-    push_record(alloc, &mut text, record_of(pieces, reason))?;
-    Ok(text)
-}
-
-/// What needs a fence before its first conflict.
-fn barrier_text(barrier: bool) -> &'static str
-    ensures { result.now ≡ if barrier then codes "a barrier, and " else [] }
-{
-    if barrier { "a barrier, and " } else { "" }
-}
-
-/// What needs a fence, if there is no conflict that only this fence separates.
-fn alone_text(barrier: bool) -> &'static str
-    ensures { result.now ≡
-        if barrier then codes "a barrier" else codes "no conflict needs it alone" }
-{
-    if barrier {
-        "a barrier"
-    } else {
-        "no conflict needs it alone"
-    }
-}
-
-/// The words of what needs a fence: a barrier, the first of the conflicts that are named, or both.
-fn need_text(
-    alloc: Global,
-    pieces: &[Descriptor],
-    barrier: bool,
-    named: &[Reason],
-) -> Result<String, AllocError>
-    ensures { IfOk result
-        (λ s. string_bytes s ≡ need_words pieces.now barrier (slice_get named.now 0)) }
-{
-    let Some(reason) = named.get(0) else {
-        return String::from_str(alloc, alone_text(barrier));
-    };
-    let words = reason_text(alloc, pieces, reason)?;
-    let mut text = String::from_str(alloc, barrier_text(barrier))?;
-    text.push_str(&words)?;
-    Ok(text)
-}
-
-/// Writes how many more conflicts only this fence separates, if there are any.
-fn push_more(alloc: Global, text: &mut String, more: usize) -> Result<(), AllocError>
-    ensures { OnOk result (string_bytes text.new ≡ string_bytes text.old ++ more_words more) }
-{
-    if more == 0 {
-        return Ok(());
-    }
-    let words = format!(in alloc; ", and {more} more")?;
-    text.push_str(&words)
-}
-
-/// The words of a fence: a barrier that needs it, the first conflict that only this fence
-/// separates, and how many more there are that are not named.
-pub fn fence_text(alloc: Global, pieces: &[Descriptor], fence: &Fence) -> Result<String, AllocError>
-    ensures { IfOk result (λ s. string_bytes s ≡ fence_words pieces.now fence.now) }
-{
-    let mut text = need_text(alloc, pieces, fence.barrier, &fence.named)?;
-    push_more(alloc, &mut text, fence.more)?;
-    Ok(text)
 }
 
 /// Writes which of its operation's pieces a piece is, if the operation was split.

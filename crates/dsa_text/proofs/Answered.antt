@@ -15,7 +15,7 @@ use Rattle.dsa_calls.specs.Lists.{IsListOf, IsOrMemory, OrMemory}
 use Rattle.dsa_splitter.specs.Pieces.{piece_barriers}
 use Rattle.dsa_calls.specs.Fenced.{PlansWith}
 use Rattle.dsa_calls.specs.Planned.{Submission}
-use Rattle.dsa_explain.specs.declared.fences.Detail.{Detail}
+use Rattle.dsa_reasons.specs.declared.fences.Detail.{Detail}
 use Rattle.dsa_explain.specs.declared.explanation.ExplainFault.{ExplainFault}
 use Rattle.dsa_explain.specs.Explained.{Explains}
 use Rattle.dsa_text.specs.declared.answer.Answer.{Answer}

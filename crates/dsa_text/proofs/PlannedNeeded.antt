@@ -7,7 +7,7 @@ use Rattle.dsa_plan.specs.Plan.{Group, start_of}
 use Rattle.dsa_plan.specs.Legal.{IsFenced}
 use Rattle.dsa_plan.specs.Settings.{Limits}
 use Rattle.dsa_calls.specs.Planned.{Submission, IsSubmissionOf}
-use Rattle.dsa_explain.specs.Reasons.{NeedsFence}
+use Rattle.dsa_reasons.specs.Reasons.{NeedsFence}
 use Rattle.dsa_explain.proofs.Needed.{chain_needed}
 use Rattle.dsa_calls.specs.Fenced.{PiecesConflict}
 use Rattle.dsa_text.specs.Laws.{MarkedFencesAreNeeded, PlannedFencesAreNeeded}

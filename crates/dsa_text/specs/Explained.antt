@@ -19,7 +19,7 @@ use Rattle.dsa_calls.specs.Judge.{Judges, JudgesPieces}
 use Rattle.dsa_calls.specs.Lists.{IsListOf}
 use Rattle.dsa_calls.specs.Planned.{Submission, Plans, PlansOperations}
 use Rattle.dsa_splitter.specs.Pieces.{piece_barriers}
-use Rattle.dsa_explain.specs.declared.fences.Detail.{Detail}
+use Rattle.dsa_reasons.specs.declared.fences.Detail.{Detail}
 use Rattle.dsa_explain.specs.declared.explanation.ExplainFault.{ExplainFault}
 use Rattle.dsa_explain.specs.Explained.{Explains}
 use Rattle.dsa_explain.specs.Runs.{Labelling}

@@ -8,7 +8,7 @@ use Rattle.dsa_plan.specs.Plan.{Group, start_of}
 use Rattle.dsa_plan.specs.Legal.{IsFenced}
 use Rattle.dsa_calls.specs.Fenced.{PiecesConflict, PlansWith}
 use Rattle.dsa_calls.specs.Planned.{Submission, Plans}
-use Rattle.dsa_explain.specs.Reasons.{NeedsFence}
+use Rattle.dsa_reasons.specs.Reasons.{NeedsFence}
 
 -- each fence of a plan that planning answers is needed by the fenced piece and an earlier one
 abbrev pub PlannedFencesAreNeeded : Type 0

@@ -6,8 +6,8 @@ use Rattle.dsa_sentences.specs.declared.causes.TextCause.TheVariants.{Picture as
 use Rattle.dsa_sentences.specs.Endings.{ending_of}
 use Rattle.dsa_plan.specs.Plan.{Plan}
 use Rattle.dsa_plan.specs.Settings.{Limits}
-use Rattle.dsa_explain.specs.declared.fences.Detail.{Detail}
-use Rattle.dsa_explain.specs.declared.fences.Detail.TheVariants.{First, All as Every}
+use Rattle.dsa_reasons.specs.declared.fences.Detail.{Detail}
+use Rattle.dsa_reasons.specs.declared.fences.Detail.TheVariants.{First, All as Every}
 use Rattle.dsa_explain.specs.declared.explanation.ExplainFault.{ExplainFault}
 use Rattle.dsa_explain.specs.declared.explanation.Explanation.{Explanation}
 use Rattle.dsa_explain.specs.Explained.{CanBeExplained, Explains, IsExplanationOf}

@@ -2,7 +2,7 @@
 
 ghost use Rattle.std.specs.Prelude.{◌≡◌, [], IfOk, MatchResult, Err, string_bytes};
 ghost use Rattle.dsa_explain.specs.Explained.{Explains};
-ghost use Rattle.dsa_explain.specs.declared.fences.Detail.TheVariants.{All as Every};
+ghost use Rattle.dsa_reasons.specs.declared.fences.Detail.TheVariants.{All as Every};
 ghost use Rattle.dsa_text.specs.declared.form.Form.TheVariants.{Json, Picture, Waits, Words};
 ghost use Rattle.dsa_explain.specs.Runs.{labelling};
 ghost use Rattle.dsa_text.specs.Shown.{AnswersSubject, SpellsPlan, TellsPlan, too_many_groups, unlabelled, untracked};

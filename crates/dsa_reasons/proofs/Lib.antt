@@ -1,0 +1,4 @@
+pub mod Reached
+pub mod Listed
+pub mod Fenced
+pub mod FencedOnce

@@ -1,0 +1,4 @@
+pub mod Reasons
+pub mod Fences
+pub mod Sentences
+pub mod Laws

@@ -1,4 +1,5 @@
 pub mod Reasons
 pub mod Fences
+pub mod OneGroup
 pub mod Sentences
 pub mod Laws

@@ -1,0 +1,7 @@
+use Rattle.std.proofs.Common.{ap, ◌∙◌}
+use Rattle.dsa_plan.specs.Plan.{piece_count}
+use Rattle.dsa_reasons.proofs.OneGroup.{whole_count}
+use Rattle.dsa_reasons.proofs.one_group.cut_reasons.Goals as goal
+
+pub fences_of-requires-clause-all : goal.fences_of-requires-clause-all
+fences_of-requires-clause-all c = ap piece_count c.in_ok-whole.ensures ∙ whole_count c.args.plan.now ∙ c.requires.all

@@ -51,9 +51,9 @@
  *     threads at once if calls are made so.
  *   - nothing else writes to inputs or outputs, or reads outputs, during the call.
  *
- * Units:     lengths of byte arrays and `_len` of results are bytes; lengths of prices, pairs, marks, tables, regions,
- *            bases, rows, spans and words are items. Addresses are the device's. Prices and costs are in one unit of
- *            the caller's choice, for example nanoseconds. Numbers in descriptors are little-endian; numbers in
+ * Units:     lengths of byte arrays and `_len` of results are bytes; lengths of prices, pairs, marks, reasons, tables,
+ *            regions, bases, rows, spans and words are items. Addresses are the device's. Prices and costs are in one
+ *            unit of the caller's choice, for example nanoseconds. Numbers in descriptors are little-endian; numbers in
  *            structs are the machine's.
  *
  * Words:     a range is the addresses that an operation reads or writes; a span (struct dsa_span) a range as a tracker
@@ -128,7 +128,8 @@ struct dsa_refusal {
     uint64_t first;  /* the first index that the cause names, from 0; of DSA_SETTINGS the setting that is outside its
                         limits: 1 to 7 for the members of struct dsa_settings in their order, 8 for the table; of
                         DSA_NO_ROOM the bytes that portal needs, of DSA_NO_ROOM_FOR_CERTIFICATE the number of pieces,
-                        of DSA_NO_ROOM_FOR_ROWS the rows that are needed, of DSA_NO_ROOM_FOR_LIST the bytes; else 0 */
+                        of DSA_NO_ROOM_FOR_ROWS the rows that are needed, of DSA_NO_ROOM_FOR_LIST the bytes, of
+                        DSA_NO_ROOM_FOR_REASONS the reasons; else 0 */
     uint64_t second; /* the second index; of DSA_NO_ROOM the bytes that staging needs; else 0 */
 };
 
@@ -241,6 +242,8 @@ enum dsa_number {
     DSA_NO_ROOM_FOR_ROWS = 92,
     /* the buffer is too small for the list of what is left: `first` bytes are needed */
     DSA_NO_ROOM_FOR_LIST = 93,
+    /* the array of reasons is too small: `first` reasons are needed */
+    DSA_NO_ROOM_FOR_REASONS = 94,
     /* region `first` goes past 2^64 */
     DSA_REGION_WRAP = 100,
     /* region `first` begins before the one before it has ended */
@@ -366,6 +369,57 @@ uint32_t dsa_plan_list_certified(const struct dsa_settings *settings,
                                  uint8_t *marks, size_t marks_capacity,
                                  struct dsa_planned *planned,
                                  struct dsa_refusal *refusal);
+
+/* The hazard of a conflict: the later piece reads what the earlier writes; else it writes what that writes (3); else it
+ * writes what that reads (2). */
+#define DSA_READ_AFTER_WRITE 1u
+#define DSA_WRITE_AFTER_READ 2u
+#define DSA_WRITE_AFTER_WRITE 3u
+
+/* Why a piece carries a fence, or begins a group. It separates what is before the piece, back to the fence or beginning
+ * before it, from what is at the piece and after it, up to the next one; of the conflicts between these, which it alone
+ * separates, the first is the one with the least later piece and for that the greatest earlier one. */
+struct dsa_reason {
+    uint64_t piece;     /* the piece, from 0 on */
+    uint64_t group;     /* the number of its group, from 0 on */
+    uint64_t earlier;   /* of the first conflict the earlier piece; 0 if there is none */
+    uint64_t later;     /* the later piece, which waits */
+    uint64_t address;   /* an address where the two conflict */
+    uint64_t more;      /* how many more conflicts it alone separates */
+    uint32_t mark;      /* DSA_FENCED, or DSA_BEGINS */
+    uint32_t barrier;   /* 1 if a barrier is before the piece, else 0 */
+    uint32_t hazard;    /* 0 if there is no such conflict: a barrier asks for a fence then, and for a beginning that or
+                           the limit of a batch or the prices do */
+    uint32_t in_record; /* 1 if the address is in the completion record of `earlier`, 2 if in that of `later`, else 0 */
+};
+
+/*
+ * Says why the plan of a list, that of dsa_plan_list, has its fences and its groups: a reason for each fenced piece and
+ * for each that a group after the first begins with, in the order of the pieces, so fewer than pieces.
+ *
+ * Returns 0: reasons begins with *count of them, and its rest is unchanged; refusal is not written. Returns another
+ * number: refusal has it, and nothing else was written. What dsa_plan_list refuses comes first, but for DSA_NO_ROOM;
+ * then DSA_NO_ROOM_FOR_REASONS: refusal.first is how many there are. It takes the time of planning and, for each
+ * reason, of a look at each two pieces that it separates.
+ */
+uint32_t dsa_explain_list(const struct dsa_settings *settings,
+                          const uint64_t *table, size_t table_len,
+                          const uint8_t *list, size_t list_len,
+                          struct dsa_reason *reasons, size_t reasons_capacity,
+                          uint64_t *count,
+                          struct dsa_refusal *refusal);
+
+/* The most bytes of the text of a reason. */
+#define DSA_REASON_TEXT_ROOM 256u
+
+/*
+ * Writes what a reason says, for people to read, to the front of text: the sentence that `dsa_text explain` has for the
+ * fence, such as `2 after 1, read after write at 0x200038`, `a barrier`, or `no conflict needs it alone`. There is no
+ * zero byte at its end. It is cut off at text_capacity; the rest of text is unchanged.
+ *
+ * Returns how many bytes the whole text has; 0, and text is unchanged, if there was not enough memory.
+ */
+uint64_t dsa_reason_text(const struct dsa_reason *reason, char *text, size_t text_capacity);
 
 /*
  * Checks bytes to submit, whoever made them, with a certificate of this version, whoever wrote it. The lengths are those

@@ -325,6 +325,7 @@ CAUSES: Dict[int, str] = {
     91: "NoRoomForCertificate",
     92: "NoRoomForRows",
     93: "NoRoomForList",
+    94: "NoRoomForReasons",
     100: "RegionWrap",
     101: "RegionOrder",
     102: "Outside",

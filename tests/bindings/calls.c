@@ -149,6 +149,78 @@ static void other_bits_of_marks_do_not_count(void)
     expect(dsa_judge(&settings, &settings.batch, 0, list, sizeof list, alone, 2, &cost, &refusal) == DSA_OK && cost == 20);
 }
 
+/* The call answers this one reason of the two moves, in an array with room for so many, and nothing more. */
+static void expect_reason(const struct dsa_settings *s, const struct dsa_reason *right)
+{
+    struct dsa_reason reasons[2];
+    uint64_t found = 0;
+    spoil();
+    memset(reasons, 0xee, sizeof reasons);
+    expect(dsa_explain_list(s, &s->batch, 0, list, sizeof list, reasons, 2, &found, &refusal) == DSA_OK && found == 1);
+    expect(memcmp(reasons, right, sizeof *right) == 0 && is_spoiled(&reasons[1], sizeof reasons[1]));
+    expect(is_spoiled(&refusal, sizeof refusal));
+    found = 0xee;
+    const uint32_t code = dsa_explain_list(s, &s->batch, 0, list, sizeof list, reasons + 1, 0, &found, &refusal);
+    expect(code == DSA_NO_ROOM_FOR_REASONS && refusal.number == code && refusal.inner == 0);
+    expect(refusal.first == 1 && refusal.second == 0);
+    expect(found == 0xee && is_spoiled(&reasons[1], sizeof reasons[1]));
+}
+
+static void expect_text(const struct dsa_reason *reason, const char *right)
+{
+    char text[DSA_REASON_TEXT_ROOM + 1];
+    const size_t len = strlen(right), rooms[] = {0, 1, len - 1, len, DSA_REASON_TEXT_ROOM};
+    for (size_t k = 0; k < sizeof rooms / sizeof rooms[0]; k++) {
+        const size_t front = rooms[k] < len ? rooms[k] : len;
+        memset(text, 0xee, sizeof text);
+        expect(dsa_reason_text(reason, text, rooms[k]) == len && memcmp(text, right, front) == 0);
+        expect(is_spoiled(text + front, sizeof text - front));
+    }
+}
+
+/* The second move reads what the first writes: so the fence of a batch, or a group of its own where batches are dear; a
+ * barrier beside it, and one alone; the record of one move among the data of the other. */
+static void reasons_are_told(void)
+{
+    struct dsa_settings dear = settings;
+    struct dsa_reason right = {1, 0, 0, 1, 0x2000, 0, DSA_FENCED, 0, DSA_READ_AFTER_WRITE, 0};
+    dear.batch = 30;
+    put_moves(64, 64);
+    expect_reason(&settings, &right);
+    expect_text(&right, "1 after 0, read after write at 0x2000");
+    right.group = 1;
+    right.mark = DSA_BEGINS;
+    expect_reason(&dear, &right);
+    expect_text(&right, "1 after 0, read after write at 0x2000");
+    list[64 + 4] |= 1;
+    right.barrier = 1;
+    expect_reason(&dear, &right);
+    expect_text(&right, "a barrier, and 1 after 0, read after write at 0x2000");
+    put_move(list + 64, 0x5000, 0x4000, 0x8020, 64);
+    list[64 + 4] |= 1;
+    right = (struct dsa_reason){1, 0, 0, 0, 0, 0, DSA_FENCED, 1, 0, 0};
+    expect_reason(&settings, &right);
+    expect_text(&right, "a barrier");
+    put_move(list + 64, 0x5000, 0x1000, 0x8020, 64);
+    right = (struct dsa_reason){1, 0, 0, 1, 0x1000, 0, DSA_FENCED, 0, DSA_WRITE_AFTER_READ, 0};
+    expect_reason(&settings, &right);
+    expect_text(&right, "1 after 0, write after read at 0x1000");
+    put_move(list + 64, 0x5000, 0x4000, 0x8000, 64);
+    right = (struct dsa_reason){1, 0, 0, 1, 0x8000, 0, DSA_FENCED, 0, DSA_WRITE_AFTER_WRITE, 1};
+    expect_reason(&settings, &right);
+    expect_text(&right, "1 after 0, write after write at 0x8000 (record of 0)");
+    put_move(list, 0x1000, 0x8020, 0x9000, 32);
+    put_move(list + 64, 0x5000, 0x4000, 0x8020, 64);
+    right = (struct dsa_reason){1, 0, 0, 1, 0x8020, 0, DSA_FENCED, 0, DSA_WRITE_AFTER_WRITE, 2};
+    expect_reason(&settings, &right);
+    expect_text(&right, "1 after 0, write after write at 0x8020 (record of 1)");
+    right = (struct dsa_reason){0, 0, 0, 0, 0, 0, DSA_BEGINS, 0, 0, 0};
+    expect_text(&right, "no conflict needs it alone");
+    right = (struct dsa_reason){1, 1, 2, UINT64_MAX, UINT64_MAX, UINT64_MAX, 3, 7, DSA_WRITE_AFTER_WRITE, 2};
+    expect_text(&right, "a barrier, and 18446744073709551615 after 2, write after write at 0xffffffffffffffff "
+                        "(record of 18446744073709551615), and 18446744073709551615 more");
+}
+
 /* Another version is no settings, nor are too few prices by size; a buffer is a byte too small; each array of the
  * certificate is one too short; where neither fits, the refusal names the bytes. */
 static void refusals_leave_the_outputs(void)
@@ -258,6 +330,7 @@ int main(void)
     two_moves_are_planned_and_checked();
     plans_are_judged();
     other_bits_of_marks_do_not_count();
+    reasons_are_told();
     refusals_leave_the_outputs();
     settings_are_named();
     prices_go_by_size();

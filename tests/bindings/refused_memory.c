@@ -39,7 +39,7 @@ struct rattle_block rattle_realloc(void *at, size_t old_size, size_t size, size_
     return block;
 }
 
-enum { N = 24, ROWS = 1 + 2 + 3 * N, CALLS = 10, WORDS = 4096 };
+enum { N = 24, ROWS = 1 + 2 + 3 * N, CALLS = 11, WORDS = 4096 };
 static const struct dsa_settings settings = {1, 5, 4096, 10, 14, 3, UINT64_C(1) << 40};
 static uint8_t list[64 * N], fenced[64 * N], records[32 * N], marks_in[N], portal_in[64 * N], staging_in[80 * N];
 static uint64_t prices_in[N + 1];
@@ -59,7 +59,8 @@ static struct outputs {
     struct dsa_prepared_row rows[ROWS];
     struct dsa_prepared_info info;
     uint32_t slot, slots[N];
-    uint64_t waits;
+    uint64_t waits, count;
+    struct dsa_reason reasons[N];
 } outputs, before;
 
 static const struct dsa_span spans[] = {{0x1000, 64}, {0x2000, 64}};
@@ -115,6 +116,8 @@ static uint32_t call(int which, struct dsa_refusal *r)
     case 9: /* with a barrier before each third move */
         return dsa_plan_list(&settings, &settings.batch, 0, fenced, sizeof fenced, o->portal, sizeof o->portal,
                              o->staging, sizeof o->staging, &o->planned, r);
+    case 10:
+        return dsa_explain_list(&settings, &settings.batch, 0, fenced, sizeof fenced, o->reasons, N, &o->count, r);
     default:
         return track(which, r);
     }
@@ -124,6 +127,25 @@ static void fail(const char *what, int which, uint64_t at)
 {
     printf("call %d, allocation %" PRIu64 ": %s\n", which, at, what);
     exit(EXIT_FAILURE);
+}
+
+/* The text of a reason is written whole, or not at all. */
+static void tell(void)
+{
+    static const char said[] = "a barrier, and 7 after 5, write after read at 0x10 (record of 7), and 2 more";
+    const struct dsa_reason reason = {7, 1, 5, 7, 16, 2, DSA_FENCED, 1, DSA_WRITE_AFTER_READ, 2};
+    char text[DSA_REASON_TEXT_ROOM], spoiled[DSA_REASON_TEXT_ROOM];
+    refused_at = asked = 0;
+    if (dsa_reason_text(&reason, text, sizeof text) != sizeof said - 1 || memcmp(text, said, sizeof said - 1) != 0)
+        fail("another text", CALLS, 0);
+    const uint64_t growths = asked;
+    memset(spoiled, 0xa5, sizeof spoiled);
+    for (refused_at = 1; refused_at <= growths; refused_at++) {
+        asked = 0;
+        memset(text, 0xa5, sizeof text);
+        if (dsa_reason_text(&reason, text, sizeof text) != 0 || memcmp(text, spoiled, sizeof text) != 0 || live != 0)
+            fail("a text without memory", CALLS, refused_at);
+    }
 }
 
 int main(void)
@@ -150,7 +172,7 @@ int main(void)
     planned_in = outputs.planned;
     for (int which = 0; which < CALLS; which++) {
         refused_at = asked = 0;
-        are_more_refused = which == 9;
+        are_more_refused = which >= 9;
         if (call(which, &r) != DSA_OK || live != 0 || asked == 0)
             fail("refused with ample memory, or kept some", which, 0);
         uint64_t growths = asked;
@@ -172,6 +194,7 @@ int main(void)
             fail("refused afterwards", which, growths + 1);
         printf("call %d: %" PRIu64 " allocations refused in turn\n", which, growths);
     }
+    tell();
     refused_at = 1;
     asked = 0;
     if (dsa_count_pieces(&settings, &settings.batch, 0, list, sizeof list) != N || asked != 0)

@@ -8,7 +8,7 @@
 
 #include <dsa_planner.h>
 
-enum { MOST = DSA_MOST_PIECES, STACK = 1 << 20, CALLS = 12 };
+enum { MOST = DSA_MOST_PIECES, STACK = 1 << 20, CALLS = 13 };
 
 static const struct dsa_settings settings = {1, 1024, 4096, 10, 14, 3, UINT64_C(1) << 40};
 static uint8_t list[64 * MOST], records[32 * MOST], portal[64 * MOST], staging[80 * MOST], marks[MOST];
@@ -16,6 +16,7 @@ static uint64_t prices[MOST + 1], cost;
 static struct dsa_pair pairs[MOST];
 static struct dsa_planned planned;
 static struct dsa_resumed resumed;
+static struct dsa_reason reasons[MOST];
 static struct dsa_refusal refusal;
 static size_t len;
 static const struct dsa_region regions[2] = {{0, UINT64_C(0x80000000)}, {UINT64_C(0x80000000), 32 * MOST}};
@@ -87,6 +88,9 @@ static void *call(void *which)
         code = dsa_resume(s, &s->batch, 0, list, len, records, 32 * n, records, 0, 0, portal, sizeof portal, &resumed,
                           &refusal);
         break;
+    case 12:
+        code = dsa_explain_list(s, &s->batch, 0, list, len, reasons, MOST, &cost, &refusal);
+        break;
     default: /* large groups, and many, are refused once they are read */
         code = dsa_track_begin(words, sizeof words / sizeof *words, 64, 1024, 13, 12, &refusal);
         if (code == DSA_OK)
@@ -127,7 +131,7 @@ int main(int argc, char **argv)
 {
     static const char *const names[CALLS] = {"count_pieces", "plan_list", "plan_list_certified", "check", "judge",
                                              "check_list", "prepare", "fill", "track_list", "track_complete",
-                                             "track_groups", "resume"};
+                                             "track_groups", "resume", "explain_list"};
     static const uint64_t lengths[] = {2, 63, 65, 3000, MOST};
     size_t greatest[CALLS] = {0}, limits[2] = {0, 0};
     if (argc != 3)

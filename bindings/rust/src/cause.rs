@@ -147,6 +147,8 @@ causes! {
     NoRoomForRows = 92,
     /// The buffer is too small for the list of what is left: `first` bytes are needed.
     NoRoomForList = 93,
+    /// The array of reasons is too small: `first` reasons are needed.
+    NoRoomForReasons = 94,
     /// Region `first` goes past 2^64.
     RegionWrap = 100,
     /// Region `first` begins before the one before it has ended.

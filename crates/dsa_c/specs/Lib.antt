@@ -3,6 +3,8 @@ pub mod Counting
 pub mod Certificates
 pub mod Marks
 pub mod Planning
+pub mod Reasons
+pub mod Explaining
 pub mod Judging
 pub mod Preparing
 pub mod Checking

@@ -1,5 +1,6 @@
 //! Laws of marks, and of lists without fences.
 
+ghost use Rattle.dsa_c.specs.Explaining.{ReasonsSayAsExplained};
 ghost use Rattle.dsa_c.specs.Laws.{JudgedWithoutFences, MarksSpellPlans, PlannedWithoutFences, PlansSpellMarks};
 
 /// A plan whose groups are not empty is the plan that its marks spell, and it has as many marks as pieces. This is a
@@ -23,4 +24,11 @@ pub fn planned_without_fences()
 /// Such a list is judged as [`judge_bytes`](dsa_calls::judge_bytes()) judges it. This is a law too.
 pub fn judged_without_fences()
     ensures { JudgedWithoutFences }
+{}
+
+/// The sentence that [`dsa_reason_text`](crate::dsa_reason_text()) writes of a reason of
+/// [`dsa_explain_list`](crate::dsa_explain_list()) is the one that an explanation has for that fence. This is a law
+/// too.
+pub fn reasons_say_as_explained()
+    ensures { ReasonsSayAsExplained }
 {}

@@ -6,12 +6,14 @@ mod certificate;
 mod certified;
 mod checking;
 mod counting;
+mod explaining;
 mod filling;
 mod judging;
 mod laws;
 mod marks;
 mod planning;
 mod preparing;
+mod reasons;
 mod refusal;
 mod resuming;
 mod settings;
@@ -23,13 +25,16 @@ pub use certificate::RawPair;
 pub use certified::dsa_plan_list_certified;
 pub use checking::{dsa_check, dsa_check_list};
 pub use counting::dsa_count_pieces;
+pub use explaining::dsa_explain_list;
 pub use filling::dsa_fill;
 pub use judging::dsa_judge;
 pub use laws::{
     judged_without_fences, marks_spell_plans, planned_without_fences, plans_spell_marks,
+    reasons_say_as_explained,
 };
 pub use planning::{RawPlanned, dsa_plan_list};
 pub use preparing::{RawInfo, dsa_prepare};
+pub use reasons::{RawReason, dsa_reason_text};
 pub use refusal::RawRefusal;
 pub use resuming::dsa_resume;
 pub use settings::RawSettings;

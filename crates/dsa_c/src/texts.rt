@@ -8,7 +8,7 @@ use crate::refusal::RawRefusal;
 use dsa_sentences::refusal_text;
 
 /// Writes the bytes at the front of the buffer, as many as it has room for.
-fn put_front(buffer: &mut [u8], bytes: &[u8])
+pub(crate) fn put_front(buffer: &mut [u8], bytes: &[u8])
     ensures { buffer.new ≡ written (take (length buffer.old) bytes.now) buffer.old }
 {
     if bytes.len() <= buffer.len() {

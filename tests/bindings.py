@@ -1,9 +1,9 @@
 """Builds callers in C of the proved archive, before it is packed, and looks at what they print: golden output, each
 allocation refused in turn, random lists beside the program. It uses valgrind and sanitizers where they are, and says so
-where they aren't; without a C compiler it is skipped. CC names the compiler, LISTS how many random lists (250), FILLED
-how many are prepared and filled (1,000), TRACKED how many sequences of a tracker's calls are made (2,000), FLIGHTS how
-many cases of many submissions in flight are run (300). tests/package.py has the callers of the package. The words are
-names of parts."""
+where they aren't; without a C compiler it is skipped. CC names the compiler, LISTS how many random lists (250),
+FILLED how many are prepared and filled (1,000), REASONS how many are explained (400), TRACKED how many sequences of a
+tracker's calls are made (2,000), FLIGHTS how many cases of many submissions in flight are run (300). tests/package.py
+has the callers of the package. The words are names of parts."""
 
 import os
 import re
@@ -111,6 +111,12 @@ def resumed():
         tried("resumed with sanitizers", [compiled("tests/bindings/resumed.c", *SANITIZE), "200", "7"])
     command = [sys.executable, "-B", "tests/resume_model.py", os.environ.get("STOPPED", "200"), "20261128"]
     tried("lists that stop beside the model", command, env=with_library())
+
+
+def reasons():
+    """Why random lists have their fences and groups, beside a model and dsa_text (REASONS=20000)."""
+    command = [sys.executable, "-B", "tests/reasons_model.py", os.environ.get("REASONS", "400"), "20261129"]
+    tried("reasons beside the model", command, env=with_library())
 
 
 def random_lists():
@@ -271,7 +277,7 @@ def main(words):
         sys.exit(0)
     make.need_proved("libdsa_c.a")
     with tempfile.TemporaryDirectory() as WORK:
-        parts = [header, examples, calls, fenced, resumed, texts, chains, prepared, regions, tracked, flights]
+        parts = [header, examples, calls, fenced, resumed, reasons, texts, chains, prepared, regions, tracked, flights]
         parts += [in_flight, recorder, random_lists, instructions, speed]
         for part in named(parts, words):
             part()

@@ -44,6 +44,7 @@ mod prepared;
 #[cfg(feature = "queue")]
 pub mod queue;
 mod raw;
+mod reasons;
 mod tracker;
 
 use alloc::vec;
@@ -53,6 +54,7 @@ use core::fmt;
 pub use cause::Cause;
 pub use descriptor::{groups_of, list_of, Descriptor, Group, BLOCK_ON_FAULT};
 pub use prepared::{prepare, Prepared, Region, Row};
+pub use reasons::{explain_list, Conflict, Hazard, Reason};
 pub use tracker::{Retired, Slots, Span, Submitted, Tracker};
 
 /// The most pieces of a planned list. An operation longer than `greatest_transfer` is several pieces.
@@ -653,6 +655,7 @@ const _: fn() = || {
     is_send_and_sync::<(BatchPrice, Settings, Cause, Refusal)>();
     is_send_and_sync::<(Summary, Certificate, Planned)>();
     is_send_and_sync::<(Descriptor, Group)>();
+    is_send_and_sync::<(Conflict, Hazard, Reason)>();
     is_send_and_sync::<(Prepared, Region, Row)>();
     is_send_and_sync::<(Tracker, Span, Slots, Submitted, Retired)>();
 };

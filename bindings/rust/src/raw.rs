@@ -47,6 +47,21 @@ pub struct Info {
     pub staging_len: u64,
 }
 
+#[repr(C)]
+#[derive(Clone, Copy, Default)]
+pub struct Reason {
+    pub piece: u64,
+    pub group: u64,
+    pub earlier: u64,
+    pub later: u64,
+    pub address: u64,
+    pub more: u64,
+    pub mark: u32,
+    pub barrier: u32,
+    pub hazard: u32,
+    pub in_record: u32,
+}
+
 extern "C" {
     pub fn dsa_planner_version() -> u32;
 
@@ -93,6 +108,20 @@ extern "C" {
         planned: &mut Summary,
         refusal: &mut Refusal,
     ) -> u32;
+
+    pub fn dsa_explain_list(
+        settings: &Settings,
+        table: *const u64,
+        table_len: usize,
+        list: *const u8,
+        list_len: usize,
+        reasons: *mut Reason,
+        reasons_capacity: usize,
+        count: &mut u64,
+        refusal: &mut Refusal,
+    ) -> u32;
+
+    pub fn dsa_reason_text(reason: &Reason, text: *mut u8, text_capacity: usize) -> u64;
 
     pub fn dsa_check(
         settings: &Settings,

@@ -1,0 +1,154 @@
+"""Why the plans of random lists have their fences and their groups, by `explain_list` of the Python module: one reason
+for each fence and for each beginning of a group after the first, with the conflict that a look at each two pieces
+finds, a barrier where there is one, and a sentence written by hand here; of every eighth list the sentences of the
+fences are those that `dsa_text explain` prints. tests/bindings.py runs it on the proved archive; by hand
+`DSA_PLANNER_LIBRARY=.. tests/reasons_model.py 20000 7` takes as many lists as one likes, from another seed."""
+
+import random
+import re
+import subprocess
+import sys
+from collections import Counter
+
+import model
+from common import program
+from resume_model import drawn_list
+from dsa_planner import BEGINS, FENCED, Settings, plan_list_certified
+from dsa_reasons import Conflict, Reason, explain_list
+
+KINDS = ("fence", "beginning", "barrier", "in a record", "more", "none alone", "as dsa_text")
+
+
+def expect(right, seed, said):
+    if not right:
+        sys.exit(f"list {seed}: {said}")
+
+
+def addresses(spans):
+    return {at for first, size in spans for at in range(first, first + size)}
+
+
+def hazard(one, other):
+    """Why the later piece waits for the earlier one, and the addresses that show it; or none."""
+    for name, left, right in (
+        ("read after write", one.writes(), other.sources()),
+        ("write after write", one.writes(), other.writes()),
+        ("write after read", one.sources(), other.writes()),
+    ):
+        shared = addresses(left) & addresses(right)
+        if shared:
+            return name, shared
+    return None
+
+
+def separated(pieces, before, at, end):
+    """The conflicting pairs of a piece from `before` to below `at` and one from there to below `end`, in order."""
+    pairs = [(earlier, later) for later in range(at, end) for earlier in reversed(range(before, at))]
+    return [pair for pair in pairs if hazard(pieces[pair[0]], pieces[pair[1]])]
+
+
+def has_in_record(piece, address):
+    return piece.record_at <= address < piece.record_at + 32
+
+
+def fault_of_conflict(pieces, pair, conflict):
+    """What is wrong with the conflict that the module names for this pair, or None."""
+    name, shared = hazard(pieces[pair[0]], pieces[pair[1]])
+    if conflict is None or conflict[:3] != (*pair, name) or conflict.address not in shared:
+        return f"{pair} conflict, {name}, at {sorted(shared)[:3]}"
+    holders = [piece for piece in pair if has_in_record(pieces[piece], conflict.address)]
+    if conflict.record_of != (holders[0] if holders else None):
+        return f"the address is in the records of {holders}"
+    return None
+
+
+def sentence(reason):
+    """What the reason says."""
+    words = ["a barrier"] if reason.is_barrier else []
+    if reason.conflict:
+        earlier, later, name, address, record_of = reason.conflict
+        held = f" (record of {record_of})" if record_of is not None else ""
+        words += [("and " if words else "") + f"{later} after {earlier}", f"{name} at {address:#x}{held}"]
+    words = words or ["no conflict needs it alone"]
+    return ", ".join(words + ([f"and {reason.more} more"] if reason.more else []))
+
+
+def fault(pieces, marks, barriers, reasons):
+    """What is wrong with the reasons of a plan, or None."""
+    cuts = [piece for piece, mark in enumerate(marks) if piece and mark & (BEGINS | FENCED)]
+    if [reason.piece for reason in reasons] != cuts:
+        return f"the plan cuts the list at {cuts}"
+    for reason, before, end in zip(reasons, [0, *cuts], [*cuts[1:], len(pieces)]):
+        pairs = separated(pieces, before, reason.piece, end)
+        group = sum(bool(mark & BEGINS) for mark in marks[: reason.piece + 1]) - 1
+        told = (group, bool(marks[reason.piece] & FENCED), barriers[reason.piece], max(0, len(pairs) - 1))
+        if (reason.group, reason.is_fence, reason.is_barrier, reason.more) != told:
+            return f"{reason}: {told} is right"
+        wrong = fault_of_conflict(pieces, pairs[0], reason.conflict) if pairs else reason.conflict
+        if wrong:
+            return f"{reason}: {wrong}"
+        if str(reason) != sentence(reason):
+            return f"{reason} is not {sentence(reason)}"
+    return None
+
+
+def printed(settings, given):
+    """The sentences of the fences that dsa_text explains."""
+    names = ("greatest_batch", "greatest_transfer", "lone", "batch", "fence", "staging")
+    options = [word for name in names for word in ("--" + name.replace("_", "-"), str(getattr(settings, name)))]
+    read = [program("dsa_text"), "disassemble", "--keep-fences"]
+    lines = subprocess.run(read, input=given.hex(), capture_output=True, text=True, check=True).stdout
+    explained = subprocess.run([program("dsa_text"), "explain", *options], input=lines, capture_output=True, text=True)
+    return re.findall(r"^  -- fence, cost \d+: (.*)$", explained.stdout, re.M)
+
+
+def kinds(reasons):
+    """What kinds of reasons there are."""
+    for reason in reasons:
+        yield "fence" if reason.is_fence else "beginning"
+        yield from ["barrier"] * reason.is_barrier + ["more"] * (reason.more > 0)
+        if not reason.conflict and not reason.is_barrier:
+            yield "none alone"
+        if reason.conflict and reason.conflict.record_of is not None:
+            yield "in a record"
+
+
+def explained(seed):
+    """One list; answers the kinds of its reasons."""
+    draw = random.Random(seed)
+    records, transfer = draw.choice(("apart", "shared", "among data")), draw.choice((8, 4096))
+    ops = drawn_list(draw, records, transfer)
+    asked = [draw.random() < 0.3 for _ in ops] if draw.random() < 0.5 else [False] * len(ops)
+    rules = {"lone": draw.choice((1, 10)), "batch": 14, "fence": draw.choice((0, 3, 20)), "staging": 0x100000}
+    settings = Settings(greatest_batch=draw.randrange(2, 6), greatest_transfer=transfer, **rules)
+    given = b"".join(op.bytes(fenced) for op, fenced in zip(ops, asked))
+    split = [model.pieces_of(op, transfer) for op in ops]
+    pieces = [piece for part in split for piece in part]
+    barriers = [fenced and place == 0 for part, fenced in zip(split, asked) for place in range(len(part))]
+    reasons = explain_list(settings, given)
+    wrong = fault(pieces, plan_list_certified(settings, given).marks, [False, *barriers[1:]], reasons)
+    expect(not wrong, seed, wrong)
+    if seed % 8:
+        return list(kinds(reasons))
+    said = [str(reason) for reason in reasons if reason.is_fence]
+    expect(printed(settings, given) == said, seed, f"dsa_text prints {printed(settings, given)}, not {said}")
+    return [*kinds(reasons), "as dsa_text"]
+
+
+def made_up():
+    """Reasons with the greatest numbers fit the text that the header says is enough, and are written whole."""
+    most = 2**64 - 1
+    conflict = Conflict(most - 1, most, "write after write", most, most)
+    for reason in (Reason(most, most, True, True, conflict, most), Reason(0, 0, False, False, None, 0)):
+        expect(str(reason) == sentence(reason), "made up", f"{reason} is not {sentence(reason)}")
+
+
+def main(count, seed):
+    made_up()
+    found = Counter(kind for at in range(count) for kind in explained(seed + at))
+    expect(count < 200 or all(found[kind] for kind in KINDS), seed, f"some kind is missing: {found}")
+    print(", ".join(f"{kind} {found[kind]}" for kind in KINDS))
+
+
+if __name__ == "__main__":
+    main(int(sys.argv[1]), int(sys.argv[2]))

@@ -15,7 +15,7 @@ use Rattle.dsa_ranges.specs.Ranges.{ConflictAt, Conflicts, Touches, Writes}
 use Rattle.dsa_plan.specs.Settings.{Limits}
 use Rattle.dsa_calls.specs.Planned.{CanBePlanned}
 use Rattle.dsa_conflicts.specs.Last.{HasLasts, IsLast}
-use Rattle.dsa_resume.specs.Shared.{FindsFirst, FindsShared, IsSpare, SharesAt, SharesRecord, WritesRecordOf, reading, reading_op, reading_size}
+use Rattle.dsa_resume.specs.Shared.{FindsFirst, FindsShared, HaveLastShared, IsLastShared, IsSpare, SharesAt, SharesRecord, WritesRecordOf, reading, reading_op, reading_size}
 
 -- ---- two conflict exactly if their pieces share a record
 
@@ -106,30 +106,44 @@ module _ (spare : ℕ) (ps : List Fields) (off : IsSpare spare ps) where
         let inside : y < length ps = slice_get_within ps y shares.1 shares.3 in
         has.each y None there x (record { before = less; within = omega (arith, inside, few); conflict = to_conflict x y shares })
 
-    last_of : (y : ℕ) → y < length ps → slice_get lasts y ≡ Some (get_or lasts y None)
-    last_of y inside = slice_get-get_or lasts y None (omega (arith, has.count, length-map ps (reading spare), inside))
+    each_last : (j : ℕ) (last : Option ℕ) → slice_get lasts j ≡ Some last → IsLastShared ps j last
+    each_last j None there = λ i less shares. alone j there i less shares
+    each_last j (Some i) there =
+        let last : IsLast (map (reading spare) ps) 65536 j (Some i) = has.each j (Some i) there in (
+          last.0.before,
+          to_shared i j last.0.conflict,
+          λ x less shares.
+              let inside : j < length ps = slice_get_within ps j shares.1 shares.3 in
+              last.1 x (record { before = less; within = omega (arith, inside, few); conflict = to_conflict x j shares }),
+        )
 
-    pub found : (o : Option (ℕ × ℕ)) → FindsFirst lasts o → FindsShared ps o
-    found None none = λ i j less shares.
-        let inside : j < length ps = slice_get_within ps j shares.1 shares.3 in
-        let at_j = last_of j inside in
-        alone j (at_j ∙ ap Some (none j (get_or lasts j None) at_j)) i less shares
-    found (Some p) (here, before) =
-        let last : IsLast (map (reading spare) ps) 65536 p.1 (Some p.0) = has.each p.1 (Some p.0) here in
-        record {
-          before = last.0.before;
-          shares = to_shared p.0 p.1 last.0.conflict;
-          least = λ x y less shares. elim (cases_lt y p.1) [
-            | inl earlier ↦
-                let inside : y < length ps = slice_get_within ps y shares.1 shares.3 in
-                let at_y = last_of y inside in
-                absurd (alone y (at_y ∙ ap Some (before y (get_or lasts y None) earlier at_y)) x less shares)
-            | inr not_earlier ↦ not_earlier
-          ];
-          greatest = λ x less shares.
-              let inside : p.1 < length ps = slice_get_within ps p.1 shares.1 shares.3 in
-              last.1 x (record { before = less; within = omega (arith, inside, few); conflict = to_conflict x p.1 shares });
-        }
+    pub lasts_shared : HaveLastShared ps lasts
+    lasts_shared = record { count = has.count ∙ length-map ps (reading spare); each = each_last }
+
+-- the first place that has an index has the first two pieces that share
+module _ (ps : List Fields) (lasts : List (Option ℕ)) (has : HaveLastShared ps lasts) where
+  last_of : (y : ℕ) → y < length ps → slice_get lasts y ≡ Some (get_or lasts y None)
+  last_of y inside = slice_get-get_or lasts y None (omega (arith, has.count, inside))
+
+  pub found : (o : Option (ℕ × ℕ)) → FindsFirst lasts o → FindsShared ps o
+  found None none = λ i j less shares.
+      let inside : j < length ps = slice_get_within ps j shares.1 shares.3 in
+      let at_j = last_of j inside in
+      has.each j None (at_j ∙ ap Some (none j (get_or lasts j None) at_j)) i less shares
+  found (Some p) (here, before) =
+      let last : IsLastShared ps p.1 (Some p.0) = has.each p.1 (Some p.0) here in
+      record {
+        before = last.0;
+        shares = last.1;
+        least = λ x y less shares. elim (cases_lt y p.1) [
+          | inl earlier ↦
+              let inside : y < length ps = slice_get_within ps y shares.1 shares.3 in
+              let at_y = last_of y inside in
+              absurd (has.each y None (at_y ∙ ap Some (before y (get_or lasts y None) earlier at_y)) x less shares)
+          | inr not_earlier ↦ not_earlier
+        ];
+        greatest = λ x less shares. last.2 x less shares;
+      }
 
 -- the first byte of the staging area is in no record of pieces that can be planned
 pub staging_is_spare : (s : Limits) (ps : List Fields) → CanBePlanned s ps → IsSpare s.staging ps

@@ -1,6 +1,6 @@
 -- Pieces that share a completion record, so that it does not say how its own piece has ended. (That shared records are
 -- refused is this project's choice.)
-use Rattle.std.specs.Prelude.{◌≡◌, ◌⊎◌, ℕ, ◌<◌, ◌≤◌, List, Option, Some, None, slice_get}
+use Rattle.std.specs.Prelude.{◌≡◌, ◌⊎◌, ℕ, ◌<◌, ◌≤◌, List, length, Option, Some, None, slice_get}
 use Rattle.dsa_descriptor.specs.declared.op.Op.{Op}
 use Rattle.dsa_descriptor.specs.declared.op.Op.TheVariants.{Move, Fill, Compare, ComparePattern, ApplyDelta, Dualcast}
 use Rattle.dsa_descriptor.specs.Data.{record_span}
@@ -30,6 +30,16 @@ pub record IsFirstShared (pieces : List Fields) (i j : ℕ) : Type 0 where
   pub shares : SharesAt pieces i j
   pub least : (x y : ℕ) → x < y → SharesAt pieces x y → j ≤ y
   pub greatest : (x : ℕ) → x < j → SharesAt pieces x j → x ≤ i
+
+-- i is the last piece before piece j that shares a record with it, or none does
+abbrev pub IsLastShared : List Fields → ℕ → Option ℕ → Type 0
+IsLastShared pieces j None = (i : ℕ) → i < j → ¬ SharesAt pieces i j
+IsLastShared pieces j (Some i) = (i < j) × SharesAt pieces i j × ((x : ℕ) → x < j → SharesAt pieces x j → x ≤ i)
+
+-- for each piece that one
+pub record HaveLastShared (pieces : List Fields) (lasts : List (Option ℕ)) : Type 0 where
+  pub count : length lasts ≡ length pieces
+  pub each : (j : ℕ) (last : Option ℕ) → slice_get lasts j ≡ Some last → IsLastShared pieces j last
 
 -- ---- for private clauses
 

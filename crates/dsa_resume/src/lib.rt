@@ -19,4 +19,5 @@ pub use laws::{
 pub use left::LeftOrder;
 pub use rest::{LeftOut, Rest};
 pub use resuming::{resume_list, resume_operations};
+pub use shared::last_shared;
 pub use status::{Ended, how_ended};

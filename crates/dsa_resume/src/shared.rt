@@ -5,7 +5,7 @@ ghost use Rattle.dsa_descriptor.specs.Data.{record_span};
 ghost use Rattle.dsa_descriptor.specs.Descriptors.{fields};
 ghost use Rattle.dsa_descriptor.specs.Pieces.{most_pieces};
 ghost use Rattle.dsa_descriptor.specs.Spans.{InSpan};
-ghost use Rattle.dsa_resume.specs.Shared.{FindsFirst, FindsShared, IsSpare, reading, reading_op, reading_size};
+ghost use Rattle.dsa_resume.specs.Shared.{FindsFirst, FindsShared, HaveLastShared, IsSpare, reading, reading_op, reading_size};
 
 use dsa_conflicts::last_conflicts;
 use dsa_descriptor::{Descriptor, FlagWord, MOST_PIECES, Op};
@@ -80,6 +80,25 @@ fn all_reading(
     Ok(all)
 }
 
+/// For each piece the last one before it with which it shares a record, if there is one. The spare byte is in no
+/// record.
+///
+/// # Errors
+/// [`AllocError`] at the first allocation that fails.
+pub fn last_shared(
+    alloc: Global,
+    pieces: &[Descriptor],
+    spare: u64,
+) -> Result<Vec<Option<u32>>, AllocError>
+    requires few { length pieces.now ≤ most_pieces }
+    requires spare { IsSpare spare (map fields pieces.now) }
+    ensures { IfOk result (λ lasts. HaveLastShared (map fields pieces.now) lasts.items) }
+{
+    let all = all_reading(alloc, pieces, spare)?;
+    let lasts = last_conflicts(alloc, &all, MOST_PIECES as u32)?;
+    Ok(lasts)
+}
+
 /// The first place that has an index, after that index.
 fn first_pair(lasts: &[Option<u32>]) -> Option<(usize, usize)>
     ensures { FindsFirst lasts.now result }
@@ -103,7 +122,6 @@ pub(crate) fn first_shared(
     requires spare { IsSpare spare (map fields pieces.now) }
     ensures { IfOk result (FindsShared (map fields pieces.now)) }
 {
-    let all = all_reading(alloc, pieces, spare)?;
-    let lasts = last_conflicts(alloc, &all, MOST_PIECES as u32)?;
+    let lasts = last_shared(alloc, pieces, spare)?;
     Ok(first_pair(&lasts))
 }

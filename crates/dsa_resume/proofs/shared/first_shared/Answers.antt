@@ -1,20 +1,11 @@
-use Rattle.std.proofs.Common.{◌≤◌, ℕ, List, Option, length, map, subst, arith}
-use Rattle.std.proofs.lemmas.List.{length-map}
-use Rattle.dsa_descriptor.specs.declared.descriptor.Descriptor.{Descriptor}
+use Rattle.std.proofs.Common.{ℕ, List, Option, map, subst}
 use Rattle.dsa_descriptor.specs.Descriptors.{fields}
-use Rattle.dsa_descriptor.specs.Fields.{Fields}
-use Rattle.dsa_conflicts.specs.Last.{HasLasts}
-use Rattle.dsa_resume.specs.Shared.{FindsFirst, reading}
+use Rattle.dsa_resume.specs.Shared.{FindsFirst}
 use Rattle.dsa_resume.proofs.Sharing.{found}
 use Rattle.dsa_resume.proofs.shared.first_shared.Goals as goal
 
 pub returns : goal.returns
 returns c =
-    let ps : List Fields = map fields c.args.pieces.now in
     let lasts : List (Option ℕ) = c.in_ok-lasts.lasts.items in
-    let few : length ps ≤ 65536 = omega (arith, length-map c.args.pieces.now fields, c.requires.few) in
-    let of_all : HasLasts (map fields c.in_ok-all.all.items) 65536 lasts =
-    subst (λ (ds : List Descriptor). HasLasts (map fields ds) 65536 lasts) c.deref.ensures.value c.in_ok-lasts.ensures in
-    let has : HasLasts (map (reading c.args.spare) ps) 65536 lasts = subst (λ (fs : List Fields). HasLasts fs 65536 lasts) c.in_ok-all.ensures of_all in
-    let first : FindsFirst lasts c.first_pair.result = subst (λ (l : List (Option ℕ)). FindsFirst l c.first_pair.result) c.deref-2.ensures.value c.first_pair.ensures in
-    found c.args.spare ps c.requires.spare few lasts has c.first_pair.result first
+    let first : FindsFirst lasts c.first_pair.result = subst (λ (l : List (Option ℕ)). FindsFirst l c.first_pair.result) c.deref.ensures.value c.first_pair.ensures in
+    found (map fields c.args.pieces.now) lasts c.in_ok-lasts.ensures c.first_pair.result first

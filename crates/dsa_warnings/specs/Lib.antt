@@ -1,0 +1,3 @@
+pub mod Concerns
+pub mod Warnings
+pub mod Sentences

@@ -1,0 +1,57 @@
+-- What is worth a warning about the pieces of a plan (this project's choice).
+use Rattle.std.specs.Prelude.{◌≡◌, ℕ, suc, ◌+◌, ◌<◌, ◌==◌, ◌&&◌, nat_lt, Bool, List, [], ◌∷◌, ◌++◌, length, map, slice_get, slice_index_or, Option, Some, None, if◌then◌else◌}
+use Rattle.dsa_descriptor.specs.declared.descriptor.Descriptor.{Descriptor}
+use Rattle.dsa_descriptor.specs.Descriptors.{fields}
+use Rattle.dsa_settings.specs.Epochs.{epoch_of}
+use Rattle.dsa_plan.specs.Plan.{Plan, piece_count}
+use Rattle.dsa_resume.specs.Shared.{HaveLastShared}
+use Rattle.dsa_warnings.specs.declared.concerns.Concern.{Concern}
+use Rattle.dsa_warnings.specs.declared.concerns.Concern.TheVariants.{SharedRecord}
+use Rattle.dsa_warnings.specs.declared.warnings.Warning.{Warning}
+use Rattle.dsa_warnings.specs.Concerns.{check_concern, overlap_concern}
+
+-- the last piece that begins after a barrier, of marks from this piece on; if none does, the one known so far
+abbrev pub last_barrier : ℕ → ℕ → List Bool → ℕ
+last_barrier piece last [] = last
+last_barrier piece last (mark ∷ marks) = last_barrier (suc piece) (if mark then piece else last) marks
+
+-- the next piece is in the same epoch, by the epochs of the pieces
+abbrev pub goes_on : List ℕ → ℕ → Bool
+goes_on epochs piece = nat_lt (piece + 1) (length epochs) && (slice_index_or epochs (piece + 1) 0 == slice_index_or epochs piece 0)
+
+-- an earlier piece with which a piece shares a record, if there is one
+abbrev pub shared_concern : Option ℕ → Option Concern
+shared_concern None = None
+shared_concern (Some earlier) = Some (SharedRecord earlier)
+
+-- what is worth a warning about a piece, if there is something
+abbrev pub with_piece : ℕ → Option Concern → List Warning
+with_piece piece None = []
+with_piece piece (Some concern) = record { piece = piece; concern = concern } ∷ []
+
+-- all that is worth a warning about a piece, by the last earlier piece with which it shares a record, whether a barrier is
+-- after it, and whether its epoch goes on
+abbrev pub warnings_at : ℕ → Option ℕ → Bool → Bool → Descriptor → List Warning
+warnings_at piece last before_barrier goes d =
+    with_piece piece (shared_concern last)
+    ++ (with_piece piece (check_concern d.op d.flags.0 before_barrier goes) ++ with_piece piece (overlap_concern d.op d.size))
+
+-- the same of pieces from this one on
+abbrev pub warnings_from : List (Option ℕ) → ℕ → List ℕ → ℕ → List Descriptor → List Warning
+warnings_from lasts barrier epochs piece [] = []
+warnings_from lasts barrier epochs piece (d ∷ ds) =
+    warnings_at piece (slice_index_or lasts piece None) (nat_lt piece barrier) (goes_on epochs piece) d
+    ++ warnings_from lasts barrier epochs (suc piece) ds
+
+-- the epochs of the pieces of a plan
+pub record AreEpochs (plan : Plan) (epochs : List ℕ) : Type 0 where
+  pub count : length epochs ≡ piece_count plan
+  pub each : (i : ℕ) → i < piece_count plan → slice_get epochs i ≡ Some (epoch_of plan i)
+
+-- the warnings of a plan of pieces and their barriers
+pub record AreWarnings (pieces : List Descriptor) (barriers : List Bool) (plan : Plan) (warnings : List Warning) : Type 0 where
+  pub lasts : List (Option ℕ)
+  pub shared : HaveLastShared (map fields pieces) lasts
+  pub epochs : List ℕ
+  pub are_epochs : AreEpochs plan epochs
+  pub are : warnings ≡ warnings_from lasts (last_barrier 0 0 barriers) epochs 0 pieces

@@ -1,8 +1,8 @@
-"""Why the plans of random lists have their fences and their groups, by `explain_list` of the Python module: one reason
-for each fence and for each beginning of a group after the first, with the conflict that a look at each two pieces
-finds, a barrier where there is one, and a sentence written by hand here; of every eighth list the sentences of the
-fences are those that `dsa_text explain` prints. tests/bindings.py runs it on the proved archive; by hand
-`DSA_PLANNER_LIBRARY=.. tests/reasons_model.py 20000 7` takes as many lists as one likes, from another seed."""
+"""Why the plans of random lists have their fences and their groups, and what is worth a warning, by the Python module
+dsa_reasons: one reason for each fence and for each beginning of a group after the first, with the conflict that a look
+at each two pieces finds, a barrier where there is one, and a sentence written by hand here; of every eighth list the
+sentences of the fences are those that `dsa_text explain` prints. tests/bindings.py runs it on the proved archive; by
+hand `DSA_PLANNER_LIBRARY=.. tests/reasons_model.py 20000 7` takes as many lists as one likes, from another seed."""
 
 import random
 import re
@@ -14,9 +14,16 @@ import model
 from common import program
 from resume_model import drawn_list
 from dsa_planner import BEGINS, FENCED, Settings, plan_list_certified
-from dsa_reasons import Conflict, Reason, explain_list
+from dsa_reasons import OVERLAP, SHARED_RECORD, UNCHECKED, UNGUARDED, Conflict, Reason, Warning, explain_list, warn_list
 
 KINDS = ("fence", "beginning", "barrier", "in a record", "more", "none alone", "as dsa_text")
+WARNINGS = {SHARED_RECORD: "shared record", UNCHECKED: "unchecked", UNGUARDED: "unguarded", OVERLAP: "overlap"}
+SAID = {
+    SHARED_RECORD: "piece {}: it or piece {} writes into the completion record of the other",
+    UNCHECKED: "piece {}: without check its result does not stop what is after a barrier",
+    UNGUARDED: "piece {}: what is after its check, up to a barrier, may run even if it fails",
+    OVERLAP: "piece {}: its regions overlap, and only devices with overlapping copy support (GENCAP bit 1) take it",
+}
 
 
 def expect(right, seed, said):
@@ -92,6 +99,27 @@ def fault(pieces, marks, barriers, reasons):
     return None
 
 
+def shares(one, other):
+    """One of the two writes into the record of the other."""
+    own, others = [(one.record_at, 32)], [(other.record_at, 32)]
+    return model.any_meet(own, other.writes()) or model.any_meet(others, one.writes())
+
+
+def warnings(pieces, marks, barriers):
+    """What is worth a warning about the pieces."""
+    for piece, op in enumerate(pieces):
+        sharing = [earlier for earlier in range(piece) if shares(pieces[earlier], op)]
+        if sharing:
+            yield Warning(SHARED_RECORD, piece, sharing[-1])
+        is_compare, is_checked = op.code in (model.COMPARE, model.PATTERN), op.flags & model.CHECKED
+        if is_compare and not is_checked and any(barriers[piece + 1 :]):
+            yield Warning(UNCHECKED, piece, None)
+        if is_compare and is_checked and piece + 1 < len(pieces) and marks[piece + 1] == 0:
+            yield Warning(UNGUARDED, piece, None)
+        if op.code == model.MOVE and abs(op.first - op.second) < op.size:
+            yield Warning(OVERLAP, piece, None)
+
+
 def printed(settings, given):
     """The sentences of the fences that dsa_text explains."""
     names = ("greatest_batch", "greatest_transfer", "lone", "batch", "fence", "staging")
@@ -125,14 +153,19 @@ def explained(seed):
     split = [model.pieces_of(op, transfer) for op in ops]
     pieces = [piece for part in split for piece in part]
     barriers = [fenced and place == 0 for part, fenced in zip(split, asked) for place in range(len(part))]
-    reasons = explain_list(settings, given)
-    wrong = fault(pieces, plan_list_certified(settings, given).marks, [False, *barriers[1:]], reasons)
+    reasons, marks = explain_list(settings, given), plan_list_certified(settings, given).marks
+    wrong = fault(pieces, marks, [False, *barriers[1:]], reasons)
     expect(not wrong, seed, wrong)
+    warned, right = warn_list(settings, given), list(warnings(pieces, marks, [False, *barriers[1:]]))
+    expect(warned == right, seed, f"{warned}: {right} is right")
+    for warning in warned:
+        expect(str(warning) == SAID[warning.kind].format(warning.piece, warning.other), seed, f"{warning}")
+    found = [*kinds(reasons), *(WARNINGS[warning.kind] for warning in warned)]
     if seed % 8:
-        return list(kinds(reasons))
+        return found
     said = [str(reason) for reason in reasons if reason.is_fence]
     expect(printed(settings, given) == said, seed, f"dsa_text prints {printed(settings, given)}, not {said}")
-    return [*kinds(reasons), "as dsa_text"]
+    return [*found, "as dsa_text"]
 
 
 def made_up():
@@ -146,8 +179,9 @@ def made_up():
 def main(count, seed):
     made_up()
     found = Counter(kind for at in range(count) for kind in explained(seed + at))
-    expect(count < 200 or all(found[kind] for kind in KINDS), seed, f"some kind is missing: {found}")
-    print(", ".join(f"{kind} {found[kind]}" for kind in KINDS))
+    wanted = (*KINDS, *WARNINGS.values())
+    expect(count < 200 or all(found[kind] for kind in wanted), seed, f"some kind is missing: {found}")
+    print(", ".join(f"{kind} {count}" for kind, count in sorted(found.items())))
 
 
 if __name__ == "__main__":

@@ -51,10 +51,10 @@
  *     threads at once if calls are made so.
  *   - nothing else writes to inputs or outputs, or reads outputs, during the call.
  *
- * Units:     lengths of byte arrays and `_len` of results are bytes; lengths of prices, pairs, marks, reasons, tables,
- *            regions, bases, rows, spans and words are items. Addresses are the device's. Prices and costs are in one
- *            unit of the caller's choice, for example nanoseconds. Numbers in descriptors are little-endian; numbers in
- *            structs are the machine's.
+ * Units:     lengths of byte arrays and `_len` of results are bytes; lengths of prices, pairs, marks, reasons,
+ *            warnings, tables, regions, bases, rows, spans and words are items. Addresses are the device's. Prices and
+ *            costs are in one unit of the caller's choice, for example nanoseconds. Numbers in descriptors are
+ *            little-endian; numbers in structs are the machine's.
  *
  * Words:     a range is the addresses that an operation reads or writes; a span (struct dsa_span) a range as a tracker
  *            takes it, by its first address and its length; a region (struct dsa_region) a buffer of the caller's, in
@@ -129,7 +129,7 @@ struct dsa_refusal {
                         limits: 1 to 7 for the members of struct dsa_settings in their order, 8 for the table; of
                         DSA_NO_ROOM the bytes that portal needs, of DSA_NO_ROOM_FOR_CERTIFICATE the number of pieces,
                         of DSA_NO_ROOM_FOR_ROWS the rows that are needed, of DSA_NO_ROOM_FOR_LIST the bytes, of
-                        DSA_NO_ROOM_FOR_REASONS the reasons; else 0 */
+                        DSA_NO_ROOM_FOR_REASONS the reasons, of DSA_NO_ROOM_FOR_WARNINGS the warnings; else 0 */
     uint64_t second; /* the second index; of DSA_NO_ROOM the bytes that staging needs; else 0 */
 };
 
@@ -244,6 +244,8 @@ enum dsa_number {
     DSA_NO_ROOM_FOR_LIST = 93,
     /* the array of reasons is too small: `first` reasons are needed */
     DSA_NO_ROOM_FOR_REASONS = 94,
+    /* the array of warnings is too small: `first` warnings are needed */
+    DSA_NO_ROOM_FOR_WARNINGS = 95,
     /* region `first` goes past 2^64 */
     DSA_REGION_WRAP = 100,
     /* region `first` begins before the one before it has ended */
@@ -420,6 +422,41 @@ uint32_t dsa_explain_list(const struct dsa_settings *settings,
  * Returns how many bytes the whole text has; 0, and text is unchanged, if there was not enough memory.
  */
 uint64_t dsa_reason_text(const struct dsa_reason *reason, char *text, size_t text_capacity);
+
+/* What is worth a warning about a piece: one of it and an earlier piece writes into the completion record of the other,
+ * so that a status is lost; it is a compare without check, and a barrier is after it, which its result does not stop;
+ * it is a compare with check, and the next piece may begin before it has ended; it is a move within one range, which
+ * only devices with overlapping copy support take (GENCAP bit 1). */
+#define DSA_SHARED_RECORD_WARNING 1u
+#define DSA_UNCHECKED_WARNING 2u
+#define DSA_UNGUARDED_WARNING 3u
+#define DSA_OVERLAP_WARNING 4u
+struct dsa_warning {
+    uint64_t kind;  /* one of these */
+    uint64_t piece; /* the piece, from 0 on */
+    uint64_t other; /* of a shared record the earlier piece, the last one if there are several; else 0 */
+};
+
+/*
+ * Says what is worth a warning about the pieces of a list and their plan, that of dsa_plan_list: in the order of the
+ * pieces, and of one piece in that of the kinds, so at most three for each.
+ *
+ * Returns 0: warnings begins with *count of them, and its rest is unchanged; refusal is not written. Returns another
+ * number: refusal has it, and nothing else was written. What dsa_plan_list refuses comes first, but for DSA_NO_ROOM;
+ * then DSA_NO_ROOM_FOR_WARNINGS: refusal.first is how many there are.
+ */
+uint32_t dsa_warn_list(const struct dsa_settings *settings,
+                       const uint64_t *table, size_t table_len,
+                       const uint8_t *list, size_t list_len,
+                       struct dsa_warning *warnings, size_t warnings_capacity,
+                       uint64_t *count,
+                       struct dsa_refusal *refusal);
+
+/*
+ * Writes what a warning says, as dsa_reason_text does of a reason; 0 also for a kind that there is not. Room for a
+ * reason is room for a warning.
+ */
+uint64_t dsa_warning_text(const struct dsa_warning *warning, char *text, size_t text_capacity);
 
 /*
  * Checks bytes to submit, whoever made them, with a certificate of this version, whoever wrote it. The lengths are those

@@ -326,6 +326,7 @@ CAUSES: Dict[int, str] = {
     92: "NoRoomForRows",
     93: "NoRoomForList",
     94: "NoRoomForReasons",
+    95: "NoRoomForWarnings",
     100: "RegionWrap",
     101: "RegionOrder",
     102: "Outside",

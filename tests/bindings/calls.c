@@ -221,6 +221,49 @@ static void reasons_are_told(void)
                         "(record of 18446744073709551615), and 18446744073709551615 more");
 }
 
+/* The call answers these warnings about the two moves, in an array with room for so many, and nothing more. */
+static void expect_warnings(uint64_t found, const struct dsa_warning *right)
+{
+    struct dsa_warning warnings[6];
+    uint64_t number = 0;
+    spoil();
+    memset(warnings, 0xee, sizeof warnings);
+    expect(dsa_warn_list(&settings, &settings.batch, 0, list, sizeof list, warnings, 6, &number, &refusal) == DSA_OK);
+    expect(number == found && memcmp(warnings, right, found * sizeof *right) == 0);
+    expect(is_spoiled(warnings + found, sizeof warnings - found * sizeof *right));
+    expect(is_spoiled(&refusal, sizeof refusal));
+    if (found == 0)
+        return;
+    number = 0xee;
+    memset(warnings, 0xee, sizeof warnings);
+    const uint32_t code =
+        dsa_warn_list(&settings, &settings.batch, 0, list, sizeof list, warnings, found - 1, &number, &refusal);
+    expect(code == DSA_NO_ROOM_FOR_WARNINGS && refusal.number == code && refusal.first == found && refusal.second == 0);
+    expect(number == 0xee && is_spoiled(warnings, sizeof warnings));
+}
+
+/* Moves with records of their own; a move onto its own source; one record for both, and one among the data; and a kind
+ * that there is not. */
+static void warnings_are_told(void)
+{
+    const struct dsa_warning shared[] = {{DSA_SHARED_RECORD_WARNING, 1, 0}, {DSA_OVERLAP_WARNING, 1, 0}};
+    const struct dsa_warning none = {9, 1, 0};
+    char text[DSA_REASON_TEXT_ROOM];
+    put_moves(64, 64);
+    expect_warnings(0, shared);
+    put_move(list + 64, 0x5000, 0x503f, 0x8020, 64);
+    expect_warnings(1, shared + 1);
+    put_move(list + 64, 0x5000, 0x5040, 0x8020, 64);
+    expect_warnings(0, shared);
+    put_move(list + 64, 0x5000, 0x5001, 0x8000, 64);
+    expect_warnings(2, shared);
+    put_move(list, 0x1000, 0x8020, 0x9000, 32);
+    put_move(list + 64, 0x5000, 0x4000, 0x8020, 64);
+    expect_warnings(1, shared);
+    memset(text, 0xee, sizeof text);
+    expect(dsa_warning_text(&none, text, sizeof text) == 0 && is_spoiled(text, sizeof text));
+}
+
 /* Another version is no settings, nor are too few prices by size; a buffer is a byte too small; each array of the
  * certificate is one too short; where neither fits, the refusal names the bytes. */
 static void refusals_leave_the_outputs(void)
@@ -331,6 +374,7 @@ int main(void)
     plans_are_judged();
     other_bits_of_marks_do_not_count();
     reasons_are_told();
+    warnings_are_told();
     refusals_leave_the_outputs();
     settings_are_named();
     prices_go_by_size();

@@ -39,7 +39,7 @@ struct rattle_block rattle_realloc(void *at, size_t old_size, size_t size, size_
     return block;
 }
 
-enum { N = 24, ROWS = 1 + 2 + 3 * N, CALLS = 11, WORDS = 4096 };
+enum { N = 24, ROWS = 1 + 2 + 3 * N, CALLS = 12, WORDS = 4096 };
 static const struct dsa_settings settings = {1, 5, 4096, 10, 14, 3, UINT64_C(1) << 40};
 static uint8_t list[64 * N], fenced[64 * N], records[32 * N], marks_in[N], portal_in[64 * N], staging_in[80 * N];
 static uint64_t prices_in[N + 1];
@@ -61,6 +61,7 @@ static struct outputs {
     uint32_t slot, slots[N];
     uint64_t waits, count;
     struct dsa_reason reasons[N];
+    struct dsa_warning warnings[3 * N];
 } outputs, before;
 
 static const struct dsa_span spans[] = {{0x1000, 64}, {0x2000, 64}};
@@ -118,6 +119,8 @@ static uint32_t call(int which, struct dsa_refusal *r)
                              o->staging, sizeof o->staging, &o->planned, r);
     case 10:
         return dsa_explain_list(&settings, &settings.batch, 0, fenced, sizeof fenced, o->reasons, N, &o->count, r);
+    case 11:
+        return dsa_warn_list(&settings, &settings.batch, 0, fenced, sizeof fenced, o->warnings, 3 * N, &o->count, r);
     default:
         return track(which, r);
     }
@@ -129,21 +132,27 @@ static void fail(const char *what, int which, uint64_t at)
     exit(EXIT_FAILURE);
 }
 
-/* The text of a reason is written whole, or not at all. */
-static void tell(void)
+/* The text of a reason, or of a warning. */
+static uint64_t text_of(int is_warning, char *text, size_t room)
 {
-    static const char said[] = "a barrier, and 7 after 5, write after read at 0x10 (record of 7), and 2 more";
-    const struct dsa_reason reason = {7, 1, 5, 7, 16, 2, DSA_FENCED, 1, DSA_WRITE_AFTER_READ, 2};
+    static const struct dsa_reason reason = {7, 1, 5, 7, 16, 2, DSA_FENCED, 1, DSA_WRITE_AFTER_READ, 2};
+    static const struct dsa_warning warning = {DSA_SHARED_RECORD_WARNING, 7, 5};
+    return is_warning ? dsa_warning_text(&warning, text, room) : dsa_reason_text(&reason, text, room);
+}
+
+/* It is written whole, or not at all. */
+static void tell(int is_warning, const char *said)
+{
     char text[DSA_REASON_TEXT_ROOM], spoiled[DSA_REASON_TEXT_ROOM];
     refused_at = asked = 0;
-    if (dsa_reason_text(&reason, text, sizeof text) != sizeof said - 1 || memcmp(text, said, sizeof said - 1) != 0)
+    if (text_of(is_warning, text, sizeof text) != strlen(said) || memcmp(text, said, strlen(said)) != 0)
         fail("another text", CALLS, 0);
     const uint64_t growths = asked;
     memset(spoiled, 0xa5, sizeof spoiled);
     for (refused_at = 1; refused_at <= growths; refused_at++) {
         asked = 0;
         memset(text, 0xa5, sizeof text);
-        if (dsa_reason_text(&reason, text, sizeof text) != 0 || memcmp(text, spoiled, sizeof text) != 0 || live != 0)
+        if (text_of(is_warning, text, sizeof text) != 0 || memcmp(text, spoiled, sizeof text) != 0 || live != 0)
             fail("a text without memory", CALLS, refused_at);
     }
 }
@@ -194,7 +203,8 @@ int main(void)
             fail("refused afterwards", which, growths + 1);
         printf("call %d: %" PRIu64 " allocations refused in turn\n", which, growths);
     }
-    tell();
+    tell(0, "a barrier, and 7 after 5, write after read at 0x10 (record of 7), and 2 more");
+    tell(1, "piece 7: it or piece 5 writes into the completion record of the other");
     refused_at = 1;
     asked = 0;
     if (dsa_count_pieces(&settings, &settings.batch, 0, list, sizeof list) != N || asked != 0)

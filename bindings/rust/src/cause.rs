@@ -149,6 +149,8 @@ causes! {
     NoRoomForList = 93,
     /// The array of reasons is too small: `first` reasons are needed.
     NoRoomForReasons = 94,
+    /// The array of warnings is too small: `first` warnings are needed.
+    NoRoomForWarnings = 95,
     /// Region `first` goes past 2^64.
     RegionWrap = 100,
     /// Region `first` begins before the one before it has ended.

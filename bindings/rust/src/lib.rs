@@ -46,6 +46,7 @@ pub mod queue;
 mod raw;
 mod reasons;
 mod tracker;
+mod warnings;
 
 use alloc::vec;
 use alloc::vec::Vec;
@@ -56,6 +57,7 @@ pub use descriptor::{groups_of, list_of, Descriptor, Group, BLOCK_ON_FAULT};
 pub use prepared::{prepare, Prepared, Region, Row};
 pub use reasons::{explain_list, Conflict, Hazard, Reason};
 pub use tracker::{Retired, Slots, Span, Submitted, Tracker};
+pub use warnings::{warn_list, Concern, Warning};
 
 /// The most pieces of a planned list. An operation longer than `greatest_transfer` is several pieces.
 pub const MOST_PIECES: usize = 65_536;
@@ -656,6 +658,7 @@ const _: fn() = || {
     is_send_and_sync::<(Summary, Certificate, Planned)>();
     is_send_and_sync::<(Descriptor, Group)>();
     is_send_and_sync::<(Conflict, Hazard, Reason)>();
+    is_send_and_sync::<(Concern, Warning)>();
     is_send_and_sync::<(Prepared, Region, Row)>();
     is_send_and_sync::<(Tracker, Span, Slots, Submitted, Retired)>();
 };

@@ -62,6 +62,14 @@ pub struct Reason {
     pub in_record: u32,
 }
 
+#[repr(C)]
+#[derive(Clone, Copy, Default)]
+pub struct Warning {
+    pub kind: u64,
+    pub piece: u64,
+    pub other: u64,
+}
+
 extern "C" {
     pub fn dsa_planner_version() -> u32;
 
@@ -122,6 +130,20 @@ extern "C" {
     ) -> u32;
 
     pub fn dsa_reason_text(reason: &Reason, text: *mut u8, text_capacity: usize) -> u64;
+
+    pub fn dsa_warn_list(
+        settings: &Settings,
+        table: *const u64,
+        table_len: usize,
+        list: *const u8,
+        list_len: usize,
+        warnings: *mut Warning,
+        warnings_capacity: usize,
+        count: &mut u64,
+        refusal: &mut Refusal,
+    ) -> u32;
+
+    pub fn dsa_warning_text(warning: &Warning, text: *mut u8, text_capacity: usize) -> u64;
 
     pub fn dsa_check(
         settings: &Settings,

@@ -5,6 +5,7 @@ pub mod Marks
 pub mod Planning
 pub mod Reasons
 pub mod Explaining
+pub mod Warnings
 pub mod Judging
 pub mod Preparing
 pub mod Checking

@@ -20,6 +20,7 @@ mod settings;
 mod texts;
 mod tracked;
 mod tracking;
+mod warnings;
 
 pub use certificate::RawPair;
 pub use certified::dsa_plan_list_certified;
@@ -41,3 +42,4 @@ pub use settings::RawSettings;
 pub use texts::dsa_refusal_text;
 pub use tracked::{dsa_track_ask, dsa_track_complete, dsa_track_waits, dsa_track_withdraw};
 pub use tracking::{dsa_track_begin, dsa_track_list, dsa_track_spans};
+pub use warnings::{RawWarning, dsa_warn_list, dsa_warning_text};

@@ -89,6 +89,7 @@ of_buffers n =
     if n == 92 then codes "the array of rows is too small: # rows are needed" else
     if n == 93 then codes "the buffer is too small for the list of what is left: # bytes are needed" else
     if n == 94 then codes "the array of reasons is too small: # reasons are needed" else
+    if n == 95 then codes "the array of warnings is too small: # warnings are needed" else
     if n == 100 then codes "region # goes past 2^64" else
     if n == 101 then codes "region # begins before the one before it has ended" else
     if n == 102 then codes "a range of operation #, or the row of its records, lies in no one region" else

@@ -135,6 +135,7 @@ fn of_buffers(number: u64) -> &'static str
         92 => "the array of rows is too small: # rows are needed",
         93 => "the buffer is too small for the list of what is left: # bytes are needed",
         94 => "the array of reasons is too small: # reasons are needed",
+        95 => "the array of warnings is too small: # warnings are needed",
         100 => "region # goes past 2^64",
         101 => "region # begins before the one before it has ended",
         102 => "a range of operation #, or the row of its records, lies in no one region",

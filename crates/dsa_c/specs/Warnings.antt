@@ -1,0 +1,84 @@
+-- What is worth a warning about the plan of a list, as C lays it out (this project's choice).
+use Rattle.std.specs.Prelude.{◌≡◌, ◌⊎◌, ℕ, ◌<◌, ◌≤◌, ◌==◌, Bool, List, [], length, map, Option, Some, None, Err, if◌then◌else◌}
+use Rattle.dsa_calls.specs.declared.fault.PlanFault.{PlanFault}
+use Rattle.dsa_calls.specs.declared.fault.PlanFault.TheVariants.{Memory}
+use Rattle.dsa_calls.specs.Fenced.{AreFencedPieces, PlansFenced}
+use Rattle.dsa_calls.specs.Planned.{Submission}
+use Rattle.dsa_descriptor.specs.declared.descriptor.Descriptor.{Descriptor}
+use Rattle.dsa_plan.specs.Plan.{Plan}
+use Rattle.dsa_warnings.specs.declared.concerns.Concern.{Concern}
+use Rattle.dsa_warnings.specs.declared.concerns.Concern.TheVariants.{Overlap, SharedRecord, Unchecked, Unguarded}
+use Rattle.dsa_warnings.specs.declared.warnings.Warning.{Warning}
+use Rattle.dsa_warnings.specs.Sentences.{warning_words}
+use Rattle.dsa_warnings.specs.Warnings.{AreWarnings}
+use Rattle.dsa_c.specs.declared.refusal.RawRefusal.{RawRefusal}
+use Rattle.dsa_c.specs.declared.settings.RawSettings.{RawSettings}
+use Rattle.dsa_c.specs.declared.warnings.RawWarning.{RawWarning}
+use Rattle.dsa_c.specs.Planning.{IsPlannedFor}
+use Rattle.dsa_c.specs.Preparing.{refusal_at}
+use Rattle.dsa_c.specs.Raw.{limits_of, AreSettings, RefusesSettings, refusal_of, written}
+
+-- a warning of this kind about a piece, and another piece
+abbrev pub raw_warning : ℕ → ℕ → ℕ → RawWarning
+raw_warning kind piece other = record { kind = kind; piece = piece; other = other }
+
+-- a piece and what is worth a warning about it
+abbrev pub raw_concern : ℕ → Concern → RawWarning
+raw_concern piece (SharedRecord earlier) = raw_warning 1 piece earlier
+raw_concern piece Unchecked = raw_warning 2 piece 0
+raw_concern piece Unguarded = raw_warning 3 piece 0
+raw_concern piece Overlap = raw_warning 4 piece 0
+
+-- a warning
+abbrev pub raw_warning_of : Warning → RawWarning
+raw_warning_of w = raw_concern w.piece w.concern
+
+-- what is worth a warning, by the number of its kind
+abbrev pub concern_in : RawWarning → Option Concern
+concern_in r =
+    if r.kind == 1 then Some (SharedRecord r.other) else (
+    if r.kind == 2 then Some Unchecked else (if r.kind == 3 then Some Unguarded else (if r.kind == 4 then Some Overlap else None)))
+
+-- the sentence about a piece; none if nothing is worth a warning
+abbrev pub words_with : ℕ → Option Concern → List ℕ
+words_with piece None = []
+words_with piece (Some concern) = warning_words (record { piece = piece; concern = concern })
+
+-- the sentence of a warning
+abbrev pub warning_words_of : RawWarning → List ℕ
+warning_words_of r = words_with r.piece (concern_in r)
+
+-- the warnings of a plan of pieces and their barriers
+pub record AreRawWarningsOf (pieces : List Descriptor) (barriers : List Bool) (plan : Plan) (raw : List RawWarning) : Type 0 where
+  pub warnings : List Warning
+  pub are : AreWarnings pieces barriers plan warnings
+  pub raw_are : raw ≡ map raw_warning_of warnings
+
+-- those of the plan that planning the list answers
+pub record AreWarningsFor (s : RawSettings) (table list : List ℕ) (raw : List RawWarning) : Type 0 where
+  pub submission : Submission
+  pub planned : IsPlannedFor s table list submission
+  pub barriers : List Bool
+  pub pieces : AreFencedPieces list (limits_of s table) submission.pieces barriers
+  pub are : AreRawWarningsOf submission.pieces barriers submission.plan raw
+
+-- they are at the front of the array, whose rest is unchanged, and there are so many
+pub record AreWarningsInto (s : RawSettings) (table list : List ℕ) (array new_array : List RawWarning) (count : ℕ) : Type 0 where
+  pub raw : List RawWarning
+  pub warned : AreWarningsFor s table list raw
+  pub fits : length raw ≤ length array
+  pub array_is : new_array ≡ written raw array
+  pub count_is : count ≡ length raw
+
+-- the refusal of an array that is too small for the warnings: number 95, and how many there are (this project's choice)
+abbrev pub no_room_for_warnings : ℕ → RawRefusal
+no_room_for_warnings warnings = refusal_at 95 warnings 0
+
+-- Why nothing is written: the numbers are no settings, and one is named; an allocation failed; planning refuses the list,
+-- for this fault; or the warnings do not fit, and so many there are.
+abbrev pub RefusesWarn : RawSettings → List ℕ → List ℕ → ℕ → RawRefusal → Type 0
+RefusesWarn s table list room r =
+    RefusesSettings s table r
+    ⊎ ((r ≡ refusal_of Memory) × AreSettings s table)
+    ⊎ ((fault : PlanFault) × AreSettings s table × PlansFenced list (limits_of s table) (Err fault) × (r ≡ refusal_of fault))
+    ⊎ ((raw : List RawWarning) × AreWarningsFor s table list raw × (room < length raw) × (r ≡ no_room_for_warnings (length raw)))

@@ -72,7 +72,8 @@ impl Line {
         writer: &mut W,
     ) -> bool
         ensures whole { OnTrue result ((text : List ℕ) → Holds self.now text →
-            (status : ℕ) × WritesAnswer text status (W.contents writer.old) (W.contents writer.new)) }
+            (status : ℕ)
+            × WritesAnswer text status (W.contents writer.old) (W.contents writer.new)) }
         ensures prefix { OnFalse result ((text : List ℕ) → Holds self.now text →
             WritesPrefix text (W.contents writer.old) (W.contents writer.new)) }
     {

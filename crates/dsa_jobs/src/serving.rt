@@ -88,7 +88,8 @@ fn serve_chunk<H: AllocGlobal + Threads + Wait + Sync, W: Write>(
         HasServed (seen ++ chunk.now) line.new start (W.contents writer.new)) }
     ensures part { OnFalse result ((seen : List ℕ) (start : Option (List ℕ)) →
         HasServed seen line.old start (W.contents writer.old) →
-        (more : List ℕ) → WritesPart (jobs_of ((seen ++ chunk.now) ++ more)) start (W.contents writer.new)) }
+        (more : List ℕ) →
+        WritesPart (jobs_of ((seen ++ chunk.now) ++ more)) start (W.contents writer.new)) }
 {
     let mut rest = chunk;
     while let Some(end) = memchr(b'\n', rest) {

@@ -40,7 +40,7 @@ HasNoPicture es r = (1024 < length r.submissions) ⊎ (65536 < length es)
 abbrev pub UsesNone : AuditAnswer → Type 0
 UsesNone answer = (key : List ℕ) → has_key answer.used key ≡ false
 
--- the answer is a refusal: its status is 2
+-- the answer is a refusal: its status is 2, and no key is used
 pub record Refuses (answer : AuditAnswer) : Type 0 where
   pub status : answer.status ≡ 2
   pub used : UsesNone answer

@@ -27,8 +27,10 @@ use std::alloc::{AllocError, Global};
 /// The later member that the key of a missing fence in a batch of so many members names, and what comes after its
 /// number.
 fn named_later(alloc: Global, size: usize, key: &str) -> Result<Option<(usize, &str)>, AllocError>
-    ensures { IfOk result (λ named. (hazards : Hazards) (later : ℕ) (rest : List ℕ) → later < 2 ^ 64 →
-        key.now ≡ fence_words hazards ++ (batch_key size ++ (codes "; member " ++ (decimal later ++ (58 ∷ rest)))) →
+    ensures { IfOk result (λ named. (hazards : Hazards) (later : ℕ) (rest : List ℕ) →
+        later < 2 ^ 64 →
+        key.now ≡ fence_words hazards ++ (batch_key size ++ (codes "; member " ++
+        (decimal later ++ (58 ∷ rest)))) →
         MatchOption named ⊥ (λ found. (found.0 ≡ later) × (found.1.now ≡ rest))) }
 {
     let Some((_, rest)) = key.split_once(';') else {
@@ -72,7 +74,8 @@ fn named_pair(
 ) -> Result<Option<(usize, usize)>, AllocError>
     ensures { IfOk result (λ named. (earlier later : ℕ) (hazards : Hazards) →
         earlier < 2 ^ 64 → later < 2 ^ 64 →
-        key.now ≡ fence_key entries.now earlier later hazards → named ≡ Some (earlier, later)) }
+        key.now ≡ fence_key entries.now earlier later hazards →
+        named ≡ Some (earlier, later)) }
 {
     let Some((later, rest)) = named_later(alloc, entries.len(), key)? else {
         return Ok(None);
@@ -173,7 +176,8 @@ fn use_pairs(
     audited: &Audited,
     used: &mut Accepted,
 ) -> Result<(), AllocError>
-    ensures { OnOk result (AddsKeys (LinesTakeOut entries.now audited.now lines.now) used.old used.new) }
+    ensures { OnOk result
+        (AddsKeys (LinesTakeOut entries.now audited.now lines.now) used.old used.new) }
 {
     let mut rest = lines;
     while let [line, after @ ..] = rest {

@@ -66,9 +66,10 @@ class Reader:
         return sorted(path.stem for path in self.docs.glob("*.md"))
 
     def run(self, command):
-        """How a command of a shell ended: its status, what it printed, and that with what it said beside it."""
+        """How a command of a shell ended: its status, what it printed, and that with what it said beside it. What it
+        puts into /tmp goes to the folder."""
         how = {"cwd": self.folder, "env": self.places, "capture_output": True, "text": True}
-        end = subprocess.run(["sh", "-c", command], stdin=subprocess.DEVNULL, **how)
+        end = subprocess.run(["sh", "-c", command.replace("/tmp/", f"{self.folder}/")], stdin=subprocess.DEVNULL, **how)
         return end.returncode, end.stdout, end.stdout + end.stderr
 
     def put(self, name, text):

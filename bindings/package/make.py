@@ -34,7 +34,6 @@ QUEUE = ROOT / "bindings/queue"
 QUEUE_OF = [*sorted(QUEUE.glob("*.c")), *(ROOT / f"trace/{name}.c" for name in ("crc", "device", "dif", "valid"))]
 QUEUE_SONAME = "libdsa_queue.so.0"  # its calls may change in any version
 MODULES = ("dsa_planner", "dsa_queue", "dsa_reasons")  # of Python
-EXAMPLES = ("job", "c", "py", "txt", "svg", "xxd", "events")  # how the names of examples end
 PROVED = {
     "libdsa_c.a": ROOT / "crates/dsa_c/out/libdsa_c.a",
     "dsa": ROOT / "crates/dsa/out/dsa",
@@ -43,6 +42,8 @@ PROVED = {
 }
 COMPILE = ["-std=c11", "-D_GNU_SOURCE", "-O2", "-fPIC", "-Wall", "-Wextra", "-Werror", "-ffunction-sections"]
 HARDEN = ["-Wl,-z,relro,-z,now,-z,noexecstack,-z,defs,-z,text"]
+# How the names of examples end.
+EXAMPLES = ("job", "c", "py", "txt", "svg", "xxd", "events")
 # Where the package has its files, unpacked anywhere or installed by dpkg.
 ANYWHERE = {"prefix": "${pcfiledir}/../..", "lib": "lib", "python": "share/dsa-planner/python"}
 DEBIAN = {"prefix": "/usr", "lib": "lib/x86_64-linux-gnu", "python": "lib/python3/dist-packages"}

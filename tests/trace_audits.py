@@ -346,7 +346,9 @@ def nothing():
     for name, content in (("events", bytes(range(256))), ("dsa", b"neither"), ("errors", b"\0\xff"), ("stacks", b"\0")):
         Path(WORK, f"odd/seed-1/odd.1.{name}").write_bytes(content)
     told("recordings that are none", traced("--report", f"{WORK}/odd", env=KNOWN), 125, "has seen a part")
-    told("a file to report", traced("--report", client("unseen"), env=KNOWN), 125, "Not a directory")
+    told("a file to report", traced("--report", client("unseen"), env=KNOWN), 125,
+         "Not a directory; --report takes the folder that --out has named")
+    told("prices of a queue without a name", ran(f"{WORK}/gcc/dsa_prices", ""), 2, "the name of the queue is empty")
 
 
 # ---- the page

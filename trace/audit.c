@@ -17,7 +17,7 @@ static const char *find(const char *folder, char found[PATH_MAX])
     char above[PATH_MAX];
     if (access(joined(found, folder, "dsa_text"), X_OK) == 0)
         return found;
-    if (access(joined(found, joined(above, folder, "../.."), "crates/dsa_text/out/dsa_text"), X_OK) == 0)
+    if (access(joined(above, folder, "../../crates/dsa_text/out/dsa_text"), X_OK) == 0 && realpath(above, found))
         return found;
     for (const char *at = folders ? folders : ""; *at; at += strcspn(at, ":"), at += *at == ':') {
         snprintf(found, PATH_MAX, "%.*s/dsa_text", (int)strcspn(at, ":"), at);

@@ -80,6 +80,9 @@ static struct asked ask(char **word)
         } else if (strcmp(*word, "--times") == 0) {
             a.times = number_of(*word, word[1], 1, 1000000);
             word++;
+        } else if (!**word) {
+            fputs("dsa_prices: the name of the queue is empty\n", stderr);
+            exit(2);
         } else if (**word == '-') {
             fprintf(stderr, "dsa_prices: %s: there is no such option (see dsa_prices --help)\n", *word);
             exit(2);

@@ -22,8 +22,11 @@ bool report_runs(const struct options *o, struct audits *a, const struct junit *
     struct dirent **list;
     char path[PATH_MAX];
     const int count = scandir(o->report, &list, is_of_seed, versionsort);
-    if (count < 0)
-        fail(o->report);
+    if (count < 0) {
+        fprintf(stderr, "dsa_trace: %s: %s; --report takes the folder that --out has named\n", o->report,
+                strerror(errno));
+        return false;
+    }
     for (int i = 0; i < count; i++) {
         const char *name = list[i]->d_name;
         const struct run run = {.seed = strtoull(name + strlen("seed-"), NULL, 10), .is_over = true,

@@ -5,8 +5,9 @@ use crate::notes::Notes;
 use crate::origins::count_of;
 use crate::unplanned::Source;
 use crate::words::line_of_operation;
-use dsa_descriptor::{Descriptor, FlagWord, Op};
+use dsa_descriptor::Descriptor;
 use dsa_plan::{Plan, Settings};
+use dsa_warnings::{Concern, check_concern};
 use std::alloc::{AllocError, Global};
 
 /// The note on a compare whose result is not checked, with a barrier after it.
@@ -20,17 +21,12 @@ fn last_barrier(marks: &[bool]) -> Option<usize> {
     marks.iter().rposition(|mark| *mark)
 }
 
-/// Why the result of an operation stops nothing, if it is a compare: a barrier is after it, but its result is not
-/// checked; or it is checked, but the operation after it is in the same epoch of the plan.
-fn cause_of(d: &Descriptor, is_before_barrier: bool, goes_on: bool) -> Option<&'static str> {
-    let is_checked = d.flags.0 & FlagWord::CHECK_RESULT.0 != 0;
-    match d.op {
-        Op::Compare { .. } | Op::ComparePattern { .. } => match (is_checked, goes_on) {
-            (false, _) if is_before_barrier => Some(UNCHECKED),
-            (true, true) => Some(UNGUARDED),
-            (false, true | false) | (true, false) => None,
-        },
-        Op::Move { .. } | Op::Fill { .. } | Op::ApplyDelta { .. } | Op::Dualcast { .. } => None,
+/// What is noted of the result of an operation, if it stops nothing.
+fn note_on(concern: Option<Concern>) -> Option<&'static str> {
+    match concern {
+        Some(Concern::Unchecked) => Some(UNCHECKED),
+        Some(Concern::Unguarded) => Some(UNGUARDED),
+        Some(Concern::SharedRecord(_) | Concern::Overlap) | None => None,
     }
 }
 
@@ -53,7 +49,7 @@ pub(crate) fn check_notes(
         next = next.saturating_add(count_of(d, settings));
         let is_before_barrier = last.is_some_and(|barrier| operation < barrier);
         let goes_on = cuts.get(next).copied() == Some(false);
-        if let Some(cause) = cause_of(d, is_before_barrier, goes_on) {
+        if let Some(cause) = note_on(check_concern(d, is_before_barrier, goes_on)) {
             if notes.count() {
                 notes.write(&note_of(alloc, text, operation, cause)?)?;
             }

@@ -1,23 +1,14 @@
 //! Notes on moves whose source and destination overlap.
 
 use crate::notes::Notes;
-use dsa_descriptor::{Descriptor, Op};
+use dsa_descriptor::Descriptor;
 use dsa_plan::Settings;
 use std::alloc::{AllocError, Global};
 
 /// Whether a piece of an operation moves bytes within one range.
 fn overlaps(d: &Descriptor, settings: &Settings) -> bool {
-    match d.op {
-        Op::Move { src, dst } => {
-            let longest = u64::from(d.size).min(settings.greatest_transfer());
-            src.abs_diff(dst) < longest
-        }
-        Op::Fill { .. }
-        | Op::Compare { .. }
-        | Op::ComparePattern { .. }
-        | Op::ApplyDelta { .. }
-        | Op::Dualcast { .. } => false,
-    }
+    let longest = u64::from(d.size).min(settings.greatest_transfer());
+    dsa_warnings::overlaps(&d.op, longest)
 }
 
 /// A line for each move that has a piece whose source and destination overlap.

@@ -160,7 +160,7 @@ def compare(recording, name, words=""):
     denied = totals["flaws"] + sum(totals[kind] for kind in ("needless", "unseen") if kind in words)
     common.expect((status, error) == (int(totals["missing"] + denied > 0), ""), f"{name}: status {status}, {error}")
     columns, groups, bars, heads = wanted_picture(recording, report, svg, words)
-    fault, others = pictured.fault_of(svg, columns, groups, bars)
+    fault, others = pictured.fault_of(svg, columns, groups, bars, {})
     common.expect(not fault, f"{name}: {fault}")
     titles = [it for it in others["groups"] if not it.startswith("groups ")]
     common.expect(set(titles) <= set(heads), f"{name}: the groups are {titles}, and not {heads}")

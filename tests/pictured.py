@@ -155,31 +155,80 @@ def union(spans):
     return [(first, end - first) for first, end in ends]
 
 
-def rows_of(spans, conflicts):
-    """The rows of spans, as the first address, the end and the number of ranges; of more than 48 only those of
-    conflicts have one of their own."""
-    rows = []
-    for first, size in sorted(span for span in spans if span[1]):
-        if rows and first < rows[-1][1]:
-            rows[-1][1] = max(rows[-1][1], first + size)
-        else:
-            rows.append([first, first + size, 1])
+def starts_of(spans):
+    """Where rows begin: where a span does, but within another one only if that has smaller ones on both sides."""
+    inner = {}
+    for span in spans:
+        own = [it for it in spans if span[0] <= it[0] and it[1] <= span[1]]
+        inner[span] = min(end for _, end in own), max(first for first, _ in own)
+    starts = sorted({first for first, _ in spans})
+    return [at for at in starts if all(inner[it][0] <= at <= inner[it][1] for it in spans if it[0] < at < it[1])]
+
+
+def label_of(row, name):
+    """The label of a row that is not folded, which has this name, if any, of a buffer at that address."""
+    if not name:
+        return f"{row[0]:#x} +{row[1] - row[0]}"
+    return name[1] + f" at {row[0] - name[0]}" * (name[0] < row[0])
+
+
+def labels_of(rows, spans, buffers):
+    """The labels of rows that are not folded: a row has the name of the buffer that begins in it, or that of the row
+    before if an operation touches bytes of both."""
+    labels, name = [], None
+    for row in rows:
+        is_joined = any(first < row[0] < end for first, end in spans)
+        own = [(address, words) for address, words in sorted(buffers.items()) if row[0] <= address < row[1]]
+        name = own[0] if own else name if is_joined else None
+        labels.append(label_of(row, name))
+    return labels
+
+
+def rows_of(spans, conflicts, buffers):
+    """The rows of spans, as the first address, the end and the number of ranges, and their labels; of more than 48 only
+    those of conflicts have one of their own."""
+    spans = {(first, first + size) for first, size in spans if size}
+    starts, rows = starts_of(spans), []
+    for first, after in zip(starts, [*starts[1:], 1 << 65]):
+        rows.append([first, min(after, max(end for begin, end in spans if begin < after)), 1])
+    labels = labels_of(rows, spans, buffers)
     if len(rows) <= MOST_ROWS:
-        return rows
+        return rows, labels
     marked = {bisect_right([row[0] for row in rows], address) - 1 for address in conflicts}
-    folded, before = [], True
+    folded, names, before = [], [], True
     for k, row in enumerate(rows):
         if k in marked or before:
             folded.append(row)
+            names.append(labels[k])
         else:
             folded[-1] = [folded[-1][0], row[1], folded[-1][2] + 1]
+            names[-1] = f"{folded[-1][2]} buffers"
         before = k in marked
-    return folded
+    return folded, names
 
 
-def wanted(columns, groups, bars):
-    """What a picture has of operations in these groups: its columns, rows, marks, bars, conflicts, barriers, and the
-    columns of each second epoch and of operations that are not looked at."""
+def marks_of(uses, rows):
+    """What operations do in rows: by operation and row the letters, the addresses if they are a part of the row, and
+    whether the mark goes on in the next row."""
+    firsts, marks = [row[0] for row in rows], {}
+    for k, (first, size), letter in uses:
+        end, at = first + size, bisect_right(firsts, first) - 1
+        while size and at < len(rows) and rows[at][0] < end:
+            mark = marks.setdefault((k, at), [set(), 1 << 65, 0, False])
+            mark[0].add(letter)
+            mark[1], mark[2] = min(mark[1], max(first, rows[at][0])), max(mark[2], min(end, rows[at][1]))
+            mark[3] |= rows[at][1] < end and rows[at][2] == 1
+            at += 1
+    wanted = {}
+    for (k, at), (letters, first, end, goes_on) in marks.items():
+        is_part = rows[at][2] == 1 and [first, end] != rows[at][:2]
+        wanted[k, at] = "".join(sorted(letters)), f"{first:#x} +{end - first}" if is_part else None, goes_on
+    return wanted
+
+
+def wanted(columns, groups, bars, buffers):
+    """What a picture has of operations in these groups, and of these names of buffers: its columns, rows, labels, marks,
+    bars, conflicts, barriers, and the columns of each second epoch and of operations that are not looked at."""
     kept = {bar.column for bar in bars} | {k for bar in bars if bar.pair for k in bar.pair[:2]}
     slots = slots_of(columns, groups, kept)
     shown = [slot.operations[0] for slot in slots if slot.is_single()]
@@ -199,13 +248,9 @@ def wanted(columns, groups, bars):
             record = columns[k].record
             if record and record[0] <= address < record[0] + record[1]:
                 uses.append((k, record, "W"))
-    rows = rows_of([span for _, span, _ in uses], [address for _, _, address in pairs])
+    rows, labels = rows_of([span for _, span, _ in uses], [address for _, _, address in pairs], buffers)
     firsts = [row[0] for row in rows]
     row_of = lambda address: bisect_right(firsts, address) - 1
-    marks = {}
-    for k, span, letter in uses:
-        if span[1]:
-            marks.setdefault((k, row_of(span[0])), set()).add(letter)
     second, is_second, at = set(), False, 0
     for size in groups.sizes:
         is_second = False
@@ -218,7 +263,8 @@ def wanted(columns, groups, bars):
         "columns": [slot.operations[0] if slot.is_single() else slot.name()
                     for slot in slots if slot.is_single() or slot.is_folded()],
         "rows": [(first, end - first, count) for first, end, count in rows],
-        "marks": {place: "".join(sorted(letters)) for place, letters in marks.items()},
+        "labels": labels,
+        "marks": marks_of(uses, rows),
         "bars": [(bar.column, bar.kind, bar.words, bar.title) for bar in bars],
         "conflicts": sorted((earlier, later, row_of(address)) for earlier, later, address in pairs),
         "barriers": [k for k, slot in enumerate(slots)
@@ -272,8 +318,8 @@ def drawn(svg, columns):
         labels.append(label)
     marks = {}
     for part in parts.get("mark", []):
-        x, y = place_of(part[0])
-        marks[lefts[x - 7], tops[y - 4]] = part[1].text
+        x, y = place_of(part.find(f"{SVG}rect"))
+        marks[lefts[x - 7], tops[y - 4]] = mark_in(part, rows[tops[y - 4]])
     ends = {left + int(root_width(parts)): k for left, k in lefts.items()}
     bars = []
     for part in root.iter(f"{SVG}g"):
@@ -291,12 +337,11 @@ def drawn(svg, columns):
     grounds = {kind: {place_of(it)[0] for it in parts.get(kind, [])} for kind in ("epoch", "unseen")}
     grounds = {kind: {lefts[left] for left in places if lefts.get(left) in names} for kind, places in grounds.items()}
     return {
-        "columns": found, "rows": rows, "marks": marks, "bars": bars, "conflicts": conflicts,
+        "columns": found, "rows": rows, "labels": labels, "marks": marks, "bars": bars, "conflicts": conflicts,
         "barriers": barriers, "second": grounds["epoch"], "unseen": grounds["unseen"],
     }, {
         "groups": [part[0].text for part in parts.get("group", [])],
         "names": names,
-        "labels": labels,
         "notes": [it.text for it in root.findall(f"{SVG}text")],
         "title": root[0].text,
         "size": (int(root.get("width")), int(root.get("height"))),
@@ -305,7 +350,29 @@ def drawn(svg, columns):
 
 def root_width(parts):
     """How wide the columns of a picture are: marks are 14 narrower."""
-    return int(parts["mark"][0][0].get("width")) + 14 if parts.get("mark") else 0
+    return int(parts["mark"][0].find(f"{SVG}rect").get("width")) + 14 if parts.get("mark") else 0
+
+
+def mark_in(part, row):
+    """A mark in this row: its letters, its addresses if it is a part of the row, and whether it goes on in the next row.
+    A part has its offset if that has room in letters of 7 points, and a strip that is black where it is."""
+    title, (box, *strip), words = part.find(f"{SVG}title"), part.findall(f"{SVG}rect"), words_in(part)
+    letters, height = words.split()[0], int(box.get("height"))
+    if height not in (14, 22) or (title is None) != (not strip):
+        return f"a box {height} high, with {len(strip)} further boxes"
+    if strip:
+        first, size = re.fullmatch(r"0x([0-9a-f]+) \+(\d+)", title.text).groups()
+        offset, size = int(first, 16) - row[0], int(size)
+        whole, room = f"{letters} at {offset}", int(box.get("width")) - 8
+        if words != (whole if len(whole) <= room * 5 // 21 else letters):
+            return f"{words}, and not {whole}"
+        (_, top), (_, begin) = map(place_of, strip)
+        above, own = begin - top, int(strip[1].get("height"))
+        if abs(above - 10 * offset / row[1]) > 2 or abs(own - 10 * size / row[1]) > 2 or above + own > 10:
+            return f"{own} from {above} on of 10 are black, of {row} {title.text}"
+    elif words != letters:
+        return words
+    return letters, title.text if strip else None, height == 22
 
 
 def kind_of(part):
@@ -318,9 +385,12 @@ def kind_of(part):
     return {"black": "fence", "white": "needless", "#999": "kept"}.get(shape.get("fill"), "a bar")
 
 
-def fault_of(svg, columns, groups, bars):
+def fault_of(svg, columns, groups, bars, buffers):
     """What is wrong with a picture of operations in these groups, or nothing; and what else is in it."""
-    needed, (found, others) = wanted(columns, groups, bars), drawn(svg, columns)
+    needed, (found, others) = wanted(columns, groups, bars, buffers), drawn(svg, columns)
+    for k, (label, whole) in enumerate(zip(found["labels"], needed["labels"])):
+        if label.endswith("…") and whole.startswith(label[:-1]):
+            found["labels"][k] = whole
     for k, (name, whole) in enumerate(zip(found["columns"], needed["columns"])):
         if isinstance(name, str) and isinstance(whole, str) and "…" in name and cut_of(name, whole):
             found["columns"][k] = whole
@@ -467,7 +537,7 @@ def plan_fault(svg, words, text=None):
         operation = columns[start].operation
         if operation in parted and (not start or columns[start - 1].operation != operation):
             groups.barriers.add(k)
-    fault, others = fault_of(svg, columns, groups, bars)
+    fault, others = fault_of(svg, columns, groups, bars, comments_of(text)[1] if text is not None else {})
     if fault:
         return fault
     costs = next(line for line in words.splitlines() if line.startswith("cost "))
@@ -478,12 +548,6 @@ def plan_fault(svg, words, text=None):
     groups = [title for title in others["groups"] if not re.fullmatch(r"groups \d+ to \d+", title)]
     if not set(groups) <= {found[0] for found in heads}:
         return f"the groups are {groups}"
-    buffers = comments_of(text)[1] if text is not None else {}
-    for (first, size, count), label in zip(drawn(svg, columns)[0]["rows"], others["labels"]):
-        named = [name for address, name in sorted(buffers.items()) if first <= address < first + size]
-        whole = named[0] if named and count == 1 else f"{count} buffers" if count > 1 else f"{first:#x} +{size}"
-        if label != whole and not (label.endswith("…") and whole.startswith(label[:-1])):
-            return f"a row of {first:#x} is named {label}, and not {whole}"
     return ""
 
 
@@ -534,3 +598,34 @@ def pieces_and_barriers(written):
         svg, fault = compared(written, words, text + "barrier\n" * (4 in places))
         found = svg.count('class="barrier"')
         common.expect(not fault and found == count, f"barriers before {places}, {words}: {fault}, {found} marks")
+
+
+# ---- rows and parts of them
+
+
+def rows_and_parts(written):
+    """Ranges that only a larger one joins have a row each, and the larger one a mark in each of these rows, which goes on
+    from row to row, as the name of the buffer does. Ranges that overlap otherwise share a row, in which each has its
+    offset; so has a part of a range."""
+    move = "move {:#x} -> {:#x}, {} bytes, record {:#x}\n"
+    apart = move.format(0x4000, 0x30000, 64, 0x8000) + move.format(0x5000, 0x30040, 192, 0x8020)
+    packet = apart + move.format(0x30000, 0x41000, 256, 0x8040)
+    overlapping = "".join(move.format(0x4000, 0x1000 + 64 * k, 128, 0x8000 + 32 * k) for k in range(3))
+    header = move.format(0x4000, 0x1000, 64, 0x8000) + move.format(0x1038, 0x5000, 8, 0x8020)
+    for text, labels, parts in [
+        (packet, ["0x4000 +64", "0x5000 +192", "0x30000 +64", "0x30040 +192", "0x41000 +256"],
+         [(0, 2, "W"), (1, 3, "W"), (2, 2, "R on"), (2, 3, "R")]),
+        ("# 0x30000: the packet\n" + packet,
+         ["0x4000 +64", "0x5000 +192", "the packet", "the packet at 64", "0x41000 +256"],
+         [(0, 2, "W"), (1, 3, "W"), (2, 2, "R on"), (2, 3, "R")]),
+        (overlapping, ["0x1000 +256", "0x4000 +128"],
+         [(0, 0, "W at 0x1000 +128"), (1, 0, "W at 0x1040 +128"), (2, 0, "W at 0x1080 +128")]),
+        (header, ["0x1000 +64", "0x4000 +64", "0x5000 +8"], [(0, 0, "W"), (1, 0, "R at 0x1038 +8")]),
+    ]:
+        svg, fault = compared(written, "", text)
+        found = drawn(svg, columns_of(written("explain --all", text), text))[0]
+        common.expect(not fault and found["labels"] == labels, f"{text}: {fault}: {found['labels']}")
+        told = {place: it[0] + f" at {it[1]}" * bool(it[1]) + " on" * it[2] for place, it in found["marks"].items()}
+        for operation, row, wanted_mark in parts:
+            common.expect(told.get((operation, row)) == wanted_mark, f"{text}: {told}, and not {wanted_mark}")
+    common.expect(">R at 56<" in svg, f"no offset is drawn: {svg}")

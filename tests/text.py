@@ -493,6 +493,7 @@ def picture():
     drawn, told = written("explain --svg", job), written("explain", job)
     common.expect(not pictured.plan_fault(drawn, told), pictured.plan_fault(drawn, told))
     pictured.pieces_and_barriers(written)
+    pictured.rows_and_parts(written)
 
 
 def reasons_drawn():

@@ -1,6 +1,7 @@
 //! The rows of a picture, which are ranges of addresses, and what operations do in them.
 
 use crate::layout::{Buffer, Column, Layout};
+use crate::ranges::{Range, ranges_of};
 use crate::slots::Slot;
 use dsa_ranges::Span;
 use std::alloc::{AllocError, Global};
@@ -15,19 +16,55 @@ pub(crate) struct Row {
     pub(crate) end: u128,
     /// How many ranges there are.
     pub(crate) ranges: usize,
+    /// Whether an operation touches bytes right before it together with its own.
+    pub(crate) is_joined: bool,
     /// Whether the conflict of a fence is in it.
     pub(crate) has_conflict: bool,
     /// Which of the names of buffers it has.
     pub(crate) name: Option<usize>,
 }
 
-/// What an operation does in a row.
+impl Row {
+    /// The row of a range.
+    fn of(range: Range) -> Row {
+        Row {
+            first: range.first,
+            end: range.end,
+            ranges: 1,
+            is_joined: range.is_joined,
+            has_conflict: false,
+            name: None,
+        }
+    }
+
+    /// Whether the address is in it.
+    fn has(&self, address: u64) -> bool {
+        self.first <= address && u128::from(address) < self.end
+    }
+}
+
+/// What an operation does in a row, and to which of its bytes.
 #[derive(Clone, Copy)]
 pub(crate) struct Mark {
     pub(crate) row: usize,
     pub(crate) column: usize,
     pub(crate) reads: bool,
     pub(crate) writes: bool,
+    pub(crate) first: u64,
+    pub(crate) end: u128,
+    /// Whether it goes on in the next row.
+    pub(crate) goes_on: bool,
+}
+
+impl Mark {
+    /// Adds what the same operation does in the same row.
+    fn add(&mut self, other: &Mark) {
+        self.reads = self.reads || other.reads;
+        self.writes = self.writes || other.writes;
+        self.first = self.first.min(other.first);
+        self.end = self.end.max(other.end);
+        self.goes_on = self.goes_on || other.goes_on;
+    }
 }
 
 /// The rows and what is in them.
@@ -56,11 +93,11 @@ struct Item {
 }
 
 impl What {
-    /// Spans come before the addresses that may be in them.
-    fn rank(self) -> u8 {
+    /// Whether an operation touches the addresses.
+    fn is_touched(self) -> bool {
         match self {
-            What::Reads(_) | What::Writes(_) => 0,
-            What::Conflict(_) | What::Name(_) => 1,
+            What::Reads(_) | What::Writes(_) => true,
+            What::Conflict(_) | What::Name(_) => false,
         }
     }
 
@@ -251,7 +288,7 @@ fn items_of(alloc: Global, layout: &Layout<'_>, slots: &[Slot]) -> Result<Vec<It
     let shown = shown_in(alloc, slots, layout.columns.len())?;
     push_conflicts(&mut items, layout, &shown)?;
     push_names(&mut items, layout.buffers)?;
-    items.sort_unstable_by_key(|item| (item.span.first, item.what.rank(), item.what.number()));
+    items.sort_unstable_by_key(|item| (item.span.first, item.what.number()));
     Ok(items)
 }
 
@@ -270,90 +307,85 @@ impl Grid {
         ranges
     }
 
-    /// Whether the address is in the last row.
-    fn has(&self, address: u64) -> bool {
-        match self.rows.last() {
-            Some(row) => u128::from(address) < row.end,
-            None => false,
+    /// The row that has the address, or else the next one; none before `row` has it.
+    fn row_from(&self, row: usize, address: u64) -> usize {
+        for (number, it) in self.rows.iter().enumerate().skip(row) {
+            if u128::from(address) < it.end {
+                return number;
+            }
         }
+        self.rows.len()
     }
 
-    /// Adds a span to the last row, or opens one for it.
-    fn add_span(&mut self, span: Span) -> Result<(), AllocError> {
-        if self.has(span.first)
-            && let Some(row) = self.rows.last_mut()
-        {
-            row.end = row.end.max(span.end());
-            return Ok(());
-        }
-        self.rows.push(Row {
-            first: span.first,
-            end: span.end(),
-            ranges: 1,
-            has_conflict: false,
-            name: None,
-        })?;
-        Ok(())
-    }
-
-    /// The number of the last row.
-    fn last(&self) -> usize {
-        self.rows.len().saturating_sub(1)
-    }
-
-    /// Adds what an operation reads or writes.
-    fn add_mark(
+    /// Adds what an operation does to a span, of which the first byte is in this row, in each row of the span.
+    fn add_marks(
         &mut self,
+        row: usize,
         span: Span,
         column: usize,
         reads: bool,
         writes: bool,
     ) -> Result<(), AllocError> {
-        self.add_span(span)?;
-        let row = self.last();
-        self.marks.push(Mark {
-            row,
-            column,
-            reads,
-            writes,
-        })?;
+        let end = span.end();
+        for (number, it) in self.rows.iter().enumerate().skip(row) {
+            if end <= u128::from(it.first) {
+                return Ok(());
+            }
+            self.marks.push(Mark {
+                row: number,
+                column,
+                reads,
+                writes,
+                first: span.first.max(it.first),
+                end: end.min(it.end),
+                goes_on: it.end < end,
+            })?;
+        }
         Ok(())
     }
 
-    /// Adds a conflict to the last row, if that has the address.
-    fn add_conflict(&mut self, address: u64, bar: usize) -> Result<(), AllocError> {
-        if !self.has(address) {
-            return Ok(());
+    /// Adds a conflict to the row, if that has the address.
+    fn add_conflict(&mut self, row: usize, address: u64, bar: usize) -> Result<(), AllocError> {
+        if let Some(it) = self.rows.get_mut(row)
+            && it.has(address)
+        {
+            it.has_conflict = true;
+            self.conflicts.push((row, bar))?;
         }
-        let number = self.last();
-        if let Some(row) = self.rows.last_mut() {
-            row.has_conflict = true;
-        }
-        self.conflicts.push((number, bar))?;
         Ok(())
     }
 
-    /// Names the last row, if that has the address and no name.
-    fn add_name(&mut self, address: u64, name: usize) {
-        if !self.has(address) {
-            return;
-        }
-        if let Some(row) = self.rows.last_mut() {
-            row.name = row.name.or(Some(name));
+    /// Names the row, if that has the address and no name.
+    fn add_name(&mut self, row: usize, address: u64, name: usize) {
+        if let Some(it) = self.rows.get_mut(row)
+            && it.has(address)
+        {
+            it.name = it.name.or(Some(name));
         }
     }
 
-    /// Adds the next item.
-    fn add(&mut self, item: Item) -> Result<(), AllocError> {
+    /// Adds an item, of which the first byte is in this row or before it in none.
+    fn add(&mut self, row: usize, item: Item) -> Result<(), AllocError> {
         let Item { span, what } = item;
         match what {
-            What::Reads(column) => self.add_mark(span, column, true, false),
-            What::Writes(column) => self.add_mark(span, column, false, true),
-            What::Conflict(bar) => self.add_conflict(span.first, bar),
+            What::Reads(column) => self.add_marks(row, span, column, true, false),
+            What::Writes(column) => self.add_marks(row, span, column, false, true),
+            What::Conflict(bar) => self.add_conflict(row, span.first, bar),
             What::Name(name) => {
-                self.add_name(span.first, name);
+                self.add_name(row, span.first, name);
                 Ok(())
             }
+        }
+    }
+
+    /// Gives rows without a name that of the row before, if an operation touches both together.
+    fn share_names(&mut self) {
+        let mut before = None;
+        for row in self.rows.iter_mut() {
+            if row.is_joined {
+                row.name = row.name.or(before);
+            }
+            before = row.name;
         }
     }
 }
@@ -388,10 +420,7 @@ fn merged(alloc: Global, marks: &[Mark]) -> Result<Vec<Mark>, AllocError> {
     let mut merged: Vec<Mark> = Vec::new(alloc);
     for mark in marks {
         match merged.last_mut() {
-            Some(last) if last.row == mark.row && last.column == mark.column => {
-                last.reads = last.reads || mark.reads;
-                last.writes = last.writes || mark.writes;
-            }
+            Some(last) if last.row == mark.row && last.column == mark.column => last.add(mark),
             Some(_) | None => merged.push(*mark)?,
         }
     }
@@ -399,11 +428,22 @@ fn merged(alloc: Global, marks: &[Mark]) -> Result<Vec<Mark>, AllocError> {
 }
 
 /// What operations do, in the rows that theirs are in now.
-fn moved_marks(alloc: Global, marks: &[Mark], places: &[usize]) -> Result<Vec<Mark>, AllocError> {
+fn moved_marks(
+    alloc: Global,
+    marks: &[Mark],
+    places: &[usize],
+    rows: &[Row],
+) -> Result<Vec<Mark>, AllocError> {
     let mut moved = Vec::new(alloc);
     for mark in marks {
         let row = places.get(mark.row).copied().unwrap_or(0);
-        moved.push(Mark { row, ..*mark })?;
+        let is_single = rows.get(row).is_some_and(|it| it.ranges == 1);
+        let goes_on = mark.goes_on && is_single;
+        moved.push(Mark {
+            row,
+            goes_on,
+            ..*mark
+        })?;
     }
     Ok(moved)
 }
@@ -425,22 +465,40 @@ fn moved_conflicts(
 fn fold(alloc: Global, grid: Grid) -> Result<Grid, AllocError> {
     let (places, rows) = folded(alloc, &grid.rows)?;
     Ok(Grid {
-        rows,
-        marks: moved_marks(alloc, &grid.marks, &places)?,
+        marks: moved_marks(alloc, &grid.marks, &places, &rows)?,
         conflicts: moved_conflicts(alloc, &grid.conflicts, &places)?,
+        rows,
     })
 }
 
 /// The rows of these items, of which none is folded.
+fn rows_of(alloc: Global, items: &[Item]) -> Result<Vec<Row>, AllocError> {
+    let mut spans = Vec::new(alloc);
+    for item in items {
+        if item.what.is_touched() {
+            spans.push(item.span)?;
+        }
+    }
+    let mut rows = Vec::new(alloc);
+    for range in &ranges_of(alloc, spans)? {
+        rows.push(Row::of(*range))?;
+    }
+    Ok(rows)
+}
+
+/// These items in their rows, of which none is folded.
 fn unfolded(alloc: Global, items: &[Item]) -> Result<Grid, AllocError> {
     let mut grid = Grid {
-        rows: Vec::new(alloc),
+        rows: rows_of(alloc, items)?,
         marks: Vec::new(alloc),
         conflicts: Vec::new(alloc),
     };
+    let mut row = 0;
     for item in items {
-        grid.add(*item)?;
+        row = grid.row_from(row, item.span.first);
+        grid.add(row, *item)?;
     }
+    grid.share_names();
     Ok(grid)
 }
 

@@ -8,6 +8,7 @@ mod heads;
 mod layout;
 mod names;
 mod places;
+mod ranges;
 mod rows;
 mod shapes;
 mod slots;

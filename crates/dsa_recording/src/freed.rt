@@ -309,13 +309,16 @@ fn options_text(
     Ok(text)
 }
 
-/// The line that says how many more fences would be needless, or nothing where that is not asked.
+/// The line that says how many more fences would be needless, or nothing where that is not asked, or none would be.
 pub(crate) fn freed_text(
     alloc: Global,
     assumptions: Assumptions,
     freed: &[Freed],
 ) -> Result<String, AllocError> {
     let mut text = String::new(alloc);
+    if freed.iter().all(|more| more.fences == 0) {
+        return Ok(text);
+    }
     for more in freed {
         let front = if text.is_empty() {
             "needless too: "

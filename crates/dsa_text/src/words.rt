@@ -168,21 +168,70 @@ fn hint_of_bytes(word: &[u8]) -> Option<&'static str> {
     }
 }
 
+/// The words that a line begins with.
+const WORDS: [&[u8]; 7] = [
+    b"move",
+    b"fill",
+    b"compare",
+    b"delta",
+    b"dualcast",
+    b"barrier",
+    b"batch",
+];
+
+/// Other words for operations, and what helps.
+const OTHERS: [(&[u8], &str); 16] = [
+    (b"memcpy", COPIES),
+    (b"memmove", COPIES),
+    (b"copy", COPIES),
+    (b"memset", FILLS),
+    (b"set", FILLS),
+    (b"memcmp", COMPARES),
+    (b"cmp", COMPARES),
+    (b"wait", WAITS),
+    (b"sync", WAITS),
+    (b"nop", NO_LIST),
+    (b"noop", NO_LIST),
+    (b"drain", NO_LIST),
+    (b"crc", NO_LIST),
+    (b"copy_crc", NO_LIST),
+    (b"dif", NO_LIST),
+    (b"flush", NO_LIST),
+];
+
+const COPIES: &str = "`move` copies bytes";
+
+const FILLS: &str = "`fill` writes a pattern";
+
+const COMPARES: &str = "`compare` compares bytes";
+
+const WAITS: &str = "a line `barrier` makes what comes after it wait";
+
+const NO_LIST: &str = "a list has moves, fills, compares, deltas and dualcasts alone";
+
+/// What helps for a word that is one of others, in letters of either case.
+fn hint_of_other(word: &[u8]) -> Option<&'static str> {
+    for (other, hint) in OTHERS {
+        if word.eq_ignore_ascii_case(other) {
+            return Some(hint);
+        }
+    }
+    None
+}
+
 /// What helps if an operation was expected.
 fn hint_of_operation(word: &[u8]) -> Option<&'static str> {
     match word {
-        b"unknown" => Some("an entry that is no listed descriptor, so it can't be planned"),
-        [b'/', b'/', ..] | [b';', ..] => Some("a comment begins with #"),
-        [b'A'..=b'Z', ..] => Some("in lower case"),
-        b"memcpy" | b"memmove" | b"copy" => Some("`move` copies bytes"),
-        b"memset" | b"set" => Some("`fill` writes a pattern"),
-        b"memcmp" | b"cmp" => Some("`compare` compares bytes"),
-        b"" | b"wait" | b"sync" => Some("a line `barrier` makes what comes after it wait"),
-        b"nop" | b"noop" | b"drain" | b"crc" | b"copy_crc" | b"flush" => {
-            Some("a list has moves, fills, compares, deltas and dualcasts alone")
-        }
-        _ => None,
+        [] => return Some(WAITS),
+        [b'/', b'/', ..] | [b';', ..] => return Some("a comment begins with #"),
+        b"unknown" => return Some("an entry that is no listed descriptor, so it can't be planned"),
+        _ => {}
     }
+    let is_upper = word.iter().any(|byte| byte.is_ascii_uppercase());
+    if is_upper && WORDS.iter().any(|known| word.eq_ignore_ascii_case(known)) {
+        return Some("in lower case");
+    }
+    hint_of_other(word)
 }
 
 /// What helps if an option was expected.

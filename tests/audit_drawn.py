@@ -70,30 +70,23 @@ def separated_by(k, members, kept, columns):
     return [(earlier, later) for earlier, later in pairs if hazard_of(columns[earlier], columns[later])]
 
 
-def needed_bar(k, members, kept, columns, lines):
+def needed_bar(k, members, kept, columns, lines, said):
     """The bar of a fence that is needed. It has a known conflict that, of all fences that stay, this one separates
-    alone: one that is drawn or, if the submission is not shown, the first. If there is none, an unknown member needs
-    it."""
+    alone: one that is drawn or, if one of the two is not shown, of the kind that is said, or else the first. If there
+    is none, an unknown member needs it."""
     pairs = separated_by(k, members, kept, columns)
     if not pairs:
         return pictured.Bar(k, "fence", "unknown")
-    earlier, later = next((line[:2] for line in lines if line[:2] in pairs), pairs[0])
+    of_kind = [pair for pair in pairs if hazard_of(*(columns[it] for it in pair))[0] == said.get(k)] or pairs
+    earlier, later = next((line[:2] for line in lines if line[:2] in pairs), of_kind[0])
     kind, address = hazard_of(columns[earlier], columns[later])
     return pictured.Bar(k, "fence", kind, pair=(earlier, later, address))
-
-
-def like_of(members, columns, bars, is_batch, kept):
-    """What submissions that are alike have in common."""
-    own = [(bar.column - members.start, bar.words) for bar in bars if bar.column in members]
-    pairs = [[(it[0] - members.start, it[1] - members.start) for it in separated_by(bar.column, members, kept, columns)]
-             for bar in bars if bar.column in members]
-    return is_batch, [(columns[k].name, columns[k].size) for k in members], own, pairs
 
 
 def wanted_picture(recording, report, svg, words=""):
     """The columns, the submissions and the bars that the picture of a recording has to have, by its report; of a needed
     fence the conflict is taken from the picture, and judged."""
-    found, columns, sizes, bars, heads = {}, [], [], [], []
+    found, columns, sizes, forms, bars, heads = {}, [], [], [], [], []
     for it in report["findings"]:
         what, place = it["what"], (it["submission"], it["member"] or 0)
         if what["kind"] == "unseen":
@@ -110,14 +103,16 @@ def wanted_picture(recording, report, svg, words=""):
         cost = f"cost {14 + 3 * fences if is_batch else 10}" if not is_batch or 2 <= len(members) <= 32 else "no price"
         heads.append(f"submission {number}: {kind}, {cost}")
         sizes.append(len(members))
+        forms.append(kind)
         columns += [column_of(k, at + k, it, mark.get("why")) for k, (it, mark) in enumerate(zip(members, marks))]
-    lines = pictured.drawn(svg, columns)[0]["conflicts"] if svg else []
-    first, firsts, likes = 0, {}, []
+    drawn = pictured.drawn(svg, columns)[0] if svg else {"conflicts": [], "bars": []}
+    lines, said = drawn["conflicts"], {bar[0]: bar[2] for bar in drawn["bars"]}
+    first = 0
     for number, (is_batch, _, at, members) in enumerate(submissions_of(recording)):
         marks = [found.get((number, k), {}).get("mark") for k in range(len(members))]
         kinds = [mark["kind"] if mark else "fence" if it[4] & 1 else "" for it, mark in zip(members, marks)]
         kept = [first + k for k, kind in enumerate(kinds) if kind not in ("", "needless", "no effect")]
-        own = range(first, first + len(members))
+        own, before = range(first, first + len(members)), len(bars)
         for k, (it, mark) in enumerate(zip(members, marks)):
             if mark and mark["kind"] == "missing":
                 pair = (first + mark["earlier"], first + k, int(mark["address"], 16))
@@ -127,12 +122,11 @@ def wanted_picture(recording, report, svg, words=""):
                 kind = "denied" if mark.get("denied") else kind
                 bars.append(pictured.Bar(first + k, kind, WORDS[mark["kind"]].format(**mark)))
             elif it[4] & 1:
-                bars.append(needed_bar(first + k, own, kept, columns, lines))
-        common_key = repr(like_of(own, columns, bars, is_batch, kept))
-        likes.append(firsts.get(common_key))
-        firsts.setdefault(common_key, number)
+                bars.append(needed_bar(first + k, own, kept, columns, lines, said))
+        for bar in bars[before:]:
+            bar.pairs = separated_by(bar.column, own, kept, columns)
         first += len(members)
-    return columns, pictured.Groups(sizes, likes), bars, heads
+    return columns, pictured.Groups(sizes, forms), bars, heads
 
 
 def drawn_totals(totals):
@@ -177,7 +171,7 @@ def pictures():
         for kind, number in compare(Maker(seed).recording(), f"seed {seed} {words}", words).items():
             sums[kind] = sums.get(kind, 0) + number
     print("drawn: " + ", ".join(f"{number} {kind}" for kind, number in sums.items()))
-    enough = all(number >= audit_model.COUNT // 50 for number in sums.values())
+    enough = all(number >= audit_model.COUNT // 100 for number in sums.values())
     common.expect(enough, f"too few parts are drawn: {sums}")
 
 
@@ -190,21 +184,26 @@ def sizes():
     common.expect(compare(batch(), "an empty batch") == none | {"group": 1}, "an empty batch has other parts")
     for size in (1, 2, 15, 16, 24, 25, 33, 1023):
         got = compare(batch(*apart[:size]), f"{size} members")
-        folded = {"operation": size, "mark": 2 * size} if size <= 24 else {"folded": 1}
-        common.expect(got == none | {"group": 1} | folded, f"{size} members: {got}")
+        # of more than 24 the first, the second, and one column for those that are like it
+        few, folded = (size, {}) if size <= 24 else (2, {"folded": 1})
+        wanted = {"group": 1, "operation": few, "mark": 2 * few} | folded
+        common.expect(got == none | wanted, f"{size} members: {got}")
         got = compare(batch(*same[:size]), f"{size} members that conflict")
-        all_of = {"group": 1, "operation": size, "missing": size - 1, "conflict": size - 1}
+        all_of = {"group": 1, "operation": few, "missing": few - 1, "conflict": few - 1} | folded
         common.expect(got | {"mark": 0} == none | all_of, f"{size} members that conflict: {got}")
         fenced = [bytes([*it[:4], it[4] | 1, *it[5:]]) for it in apart[:size]]
         got = compare(batch(*fenced), f"{size} needless fences")
-        all_of = {"group": 1, "operation": size, "no-effect": 1, "kept": size - 1}
+        # each says which member it guards, so no two are alike, and what has no room shares the last column
+        few, folded = (size, {}) if size <= 24 else (23, {"folded": 1})
+        all_of = {"group": 1, "operation": few, "no-effect": 1, "kept": few - 1} | folded
         common.expect(got | {"mark": 0} == none | all_of, f"{size} fences that no conflict needs: {got}")
     lone, whole = b"".join(apart[:1024]), batch(*apart[:63]) * 1024
     got = compare(lone, "1024 lone submissions")
     one = {"group": 2, "operation": 1, "folded": 1, "mark": 2}
     common.expect(got == none | one, f"1024 lone submissions: {got}")
     got = compare(whole, "1024 batches of 65536 entries")
-    common.expect(got == none | {"group": 1, "folded": 1}, f"1024 batches of 65536 entries: {got}")
+    once = {"group": 2, "operation": 2, "folded": 2, "mark": 4}
+    common.expect(got == none | once, f"1024 batches of 65536 entries: {got}")
 
 
 def no_effect():

@@ -1,5 +1,7 @@
 """Reads pictures of plans and of audits, and says what has to be in them: docs/FORMATS.md has the form. What a plan
 does is taken from the words of its explanation, what an audit found from its report."""
+import itertools
+import random
 import re
 from bisect import bisect_right
 from dataclasses import dataclass, field
@@ -8,7 +10,7 @@ from xml.etree import ElementTree
 import common
 import folded
 
-MOST_COLUMNS, MOST_ROWS = 24, 48
+MOST_COLUMNS, MOST_ROWS, MOST_PERIOD = 24, 48, 12
 SVG = "{http://www.w3.org/2000/svg}"
 KINDS = {"read after write": "RAW", "write after read": "WAR", "write after write": "WAW"}
 GROUP = re.compile(r"group (\d+): (?:lone submission|batch of (\d+)(?: \(full\))?, (\d+) fences?, \d+ epochs?), cost (\d+)")
@@ -39,33 +41,49 @@ class Column:
 
 @dataclass
 class Bar:
-    """What is before a column: the kind of bar, the words below it, what a browser says of it, if that is looked at;
-    and if it is about a conflict the columns of the two, and the address."""
+    """What is before a column: the kind of bar, the words below it, what a browser says of it, if that is looked at; if
+    it is about a conflict the columns of the two, and the address; and all conflicts that tell it from others, if these
+    are more."""
 
     column: int
     kind: str
     words: str
     title: str | None = None
     pair: tuple | None = None
+    pairs: list | None = None
+
+    def seen_from(self, start):
+        """What it has in common with the bars of columns that are alike: places are counted from a column on."""
+        pairs = [self.pair] if self.pairs is None and self.pair else self.pairs or []
+        return self.column - start, self.words, [(it[0] - start, it[1] - start) for it in pairs]
 
 
 @dataclass
 class Groups:
-    """How many operations each group has, the first group that each is like, if it is not that, and the groups that
-    begin after a barrier."""
+    """How many operations each group has, what it is, and the groups that begin after a barrier."""
 
     sizes: list
-    likes: list | None = None
+    kinds: list
     barriers: set = field(default_factory=set)
 
-    def like(self, number):
-        return self.likes[number] if self.likes else None
+    def likes(self, columns, bars):
+        """For each group the first that has the same operations, sizes and fences, if it is not that."""
+        firsts, likes, start = {}, [], 0
+        for number, (size, kind) in enumerate(zip(self.sizes, self.kinds)):
+            own = [(it.name, it.size) for it in columns[start : start + size]]
+            fences = [bar.seen_from(start) for bar in bars if start <= bar.column < start + size]
+            key = repr((kind, number in self.barriers, own, fences))
+            likes.append(firsts.get(key))
+            firsts.setdefault(key, number)
+            start += size
+        return likes
 
 
 @dataclass
 class Slot:
     """A column of a picture: its operations, the first of the groups that they are of, how many these are, and what
-    they have in common: ("pieces", operation, name), ("like", group), "like several" or "plain"."""
+    they have in common: ("pieces", operation, name), ("like", group), "like several", ("repeats", columns, times),
+    "rest" or "plain"."""
 
     operations: list
     group: int
@@ -76,6 +94,10 @@ class Slot:
         """What is above it, if it is folded."""
         if self.fold == "like several":
             return f"{self.groups} more like these"
+        if self.fold == "rest":
+            return f"{len(self.operations)} more"
+        if self.fold[0] == "repeats":
+            return f"x {self.fold[2]} the {'one' if self.fold[1] == 1 else self.fold[1]} before"
         if self.fold[0] == "like":
             return f"{self.groups} more like {'it' if self.fold[1] + 1 == self.group else self.fold[1]}"
         if self.fold[0] == "pieces":
@@ -102,7 +124,7 @@ def joined(one, other, parted):
     return None if any(likes) or parted else "plain"
 
 
-def slots_with(columns, groups, kept, small=False, parted=False):
+def slots_with(columns, groups, likes, kept, small=False, parted=False):
     """The columns of a picture in which these operations are kept. Groups are folded unless it is small, and pieces of
     two operations never share a column if it is parted."""
     slots, first, before = [], 0, False
@@ -112,8 +134,8 @@ def slots_with(columns, groups, kept, small=False, parted=False):
         if not any(k in kept for k in own):
             kinds = {folds[k] for k in own} or {"plain"}
             fold = kinds.pop() if len(kinds) == 1 else None if parted else "plain"
-        elif not small and groups.like(number) is not None:
-            fold = ("like", groups.like(number))
+        if not fold and not small and likes[number] is not None:
+            fold = ("like", likes[number])
         runs = [Slot([*own], number, 1, fold)] if fold else [Slot([k], number, 1, folds[k]) for k in own]
         if fold:
             merges = before and not small and number not in groups.barriers
@@ -131,17 +153,77 @@ def slots_with(columns, groups, kept, small=False, parted=False):
     return slots
 
 
-def slots_of(columns, groups, kept):
+def slot_key(slot, begins, columns, groups, fences):
+    """What columns that are alike have in common; no two folds of groups that are like others are alike."""
+    head = (groups.kinds[slot.group], slot.group in groups.barriers) if begins else None
+    if slot.fold == "plain" or slot.fold[0] == "pieces" and not slot.is_folded():
+        own = [(columns[k].name, columns[k].size) for k in slot.operations]
+    else:
+        own = slot.fold[2] if slot.fold[0] == "pieces" else ("alone", id(slot))
+    start = slot.operations[0] if slot.operations else 0
+    bars = [bar.seen_from(start) for k in slot.operations for bar in fences.get(k, [])]
+    return repr((head, len(slot.operations), slot.groups, own, bars))
+
+
+def merged(slots, fold):
+    """One column for these."""
+    last = slots[-1]
+    operations = [k for slot in slots for k in slot.operations]
+    return Slot(operations, slots[0].group, last.group + last.groups - slots[0].group, fold)
+
+
+def without_repeats(slots, columns, groups, bars):
+    """The columns, with one for all that repeat those before it, if it takes the place of two or more. Of several ways
+    to begin at a column the one that folds most is taken, and of these the shortest. Columns that do not begin a group
+    repeat only within their group."""
+    fences, begins = {}, [k == 0 or slots[k - 1].group != slot.group for k, slot in enumerate(slots)]
+    for bar in bars:
+        fences.setdefault(bar.column, []).append(bar)
+    keys = [slot_key(slot, begin, columns, groups, fences) for slot, begin in zip(slots, begins)]
+    kept, at = [], 0
+    while at < len(slots):
+        end = len(slots) if begins[at] else next((k for k in range(at, len(slots)) if begins[k]), len(slots))
+        best, best_period = 0, 1
+        for period in range(1, MOST_PERIOD + 1):
+            more = 0
+            while keys[at : at + period] == keys[at + (more + 1) * period : at + (more + 2) * period] and (
+                at + (more + 2) * period <= end
+            ):
+                more += 1
+            if more * period > best:
+                best, best_period = more * period, period
+        if best < 2:
+            kept.append(slots[at])
+            at += 1
+            continue
+        kept += slots[at : at + best_period]
+        rest = slots[at + best_period : at + best_period + best]
+        kept.append(merged(rest, ("repeats", best_period, best // best_period + 1)))
+        at += best_period + best
+    return kept
+
+
+def slots_of(columns, groups, kept, bars):
     """The columns of a picture in which these operations are kept if there are many: all, if they are few, else all but
-    those of groups that are like others."""
-    every = {*range(len(columns))}
+    those of groups that are like others, else but those that repeat others and all but one of pieces, else those of
+    these operations, or the first of them."""
+    every, likes = {*range(len(columns))}, groups.likes(columns, bars)
     if sum(max(1, size) for size in groups.sizes) <= MOST_COLUMNS:
-        return slots_with(columns, groups, every, small=True)
-    for way in ({"kept": every}, {"kept": kept, "parted": True}):
-        slots = slots_with(columns, groups, **way)
-        if len(slots) <= MOST_COLUMNS:
-            return slots
-    return slots_with(columns, groups, kept)
+        return slots_with(columns, groups, likes, every, small=True)
+    different = slots_with(columns, groups, likes, every)
+    if len(different) <= MOST_COLUMNS:
+        return different
+    unsplit = kept | {k for k, it in enumerate(columns) if not it.split}
+    repeated = without_repeats(slots_with(columns, groups, likes, unsplit, parted=True), columns, groups, bars)
+    if len(repeated) <= MOST_COLUMNS:
+        return repeated
+    parted = slots_with(columns, groups, likes, kept, parted=True)
+    if len(parted) <= MOST_COLUMNS:
+        return parted
+    fewest = without_repeats(slots_with(columns, groups, likes, kept), columns, groups, bars)
+    if len(fewest) <= MOST_COLUMNS:
+        return fewest
+    return [*fewest[: MOST_COLUMNS - 1], merged(fewest[MOST_COLUMNS - 1 :], "rest")]
 
 
 def union(spans):
@@ -227,14 +309,14 @@ def marks_of(uses, rows):
 
 
 def wanted(columns, groups, bars, buffers):
-    """What a picture has of operations in these groups, and of these names of buffers: its columns, rows, labels, marks,
-    bars, conflicts, barriers, and the columns of each second epoch and of operations that are not looked at."""
+    """What a picture has of operations in these groups, and of these names of buffers: its columns, rows, labels,
+    marks, bars, conflicts, barriers, and the columns of each second epoch and of operations that are not looked at."""
     kept = {bar.column for bar in bars} | {k for bar in bars if bar.pair for k in bar.pair[:2]}
-    slots = slots_of(columns, groups, kept)
+    slots = slots_of(columns, groups, kept, bars)
     shown = [slot.operations[0] for slot in slots if slot.is_single()]
     fenced = {bar.column for bar in bars if bar.kind != "missing"}
     bars = [bar for bar in bars if bar.column in set(shown)]
-    pairs = [bar.pair for bar in bars if bar.pair]
+    pairs = [bar.pair for bar in bars if bar.pair and {*bar.pair[:2]} <= set(shown)]
     uses = [(k, span, "R") for k in shown for span in columns[k].reads]
     uses += [(k, span, "W") for k in shown for span in columns[k].writes]
     for slot in slots:
@@ -303,11 +385,10 @@ def drawn(svg, columns):
             all_lefts.append(int(part[1].get("x")) - 4)
             next_one += 1
         elif part.get("class") == "folded":
-            found.append(" ".join(" ".join(text.text for text in part[2:]).split()))
+            found.append(" ".join(words_in(part).removeprefix("…").split()))
             all_lefts.append(int(part[1].get("x")) - 4)
-            if " like " not in found[-1]:
-                lefts[all_lefts[-1]] = next_one
-                next_one += int(found[-1].split()[0])
+            lefts[all_lefts[-1]] = next_one
+            next_one += int(re.match(r"folded: (\d+) operations?, ", part[0].text)[1])
     rows, labels, tops = [], [], {}
     for part in parts.get("row", []):
         first, size = re.fullmatch(r"0x([0-9a-f]+) \+(\d+)", part[0].text).groups()
@@ -354,7 +435,7 @@ def root_width(parts):
 
 
 def mark_in(part, row):
-    """A mark in this row: its letters, its addresses if it is a part of the row, and whether it goes on in the next row.
+    """A mark in this row: its letters, its addresses if it is a part of the row, and whether it goes on in the next.
     A part has its offset if that has room in letters of 7 points, and a strip that is black where it is."""
     title, (box, *strip), words = part.find(f"{SVG}title"), part.findall(f"{SVG}rect"), words_in(part)
     letters, height = words.split()[0], int(box.get("height"))
@@ -404,9 +485,9 @@ def fault_of(svg, columns, groups, bars, buffers):
         name, whole = (" ".join(words.split()) for words in (name, columns[k].name))
         if number != str(columns[k].number) or not (name == whole or "…" in name and cut_of(name, whole)):
             return f"column {k} is named {number} {name}, and not {columns[k].number} {whole}", others
-    width = others["size"][0]
-    if len(needed["columns"]) <= MOST_COLUMNS and not 500 <= width <= 960:
-        return f"{len(needed['columns'])} columns are {width} wide", others
+    width, height = others["size"]
+    if not 500 <= width <= 960 or height > 1600:
+        return f"the picture is {width} wide and {height} high", others
     return "", others
 
 
@@ -478,6 +559,7 @@ def columns_of(words, text):
         columns.append(Column(title, number, f"{name} {found[6]}/{found[7]}" if part else name, *spans_of(word, rest)))
         columns[-1].operation, columns[-1].called = operation, (name, bool(comment), bool(part))
         columns[-1].record = (int(re.search(r"record (0x[0-9a-f]+)", line)[1], 16), 32)
+        columns[-1].size = int(re.findall(r"(\d+) bytes", rest)[-1])
     name_splits(columns)
     return columns
 
@@ -524,22 +606,45 @@ def bars_of(words, columns):
     return bars
 
 
-def plan_fault(svg, words, text=None):
-    """What is wrong with the picture of a plan that is explained in these words, and was planned from this text."""
+def pieces_between(columns, groups, bars, first, last):
+    """The pieces from the first to the last, with the groups that have some of them, and the bars before them."""
+    shift = lambda pair: (pair[0] - first, pair[1] - first, pair[2]) if first <= pair[0] and pair[1] <= last else None
+    some, starts = Groups([], []), itertools.accumulate([0, *groups.sizes])
+    for number, (start, size, kind) in enumerate(zip(starts, groups.sizes, groups.kinds)):
+        own = min(start + size, last + 1) - max(start, first)
+        if own > 0:
+            some.barriers |= {len(some.sizes)} if number in groups.barriers and start >= first else set()
+            some.sizes.append(own)
+            some.kinds.append(kind)
+    own = [Bar(bar.column - first, bar.kind, bar.words, bar.title, bar.pair and shift(bar.pair))
+           for bar in bars if first <= bar.column <= last]
+    return columns[first : last + 1], some, own
+
+
+def plan_fault(svg, words, text=None, first=0, last=None):
+    """What is wrong with the picture of a plan that is explained in these words, and was planned from this text; of
+    these pieces alone, if a last one is given."""
     words = folded.unfolded(words)
     columns = columns_of(words, text)
     bars = bars_of(words, columns)
     heads = [found for line in words.splitlines() if (found := GROUP.fullmatch(line))]
-    groups = Groups([int(found[2] or 1) for found in heads])
+    sizes = [int(found[2] or 1) for found in heads]
+    groups = Groups(sizes, sizes)
     starts = [sum(groups.sizes[:k]) for k in range(len(heads))]
     parted = barriers_of(text) if text is not None else set()
     for k, start in enumerate(starts):
         operation = columns[start].operation
         if operation in parted and (not start or columns[start - 1].operation != operation):
             groups.barriers.add(k)
+    count = len(columns)
+    if last is not None:
+        columns, groups, bars = pieces_between(columns, groups, bars, first, last)
     fault, others = fault_of(svg, columns, groups, bars, comments_of(text)[1] if text is not None else {})
     if fault:
         return fault
+    note = f"pieces {first} to {min(last, count - 1)} of {count}" if last is not None and len(columns) < count else ""
+    if note and others["notes"][1] != note:
+        return f"the notes are {others['notes']}, and not {note}"
     costs = next(line for line in words.splitlines() if line.startswith("cost "))
     if found := re.search(r"^least (\d+): this plan costs ", words, re.M):
         costs += f"; least {found[1]}"
@@ -562,8 +667,8 @@ def compared(written, words, text):
 
 def pieces_and_barriers(written):
     """One move of 3 GiB in 1,536 pieces has one column, with its name and its ranges; so has each of two operations of
-    many pieces. A fence can part the pieces of one into two columns. Of 300 moves of two pieces each all share one. A
-    barrier where the plan begins a group has a mark."""
+    many pieces. A fence can part the pieces of one into two columns. Of 300 moves of two pieces each those of a group
+    are folded, and the groups. A barrier where the plan begins a group has a mark."""
     move = "move 0x100000000 -> 0x200000000, 3145728K bytes, record 0x500000000"
     fill = "fill 0x400000000 with 0000000000000000, 1024M bytes, record 0x600000000 # clear the rest"
     for text, words, names, marks in [
@@ -586,7 +691,9 @@ def pieces_and_barriers(written):
     line = "move {} -> {}, 64 bytes, record {}\n"
     text = "".join(line.format(0x10_0000 + 64 * k, 0x20_0000 + 64 * k, 0x30_0000 + 64 * k) for k in range(300))
     svg, fault = compared(written, "--greatest-transfer 32 --greatest-batch 100", text)
-    common.expect(not fault and ">600 in 6<" in svg, f"{fault}: {svg[:300]}")
+    found = drawn(svg, [])[0]["columns"]
+    once = "2 pieces of move 64 bytes"
+    common.expect(not fault and found == [once, once, "x 49 the one before", "5 more like it"], f"{fault}: {found}")
     lines = [line.format(0x10_0000 + 64 * k, 0x20_0000 + 64 * k, 0x30_0000 + 32 * k) for k in range(60)]
     for places, words, count in [
         ((1,), "--fence 99", 1), ((1,), "", 0), ((2,), "--greatest-batch 2", 1), ((0, 4), "--greatest-batch 2", 0),
@@ -604,7 +711,7 @@ def pieces_and_barriers(written):
 
 
 def rows_and_parts(written):
-    """Ranges that only a larger one joins have a row each, and the larger one a mark in each of these rows, which goes on
+    """Ranges that only a larger one joins have a row each, and the larger one a mark in each of these, which goes on
     from row to row, as the name of the buffer does. Ranges that overlap otherwise share a row, in which each has its
     offset; so has a part of a range."""
     move = "move {:#x} -> {:#x}, {} bytes, record {:#x}\n"
@@ -629,3 +736,47 @@ def rows_and_parts(written):
         for operation, row, wanted_mark in parts:
             common.expect(told.get((operation, row)) == wanted_mark, f"{text}: {told}, and not {wanted_mark}")
     common.expect(">R at 56<" in svg, f"no offset is drawn: {svg}")
+
+
+# ---- many operations, and parts of them
+
+
+def many(kind, count=500):
+    """A text of so many operations, of which each reads what the one before writes, or each third what the two before
+    write; or they have nothing to do with each other, or conflict here and there."""
+    lines, chance = [], random.Random(count)
+    for k in range(count):
+        record, step, at = 0x800_0000 + 32 * k, k % 3, 0x1000 * (k // 3)
+        if kind == "a chain":
+            words = f"move {0x10_0000 + 0x1000 * k:#x} -> {0x10_1000 + 0x1000 * k:#x}, 4096 bytes"
+        elif kind == "nothing":
+            words = f"move {0x10_0000 + 0x1000 * k:#x} -> {0x400_0000 + 0x1000 * k:#x}, 4096 bytes"
+        elif kind == "random":
+            places = [0x10_0000 + 64 * chance.randrange(300), 0x20_0000 + 64 * chance.randrange(300)]
+            chance.shuffle(places)
+            words = f"move {places[0]:#x} -> {places[1]:#x}, {chance.choice((64, 128, 256))} bytes"
+        elif step == 0:
+            words = f"move {0x10_0000 + at:#x} -> {0x400_0000 + at:#x}, 4096 bytes"
+        elif step == 1:
+            words = f"fill {0x400_0800 + at:#x} with 0000000000000000, 64 bytes"
+        else:
+            words = f"compare {0x400_0800 + at:#x} with {0x10_0000 + at:#x}, 64 bytes, expect 0"
+        lines.append(f"{words}, record {record:#x}")
+    return "\n".join(lines) + "\n"
+
+
+def many_drawn(written):
+    """Pictures of 500 operations, and of parts of them: each fits a page, and what repeats has been folded."""
+    repeated = ["x 31 the one before", "14 more like it"]
+    for kind, names in [("a chain", repeated), ("triples", []), ("nothing", repeated), ("random", [])]:
+        text = many(kind)
+        told = written("explain", text)
+        svg = written("explain --svg", text)
+        fault = plan_fault(svg, told, text)
+        found = drawn(svg, columns_of(folded.unfolded(told), text))[0]["columns"]
+        common.expect(not fault and set(names) <= {*found}, f"{kind}: {fault}: {found}")
+        for first, last in ((0, 0), (100, 119), (31, 200), (499, 499), (480, 700)):
+            svg = written(f"explain --svg --from {first} --to {last}", text)
+            fault = plan_fault(svg, told, text, first, last)
+            common.expect(not fault, f"{kind} from {first} to {last}: {fault}")
+        common.expect("nothing from 500 on: 500 pieces" in written("explain --svg --from 500", text), kind)

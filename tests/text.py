@@ -137,7 +137,7 @@ def refusals():
         refused(command, text, begin, name)
     # the most groups that a picture has
     picture = written("explain --svg --lone 0", "move 0 -> 4096, 64 bytes, record 8192\n" * 1024)
-    common.expect("<title>groups 0 to 1023</title>" in picture and picture.endswith("</svg>\n"), picture[:200])
+    common.expect("<title>groups 1 to 1023</title>" in picture and picture.endswith("</svg>\n"), picture[:200])
 
 
 def arguments():
@@ -471,18 +471,19 @@ def folds():
 
 
 def picture():
-    """A picture of three groups of 40, 12 and 1 pieces, of which some are fenced: columns between fences are folded,
-    and the last groups; one of 24 lone pieces, where nothing is folded; and one where rows are."""
+    """A picture of three groups of 40, 12 and 1 pieces, of which some are fenced: columns that repeat others are
+    folded; one of 24 lone pieces, where nothing is folded; and one where rows are."""
     moves = [(0x10_0000 + 0x1000 * k, 0x1000_0000 + 0x1000 * k) for k in range(53)]
     groups = [[column % 7 == 5 and row != 1 for column in range(size)] for row, size in enumerate((40, 12, 1))]
     rules = common.settings(greatest_batch=40, staging=0x2000_0000)
     job = common.judge(pieces_of(moves), groups, rules)
     drawn, told = written("explain --svg", job), written("explain", job)
     common.expect(not pictured.plan_fault(drawn, told), pictured.plan_fault(drawn, told))
-    folds = re.findall(r">(\d+ more|\d+ in \d+)<", drawn)
-    common.expect(folds == ["5 more", *["6 more"] * 5, "13 in 2"], f"folded are {folds}")
-    common.expect(drawn.count('class="fence"') == 5 and drawn.count(">none<") == 5, f"bars are {drawn}")
-    common.expect(">folded: 48 of 53 operations<" in drawn, f"no line says how many are folded: {drawn[-400:]}")
+    # after piece 0 five times pieces 1 to 7, and four like 36; of the second group eleven after its first
+    folds = re.findall(r">x (\d+)<", drawn)
+    common.expect(folds == ["5", "4", "11"], f"folded are {folds}")
+    common.expect(drawn.count('class="fence"') == 1 and drawn.count(">none<") == 1, f"bars are {drawn}")
+    common.expect(">folded: 41 of 53 operations<" in drawn, f"no line says how many are folded: {drawn[-400:]}")
     job = common.judge(pieces_of(moves[:24]), [[False]] * 24, rules)
     drawn, told = written("explain --svg", job), written("explain", job)
     common.expect(not pictured.plan_fault(drawn, told), pictured.plan_fault(drawn, told))
@@ -494,6 +495,10 @@ def picture():
     common.expect(not pictured.plan_fault(drawn, told), pictured.plan_fault(drawn, told))
     pictured.pieces_and_barriers(written)
     pictured.rows_and_parts(written)
+    pictured.many_drawn(written)
+    numbers = "--from and --to take the numbers of two pieces, the second not below the first"
+    for words in ("--from 3 --to 2", "--from x", "--to 0x"):
+        refused(f"explain --svg {words}", PAIR, numbers, "83 Settings")
 
 
 def reasons_drawn():

@@ -65,16 +65,19 @@ fn push_grounds_of(
     Ok(())
 }
 
-/// The bars from this column on.
-fn bars_from(bars: &[Bar], column: usize) -> &[Bar] {
+/// Passes the bars up to this column, and answers the others and whether the epoch there is a second one, if that
+/// before was or not.
+fn epoch_at(bars: &[Bar], column: usize, is_second: bool) -> (&[Bar], bool) {
     let none: &[Bar] = &[];
+    let mut is_second = is_second;
     for (number, bar) in bars.iter().enumerate() {
-        if bar.column >= column {
+        if bar.column > column {
             let (_, rest) = bars.split_at(number.min(bars.len()));
-            return rest;
+            return (rest, is_second);
         }
+        is_second = bar.is_set() != is_second;
     }
-    none
+    (none, is_second)
 }
 
 /// Writes the grounds of the columns: epochs are white and grey by turns.
@@ -88,12 +91,8 @@ fn push_grounds(
     let mut bars = layout.bars.as_slice();
     let (mut group, mut is_second) = (usize::MAX, false);
     for (slot, left) in slots.iter().zip(places.lefts.iter()) {
-        bars = bars_from(bars, slot.first);
-        let begins = match bars.first() {
-            Some(bar) => bar.column == slot.first && slot.count > 0 && bar.is_set(),
-            None => false,
-        };
-        is_second = slot.group == group && begins != is_second;
+        (bars, is_second) = epoch_at(bars, slot.first, is_second);
+        is_second = slot.group == group && is_second;
         group = slot.group;
         push_grounds_of(alloc, svg, layout, places, slot, *left, is_second)?;
     }
@@ -184,9 +183,10 @@ fn body(alloc: Global, layout: &Layout<'_>) -> Result<String, AllocError> {
 /// addresses that these read or write has a row, with a mark where an operation does: R, W or RW. A fence is a bar
 /// before its operation, the conflict that it is about a red line from the mark of the earlier operation to that of the
 /// later, and the words of the fence are below; a barrier between groups is a dotted line. Epochs are white and grey by
-/// turns. Of more than 24 operations those of groups that are like others are folded, or else those that no fence is
-/// about: the pieces of one operation with all that they read and write. Of more than 48 ranges those that have no
-/// conflict are folded. A browser shows the titles of groups, operations, ranges and fences under the pointer.
+/// turns. Of more than 24 operations those of groups that are like others are folded; or else also those that repeat
+/// others, and the pieces of one operation, with all that they read and write; or else those that no fence is about,
+/// and what is too many after that. Of more than 48 ranges those that have no conflict are folded. A browser shows the
+/// titles of groups, operations, ranges and fences under the pointer.
 pub fn draw(alloc: Global, layout: &Layout<'_>) -> Result<String, AllocError>
     ensures { IfOk result (λ s. IsPicture (string_bytes s)) }
 {

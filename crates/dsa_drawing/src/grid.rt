@@ -1,6 +1,6 @@
 //! The rows of a picture, which are ranges of addresses, and what operations do in them.
 
-use crate::layout::{Buffer, Column, Layout};
+use crate::layout::{Bar, Buffer, Column, Layout, Separated};
 use crate::ranges::{Range, ranges_of};
 use crate::slots::Slot;
 use dsa_ranges::Span;
@@ -253,6 +253,13 @@ fn shown_in(alloc: Global, slots: &[Slot], operations: usize) -> Result<Vec<bool
     Ok(shown)
 }
 
+/// Whether a fence and both operations of its conflict are shown.
+fn is_shown(shown: &[bool], bar: &Bar, separated: Separated) -> bool {
+    [bar.column, separated.earlier, separated.later]
+        .iter()
+        .all(|column| shown.get(*column).copied().unwrap_or(false))
+}
+
 /// Adds the conflicts of fences that are shown, with the completion records that they are about.
 fn push_conflicts(
     items: &mut Vec<Item>,
@@ -261,7 +268,7 @@ fn push_conflicts(
 ) -> Result<(), AllocError> {
     for (number, bar) in layout.bars.iter().enumerate() {
         if let Some(separated) = bar.separated
-            && shown.get(bar.column).copied().unwrap_or(false)
+            && is_shown(shown, bar, separated)
         {
             push_record(items, &layout.columns, separated.earlier, separated.address)?;
             push_record(items, &layout.columns, separated.later, separated.address)?;

@@ -16,12 +16,16 @@ struct Head {
     cost: String,
 }
 
+/// The number of a group of the picture.
+fn number_of(layout: &Layout<'_>, group: usize) -> usize {
+    layout.groups.get(group).map_or(group, |it| it.number)
+}
+
 /// The words above the group of a column, or above several groups that are folded.
 fn head_of(alloc: Global, layout: &Layout<'_>, slot: &Slot) -> Result<Head, AllocError> {
     if slot.groups > 1 {
-        let groups = slot.groups;
-        let last = slot.group.saturating_add(groups).saturating_sub(1);
-        let first = slot.group;
+        let (groups, first) = (slot.groups, number_of(layout, slot.group));
+        let last = first.saturating_add(groups).saturating_sub(1);
         return Ok(Head {
             title: format!(in alloc; "groups {first} to {last}")?,
             name: format!(in alloc; "{first} to {last}")?,
@@ -206,12 +210,17 @@ fn push_column(
 }
 
 /// What is said of groups that are like others.
-fn like_name(alloc: Global, slot: &Slot, like: usize) -> Result<String, AllocError> {
-    let groups = slot.groups;
+fn like_name(
+    alloc: Global,
+    layout: &Layout<'_>,
+    slot: &Slot,
+    like: usize,
+) -> Result<String, AllocError> {
+    let (groups, number) = (slot.groups, number_of(layout, like));
     if slot.group == like.saturating_add(1) {
         format!(in alloc; "{groups} more like it")
     } else {
-        format!(in alloc; "{groups} more like {like}")
+        format!(in alloc; "{groups} more like {number}")
     }
 }
 
@@ -232,8 +241,11 @@ pub(crate) fn fold_name(
         return format!(in alloc; "{count} pieces of {name}");
     }
     match slot.fold {
-        Fold::Like(like) => like_name(alloc, slot, like),
+        Fold::Like(like) => like_name(alloc, layout, slot, like),
         Fold::LikeSeveral => format!(in alloc; "{groups} more like these"),
+        Fold::Repeats(1, _) => String::from_str(alloc, "the one before"),
+        Fold::Repeats(columns, _) => format!(in alloc; "the {columns} before"),
+        Fold::Rest => format!(in alloc; "{count} more"),
         Fold::Plain | Fold::Pieces(_) => {
             if groups > 1 {
                 format!(in alloc; "{count} in {groups} groups")
@@ -244,12 +256,41 @@ pub(crate) fn fold_name(
     }
 }
 
+/// Why operations are folded.
+fn fold_reason(alloc: Global, fold: Fold) -> Result<String, AllocError> {
+    let words = match fold {
+        Fold::Plain | Fold::Pieces(_) => "no fence is about these",
+        Fold::Like(_) => "like a group that is shown",
+        Fold::LikeSeveral => "each like a group that is shown",
+        Fold::Repeats(1, times) => {
+            return format!(in alloc; "the one before comes {times} times in all");
+        }
+        Fold::Repeats(columns, times) => {
+            return format!(in alloc; "the {columns} before come {times} times in all");
+        }
+        Fold::Rest => "there is no room for these",
+    };
+    String::from_str(alloc, words)
+}
+
 /// What a browser shows under the pointer of a column in which operations are folded.
-fn fold_title(fold: Fold) -> &'static str {
+fn fold_title(alloc: Global, slot: &Slot) -> Result<String, AllocError> {
+    let (count, reason) = (slot.count, fold_reason(alloc, slot.fold)?);
+    let word = if count == 1 {
+        "operation"
+    } else {
+        "operations"
+    };
+    format!(in alloc; "folded: {count} {word}, {reason}")
+}
+
+/// What is above the name of a column in which operations are folded.
+fn fold_number(alloc: Global, fold: Fold) -> Result<String, AllocError> {
     match fold {
-        Fold::Plain | Fold::Pieces(_) => "folded: no fence is about these",
-        Fold::Like(_) => "folded: like a group that is shown",
-        Fold::LikeSeveral => "folded: each like a group that is shown",
+        Fold::Repeats(_, times) => format!(in alloc; "x {times}"),
+        Fold::Plain | Fold::Pieces(_) | Fold::Like(_) | Fold::LikeSeveral | Fold::Rest => {
+            String::from_str(alloc, "…")
+        }
     }
 }
 
@@ -262,9 +303,12 @@ fn push_fold(
     layout: &Layout<'_>,
     slot: &Slot,
 ) -> Result<(), AllocError> {
-    let name = fold_name(alloc, layout, slot)?;
-    open(alloc, svg, "folded", fold_title(slot.fold))?;
-    push_head_of(alloc, svg, places, left, "…", &name)
+    let (number, name) = (
+        fold_number(alloc, slot.fold)?,
+        fold_name(alloc, layout, slot)?,
+    );
+    open(alloc, svg, "folded", &fold_title(alloc, slot)?)?;
+    push_head_of(alloc, svg, places, left, &number, &name)
 }
 
 /// Writes what is above the columns.

@@ -5,6 +5,8 @@ use dsa_ranges::Touched;
 /// What is submitted at once: a batch, or an operation alone.
 #[derive(Drop)]
 pub struct Group {
+    /// Which of all groups it is.
+    pub number: usize,
     /// What a browser shows of it under the pointer.
     pub title: String,
     /// Its number, as `group 0`.
@@ -17,8 +19,6 @@ pub struct Group {
     pub size: usize,
     /// Whether it begins after a barrier.
     pub has_barrier: bool,
-    /// The first group that it is like, if it is not that: of these only the first has to be shown.
-    pub like: Option<usize>,
 }
 
 /// An operation, which has a column.
@@ -30,6 +30,8 @@ pub struct Column {
     pub name: String,
     /// What a browser shows of it under the pointer.
     pub title: String,
+    /// Its transfer size.
+    pub size: u32,
     /// What it reads and writes, if it is looked at.
     pub touched: Option<Touched>,
     /// Whether the first span that it writes is its completion record.

@@ -18,7 +18,7 @@ pub(crate) const LEFT: usize = 146;
 pub(crate) const ROW: usize = 22;
 
 /// The most letters of a name that is read from the bottom to the top.
-pub(crate) const MOST_TURNED: usize = 24;
+pub(crate) const MOST_TURNED: usize = 22;
 
 /// The longest name of a column in which operations are folded.
 const FOLDED: &str = "65536 in 1024 groups";

@@ -1,10 +1,12 @@
 //! Which operations have a column of their own, and which are folded.
 
 use crate::layout::{Group, Layout};
+use crate::likeness::likes_of;
+use crate::repeats::without_repeats;
 use std::alloc::{AllocError, Global};
 
-/// The most columns of a picture that folds none.
-pub(crate) const MOST_COLUMNS: usize = 24;
+/// The most columns of a picture.
+pub const MOST_COLUMNS: usize = 24;
 
 /// What operations in one column have in common.
 #[derive(Clone, Copy, PartialEq, Eq)]
@@ -17,6 +19,10 @@ pub(crate) enum Fold {
     Like(usize),
     /// Their groups are each like an earlier one.
     LikeSeveral,
+    /// They repeat so many columns before, which come so often with these.
+    Repeats(usize, usize),
+    /// There is no room for them.
+    Rest,
 }
 
 /// A column of a picture: of one operation, or of several that are folded; of an empty batch it has none.
@@ -53,7 +59,12 @@ impl Slot {
     pub(crate) fn split(self) -> Option<usize> {
         match self.fold {
             Fold::Pieces(split) if self.is_folded() => Some(split),
-            Fold::Pieces(_) | Fold::Plain | Fold::Like(_) | Fold::LikeSeveral => None,
+            Fold::Pieces(_)
+            | Fold::Plain
+            | Fold::Like(_)
+            | Fold::LikeSeveral
+            | Fold::Repeats(_, _)
+            | Fold::Rest => None,
         }
     }
 
@@ -69,11 +80,13 @@ impl Slot {
 
 /// How operations are folded.
 #[derive(Clone, Copy)]
-struct Rule {
+struct Rule<'a> {
     /// Whether groups are folded.
     folds_groups: bool,
     /// Whether the pieces of each operation are folded by themselves.
     parts_pieces: bool,
+    /// For each group the first that it is like, if it is not that.
+    likes: &'a [Option<usize>],
 }
 
 /// How many columns there are if none is folded.
@@ -90,6 +103,15 @@ fn keep(kept: &mut Vec<bool>, operation: usize) {
     if operation < kept.len() {
         kept[operation] = true;
     }
+}
+
+/// The operations that have columns of their own if pieces of one operation are folded: all others, and these.
+fn unsplit_or(alloc: Global, layout: &Layout<'_>, kept: &[bool]) -> Result<Vec<bool>, AllocError> {
+    let mut unsplit = Vec::new(alloc);
+    for (column, is_kept) in layout.columns.iter().zip(kept.iter()) {
+        unsplit.push(*is_kept || column.split.is_none())?;
+    }
+    Ok(unsplit)
 }
 
 /// The operations that a fence or its conflict is about.
@@ -116,7 +138,7 @@ fn fold_at(layout: &Layout<'_>, operation: usize) -> Fold {
 }
 
 /// What two that are folded in one column have in common, if they can be.
-fn joined(rule: Rule, one: Fold, other: Fold) -> Option<Fold> {
+fn joined(rule: Rule<'_>, one: Fold, other: Fold) -> Option<Fold> {
     if one == other {
         return Some(one);
     }
@@ -132,12 +154,12 @@ fn joined(rule: Rule, one: Fold, other: Fold) -> Option<Fold> {
 fn is_like(fold: Fold) -> bool {
     match fold {
         Fold::Like(_) | Fold::LikeSeveral => true,
-        Fold::Plain | Fold::Pieces(_) => false,
+        Fold::Plain | Fold::Pieces(_) | Fold::Repeats(_, _) | Fold::Rest => false,
     }
 }
 
 /// What so many operations from `first` on are folded as in one column, if they can be.
-fn fold_of(layout: &Layout<'_>, rule: Rule, first: usize, count: usize) -> Option<Fold> {
+fn fold_of(layout: &Layout<'_>, rule: Rule<'_>, first: usize, count: usize) -> Option<Fold> {
     let mut fold = fold_at(layout, first);
     for operation in first..first.saturating_add(count) {
         fold = joined(rule, fold, fold_at(layout, operation))?;
@@ -148,7 +170,7 @@ fn fold_of(layout: &Layout<'_>, rule: Rule, first: usize, count: usize) -> Optio
 /// Adds a whole group to the folded groups before it, if it can be, or folds it as the first.
 fn fold_group(
     slots: &mut Vec<Slot>,
-    rule: Rule,
+    rule: Rule<'_>,
     folded: Slot,
     before: bool,
 ) -> Result<(), AllocError> {
@@ -169,7 +191,7 @@ fn fold_group(
 fn push_group(
     slots: &mut Vec<Slot>,
     layout: &Layout<'_>,
-    rule: Rule,
+    rule: Rule<'_>,
     kept: &[bool],
     first: usize,
     group: usize,
@@ -202,21 +224,21 @@ fn push_group(
 /// What a group from operation `first` on is folded as, if all of it is: none of it is kept, or it is like another.
 fn group_fold(
     layout: &Layout<'_>,
-    rule: Rule,
-    group: &Group,
+    rule: Rule<'_>,
+    number: usize,
     kept: &[bool],
     first: usize,
 ) -> Option<Fold> {
-    if !kept.iter().any(|is_kept| *is_kept) {
-        return fold_of(layout, rule, first, kept.len());
+    if !kept.iter().any(|is_kept| *is_kept)
+        && let Some(fold) = fold_of(layout, rule, first, kept.len())
+    {
+        return Some(fold);
     }
     if !rule.folds_groups {
         return None;
     }
-    match group.like {
-        Some(like) => Some(Fold::Like(like)),
-        None => None,
-    }
+    let like = rule.likes.get(number).copied().flatten()?;
+    Some(Fold::Like(like))
 }
 
 /// The columns of a picture of which these operations are kept.
@@ -224,14 +246,14 @@ fn grouped(
     alloc: Global,
     layout: &Layout<'_>,
     kept: &[bool],
-    rule: Rule,
+    rule: Rule<'_>,
 ) -> Result<Vec<Slot>, AllocError> {
     let mut slots = Vec::new(alloc);
     let (mut rest, mut first) = (kept, 0usize);
     let mut folds = false;
     for (number, group) in layout.groups.iter().enumerate() {
         let (own, after) = rest.split_at(group.size.min(rest.len()));
-        if let Some(fold) = group_fold(layout, rule, group, own, first) {
+        if let Some(fold) = group_fold(layout, rule, number, own, first) {
             let folded = Slot {
                 first,
                 count: own.len(),
@@ -252,14 +274,68 @@ fn grouped(
     Ok(slots)
 }
 
+/// The first columns, and one for all others.
+fn cut(alloc: Global, slots: &[Slot]) -> Result<Vec<Slot>, AllocError> {
+    let (own, rest) = slots.split_at(MOST_COLUMNS.saturating_sub(1).min(slots.len()));
+    let mut cut = Vec::new(alloc);
+    cut.extend_from_slice(own)?;
+    if let Some(first) = rest.first()
+        && let Some(last) = rest.last()
+    {
+        let end = last.first.saturating_add(last.count);
+        let groups = last.group.saturating_add(last.groups);
+        cut.push(Slot {
+            count: end.saturating_sub(first.first),
+            groups: groups.saturating_sub(first.group),
+            fold: Fold::Rest,
+            ..*first
+        })?;
+    }
+    Ok(cut)
+}
+
+/// The columns of a picture of many operations, of which a fence or its conflict is about these.
+fn of_many(
+    alloc: Global,
+    layout: &Layout<'_>,
+    rule: Rule<'_>,
+    kept: &[bool],
+) -> Result<Vec<Slot>, AllocError> {
+    let rule = Rule {
+        parts_pieces: true,
+        ..rule
+    };
+    let unsplit = unsplit_or(alloc, layout, kept)?;
+    let repeated = without_repeats(alloc, layout, &grouped(alloc, layout, &unsplit, rule)?)?;
+    if repeated.len() <= MOST_COLUMNS {
+        return Ok(repeated);
+    }
+    let parted = grouped(alloc, layout, kept, rule)?;
+    if parted.len() <= MOST_COLUMNS {
+        return Ok(parted);
+    }
+    let rule = Rule {
+        parts_pieces: false,
+        ..rule
+    };
+    let fewest = without_repeats(alloc, layout, &grouped(alloc, layout, kept, rule)?)?;
+    if fewest.len() <= MOST_COLUMNS {
+        Ok(fewest)
+    } else {
+        cut(alloc, &fewest)
+    }
+}
+
 /// The columns of a picture: those of all operations if they are few; else of each group that is like others one; else
-/// those that a fence or its conflict is about, and of the others between one for the pieces of each operation, or if
-/// these are many one for all.
+/// one for the pieces of each operation, and one for columns that repeat those before; else of operations that no fence
+/// or conflict is about none; and if all that is too many, the first.
 pub(crate) fn slots_of(alloc: Global, layout: &Layout<'_>) -> Result<Vec<Slot>, AllocError> {
     let all = vec![in alloc; true; layout.columns.len()]?;
+    let likes = likes_of(alloc, layout)?;
     let mut rule = Rule {
         folds_groups: false,
         parts_pieces: false,
+        likes: &likes,
     };
     if unfolded(&layout.groups) <= MOST_COLUMNS {
         return grouped(alloc, layout, &all, rule);
@@ -269,12 +345,5 @@ pub(crate) fn slots_of(alloc: Global, layout: &Layout<'_>) -> Result<Vec<Slot>, 
     if different.len() <= MOST_COLUMNS {
         return Ok(different);
     }
-    let kept = kept_of(alloc, layout)?;
-    rule.parts_pieces = true;
-    let parted = grouped(alloc, layout, &kept, rule)?;
-    if parted.len() <= MOST_COLUMNS {
-        return Ok(parted);
-    }
-    rule.parts_pieces = false;
-    grouped(alloc, layout, &kept, rule)
+    of_many(alloc, layout, rule, &kept_of(alloc, layout)?)
 }

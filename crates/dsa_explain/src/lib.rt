@@ -23,5 +23,5 @@ pub use explanation::{ExplainFault, Explanation, explain};
 pub use labels::{Labels, Origin};
 pub use laws::{cells_are_pieces_and_fences, group_costs_add_up, least_plans_save};
 pub use listing::explanation_text;
-pub use picture::draw;
+pub use picture::{PieceRange, View, draw};
 pub use waits::{Waits, WaitsFault, group_waits, waits_text};

@@ -8,7 +8,8 @@ use crate::labels::{Labels, Origin};
 use crate::words::{cost_text, group_text, push_origin};
 use dsa_descriptor::Descriptor;
 use dsa_drawing::{
-    Bar, BarKind, Buffer, Column, Group, Layout, Separated, Split, hazard_name, op_name,
+    Bar, BarKind, Buffer, Column, Group, Layout, MOST_COLUMNS, Separated, Split, hazard_name,
+    op_name,
 };
 use dsa_lines::op_text;
 use dsa_plan::{Costs, GroupCost, Settings, is_barrier};
@@ -25,12 +26,57 @@ const KINDS: &str = "RAW: read after write; WAR: write after read; WAW: write af
 /// The units of sizes, from the largest on.
 const UNITS: [(u64, &str); 3] = [(1 << 30, "GiB"), (1 << 20, "MiB"), (1 << 10, "KiB")];
 
-/// A group of this number.
+/// Pieces by their numbers, of which the last is one too.
+#[derive(Clone, Copy)]
+pub struct PieceRange {
+    /// The first.
+    pub first: u64,
+    /// The last.
+    pub last: u64,
+}
+
+/// What a picture shows beside the plan: the names of buffers; and of the plan these pieces alone.
+#[derive(Clone, Copy)]
+pub struct View<'a> {
+    /// The names.
+    pub buffers: &'a [Buffer],
+    /// The pieces.
+    pub range: PieceRange,
+}
+
+impl PieceRange {
+    /// Whether the piece is one of these.
+    fn has(self, piece: usize) -> bool {
+        self.first <= piece as u64 && piece as u64 <= self.last
+    }
+
+    /// How many of so many pieces from `first` on are of these.
+    fn count_in(self, first: usize, count: usize) -> usize {
+        let end = first.saturating_add(count) as u64;
+        let (from, until) = (
+            self.first.max(first as u64),
+            self.last.saturating_add(1).min(end),
+        );
+        usize::try_from(until.saturating_sub(from)).unwrap_or(0)
+    }
+
+    /// The column of a piece, if it is one of these.
+    fn column_of(self, piece: usize) -> Option<usize> {
+        if self.has(piece) {
+            usize::try_from((piece as u64).saturating_sub(self.first)).ok()
+        } else {
+            None
+        }
+    }
+}
+
+/// A group of this number, of which so many pieces are drawn.
 fn drawn_group(
     alloc: Global,
     greatest: u64,
     number: usize,
     group: &GroupCost,
+    drawn: usize,
     has_barrier: bool,
 ) -> Result<Group, AllocError> {
     let (size, cost) = (group.size, group.cost);
@@ -40,27 +86,31 @@ fn drawn_group(
         format!(in alloc; "batch of {size}")?
     };
     Ok(Group {
+        number,
         title: group_text(alloc, greatest, number, group)?,
         name: format!(in alloc; "group {number}")?,
         kind,
         cost: format!(in alloc; "cost {cost}")?,
-        size,
+        size: drawn,
         has_barrier,
-        like: None,
     })
 }
 
-/// The groups of a plan.
+/// The groups of a plan that have pieces in the range.
 fn drawn_groups(
     alloc: Global,
     greatest: u64,
     explanation: &Explanation,
+    range: PieceRange,
 ) -> Result<Vec<Group>, AllocError> {
     let mut groups = Vec::new(alloc);
     let mut start: usize = 0;
     for (number, group) in explanation.costs.groups.iter().enumerate() {
-        let has_barrier = is_barrier(&explanation.barriers, start);
-        groups.push(drawn_group(alloc, greatest, number, group, has_barrier)?)?;
+        let drawn = range.count_in(start, group.size);
+        if drawn > 0 {
+            let has_barrier = is_barrier(&explanation.barriers, start) && range.has(start);
+            groups.push(drawn_group(alloc, greatest, number, group, drawn, has_barrier)?)?;
+        }
         start = start.saturating_add(group.size);
     }
     Ok(groups)
@@ -181,20 +231,25 @@ fn drawn_splits(
     Ok(splits)
 }
 
-/// The pieces of a plan.
+/// The pieces of a plan in the range.
 fn drawn_pieces(
     alloc: Global,
     pieces: &[Descriptor],
     labels: &Labels<'_>,
+    range: PieceRange,
 ) -> Result<Vec<Column>, AllocError> {
     let mut columns = Vec::new(alloc);
     for (number, d) in pieces.iter().enumerate() {
+        if !range.has(number) {
+            continue;
+        }
         let origin = labels.origins.get(number).copied();
         let comment = comment_of(labels.names, origin);
         columns.push(Column {
             number,
             name: piece_name(alloc, d, comment, origin)?,
             title: piece_title(alloc, number, d, comment, origin)?,
+            size: d.size,
             touched: Some(touched(d)),
             has_record: true,
             split: split_of(origin),
@@ -226,31 +281,46 @@ fn fence_label(alloc: Global, fence: &Fence) -> Result<String, AllocError> {
     Ok(text)
 }
 
-/// A fence of a plan.
-fn drawn_fence(alloc: Global, pieces: &[Descriptor], fence: &Fence) -> Result<Bar, AllocError> {
-    let words = fence_text(alloc, pieces, fence)?;
-    Ok(Bar {
-        column: fence.piece,
-        kind: BarKind::Needed,
-        title: format!(in alloc; "fence: {words}")?,
-        words: fence_label(alloc, fence)?,
-        separated: fence.named.first().map(|reason| Separated {
-            earlier: reason.earlier,
-            later: reason.later,
-            address: reason.hazard.address,
-        }),
+/// The first conflict of a fence, if both pieces are drawn.
+fn drawn_conflict(fence: &Fence, range: PieceRange) -> Option<Separated> {
+    let reason = fence.named.first()?;
+    Some(Separated {
+        earlier: range.column_of(reason.earlier)?,
+        later: range.column_of(reason.later)?,
+        address: reason.hazard.address,
     })
 }
 
-/// The fences of a plan.
+/// A fence of a plan, before this column.
+fn drawn_fence(
+    alloc: Global,
+    pieces: &[Descriptor],
+    fence: &Fence,
+    column: usize,
+    range: PieceRange,
+) -> Result<Bar, AllocError> {
+    let words = fence_text(alloc, pieces, fence)?;
+    Ok(Bar {
+        column,
+        kind: BarKind::Needed,
+        title: format!(in alloc; "fence: {words}")?,
+        words: fence_label(alloc, fence)?,
+        separated: drawn_conflict(fence, range),
+    })
+}
+
+/// The fences of a plan before pieces in the range.
 fn drawn_fences(
     alloc: Global,
     pieces: &[Descriptor],
     fences: &[Fence],
+    range: PieceRange,
 ) -> Result<Vec<Bar>, AllocError> {
     let mut bars = Vec::new(alloc);
     for fence in fences {
-        bars.push(drawn_fence(alloc, pieces, fence)?)?;
+        if let Some(column) = range.column_of(fence.piece) {
+            bars.push(drawn_fence(alloc, pieces, fence, column, range)?)?;
+        }
     }
     Ok(bars)
 }
@@ -271,10 +341,42 @@ fn costs_drawn(
     Ok(words)
 }
 
-/// The lines at the end: the costs, and what the parts of the picture mean.
-fn notes_of(alloc: Global, costs: &str, has_fences: bool) -> Result<Vec<String>, AllocError> {
+/// Which of so many pieces are drawn, if not all; or how a part of many is.
+fn range_note(
+    alloc: Global,
+    pieces: usize,
+    range: PieceRange,
+) -> Result<Option<String>, AllocError> {
+    if pieces == 0 {
+        return Ok(None);
+    }
+    let drawn = range.count_in(0, pieces);
+    let PieceRange { first, last } = range;
+    if drawn == 0 {
+        return Ok(Some(format!(in alloc; "nothing from {first} on: {pieces} pieces")?));
+    }
+    if drawn < pieces {
+        let last = last.min(pieces.saturating_sub(1) as u64);
+        return Ok(Some(format!(in alloc; "pieces {first} to {last} of {pieces}")?));
+    }
+    if pieces > MOST_COLUMNS {
+        return Ok(Some(format!(in alloc; "--from N --to M draws some of the {pieces} pieces")?));
+    }
+    Ok(None)
+}
+
+/// The lines at the end: the costs, which pieces are drawn, and what the parts of the picture mean.
+fn notes_of(
+    alloc: Global,
+    costs: &str,
+    range: Option<String>,
+    has_fences: bool,
+) -> Result<Vec<String>, AllocError> {
     let mut notes = Vec::new(alloc);
     notes.push(format!(in alloc; "total {costs}")?)?;
+    if let Some(range) = range {
+        notes.push(range)?;
+    }
     if has_fences {
         notes.push(String::from_str(alloc, LEGEND)?)?;
         notes.push(String::from_str(alloc, KINDS)?)?;
@@ -283,27 +385,30 @@ fn notes_of(alloc: Global, costs: &str, has_fences: bool) -> Result<Vec<String>,
 }
 
 /// The picture of a plan as SVG, in black, white, grey and red and without scripts: its pieces in columns by their
-/// groups, with the names that comments give them, buffers in rows, and its fences with the first of their conflicts.
-/// The costs are at the end, with the least cost if that is given and below the plan's.
+/// groups, with the names that comments give them, buffers in rows, and its fences with the first of their conflicts;
+/// or such pieces alone as the view has. The costs are at the end, with the least cost if that is given and below the
+/// plan's.
 pub fn draw(
     alloc: Global,
     explanation: &Explanation,
     pieces: &[Descriptor],
     labels: &Labels<'_>,
-    buffers: &[Buffer],
+    view: View<'_>,
     settings: &Settings,
     least: Option<u64>,
 ) -> Result<String, AllocError>
     ensures { IfOk result (λ s. IsPicture (string_bytes s)) }
 {
     let costs = costs_drawn(alloc, &explanation.costs, pieces.len(), least)?;
+    let View { buffers, range } = view;
+    let note = range_note(alloc, pieces.len(), range)?;
     let layout = Layout {
-        groups: drawn_groups(alloc, settings.greatest_batch(), explanation)?,
-        columns: drawn_pieces(alloc, pieces, labels)?,
+        groups: drawn_groups(alloc, settings.greatest_batch(), explanation, range)?,
+        columns: drawn_pieces(alloc, pieces, labels, range)?,
         splits: drawn_splits(alloc, pieces, labels)?,
-        bars: drawn_fences(alloc, pieces, &explanation.fences)?,
+        bars: drawn_fences(alloc, pieces, &explanation.fences, range)?,
         buffers,
-        notes: notes_of(alloc, &costs, !explanation.fences.is_empty())?,
+        notes: notes_of(alloc, &costs, note, !explanation.fences.is_empty())?,
         title: costs,
     };
     dsa_drawing::draw(alloc, &layout)

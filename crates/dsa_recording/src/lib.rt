@@ -20,7 +20,6 @@ mod further;
 mod input;
 mod keys;
 mod laws;
-mod likeness;
 mod listing;
 mod marks;
 mod member;

@@ -12,7 +12,6 @@ use crate::entry::Header;
 use crate::entry_words::descriptor_text;
 use crate::findings::{Finding, FindingKind, Flaw, Place};
 use crate::further::code_name;
-use crate::likeness::likes_of;
 use crate::marks::{Drawn, bar_before};
 use crate::member::{records_of, touched_by};
 use crate::report::Report;
@@ -51,7 +50,6 @@ fn drawn_group(
     settings: &Settings,
     number: usize,
     audited: &Audited,
-    like: Option<usize>,
 ) -> Result<Group, AllocError> {
     let size = audited.members.len();
     let kind = if audited.is_batch {
@@ -61,13 +59,13 @@ fn drawn_group(
     };
     let cost = cost_drawn(alloc, settings, audited)?;
     Ok(Group {
+        number,
         title: format!(in alloc; "submission {number}: {kind}, {cost}")?,
         name: format!(in alloc; "submission {number}")?,
         kind,
         cost,
         size,
         has_barrier: false,
-        like,
     })
 }
 
@@ -76,12 +74,10 @@ fn drawn_groups(
     alloc: Global,
     settings: &Settings,
     report: &Report,
-    likes: &[Option<usize>],
 ) -> Result<Vec<Group>, AllocError> {
     let mut groups = Vec::new(alloc);
     for (number, audited) in report.audits.iter().enumerate() {
-        let like = likes.get(number).copied().flatten();
-        groups.push(drawn_group(alloc, settings, number, audited, like)?)?;
+        groups.push(drawn_group(alloc, settings, number, audited)?)?;
     }
     Ok(groups)
 }
@@ -110,22 +106,24 @@ fn drawn_member(
 ) -> Result<Column, AllocError> {
     let words = descriptor_text(alloc, entry)?;
     let name = entry_name(alloc, entry)?;
+    let Header { code, size, .. } = Header::of(entry);
     match member {
         Member::Known(_) => Ok(Column {
             number,
             name,
             title: format!(in alloc; "{number}: {words}, entry {at}")?,
+            size,
             touched: Some(touched_by(entry)),
             has_record: !records_of(entry).is_empty(),
             split: None,
         }),
         Member::Unknown(why) => {
-            let code = Header::of(entry).code;
             let (reason, unseen) = (unseen_name(*why), unseen_text(alloc, *why, code)?);
             Ok(Column {
                 number,
                 name: format!(in alloc; "{name} ({reason})")?,
                 title: format!(in alloc; "{number}: {words}, entry {at}, {unseen}")?,
+                size,
                 touched: None,
                 has_record: false,
                 split: None,
@@ -264,9 +262,8 @@ pub(crate) fn draw_report(
     let no_names: &[Buffer] = &[];
     let columns = drawn_members(alloc, all, report)?;
     let bars = drawn_bars(alloc, all, report, options)?;
-    let likes = likes_of(alloc, all, report, &columns, &bars)?;
     let layout = Layout {
-        groups: drawn_groups(alloc, settings, report, &likes)?,
+        groups: drawn_groups(alloc, settings, report)?,
         columns,
         splits: Vec::new(alloc),
         bars,

@@ -25,8 +25,14 @@ use Rattle.dsa_text.specs.declared.form.Form.{Form}
 use Rattle.dsa_text.specs.declared.shown.Subject.{Subject}
 use Rattle.dsa_text.specs.Shown.{AnswersPlan, AnswersSubject, ShowsPlan, TellsPlan, form_of, is_shown, is_too_large, is_unfit, is_untracked, unlabelled}
 use Rattle.clap.specs.declared.parser.matches.ArgMatches.{ArgMatches}
-use Rattle.dsa_text.specs.Options.{IsFlag}
-use Rattle.dsa_text.specs.Inputs.{ExplainsAs, ExplainsInput, is_job}
+use Rattle.dsa_explain.specs.declared.picture.PieceRange.{PieceRange}
+use Rattle.dsa_text.specs.Options.{IsFlag, range_of}
+use Rattle.dsa_text.specs.Inputs.{ExplainsAs, ExplainsInput, is_job, names_pieces}
+
+-- what holds of an answer by two clauses
+pub both : {T E : Type 0} (r : Result T E) (P Q R : T → Type 0) → ((a : T) → P a → Q a → R a) → IfOk r P → IfOk r Q → IfOk r R
+both (Ok a) P Q R f p q = f a p q
+both (Err e) P Q R f p q = p
 
 -- ---- faults
 
@@ -96,15 +102,15 @@ plan_beside s plan ds bs origins least form a b status text (is_shown z shows) =
     is_shown (status ∙ z) (subst (λ (t : List ℕ). ShowsPlan form s plan ds bs origins least t) (sym (ap string_bytes text)) shows)
 plan_beside s plan ds bs origins least form a b status text (is_unfit fault explains r) =
     is_unfit fault explains (refused_beside (explain_cause fault) a b status text r)
-plan_beside s plan ds bs origins least form a b status text (is_too_large drawn can many one words) =
-    is_too_large drawn can many (status ∙ one) (ap string_bytes text ∙ words)
+plan_beside s plan ds bs origins least form a b status text (is_too_large range drawn can many one words) =
+    is_too_large range drawn can many (status ∙ one) (ap string_bytes text ∙ words)
 plan_beside s plan ds bs origins least form a b status text (is_untracked fault waits can refused one words) =
     is_untracked fault waits can refused (status ∙ one) (ap string_bytes text ∙ words)
 
 pub judged_beside : (s : Limits) (plan : Plan) (ds : List Descriptor) (cost : ℕ) (form : Form) (a b : Answer)
     → b.status ≡ a.status → b.text ≡ a.text → AnswersJudged s plan ds cost form a → AnswersJudged s plan ds cost form b
-judged_beside s plan ds cost form a b status text (is_drawn least drawn is answers) =
-    is_drawn least drawn is (plan_beside s plan ds [] unlabelled least form a b status text answers)
+judged_beside s plan ds cost form a b status text (is_drawn least range drawn is answers) =
+    is_drawn least range drawn is (plan_beside s plan ds [] unlabelled least form a b status text answers)
 judged_beside s plan ds cost form a b status text (is_spelled least spelled is answers) =
     is_spelled least spelled is (plan_beside s plan ds [] unlabelled least form a b status text answers)
 judged_beside s plan ds cost form a b status text (is_waiting waits answers) =
@@ -136,18 +142,10 @@ same_cause r told fault o p e is is' h =
 -- ---- an input
 
 -- explained as the input's kind, in the form that the flags ask for
-pub as_input : {E : Type 0} (r : Result Answer E) (m : ArgMatches) (text : List ℕ) (svg json waits all b : Bool) (form : Form) → is_job text ≡ b
-    → IsFlag m (codes "svg") svg → IsFlag m (codes "json") json → IsFlag m (codes "waits") waits → IsFlag m (codes "all") all → form ≡ form_of svg json waits all
-    → IfOk r (ExplainsAs b m text form) → IfOk r (ExplainsInput m text)
-as_input r m text svg json waits all b form kind svg_is json_is waits_is all_is same h =
-    IfOk-weaker r _ _ (λ a x. record {
-      svg = svg;
-      json = json;
-      waits = waits;
-      all = all;
-      svg_is = svg_is;
-      json_is = json_is;
-      waits_is = waits_is;
-      all_is = all_is;
-      explains = subst (λ (k : Bool). ExplainsAs k m text (form_of svg json waits all) a) (sym kind) (subst (λ (f : Form). ExplainsAs b m text f a) same x);
-    }) h
+pub as_input : {E : Type 0} (r : Result Answer E) (m : ArgMatches) (text : List ℕ) (range : PieceRange) (svg json waits all b : Bool) (form : Form) → is_job text ≡ b
+    → range_of m ≡ Some range → IsFlag m (codes "svg") svg → IsFlag m (codes "json") json → IsFlag m (codes "waits") waits → IsFlag m (codes "all") all
+    → form ≡ form_of range svg json waits all → IfOk r (ExplainsAs b m text form) → IfOk r (ExplainsInput m text)
+as_input r m text range svg json waits all b form kind named svg_is json_is waits_is all_is same h =
+    IfOk-weaker r _ _ (λ a x.
+    names_pieces range svg json waits all named svg_is json_is waits_is all_is
+    (subst (λ (k : Bool). ExplainsAs k m text (form_of range svg json waits all) a) (sym kind) (subst (λ (f : Form). ExplainsAs b m text f a) same x))) h

@@ -21,6 +21,7 @@ use Rattle.dsa_calls.specs.Planned.{Submission, Plans, PlansOperations}
 use Rattle.dsa_splitter.specs.Pieces.{piece_barriers}
 use Rattle.dsa_reasons.specs.declared.fences.Detail.{Detail}
 use Rattle.dsa_explain.specs.declared.explanation.ExplainFault.{ExplainFault}
+use Rattle.dsa_explain.specs.declared.picture.PieceRange.{PieceRange}
 use Rattle.dsa_explain.specs.Explained.{Explains}
 use Rattle.dsa_explain.specs.Runs.{Labelling}
 use Rattle.dsa_text.specs.declared.answer.Answer.{Answer}
@@ -93,7 +94,7 @@ pub record TellsJudged (s : Limits) (detail : Detail) (plan : Plan) (pieces : Li
 -- a judged plan as a picture, as JSON or in words, with the least cost, or by its waits; or refused for the cause that
 -- `explain` finds, which can only be an allocation failure
 pub data AnswersJudged (s : Limits) (plan : Plan) (pieces : List Descriptor) (cost : ℕ) (form : Form) (a : Answer) : Type 0 where
-  is_drawn : (least : Option ℕ) → form ≡ Picture → IsLeastCost s (map fields pieces) least → AnswersPlan s plan pieces [] unlabelled least form a → AnswersJudged s plan pieces cost form a
+  is_drawn : (least : Option ℕ) (range : PieceRange) → form ≡ Picture range → IsLeastCost s (map fields pieces) least → AnswersPlan s plan pieces [] unlabelled least form a → AnswersJudged s plan pieces cost form a
   is_spelled : (least : Option ℕ) → form ≡ Json → IsLeastCost s (map fields pieces) least → AnswersPlan s plan pieces [] unlabelled least form a → AnswersJudged s plan pieces cost form a
   is_waiting : form ≡ Waits → AnswersPlan s plan pieces [] unlabelled None form a → AnswersJudged s plan pieces cost form a
   is_told : (detail : Detail) → form ≡ Words detail → a.status ≡ 0 → TellsJudged s detail plan pieces cost (string_bytes a.text) → AnswersJudged s plan pieces cost form a

@@ -5,13 +5,14 @@ use Rattle.clap.specs.declared.parser.matches.ArgMatches.{ArgMatches}
 use Rattle.dsa_sentences.specs.declared.causes.TextCause.TheVariants.{Options}
 use Rattle.dsa_sentences.specs.Endings.{ending_of}
 use Rattle.dsa_plan.specs.Settings.{Limits}
+use Rattle.dsa_explain.specs.declared.picture.PieceRange.{PieceRange}
 use Rattle.dsa_calls.specs.declared.fault.PlanFault.TheVariants.{Settings as Outside}
 use Rattle.dsa_text.specs.declared.answer.Answer.{Answer}
 use Rattle.dsa_text.specs.declared.form.Form.{Form}
 use Rattle.dsa_text.specs.declared.settings.SettingsWords.{SettingsWords}
 use Rattle.dsa_text.specs.Refusals.{IsRefusal}
 use Rattle.dsa_text.specs.SettingsWords.{GivesSettings}
-use Rattle.dsa_text.specs.Options.{AreSettingsGiven, AreWords, IsFlag}
+use Rattle.dsa_text.specs.Options.{AreSettingsGiven, AreWords, IsFlag, range_of}
 use Rattle.dsa_text.specs.Explained.{ExplainsText}
 use Rattle.dsa_text.specs.Jobs.{ExplainsJobText}
 use Rattle.dsa_text.specs.Shown.{form_of}
@@ -43,14 +44,9 @@ abbrev pub ExplainsAs : Bool → ArgMatches → List ℕ → Form → Answer →
 ExplainsAs true m text form a = ExplainsWithOptions m text form a
 ExplainsAs false m text form a = ExplainsOperations m text form a
 
--- an input is explained as what it is, in the form that the flags ask for
-pub record ExplainsInput (m : ArgMatches) (text : List ℕ) (a : Answer) : Type 0 where
-  pub svg : Bool
-  pub json : Bool
-  pub waits : Bool
-  pub all : Bool
-  pub svg_is : IsFlag m (codes "svg") svg
-  pub json_is : IsFlag m (codes "json") json
-  pub waits_is : IsFlag m (codes "waits") waits
-  pub all_is : IsFlag m (codes "all") all
-  pub explains : ExplainsAs (is_job text) m text (form_of svg json waits all) a
+-- an input is refused if options name no pieces to draw; else it is explained as what it is, in the form that the flags ask for
+pub data ExplainsInput (m : ArgMatches) (text : List ℕ) (a : Answer) : Type 0 where
+  names_none : range_of m ≡ None → IsRefusal Outside a → ExplainsInput m text a
+  names_pieces :
+      (range : PieceRange) (svg json waits all : Bool) → range_of m ≡ Some range → IsFlag m (codes "svg") svg → IsFlag m (codes "json") json →
+      IsFlag m (codes "waits") waits → IsFlag m (codes "all") all → ExplainsAs (is_job text) m text (form_of range svg json waits all) a → ExplainsInput m text a

@@ -1,8 +1,10 @@
 -- Options, as the parser of the arguments found them (this project's choice).
-use Rattle.std.specs.Prelude.{◌≡◌, ◌⊎◌, ℕ, Bool, true, false, List, [], codes, Some, None, option_map, option_and_then, unwrap_or}
+use Rattle.std.specs.Prelude.{◌≡◌, ◌⊎◌, ◌-◌, ◌^◌, nat_le, ℕ, Bool, true, false, List, [], codes, Option, Some, None, option_map, option_and_then, unwrap_or, if◌then◌else◌}
 use Rattle.clap.specs.Words.{first_value, found_of, matched_of, one_text}
 use Rattle.clap.specs.declared.parser.matches.ArgMatches.{ArgMatches}
 use Rattle.clap.specs.declared.parser.matches.ValueSource.TheVariants.{CommandLine}
+use Rattle.dsa_explain.specs.declared.picture.PieceRange.{PieceRange}
+use Rattle.dsa_lines.specs.Numbers.{number_of}
 use Rattle.dsa_text.specs.declared.settings.SettingsWords.{SettingsWords}
 
 -- the option was given among the arguments, and does not only have its default
@@ -42,3 +44,19 @@ pub record IsFlag (m : ArgMatches) (name : List ℕ) (flag : Bool) : Type 0 wher
   pub set : one_text (found_of m) name ≡ Some (codes "true") → flag ≡ true
   pub clear : one_text (found_of m) name ≡ Some (codes "false") → flag ≡ false
   pub absent : one_text (found_of m) name ≡ None → flag ≡ false
+
+-- the number that the value of an option spells; without the option this one
+abbrev pub number_or : ℕ → Option (List ℕ) → Option ℕ
+number_or default None = Some default
+number_or default (Some word) = number_of word
+
+-- the pieces from the first to the last, if both are there, in this order
+abbrev pub from_to : Option ℕ → Option ℕ → Option PieceRange
+from_to None last = None
+from_to (Some first) None = None
+from_to (Some first) (Some last) = if nat_le first last then Some (record { first = first; last = last }) else None
+
+-- the pieces that the options `from` and `to` name; without them all
+abbrev pub range_of : ArgMatches → Option PieceRange
+range_of m =
+    from_to (number_or 0 (first_value (found_of m) (codes "from"))) (number_or (2 ^ 64 - 1) (first_value (found_of m) (codes "to")))

@@ -9,6 +9,7 @@ use Rattle.dsa_plan.specs.Settings.{Limits}
 use Rattle.dsa_reasons.specs.declared.fences.Detail.{Detail}
 use Rattle.dsa_reasons.specs.declared.fences.Detail.TheVariants.{First, All as Every}
 use Rattle.dsa_explain.specs.declared.explanation.ExplainFault.{ExplainFault}
+use Rattle.dsa_explain.specs.declared.picture.PieceRange.{PieceRange}
 use Rattle.dsa_explain.specs.declared.explanation.Explanation.{Explanation}
 use Rattle.dsa_explain.specs.Explained.{CanBeExplained, Explains, IsExplanationOf}
 use Rattle.dsa_drawing.specs.Pictures.{IsPicture}
@@ -31,14 +32,14 @@ use Rattle.dsa_text.specs.Refusals.{IsRefusal, explain_cause}
 -- how many of the conflicts of each fence a form shows
 abbrev pub detail_of : Form → Detail
 detail_of (Words detail) = detail
-detail_of Picture = First
+detail_of (Picture range) = First
 detail_of Json = Every
 detail_of Waits = First
 
--- the form that flags ask for: a picture, JSON, what groups wait for, words with all conflicts; else words with the first ones
-abbrev pub form_of : Bool → Bool → Bool → Bool → Form
-form_of svg json waits all =
-    if svg then Picture else (if json then Json else (if waits then Waits else (if all then Words Every else Words First)))
+-- the form that flags ask for: a picture of these pieces, JSON, what groups wait for, words with all conflicts; else words with the first ones
+abbrev pub form_of : PieceRange → Bool → Bool → Bool → Bool → Form
+form_of range svg json waits all =
+    if svg then Picture range else (if json then Json else (if waits then Waits else (if all then Words Every else Words First)))
 
 -- ---- what is shown
 
@@ -81,7 +82,7 @@ pub record TellsWaits (s : Limits) (plan : Plan) (pieces : List Descriptor) (bar
 -- the plan in a form
 abbrev pub ShowsPlan : Form → Limits → Plan → List Descriptor → List Bool → Labelling → Option ℕ → List ℕ → Type 0
 ShowsPlan (Words detail) s plan pieces barriers labels least text = TellsPlan s detail plan pieces barriers labels text
-ShowsPlan Picture s plan pieces barriers labels least text = DrawsPlan s plan pieces barriers text
+ShowsPlan (Picture range) s plan pieces barriers labels least text = DrawsPlan s plan pieces barriers text
 ShowsPlan Json s plan pieces barriers labels least text = SpellsPlan s plan pieces barriers labels least text
 ShowsPlan Waits s plan pieces barriers labels least text = TellsWaits s plan pieces barriers text
 
@@ -100,7 +101,7 @@ untracked fault =
 pub data AnswersPlan (s : Limits) (plan : Plan) (pieces : List Descriptor) (barriers : List Bool) (labels : Labelling) (least : Option ℕ) (form : Form) (a : Answer) : Type 0 where
   is_shown : a.status ≡ 0 → ShowsPlan form s plan pieces barriers labels least (string_bytes a.text) → AnswersPlan s plan pieces barriers labels least form a
   is_unfit : (fault : ExplainFault) → Explains s (detail_of form) pieces barriers plan (Err fault) → IsRefusal (explain_cause fault) a → AnswersPlan s plan pieces barriers labels least form a
-  is_too_large : form ≡ Picture → CanBeExplained s pieces barriers plan → most_rows < length plan → a.status ≡ 1
+  is_too_large : (range : PieceRange) → form ≡ Picture range → CanBeExplained s pieces barriers plan → most_rows < length plan → a.status ≡ 1
       → string_bytes a.text ≡ too_many_groups (length plan) → AnswersPlan s plan pieces barriers labels least form a
   is_untracked : (fault : TrackFault) → form ≡ Waits → CanBeExplained s pieces barriers plan → RefusesWaits s.staging plan (map fields pieces) (Track fault)
       → a.status ≡ 1 → string_bytes a.text ≡ untracked fault → AnswersPlan s plan pieces barriers labels least form a

@@ -183,6 +183,16 @@ fn disassemble_command<'a>(alloc: Global) -> Result<Command<'a>, AllocError> {
         .args(options)
 }
 
+/// An option of a picture that names a piece.
+fn piece<'a>(alloc: Global, name: &'a str, help: &'a str) -> Result<Arg<'a>, AllocError> {
+    Arg::new(alloc, name)
+        .long(name)
+        .value_name("N")
+        .action(ArgAction::Set)
+        .help(help)
+        .requires_arg("svg")
+}
+
 /// The command `explain`.
 fn explain_command<'a>(alloc: Global) -> Result<Command<'a>, AllocError> {
     let options = settings_options(alloc)?;
@@ -197,6 +207,8 @@ fn explain_command<'a>(alloc: Global) -> Result<Command<'a>, AllocError> {
         "waits",
         "tell which earlier groups each group waits for",
     );
+    let from = piece(alloc, "from", "the first piece that --svg draws")?;
+    let to = piece(alloc, "to", "the last one")?;
     Command::new(alloc, "explain")
         .about("Reads lines or a job to plan, judge or check, and tells what the plan does and why")
         .after_help(EXPLAINED)
@@ -210,6 +222,8 @@ fn explain_command<'a>(alloc: Global) -> Result<Command<'a>, AllocError> {
                 .conflicts_with("json")?
                 .conflicts_with("all")?,
         )?
+        .arg(from)?
+        .arg(to)?
         .arg(keep_fences(alloc))?
         .args(options)
 }

@@ -68,7 +68,7 @@ fn answer_planned(
         (Some planned.now.cost) form) }
 {
     let origins = origins_of(alloc, &operations.descriptors, settings)?;
-    let comments = comments_in(alloc, source, matches!(form, Form::Picture))?;
+    let comments = comments_in(alloc, source, matches!(form, Form::Picture(_)))?;
     let labels = Labels {
         origins: &origins,
         names: &comments.names,

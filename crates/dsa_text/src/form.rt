@@ -3,15 +3,15 @@
 ghost use Rattle.std.specs.Prelude.{◌≡◌};
 ghost use Rattle.dsa_text.specs.Shown.{detail_of, form_of};
 
-use dsa_explain::Detail;
+use dsa_explain::{Detail, PieceRange};
 
 /// How a plan is shown.
 #[derive(Clone, Copy)]
 pub enum Form {
     /// In words, with so many of the conflicts of each fence.
     Words(Detail),
-    /// As a picture.
-    Picture,
+    /// As a picture of these pieces.
+    Picture(PieceRange),
     /// As a line of JSON.
     Json,
     /// By what its groups wait for.
@@ -25,18 +25,18 @@ impl Form {
     {
         match self {
             Form::Words(detail) => detail,
-            Form::Picture | Form::Waits => Detail::First,
+            Form::Picture(_) | Form::Waits => Detail::First,
             Form::Json => Detail::All,
         }
     }
 }
 
-/// The form that the flags `--svg`, `--json`, `--waits` and `--all` ask for.
-pub(crate) fn form_of(svg: bool, json: bool, waits: bool, all: bool) -> Form
-    ensures { result ≡ form_of svg json waits all }
+/// The form that the flags `--svg`, `--json`, `--waits` and `--all` ask for, of these pieces.
+pub(crate) fn form_of(range: PieceRange, svg: bool, json: bool, waits: bool, all: bool) -> Form
+    ensures { result ≡ form_of range svg json waits all }
 {
     if svg {
-        Form::Picture
+        Form::Picture(range)
     } else if json {
         Form::Json
     } else if waits {

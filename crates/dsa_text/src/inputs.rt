@@ -9,7 +9,7 @@ use crate::answer::Answer;
 use crate::explaining::explain_text;
 use crate::form::{Form, form_of};
 use crate::jobs::explain_job_text;
-use crate::options::{are_settings_given, settings_words};
+use crate::options::{are_settings_given, range_of, settings_words};
 use crate::settings::{SettingsWords, settings_fault, settings_of};
 use clap::ArgMatches;
 use dsa_calls::PlanFault;
@@ -49,6 +49,14 @@ fn refused_options(alloc: Global) -> Result<Answer, AllocError>
     let mut text = String::from_str(alloc, line)?;
     text.push_str(TextCause::Options.ending())?;
     Ok(Answer::refused(text))
+}
+
+/// The refusal of options that name no pieces.
+fn refused_range(alloc: Global) -> Result<Answer, AllocError>
+    ensures { IfOk result (IsRefusal Outside) }
+{
+    let message = "--from and --to take the numbers of two pieces, the second not below the first";
+    Answer::fault_with(alloc, PlanFault::Settings, message)
 }
 
 /// What `explain` answers to a job, which has settings of its own.
@@ -91,11 +99,14 @@ pub(crate) fn explain(
 ) -> Result<Answer, AllocError>
     ensures { IfOk result (ExplainsInput matches.now text.now) }
 {
+    let Some(range) = range_of(matches) else {
+        return refused_range(alloc);
+    };
     let svg = matches.get_flag("svg");
     let json = matches.get_flag("json");
     let waits = matches.get_flag("waits");
     let all = matches.get_flag("all");
-    let form = form_of(svg, json, waits, all);
+    let form = form_of(range, svg, json, waits, all);
     if is_job(text) {
         explain_with_options(alloc, matches, text, form)
     } else {

@@ -17,7 +17,7 @@ use crate::judged::missing_message;
 use crate::shown::{answer_plan, plain, plan_words};
 use dsa_calls::{PlanFault, judge_pieces, plan_operations};
 use dsa_descriptor::{Descriptor, DescriptorList, read_list};
-use dsa_explain::Detail;
+use dsa_explain::{Detail, PieceRange};
 use dsa_plan::{LegalFault, Plan, Settings};
 use std::alloc::{AllocError, Global};
 
@@ -101,16 +101,18 @@ fn judged_picture(
     list: &DescriptorList,
     settings: &Settings,
     cost: u64,
+    range: PieceRange,
 ) -> Result<Answer, AllocError>
     requires { list.now.barriers.items ≡ [] }
-    ensures { IfOk result (AnswersJudged settings.now plan.now list.now.descriptors.items cost Picture) }
+    ensures { IfOk result (AnswersJudged settings.now plan.now list.now.descriptors.items cost
+        (Picture range)) }
 {
     let least = least_cost(alloc, list, settings)?;
     answer_plan(
         alloc,
         &plain(plan, &list.descriptors, least),
         settings,
-        Form::Picture,
+        Form::Picture(range),
     )
 }
 
@@ -166,7 +168,7 @@ fn judged_in_form(
 {
     match form {
         Form::Words(detail) => judged_words(alloc, plan, list, settings, cost, detail),
-        Form::Picture => judged_picture(alloc, plan, list, settings, cost),
+        Form::Picture(range) => judged_picture(alloc, plan, list, settings, cost, range),
         Form::Json => judged_json(alloc, plan, list, settings, cost),
         Form::Waits => judged_waits(alloc, plan, list, settings, cost),
     }

@@ -1,11 +1,14 @@
 //! The options of settings, as they were given.
 
 ghost use Rattle.std.specs.Prelude.{◌≡◌, ◌↔◌, ◌⊎◌, IsTrue};
-ghost use Rattle.dsa_text.specs.Options.{ArePricesGiven, AreSettingsGiven, AreSizesGiven, AreWords, IsGiven, word_of};
+ghost use Rattle.clap.specs.Words.{first_value, found_of};
+ghost use Rattle.dsa_text.specs.Options.{ArePricesGiven, AreSettingsGiven, AreSizesGiven, AreWords, IsGiven, number_or, range_of, word_of};
 
+use crate::numbers::number_of;
 use crate::settings::SettingsWords;
 use clap::ArgMatches;
 use clap::parser::ValueSource;
+use dsa_explain::PieceRange;
 
 /// Whether an option was given.
 fn is_given(matches: &ArgMatches<'_>, name: &str) -> bool
@@ -76,5 +79,32 @@ pub(crate) fn settings_words<'a>(matches: &ArgMatches<'a>) -> SettingsWords<'a>
         batches: matches.get_str("batches"),
         fence: word(matches, "fence"),
         staging: word(matches, "staging"),
+    }
+}
+
+/// The number that the value of an option spells; without the option this one.
+fn number_or(matches: &ArgMatches<'_>, name: &str, default: u64) -> Option<u64>
+    ensures { result ≡ number_or default (first_value (found_of matches.now) name.now) }
+{
+    match matches.get_str(name) {
+        Some(word) => number_of(word),
+        None => Some(default),
+    }
+}
+
+/// The pieces that `--from` and `--to` name, if the first is not after the last.
+pub(crate) fn range_of(matches: &ArgMatches<'_>) -> Option<PieceRange>
+    ensures { result ≡ range_of matches.now }
+{
+    let Some(first) = number_or(matches, "from", 0) else {
+        return None;
+    };
+    let Some(last) = number_or(matches, "to", u64::MAX) else {
+        return None;
+    };
+    if first <= last {
+        Some(PieceRange { first, last })
+    } else {
+        None
     }
 }

@@ -11,8 +11,8 @@ use crate::answer::Answer;
 use crate::form::Form;
 use dsa_descriptor::Descriptor;
 use dsa_explain::{
-    Buffer, Detail, ExplainFault, Labels, MOST_ROWS, Origin, WaitsFault, draw, explain,
-    explanation_line, explanation_text, group_waits, waits_text,
+    Buffer, Detail, ExplainFault, Labels, MOST_ROWS, Origin, PieceRange, View, WaitsFault, draw,
+    explain, explanation_line, explanation_text, group_waits, waits_text,
 };
 use dsa_plan::{Plan, Settings};
 use dsa_sentences::TextCause;
@@ -157,8 +157,9 @@ fn answer_picture(
     alloc: Global,
     subject: &Subject<'_>,
     settings: &Settings,
+    range: PieceRange,
 ) -> Result<Answer, AllocError>
-    ensures { IfOk result (AnswersSubject settings.now subject.now Picture) }
+    ensures { IfOk result (AnswersSubject settings.now subject.now (Picture range)) }
 {
     let Subject {
         plan,
@@ -181,7 +182,7 @@ fn answer_picture(
         &explanation,
         pieces,
         &subject.labels,
-        buffers,
+        View { buffers, range },
         settings,
         least,
     )?;
@@ -235,7 +236,7 @@ pub(crate) fn answer_plan(
 {
     match form {
         Form::Words(detail) => answer_words(alloc, subject, settings, detail),
-        Form::Picture => answer_picture(alloc, subject, settings),
+        Form::Picture(range) => answer_picture(alloc, subject, settings, range),
         Form::Json => answer_json(alloc, subject, settings),
         Form::Waits => answer_waits(alloc, subject, settings),
     }

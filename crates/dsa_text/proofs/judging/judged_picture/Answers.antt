@@ -8,6 +8,6 @@ use Rattle.dsa_text.proofs.judging.judged_picture.Goals as goal
 
 pub returns : goal.returns
 returns c =
-    IfOk-weaker c.answer_plan.result _ _ (λ a h. is_drawn c.in_ok-least.least refl c.in_ok-least.ensures h)
-    (subject_answered c.answer_plan.result c.args.settings.now c.plain.result c.args.plan.now c.args.list.now.descriptors.items [] unlabelled c.in_ok-least.least Picture
+    IfOk-weaker c.answer_plan.result _ _ (λ a h. is_drawn c.in_ok-least.least c.args.range refl c.in_ok-least.ensures h)
+    (subject_answered c.answer_plan.result c.args.settings.now c.plain.result c.args.plan.now c.args.list.now.descriptors.items [] unlabelled c.in_ok-least.least (Picture c.args.range)
     c.plain.ensures.plan (c.plain.ensures.pieces ∙ c.deref.ensures.value) c.plain.ensures.barriers c.plain.ensures.labels c.plain.ensures.least c.answer_plan.ensures)

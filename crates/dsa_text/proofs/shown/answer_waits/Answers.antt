@@ -1,4 +1,4 @@
-use Rattle.std.proofs.Common.{ℕ, Ok, Err, IfOk, Result, map, refl, subst}
+use Rattle.std.proofs.Common.{ℕ, map, refl, subst}
 use Rattle.std.proofs.lemmas.Result.{IfOk-weaker}
 use Rattle.dsa_descriptor.specs.Descriptors.{fields}
 use Rattle.dsa_explain.specs.declared.explanation.ExplainFault.TheVariants.{Memory}
@@ -6,11 +6,8 @@ use Rattle.dsa_explain.specs.declared.waits.WaitsFault.{WaitsFault}
 use Rattle.dsa_explain.specs.declared.waits.WaitsFault.TheVariants.{Track}
 use Rattle.dsa_explain.specs.Waits.{RefusesWaits}
 use Rattle.dsa_text.specs.Shown.{is_unfit, is_untracked}
+use Rattle.dsa_text.proofs.Answered.{both}
 use Rattle.dsa_text.proofs.shown.answer_waits.Goals as goal
-
-both : {T E : Type 0} (r : Result T E) (P Q R : T → Type 0) → ((a : T) → P a → Q a → R a) → IfOk r P → IfOk r Q → IfOk r R
-both (Ok a) P Q R f p q = f a p q
-both (Err e) P Q R f p q = p
 
 pub returns-in-Err : goal.returns-in-Err
 returns-in-Err c = IfOk-weaker c.explain_fault.result _ _ (λ a h. is_unfit c.in-Err.fault c.in-Err.ensures h) c.explain_fault.ensures

@@ -1,0 +1,82 @@
+//! Which groups of a picture are like others.
+
+use crate::layout::{Bar, Column, Group, Layout};
+use std::alloc::{AllocError, Global};
+use std::collections::BTreeMap;
+
+/// Writes what is before a column, and which other columns it is about, as seen from column `start`.
+pub(crate) fn push_bar(
+    alloc: Global,
+    text: &mut String,
+    bar: &Bar,
+    start: usize,
+) -> Result<(), AllocError> {
+    let (column, words) = (bar.column.saturating_sub(start), &bar.words);
+    text.push_str(&format!(in alloc; "; {column} {words}")?)?;
+    match bar.separated {
+        Some(separated) => {
+            let (earlier, later) = (separated.earlier, separated.later);
+            let before = start.saturating_sub(earlier);
+            let (after, last) = (earlier.saturating_sub(start), later.saturating_sub(start));
+            text.push_str(&format!(in alloc; " {before} {after} {last}")?)
+        }
+        None => Ok(()),
+    }
+}
+
+/// What groups that are alike have in common: of each operation the name and the size, and the fences.
+fn common_text(
+    alloc: Global,
+    group: &Group,
+    columns: &[Column],
+    bars: &[Bar],
+    start: usize,
+) -> Result<String, AllocError> {
+    let mut text = String::from_str(alloc, &group.kind)?;
+    if group.has_barrier {
+        text.push_str("; barrier")?;
+    }
+    for column in columns {
+        let (name, size) = (&column.name, column.size);
+        text.push_str(&format!(in alloc; "; {name} {size}")?)?;
+    }
+    for bar in bars {
+        push_bar(alloc, &mut text, bar, start)?;
+    }
+    Ok(text)
+}
+
+/// The bars before a column, and the others.
+pub(crate) fn bars_around(bars: &[Bar], column: usize) -> (&[Bar], &[Bar]) {
+    let none: &[Bar] = &[];
+    for (number, bar) in bars.iter().enumerate() {
+        if bar.column >= column {
+            return bars.split_at(number.min(bars.len()));
+        }
+    }
+    (bars, none)
+}
+
+/// For each group the first that it is like, if it is not that.
+pub(crate) fn likes_of(
+    alloc: Global,
+    layout: &Layout<'_>,
+) -> Result<Vec<Option<usize>>, AllocError> {
+    let (mut rest, mut rest_bars) = (layout.columns.as_slice(), layout.bars.as_slice());
+    let mut start = 0usize;
+    let mut firsts = BTreeMap::new(alloc);
+    let mut likes = Vec::new(alloc);
+    for (number, group) in layout.groups.iter().enumerate() {
+        let (own, after) = rest.split_at(group.size.min(rest.len()));
+        let end = start.saturating_add(own.len());
+        let (own_bars, bars_after) = bars_around(rest_bars, end);
+        let text = common_text(alloc, group, own, own_bars, start)?;
+        let like = firsts.get(&text).copied();
+        if like.is_none() {
+            firsts.insert(text, number)?;
+        }
+        likes.push(like)?;
+        (rest, rest_bars, start) = (after, bars_after, end);
+    }
+    Ok(likes)
+}

@@ -6,28 +6,13 @@ ghost use Rattle.dsa_descriptor.specs.Descriptors.{fields};
 ghost use Rattle.dsa_descriptor.specs.Fences.{after_first};
 ghost use Rattle.dsa_descriptor.specs.Pieces.{most_pieces};
 ghost use Rattle.dsa_plan.specs.Plan.{piece_count};
-ghost use Rattle.dsa_settings.specs.Epochs.{cuts};
 ghost use Rattle.dsa_reasons.specs.OneGroup.{AreCutReasons, one_group};
 
 use crate::fences::{Detail, Fence, fences_of};
 use dsa_descriptor::Descriptor;
 use dsa_plan::{Group, Plan};
+use dsa_settings::cuts_of;
 use std::alloc::{AllocError, Global};
-
-/// Where a plan cuts the list: at each group's first piece and at each fenced piece.
-fn cuts_of(alloc: Global, plan: &Plan) -> Result<Vec<bool>, AllocError>
-    ensures { IfOk result (λ v. v.items ≡ cuts plan.now) }
-{
-    let mut all = Vec::new(alloc);
-    for group in plan.groups() {
-        let flags = group.fences();
-        if !flags.is_empty() {
-            all.push(true)?;
-            all.extend_from_slice(&flags[1..])?;
-        }
-    }
-    Ok(all)
-}
 
 /// Clears the flag of the first piece, before which there is nothing to wait for.
 fn clear_first(flags: &mut Vec<bool>)

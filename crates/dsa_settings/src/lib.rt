@@ -18,7 +18,7 @@ pub use conflicts::Conflicts;
 pub use keeping::is_barrier;
 pub use laws::{barriers_are_kept, legal_epochs_part};
 pub use legal::{LegalFault, is_legal, is_legal_with};
-pub use numbers::epoch_numbers;
+pub use numbers::{cuts_of, epoch_numbers};
 pub use plan::{Group, Plan};
 pub use same::{copy_plan, same_plan};
 pub use setting::{Setting, SettingsFault, are_batch_prices, outside_limits};

@@ -1,12 +1,12 @@
 //! Notes on compares whose results stop nothing.
 
-use crate::kept::cuts_of;
 use crate::notes::Notes;
 use crate::origins::count_of;
 use crate::unplanned::Source;
 use crate::words::line_of_operation;
 use dsa_descriptor::Descriptor;
 use dsa_plan::{Plan, Settings};
+use dsa_settings::cuts_of;
 use dsa_warnings::{Concern, check_concern};
 use std::alloc::{AllocError, Global};
 

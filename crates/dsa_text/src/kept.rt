@@ -9,6 +9,7 @@ use crate::words::line_of_operation;
 use dsa_descriptor::Descriptor;
 use dsa_lines::text_barriers;
 use dsa_plan::{Plan, Settings};
+use dsa_settings::cuts_of;
 use std::alloc::{AllocError, Global};
 
 /// One text and the other after it.
@@ -40,17 +41,6 @@ pub(crate) fn barrier_notes(
         )?)),
         (Source::Text(_) | Source::Job, _) => Ok(None),
     }
-}
-
-/// For each piece of a plan whether it is fenced, or its group begins with it.
-pub(crate) fn cuts_of(alloc: Global, plan: &Plan) -> Result<Vec<bool>, AllocError> {
-    let mut cuts = Vec::new(alloc);
-    for group in plan.groups() {
-        for (column, fenced) in group.fences().iter().enumerate() {
-            cuts.push(column == 0 || *fenced)?;
-        }
-    }
-    Ok(cuts)
 }
 
 /// The operations that have `fence` in their lines, and no barrier before them.

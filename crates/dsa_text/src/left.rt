@@ -1,6 +1,6 @@
 //! Notes and warnings about a list and the completion records that are to be resumed.
 
-use crate::kept::{cuts_of, joined};
+use crate::kept::joined;
 use crate::origins::count_of;
 use crate::overwritten::overwritten_notes;
 use crate::rows::warnings_of;
@@ -8,6 +8,7 @@ use dsa_calls::{PlanFault, plan_operations};
 use dsa_descriptor::{Descriptor, DescriptorList};
 use dsa_lines::{TextFault, parse_list};
 use dsa_plan::Settings;
+use dsa_settings::cuts_of;
 use std::alloc::{AllocError, Global};
 
 /// A piece that has begun, though an earlier one of another epoch has not succeeded.

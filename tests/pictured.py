@@ -38,6 +38,11 @@ class Column:
     split: tuple | None = None
     size: int = 0
 
+    def common(self):
+        """What columns that are alike have in common. The record is among what is written."""
+        touched = (len(self.reads), len(self.writes) + (self.record is not None)) if self.seen else None
+        return self.name, self.size, touched
+
 
 @dataclass
 class Bar:
@@ -70,7 +75,7 @@ class Groups:
         """For each group the first that has the same operations, sizes and fences, if it is not that."""
         firsts, likes, start = {}, [], 0
         for number, (size, kind) in enumerate(zip(self.sizes, self.kinds)):
-            own = [(it.name, it.size) for it in columns[start : start + size]]
+            own = [it.common() for it in columns[start : start + size]]
             fences = [bar.seen_from(start) for bar in bars if start <= bar.column < start + size]
             key = repr((kind, number in self.barriers, own, fences))
             likes.append(firsts.get(key))
@@ -157,7 +162,7 @@ def slot_key(slot, begins, columns, groups, fences):
     """What columns that are alike have in common; no two folds of groups that are like others are alike."""
     head = (groups.kinds[slot.group], slot.group in groups.barriers) if begins else None
     if slot.fold == "plain" or slot.fold[0] == "pieces" and not slot.is_folded():
-        own = [(columns[k].name, columns[k].size) for k in slot.operations]
+        own = [columns[k].common() for k in slot.operations]
     else:
         own = slot.fold[2] if slot.fold[0] == "pieces" else ("alone", id(slot))
     start = slot.operations[0] if slot.operations else 0

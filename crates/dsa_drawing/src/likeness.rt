@@ -24,7 +24,25 @@ pub(crate) fn push_bar(
     }
 }
 
-/// What groups that are alike have in common: of each operation the name and the size, and the fences.
+/// Writes what columns that are alike have in common: the name, which may be a comment, the size, and how many spans
+/// are read and written, which tells operations apart.
+pub(crate) fn push_column(
+    alloc: Global,
+    text: &mut String,
+    column: &Column,
+) -> Result<(), AllocError> {
+    let (name, size) = (&column.name, column.size);
+    text.push_str(&format!(in alloc; "; {name} {size}")?)?;
+    match &column.touched {
+        Some(touched) => {
+            let (reads, writes) = (touched.reads.len(), touched.writes.len());
+            text.push_str(&format!(in alloc; " {reads} {writes}")?)
+        }
+        None => Ok(()),
+    }
+}
+
+/// What groups that are alike have in common: the operations and the fences.
 fn common_text(
     alloc: Global,
     group: &Group,
@@ -37,8 +55,7 @@ fn common_text(
         text.push_str("; barrier")?;
     }
     for column in columns {
-        let (name, size) = (&column.name, column.size);
-        text.push_str(&format!(in alloc; "; {name} {size}")?)?;
+        push_column(alloc, &mut text, column)?;
     }
     for bar in bars {
         push_bar(alloc, &mut text, bar, start)?;

@@ -1,7 +1,7 @@
 //! Columns that repeat those before them, which are folded into one.
 
 use crate::layout::{Bar, Layout};
-use crate::likeness::{bars_around, push_bar};
+use crate::likeness::{bars_around, push_bar, push_column};
 use crate::slots::{Fold, Slot};
 use std::alloc::{AllocError, Global};
 use std::collections::BTreeMap;
@@ -32,7 +32,7 @@ impl Repeat {
     }
 }
 
-/// Writes the names and the sizes of so many operations from the first on.
+/// Writes what operations that are alike have in common, of so many from the first on.
 fn push_operations(
     alloc: Global,
     text: &mut String,
@@ -40,8 +40,7 @@ fn push_operations(
     slot: &Slot,
 ) -> Result<(), AllocError> {
     for column in layout.columns.iter().skip(slot.first).take(slot.count) {
-        let (name, size) = (&column.name, column.size);
-        text.push_str(&format!(in alloc; "; {name} {size}")?)?;
+        push_column(alloc, text, column)?;
     }
     Ok(())
 }

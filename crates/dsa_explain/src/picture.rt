@@ -360,7 +360,9 @@ fn range_note(
         return Ok(Some(format!(in alloc; "pieces {first} to {last} of {pieces}")?));
     }
     if pieces > MOST_COLUMNS {
-        return Ok(Some(format!(in alloc; "--from N --to M draws some of the {pieces} pieces")?));
+        return Ok(Some(format!(in alloc;
+            "{pieces} pieces: explain --svg --from N --to M draws some"
+        )?));
     }
     Ok(None)
 }

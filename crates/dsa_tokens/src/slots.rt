@@ -31,7 +31,7 @@ impl<T: Drop> Slot<T> {
         }
     }
 
-    /// What was read, if the value is there; none if it is of another kind.
+    /// What was read, or that nothing is there (`Some(None)`); `None` if the value is of another kind.
     pub fn into_held(self) -> Option<Option<T>>
         ensures { result ≡ slot_held self }
     {

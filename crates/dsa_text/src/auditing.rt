@@ -32,9 +32,9 @@ pub(crate) struct Given<'a> {
 
 /// What the help of `audit` says of recordings and statuses.
 const RECORDINGS: &str =
-    "A recording has what was submitted, in order: entries of 64 bytes, and behind the descriptor of a batch its members.
+    "A recording has what was submitted, in order: entries of 64 bytes, and after the descriptor of a batch its members.
 It is read as these bytes, as xxd, xxd -p and hexdump -v -C write them, or as lines that disassemble writes, with those
-of the members behind the line of their batch.
+of the members after the line of their batch.
 
 Bytes may have any length: they are read and audited in parts. A text, and what is read with --svg, --list, --staging or
 --events, has 64 MiB at most.
@@ -76,7 +76,7 @@ Several files are audited in their order, each by itself; the last line has how 
 
 The status is 0 if nothing is an error, 1 if something is: a missing fence or wait, a fence, record or batch that is
 wrong, or what --deny names; and 2 if there is no recording, or it is too large to draw. Of a list it is 0 or 2.
-Prices are in one unit of your choice. Numbers are decimal, or hexadecimal behind 0x.
+Prices are in one unit of your choice. Numbers are decimal, or hexadecimal after 0x.
 Example: dsa_text audit --deny needless,unseen recording.bin";
 
 /// The files to read.

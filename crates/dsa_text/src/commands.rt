@@ -38,7 +38,7 @@ which begins with a brace and has settings of its own, so that the options from 
   {\"do\":\"judge\",\"list\":..,\"plan\":..,\"settings\":..}    a plan of one's own, and what the least plan costs
   {\"do\":\"check\",\"certificate\":..,\"portal\":..,\"settings\":..,\"staging\":..}
 
-Sizes are in bytes, prices in one unit of your choice. Numbers are decimal, or hexadecimal behind 0x.
+Sizes are in bytes, prices in one unit of your choice. Numbers are decimal, or hexadecimal after 0x.
 Examples:
   dsa_text explain --lone 10 --batch 14 --fence 3 store.txt
   dsa_text assemble --job store.txt | dsa_text explain -
@@ -55,10 +55,10 @@ A line \"barrier\" says that the next operation begins only after all before it 
 descriptor after it has the flag 0x0001: dsa_plan_list and the other calls of the library take it as a
 barrier, jobs refuse it (3 FlagBits).
 
-Lines that disassemble writes of a portal and a staging area are read too, with the members of a batch behind its line. The
+Lines that disassemble writes of a portal and a staging area are read too, with the members of a batch after its line. The
 lines of batches and the word fence are passed over, since a plan sets batches and fences anew.
 
-Sizes are in bytes, prices in one unit of your choice. Numbers are decimal, or hexadecimal behind 0x.
+Sizes are in bytes, prices in one unit of your choice. Numbers are decimal, or hexadecimal after 0x.
 Example: dsa_text assemble --job store.txt | dsa";
 
 /// An option with a value.

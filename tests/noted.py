@@ -7,7 +7,7 @@ from common import expect, judge, move, settings
 MOVE = "move 0x1000 -> {}, 64 bytes, record {}\n".format
 FILL = "fill {} with 1234567812345678, 64 bytes, record 0\n".format
 COMPARE = "compare 0x1000 with {}, 64 bytes, expect 0, record {}{}\n".format
-OVERLAP = "note: operation {}: its regions overlap, and only devices with overlapping copy support "
+OVERLAP = "note: operation {}: its ranges overlap, and only devices with overlapping copy support "
 OVERLAP += "(GENCAP bit 1) take it\n"
 OVER = "warning: operation {} writes data at {}, and operation {} writes its completion records at {}\n"
 UNCHECKED = "note: line 1, operation 0: without check its result does not stop what is after a barrier\n"

@@ -14,7 +14,8 @@ import model
 from common import program
 from resume_model import drawn_list
 from dsa_planner import BEGINS, FENCED, Settings, plan_list_certified
-from dsa_reasons import OVERLAP, SHARED_RECORD, UNCHECKED, UNGUARDED, Conflict, Reason, Warning, explain_list, warn_list
+from dsa_reasons import OVERLAP, SHARED_RECORD, UNCHECKED, UNGUARDED, Conflict, ListWarning, Reason, explain_list
+from dsa_reasons import warn_list
 
 KINDS = ("fence", "beginning", "barrier", "in a record", "more", "none alone", "as dsa_text")
 WARNINGS = {SHARED_RECORD: "shared record", UNCHECKED: "unchecked", UNGUARDED: "unguarded", OVERLAP: "overlap"}
@@ -22,7 +23,7 @@ SAID = {
     SHARED_RECORD: "piece {}: it or piece {} writes into the completion record of the other",
     UNCHECKED: "piece {}: without check its result does not stop what is after a barrier",
     UNGUARDED: "piece {}: what is after its check, up to a barrier, may run even if it fails",
-    OVERLAP: "piece {}: its regions overlap, and only devices with overlapping copy support (GENCAP bit 1) take it",
+    OVERLAP: "piece {}: its ranges overlap, and only devices with overlapping copy support (GENCAP bit 1) take it",
 }
 
 
@@ -110,14 +111,14 @@ def warnings(pieces, marks, barriers):
     for piece, op in enumerate(pieces):
         sharing = [earlier for earlier in range(piece) if shares(pieces[earlier], op)]
         if sharing:
-            yield Warning(SHARED_RECORD, piece, sharing[-1])
+            yield ListWarning(SHARED_RECORD, piece, sharing[-1])
         is_compare, is_checked = op.code in (model.COMPARE, model.PATTERN), op.flags & model.CHECKED
         if is_compare and not is_checked and any(barriers[piece + 1 :]):
-            yield Warning(UNCHECKED, piece, None)
+            yield ListWarning(UNCHECKED, piece, None)
         if is_compare and is_checked and piece + 1 < len(pieces) and marks[piece + 1] == 0:
-            yield Warning(UNGUARDED, piece, None)
+            yield ListWarning(UNGUARDED, piece, None)
         if op.code == model.MOVE and abs(op.first - op.second) < op.size:
-            yield Warning(OVERLAP, piece, None)
+            yield ListWarning(OVERLAP, piece, None)
 
 
 def printed(settings, given):

@@ -749,7 +749,7 @@ def files():
 
 
 def overlaps():
-    """What is said of moves whose regions overlap."""
+    """What is said of moves whose source and destination overlap."""
     noted.overlaps(TEXT)
 
 

@@ -424,9 +424,10 @@ uint32_t dsa_explain_list(const struct dsa_settings *settings,
 uint64_t dsa_reason_text(const struct dsa_reason *reason, char *text, size_t text_capacity);
 
 /* What is worth a warning about a piece: one of it and an earlier piece writes into the completion record of the other,
- * so that a status is lost; it is a compare without check, and a barrier is after it, which its result does not stop;
- * it is a compare with check, and the next piece may begin before it has ended; it is a move within one range, which
- * only devices with overlapping copy support take (GENCAP bit 1). */
+ * so that a record may not say how its piece has ended; it is a compare without check, and a barrier is after it, which
+ * its result does not stop; it is a compare with check, and the next piece, of a compare that is split perhaps its own,
+ * may begin before it has ended; it is a move whose source and destination overlap, which only devices with overlapping
+ * copy support take (GENCAP bit 1). */
 #define DSA_SHARED_RECORD_WARNING 1u
 #define DSA_UNCHECKED_WARNING 2u
 #define DSA_UNGUARDED_WARNING 3u
@@ -439,7 +440,7 @@ struct dsa_warning {
 
 /*
  * Says what is worth a warning about the pieces of a list and their plan, that of dsa_plan_list: in the order of the
- * pieces, and of one piece in that of the kinds, so at most three for each.
+ * pieces, and of one piece in that of the kinds, so at most two for each.
  *
  * Returns 0: warnings begins with *count of them, and its rest is unchanged; refusal is not written. Returns another
  * number: refusal has it, and nothing else was written. What dsa_plan_list refuses comes first, but for DSA_NO_ROOM;

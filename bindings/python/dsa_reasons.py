@@ -20,8 +20,8 @@ import dsa_planner
 from dsa_planner import BEGINS, FENCED, MOST_PIECES, Bytes, Settings
 
 __all__ = [
-    "HAZARDS", "OVERLAP", "SHARED_RECORD", "UNCHECKED", "UNGUARDED", "Conflict", "Reason", "Warning", "explain_list",
-    "warn_list",
+    "HAZARDS", "OVERLAP", "SHARED_RECORD", "UNCHECKED", "UNGUARDED", "Conflict", "ListWarning", "Reason",
+    "explain_list", "warn_list",
 ]
 
 HAZARDS = {1: "read after write", 2: "write after read", 3: "write after write"}
@@ -29,8 +29,8 @@ HAZARDS = {1: "read after write", 2: "write after read", 3: "write after write"}
 
 SHARED_RECORD, UNCHECKED, UNGUARDED, OVERLAP = 1, 2, 3, 4
 """The kinds of warnings: one of a piece and an earlier one writes into the completion record of the other; a compare
-without check is before a barrier; what comes after a compare with check may begin before it has ended; a move is within
-one range."""
+without check is before a barrier; what comes after a compare with check may begin before it has ended; a
+move's source and destination overlap."""
 
 _TEXT_ROOM = 256
 
@@ -131,7 +131,7 @@ def _reason_of(raw: _Reason) -> Reason:
     return Reason(raw.piece, raw.group, bool(raw.mark & FENCED), bool(raw.barrier), conflict, raw.more)
 
 
-class Warning(NamedTuple):
+class ListWarning(NamedTuple):
     """What is worth a warning about a piece. `str` of it is its sentence."""
 
     kind: int
@@ -151,11 +151,11 @@ def explain_list(settings: Settings, operations: Bytes) -> List[Reason]:
     return [_reason_of(reason) for reason in _listed(_library.dsa_explain_list, _Reason, 1, settings, operations)]
 
 
-def warn_list(settings: Settings, operations: Bytes) -> List[Warning]:
+def warn_list(settings: Settings, operations: Bytes) -> List[ListWarning]:
     """What is worth a warning about the pieces of a list and their plan, that of `plan_list`, in the order of the
     pieces. Raises `Refusal`."""
-    found = _listed(_library.dsa_warn_list, _Warning, 3, settings, operations)
-    return [Warning(it.kind, it.piece, it.other if it.kind == SHARED_RECORD else None) for it in found]
+    found = _listed(_library.dsa_warn_list, _Warning, 2, settings, operations)
+    return [ListWarning(it.kind, it.piece, it.other if it.kind == SHARED_RECORD else None) for it in found]
 
 
 def _listed(call: "ctypes._NamedFuncPointer", of: type, most: int, settings: Settings, operations: Bytes) -> list:

@@ -9,14 +9,16 @@ use core::fmt;
 #[derive(Clone, Copy, Debug, PartialEq, Eq, Hash)]
 #[non_exhaustive]
 pub enum Concern {
-    /// One of it and this earlier piece writes into the completion record of the other, so that a status is lost; of
-    /// such pieces it is the last.
+    /// One of it and this earlier piece writes into the completion record of the other, so that a record may not say
+    /// how its piece has ended; of such pieces it is the last.
     SharedRecord(u64),
     /// It is a compare without check, and a barrier is after it, which its result does not stop.
     Unchecked,
-    /// It is a compare with check, and the next piece may begin before it has ended.
+    /// It is a compare with check, and the next piece, of a compare that is split perhaps its own, may begin before it
+    /// has ended.
     Unguarded,
-    /// It is a move within one range, which only devices with overlapping copy support take (GENCAP bit 1).
+    /// It is a move whose source and destination overlap, which only devices with overlapping copy support take (GENCAP
+    /// bit 1).
     Overlap,
 }
 
@@ -87,7 +89,7 @@ impl fmt::Display for Warning {
 pub fn warn_list(settings: &Settings, list: &[u8]) -> Result<Vec<Warning>, Refusal> {
     let (raw, table) = settings.raw();
     let pieces = usize::try_from(count_pieces(settings, list)).map_or(0, |n| n.min(MOST_PIECES));
-    let mut warnings = vec![raw::Warning::default(); 3 * pieces];
+    let mut warnings = vec![raw::Warning::default(); 2 * pieces];
     let (mut count, mut refusal) = (0, raw::Refusal::default());
     // SAFETY: each pointer and length are those of one slice or one struct, and no output overlaps another argument.
     let code = unsafe {

@@ -128,8 +128,8 @@ fn warnings_for(
 
 /// Plans a list as [`dsa_plan_list`](crate::dsa_plan_list) does, and writes to `warnings` what is worth a warning about
 /// its pieces, in their order, and to `count` how much it is: that one writes into the completion record of another,
-/// that the result of a compare stops nothing, that a move's regions overlap. It returns 0 then; else it returns the
-/// number of the refusal, and has written only `refusal`.
+/// that the result of a compare does not stop all that comes after it, that a move's source and destination overlap. It
+/// returns 0 then; else it returns the number of the refusal, and has written only `refusal`.
 #[unsafe(no_mangle)]
 pub extern "C" fn dsa_warn_list(
     alloc: Global,

@@ -21,7 +21,7 @@ fn last_barrier(marks: &[bool]) -> Option<usize> {
     marks.iter().rposition(|mark| *mark)
 }
 
-/// What is noted of the result of an operation, if it stops nothing.
+/// What is noted of the result of an operation that does not stop all that comes after it.
 fn note_on(concern: Option<Concern>) -> Option<&'static str> {
     match concern {
         Some(Concern::Unchecked) => Some(UNCHECKED),
@@ -30,7 +30,7 @@ fn note_on(concern: Option<Concern>) -> Option<&'static str> {
     }
 }
 
-/// A line for each compare of a text whose result stops nothing that comes after it.
+/// A line for each compare of a text whose result does not stop all that comes after it.
 pub(crate) fn check_notes(
     alloc: Global,
     source: Source<'_>,

@@ -26,9 +26,9 @@ pub(crate) fn overlap_notes(
     notes.into_text(alloc, "moves that overlap")
 }
 
-/// The line of a move whose regions overlap.
+/// The line of a move whose source and destination overlap.
 fn note_of(alloc: Global, operation: usize) -> Result<String, AllocError> {
-    let mut text = format!(in alloc; "note: operation {operation}: its regions overlap, ")?;
+    let mut text = format!(in alloc; "note: operation {operation}: its ranges overlap, ")?;
     text.push_str("and only devices with overlapping copy support (GENCAP bit 1) take it\n")?;
     Ok(text)
 }

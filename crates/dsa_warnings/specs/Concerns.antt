@@ -6,8 +6,8 @@ use Rattle.dsa_image.specs.Basics.{checks_result}
 use Rattle.dsa_warnings.specs.declared.concerns.Concern.{Concern}
 use Rattle.dsa_warnings.specs.declared.concerns.Concern.TheVariants.{Overlap, Unchecked, Unguarded}
 
--- a compare that is checked, before a barrier, and before a piece of its epoch stops nothing: it has no check and a barrier
--- is after it, or it has one and the next piece does not wait for it
+-- why the result of a compare does not stop all that comes after it: it has no check and a barrier is after it, or it
+-- has one and the next piece, in the same epoch, does not wait for it
 abbrev pub compare_concern : Bool → Bool → Bool → Option Concern
 compare_concern checked before_barrier goes_on =
     if checked then (if goes_on then Some Unguarded else None) else (if before_barrier then Some Unchecked else None)
@@ -21,7 +21,7 @@ check_concern (ComparePattern src pattern expected) flags before_barrier goes_on
 check_concern (ApplyDelta delta dst record_size) flags before_barrier goes_on = None
 check_concern (Dualcast src dst dst2) flags before_barrier goes_on = None
 
--- a move of so many bytes has its source and its destination in one range, so only devices with overlapping copy support
+-- the source and the destination of a move of so many bytes overlap, so only devices with overlapping copy support
 -- take it (specification 341204, GENCAP)
 abbrev pub overlaps : Op → ℕ → Bool
 overlaps (Move src dst) len = nat_lt (src - dst) len && nat_lt (dst - src) len

@@ -9,7 +9,7 @@ abbrev pub concern_words : Concern → List ℕ
 concern_words (SharedRecord earlier) = codes ": it or piece " ++ (decimal earlier ++ codes " writes into the completion record of the other")
 concern_words Unchecked = codes ": without check its result does not stop what is after a barrier"
 concern_words Unguarded = codes ": what is after its check, up to a barrier, may run even if it fails"
-concern_words Overlap = codes ": its regions overlap, and only devices with overlapping copy support (GENCAP bit 1) take it"
+concern_words Overlap = codes ": its ranges overlap, and only devices with overlapping copy support (GENCAP bit 1) take it"
 
 -- with the piece
 abbrev pub warning_words : Warning → List ℕ

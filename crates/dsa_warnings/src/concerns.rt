@@ -1,4 +1,5 @@
-//! What is worth a warning about a piece by itself: a compare whose result stops nothing, and a move within one range.
+//! What is worth a warning about a piece by itself: a compare whose result does not stop all that comes after it, and a
+//! move whose source and destination overlap.
 
 ghost use Rattle.std.specs.Prelude.{◌≡◌};
 ghost use Rattle.dsa_image.specs.Basics.{checks_result};
@@ -15,7 +16,7 @@ pub enum Concern {
     Unchecked,
     /// It is a compare with check, and the piece after it may begin before it has ended.
     Unguarded,
-    /// It is a move within one range.
+    /// It is a move whose source and destination overlap.
     Overlap,
 }
 
@@ -27,7 +28,7 @@ fn is_checked(flags: FlagWord) -> bool
     flags.0 & check == check
 }
 
-/// Why the result of a compare stops nothing that comes after it, if it stops nothing.
+/// Why the result of a compare does not stop all that comes after it, if so.
 fn compare_concern(is_checked: bool, is_before_barrier: bool, goes_on: bool) -> Option<Concern>
     ensures { result ≡ compare_concern is_checked is_before_barrier goes_on }
 {
@@ -45,8 +46,8 @@ fn compare_concern(is_checked: bool, is_before_barrier: bool, goes_on: bool) -> 
     }
 }
 
-/// Why the result of an operation stops nothing that comes after it, if it is a compare: a barrier is after it, but its
-/// result is not checked; or it is checked, but what comes after it goes on in the same epoch of a plan.
+/// Why the result of an operation does not stop all that comes after it, if it is a compare: a barrier is after it, but
+/// its result is not checked; or it is checked, but what comes after it goes on in the same epoch of a plan.
 pub fn check_concern(d: &Descriptor, is_before_barrier: bool, goes_on: bool) -> Option<Concern>
     ensures { result ≡ check_concern d.now.op d.now.flags.0 is_before_barrier goes_on }
 {
@@ -61,7 +62,7 @@ pub fn check_concern(d: &Descriptor, is_before_barrier: bool, goes_on: bool) -> 
     }
 }
 
-/// Whether an operation moves so many bytes within one range.
+/// Whether the source and the destination of an operation that moves so many bytes overlap.
 pub fn overlaps(op: &Op, len: u64) -> bool
     ensures { result ≡ overlaps op.now len }
 {
@@ -75,7 +76,7 @@ pub fn overlaps(op: &Op, len: u64) -> bool
     }
 }
 
-/// That a piece moves bytes within one range, if it does.
+/// That the source and the destination of a piece that is a move overlap, if they do.
 pub(crate) fn overlap_concern(d: &Descriptor) -> Option<Concern>
     ensures { result ≡ overlap_concern d.now.op d.now.size }
 {

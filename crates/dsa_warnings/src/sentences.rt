@@ -26,7 +26,7 @@ pub fn warning_text(alloc: Global, warning: &Warning) -> Result<String, AllocErr
             "piece {piece}: what is after its check, up to a barrier, may run even if it fails"
         ),
         Concern::Overlap => format!(in alloc;
-            "piece {piece}: its regions overlap, and only devices with overlapping copy support (GENCAP bit 1) take it"
+            "piece {piece}: its ranges overlap, and only devices with overlapping copy support (GENCAP bit 1) take it"
         ),
     }
 }

@@ -123,8 +123,8 @@ fn all_warnings(
 }
 
 /// What is worth a warning about the pieces of a plan and their barriers, in the order of the pieces: that one writes
-/// into the completion record of another, that the result of a compare stops nothing, and that a move's regions
-/// overlap. The spare byte is in no record.
+/// into the completion record of another, that the result of a compare does not stop all that comes after it, and that
+/// a move's source and destination overlap. The spare byte is in no record.
 ///
 /// # Errors
 /// [`AllocError`] at the first allocation that fails.

@@ -1,5 +1,4 @@
-//! The document of a certificate in JSON; how JSON values spell numbers, arrays and objects, and readers of
-//! members of objects.
+//! The document of a certificate in JSON.
 #![tactic(auto)]
 
 mod document;
@@ -10,5 +9,4 @@ mod reading;
 pub use document::{prices_of, read_json, write_json};
 pub use dsa_plan::Certificate;
 pub use fault::CertFault;
-pub use members::{has_names, number_at, text_at};
 pub use reading::Document;

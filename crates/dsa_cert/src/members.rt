@@ -1,6 +1,5 @@
 //! The members of an object of JSON.
 ghost use Rattle.std.specs.Prelude.{◌≡◌, ◌↔◌, IsTrue, map, option_map, Some};
-ghost use Rattle.serde_json.specs.Data.{string};
 ghost use Rattle.serde_json.specs.Find.{as_object};
 ghost use Rattle.serde_json.specs.View.{view, members_view};
 ghost use Rattle.dsa_tokens.specs.Spelled.{member_names, whole, ReadsAt};
@@ -8,7 +7,7 @@ ghost use Rattle.dsa_tokens.specs.Spelled.{member_names, whole, ReadsAt};
 use serde_json::{Map, Value};
 
 /// Whether the value is an object with members of these names in this order, and no other member.
-pub fn has_names(value: &Value, names: &[&str]) -> bool
+pub(crate) fn has_names(value: &Value, names: &[&str]) -> bool
     ensures { IsTrue result ↔ (option_map member_names
         (as_object (view value.now)) ≡ Some (map (λ name. name.now) names.now)) }
 {
@@ -36,21 +35,11 @@ fn are_named(members: &Map<String, Value>, names: &[&str]) -> bool
 }
 
 /// The whole number at a name.
-pub fn number_at(value: &Value, name: &str) -> Option<u64>
+pub(crate) fn number_at(value: &Value, name: &str) -> Option<u64>
     ensures { ReadsAt name.now whole (λ n. n) (view value.now) result }
 {
     match value.get(name) {
         Some(found) => found.as_u64(),
-        None => None,
-    }
-}
-
-/// The text at a name.
-pub fn text_at<'v>(value: &'v Value, name: &str) -> Option<&'v str>
-    ensures { ReadsAt name.now string (λ text. text.now) (view value.now) result }
-{
-    match value.get(name) {
-        Some(found) => found.as_str(),
         None => None,
     }
 }
